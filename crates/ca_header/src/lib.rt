@@ -1,0 +1,2 @@
+//! Channel Access message headers and framing.
+#![tactic(auto)]

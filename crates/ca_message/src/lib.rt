@@ -1,0 +1,2 @@
+//! What Channel Access messages mean.
+#![tactic(auto)]

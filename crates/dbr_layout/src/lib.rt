@@ -1,0 +1,2 @@
+//! The layouts of DBR types and the conversions between them.
+#![tactic(auto)]

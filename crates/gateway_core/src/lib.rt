@@ -1,0 +1,2 @@
+//! The gateway, one event at a time.
+#![tactic(auto)]

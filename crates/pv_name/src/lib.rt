@@ -1,0 +1,2 @@
+//! Names of process variables, hosts and groups.
+#![tactic(auto)]
