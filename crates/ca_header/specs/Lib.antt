@@ -1,1 +1,5 @@
+pub mod Framing
 pub mod Header
+pub mod Intake
+pub mod Reading
+pub mod Spelling
