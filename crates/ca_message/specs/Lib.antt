@@ -1,0 +1,4 @@
+pub mod ClientRequest
+pub mod ErrorText
+pub mod Padding
+pub mod ToClient
