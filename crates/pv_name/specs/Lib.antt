@@ -1,0 +1,4 @@
+pub mod Word
+pub mod Name
+pub mod Host
+pub mod Group
