@@ -1,0 +1,18 @@
+-- What the gateway answers about its connections.
+use Rattle.std.specs.Prelude.{ℕ, Bool, length}
+use Rattle.std.specs.List.{list_any}
+use Rattle.gateway_state.specs.declared.event.Dest.{Dest}
+use Rattle.gateway_state.specs.Connections.{is_to, outbox_of}
+use Rattle.gateway_state.specs.Gateway.{Gateway}
+
+-- whether the connection stands
+abbrev pub stands : Gateway → Dest → Bool
+stands w dest = list_any (is_to dest) w.connections
+
+-- whether it stands and must end
+abbrev pub ends : Gateway → Dest → Bool
+ends w dest = (outbox_of dest w.connections).marked
+
+-- how many messages wait for it
+abbrev pub queued : Gateway → Dest → ℕ
+queued w dest = length (outbox_of dest w.connections).messages

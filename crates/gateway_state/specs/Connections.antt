@@ -1,0 +1,53 @@
+-- The outboxes of all connections.
+use Rattle.std.specs.Prelude.{ℕ, List, [], Bool, true, false, not, ◌==◌, Option, Some, None}
+use Rattle.std.specs.List.{find}
+use Rattle.gateway_state.specs.declared.event.Dest.{Dest}
+use Rattle.gateway_state.specs.declared.event.Dest.TheVariants.{Session, Upstream}
+use Rattle.gateway_state.specs.declared.fanout.connections.Connection.{Connection}
+use Rattle.gateway_state.specs.declared.fanout.outbox.Out.{Out}
+use Rattle.gateway_state.specs.Outbox.{appended, without_first}
+use Rattle.gateway_state.specs.Waiting.{Waiting}
+
+-- the same connection
+abbrev pub same_dest : Dest → Dest → Bool
+same_dest (Session a) (Session b) = a == b
+same_dest (Upstream a) (Upstream b) = a == b
+same_dest (Session a) (Upstream b) = false
+same_dest (Upstream a) (Session b) = false
+
+-- the row of this connection
+abbrev pub is_to : Dest → Connection → Bool
+is_to dest row = same_dest row.dest dest
+
+-- the row of another
+abbrev pub is_not_to : Dest → Connection → Bool
+is_not_to dest row = not (is_to dest row)
+
+-- with a message put last in its outbox
+abbrev pub given : Out → Connection → Connection
+given out row = record row { outbox = appended row.outbox out }
+
+-- marked to end
+abbrev pub marked_now : Connection → Connection
+marked_now row = record row { outbox = record row.outbox { marked = true } }
+
+-- without the oldest messages of its outbox
+abbrev pub relieved : ℕ → Connection → Connection
+relieved count row = record row { outbox = without_first count row.outbox }
+
+-- an outbox in which nothing waits
+abbrev pub empty : Waiting
+empty = record { messages = []; marked = false }
+
+-- a connection for which nothing waits
+abbrev pub fresh : Dest → Connection
+fresh dest = record { dest = dest; outbox = empty }
+
+-- the outbox of a row, or an empty one
+abbrev pub outbox_in : Option Connection → Waiting
+outbox_in (Some row) = row.outbox
+outbox_in None = empty
+
+-- the outbox of a connection, an empty one where it doesn't stand
+abbrev pub outbox_of : Dest → List Connection → Waiting
+outbox_of dest rows = outbox_in (find (is_to dest) rows)

@@ -1,0 +1,11 @@
+pub mod Asked
+pub mod ClientRows
+pub mod Connections
+pub mod Direct
+pub mod Gateway
+pub mod Outbox
+pub mod Rows
+pub mod Sessions
+pub mod Step
+pub mod Telling
+pub mod Waiting
