@@ -1,1 +1,5 @@
 pub mod Fields
+pub mod Framings
+pub mod Fronts
+pub mod Heads
+pub mod Messages

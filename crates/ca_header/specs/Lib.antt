@@ -1,3 +1,4 @@
+pub mod Frames
 pub mod Framing
 pub mod Header
 pub mod Intake

@@ -45,6 +45,11 @@ abbrev pub verdict : Header → ℕ → Head
 verdict h n =
     if h.size % ALIGNMENT == 0 then (if nat_le h.size MAX_PAYLOAD then heads.Got h n else heads.TooLarge) else heads.Misaligned
 
+-- what is read of a header that has this fault
+abbrev pub refused : FrameFault → Head
+refused faults.Misaligned = heads.Misaligned
+refused faults.TooLarge = heads.TooLarge
+
 abbrev pub judged : Option (Header × ℕ) → Head
 judged None = heads.Need
 judged (Some found) = verdict found.0 found.1

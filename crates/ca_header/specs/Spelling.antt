@@ -52,3 +52,17 @@ pub record IsSpelled (m : Message) (bytes : List ℕ) : Type 0 where
 abbrev pub AreSpelled : List Message → List ℕ → Type 0
 AreSpelled [] bytes = bytes ≡ []
 AreSpelled (m ∷ ms) bytes = (first rest : List ℕ) × IsSpelled m first × AreSpelled ms rest × (bytes ≡ first ++ rest)
+
+-- the bytes begin with a spelling of the header that has n bytes
+pub record BeginsWith (bytes : List ℕ) (h : Header) (n : ℕ) : Type 0 where
+  pub head : List ℕ
+  pub rest : List ℕ
+  pub spelling : IsSpelling h head
+  pub len : length head ≡ n
+  pub parts : bytes ≡ head ++ rest
+
+-- the bytes are the beginning of a longer text
+pub record IsProperPrefix (bytes text : List ℕ) : Type 0 where
+  pub missing : List ℕ
+  pub some_missing : 0 < length missing
+  pub parts : bytes ++ missing ≡ text

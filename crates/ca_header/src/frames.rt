@@ -30,7 +30,7 @@ impl<'a> Model for Frames<'a> {
 }
 
 impl<'a> Frames<'a> {
-    ghost use Rattle.ca_header.specs.Framing.{IsNext};
+    ghost use Rattle.ca_header.specs.Frames.{IsNext};
     ghost use Rattle.ca_header.specs.Reading.{front_at};
 
     pub fn new(bytes: &'a [u8]) -> Self

@@ -12,5 +12,6 @@ pub use writing::{HeadBytes, write_head};
 mod frames;
 mod header;
 mod intake;
+pub mod laws;
 mod reading;
 mod writing;
