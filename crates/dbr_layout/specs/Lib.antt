@@ -1,0 +1,3 @@
+pub mod Dbr
+pub mod Parts
+pub mod View

@@ -1,2 +1,11 @@
 //! The layouts of DBR types and the conversions between them.
 #![tactic(auto)]
+
+pub use dbr::{ALIGNMENT, Base, Dbr, Form, MAX_PAYLOAD};
+pub use fault::LayoutFault;
+pub use view::{Stamp, View};
+
+mod dbr;
+mod fault;
+mod fields;
+mod view;
