@@ -1,9 +1,10 @@
 -- Elements that stand one after another in bytes.
-use Rattle.std.proofs.Common.{◌≡◌, ℕ, zero, suc, ◌+◌, ◌-◌, ◌*◌, ◌≤◌, List, ◌++◌, length, take, drop, refl, sym, ap, ◌∙◌, arith}
-use Rattle.std.proofs.lemmas.List.{length-drop, length-take, nil_from_length, take-append-drop, take-append-le, drop-append-le}
-use Rattle.std.proofs.Math.Nat.{suc-mul}
+use Rattle.std.proofs.Common.{◌≡◌, ℕ, zero, suc, ◌+◌, ◌-◌, ◌*◌, ◌<◌, ◌≤◌, min, List, [], ◌∷◌, ◌++◌, replicate, ⊎_elim, length, take, drop, refl, sym, ap, ◌∙◌, arith}
+use Rattle.std.proofs.lemmas.Bool.{cases_lt}
+use Rattle.std.proofs.lemmas.List.{append_assoc, length-append, replicate-append-replicate, take_all, length-drop, length-take, nil_from_length, take-append-drop, take-append-le, drop-append-le}
+use Rattle.std.proofs.Math.Nat.{add_comm, mul-le-mul_right, suc-mul, zero-mul}
 use Rattle.std.specs.List.{concat}
-use Rattle.dbr_layout.specs.Parts.{elements_in}
+use Rattle.dbr_layout.specs.Parts.{AreSized, elements_in}
 
 -- there are as many as are asked for
 pub length-elements_in : (size count : ℕ) (bytes : List ℕ) → length (elements_in size count bytes) ≡ count
@@ -45,3 +46,61 @@ pub length-concat-elements_in : (start size count : ℕ) (bytes : List ℕ) → 
 length-concat-elements_in start size count bytes h =
     let there : count * size ≤ length (drop start bytes) = omega (arith, h, length-drop start bytes) in
     rw (← take-drop_elements start size count bytes h) (omega (arith, there, length-take (start + count * size - start) (drop start bytes)))
+
+-- the first of them are the first
+pub take-elements_in : (size count n : ℕ) (bytes : List ℕ) → n ≤ count → take n (elements_in size count bytes) ≡ elements_in size n bytes
+take-elements_in size count zero bytes h = refl
+take-elements_in size zero (suc n) bytes h = absurd (omega (arith, h))
+take-elements_in size (suc count) (suc n) bytes h =
+    let less : n ≤ count = omega (arith, h) in
+    rw (take-elements_in size count n (drop size bytes) less) refl
+
+-- the bytes of the first elements that begin at a place
+pub take-drop_first : (start size count n : ℕ) (bytes : List ℕ) → start + count * size ≤ length bytes → take (start + min count n * size - start) (drop start bytes) ≡ concat (take n (elements_in size count (drop start bytes)))
+take-drop_first start size count n bytes h =
+    let taken : take n (elements_in size count (drop start bytes)) ≡ elements_in size (min count n) (drop start bytes) =
+    ⊎_elim
+    (λ (less : n < count).
+    let same : min count n ≡ n = omega (arith, less) in
+    rw same (take-elements_in size count n (drop start bytes) (omega (arith, less))))
+    (λ (all : count ≤ n).
+    let same : min count n ≡ count = omega (arith, all) in
+    rw same (take_all n (elements_in size count (drop start bytes)) (omega (arith, all, length-elements_in size count (drop start bytes)))))
+    (cases_lt n count) in
+    let below : min count n * size ≤ count * size = mul-le-mul_right size (omega arith) in
+    rw taken (take-drop_elements start size (min count n) bytes (omega (arith, h, below)))
+
+-- each has its size, where the bytes are there
+pub AreSized-elements_in : (size count : ℕ) (bytes : List ℕ) → count * size ≤ length bytes → AreSized size (elements_in size count bytes)
+AreSized-elements_in size zero bytes h = tt
+AreSized-elements_in size (suc count) bytes h =
+    let one : length (take size bytes) ≡ size = omega (arith, h, length-take size bytes, suc-mul count size) in
+    let others : count * size ≤ length (drop size bytes) = omega (arith, h, length-drop size bytes, suc-mul count size) in
+    (one, AreSized-elements_in size count (drop size bytes) others)
+
+-- the same of those that begin at a place
+pub AreSized-from : (start size count : ℕ) (bytes : List ℕ) → start + count * size ≤ length bytes → AreSized size (elements_in size count (drop start bytes))
+AreSized-from start size count bytes h =
+    AreSized-elements_in size count (drop start bytes) (omega (arith, h, length-drop start bytes))
+
+-- joined, elements of one size have so many bytes together
+pub length-concat : (size : ℕ) (elements : List (List ℕ)) → AreSized size elements → length (concat elements) ≡ length elements * size
+length-concat size [] h = omega arith
+length-concat size (element ∷ elements) h =
+    omega (arith, h.0, length-append element (concat elements), length-concat size elements h.1, suc-mul (length elements) size)
+
+-- elements of zero bytes are zero bytes
+pub concat-replicate : (size n : ℕ) → concat (replicate n (replicate size 0)) ≡ replicate (n * size) 0
+concat-replicate size zero = rw (zero-mul size) refl
+concat-replicate size (suc n) =
+    rw (concat-replicate size n, replicate-append-replicate {A = ℕ} size (n * size) 0, suc-mul n size, add_comm (n * size) size) refl
+
+pub concat-append : (xs ys : List (List ℕ)) → concat (xs ++ ys) ≡ concat xs ++ concat ys
+concat-append [] ys = refl
+concat-append (x ∷ xs) ys = rw (concat-append xs ys, append_assoc x (concat xs) (concat ys)) refl
+
+-- the first of them have the size too
+pub AreSized-take : (size n : ℕ) (elements : List (List ℕ)) → AreSized size elements → AreSized size (take n elements)
+AreSized-take size zero elements h = tt
+AreSized-take size (suc n) [] h = tt
+AreSized-take size (suc n) (element ∷ elements) h = (h.0, AreSized-take size n elements h.1)

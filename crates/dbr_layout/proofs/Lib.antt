@@ -1,2 +1,4 @@
 pub mod Elements
 pub mod Viewing
+pub mod Laying
+pub mod Converting

@@ -1,6 +1,7 @@
 -- What a payload holds, apart from the type that it is laid out under.
-use Rattle.std.specs.Prelude.{ℕ, zero, suc, ℤ, pos, List, [], ◌∷◌, take, drop}
+use Rattle.std.specs.Prelude.{◌≡◌, ℕ, zero, suc, ℤ, pos, List, [], ◌∷◌, length, take, drop}
 use Rattle.std.specs.Int.{w16, cast_signed}
+use Rattle.std.specs.List.{AllByRecursion}
 use Rattle.byteorder.specs.Endian.{big_number}
 use Rattle.dbr_layout.specs.declared.dbr.Form.{Form}
 use Rattle.dbr_layout.specs.declared.dbr.Form.TheVariants as form
@@ -24,6 +25,10 @@ no_stamp = record { seconds = 0; nanoseconds = 0 }
 abbrev pub elements_in : ℕ → ℕ → List ℕ → List (List ℕ)
 elements_in size zero bytes = []
 elements_in size (suc count) bytes = take size bytes ∷ elements_in size count (drop size bytes)
+
+-- each element has this many bytes
+abbrev pub AreSized : ℕ → List (List ℕ) → Type 0
+AreSized size elements = AllByRecursion (λ element. length element ≡ size) elements
 
 -- the fields of a form, at the front of the bytes; 0 for one that the form doesn't have
 abbrev pub status_in : Form → List ℕ → ℤ

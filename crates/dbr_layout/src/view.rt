@@ -1,5 +1,5 @@
 //! Payloads that are read.
-ghost use Rattle.std.specs.Prelude.{◌≡◌, ◌*◌, ◌≤◌, length};
+ghost use Rattle.std.specs.Prelude.{◌≡◌, ◌*◌, length, take};
 ghost use Rattle.std.specs.List.{concat};
 
 use crate::dbr::Dbr;
@@ -36,7 +36,9 @@ impl<'a> Model for View<'a> {
 }
 
 impl<'a> View<'a> {
+    ghost use Rattle.dbr_layout.specs.Conversion.{given_count};
     ghost use Rattle.dbr_layout.specs.Dbr.{element_size};
+    ghost use Rattle.dbr_layout.specs.Parts.{AreSized};
     ghost use Rattle.dbr_layout.specs.View.{shown};
 
     /// What the bytes hold as `count` elements of the type with the number `dtype`. Bytes past the
@@ -66,6 +68,13 @@ impl<'a> View<'a> {
         self.count
     }
 
+    /// How many elements a request for `count` is given: for 0, as many as there are.
+    pub fn given(&self, count: u32) -> u32
+        ensures { result ≡ given_count count (length self.now.parts.elements) }
+    {
+        if count == 0 { self.count() } else { count }
+    }
+
     /// The status of the alarm, 0 where the form has none.
     pub fn status(&self) -> i16
         ensures { result ≡ self.now.parts.status }
@@ -90,8 +99,17 @@ impl<'a> View<'a> {
     /// The bytes of the elements.
     pub fn elements(&self) -> &'a [u8]
         ensures bytes { result.now ≡ concat self.now.parts.elements }
+        ensures sized { AreSized (element_size self.now.dbr.base) self.now.parts.elements }
         ensures len { length result.now ≡ length self.now.parts.elements * element_size self.now.dbr.base }
     {
         &self.bytes[self.dbr.offset() as usize..self.dbr.value_end(self.count)]
+    }
+
+    /// The bytes of the first elements, `count` of them where as many are there.
+    pub(crate) fn first(&self, count: u32) -> &'a [u8]
+        ensures bytes { result.now ≡ concat (take count self.now.parts.elements) }
+        ensures sized { AreSized (element_size self.now.dbr.base) self.now.parts.elements }
+    {
+        &self.bytes[self.dbr.offset() as usize..self.dbr.value_end(self.count.min(count))]
     }
 }
