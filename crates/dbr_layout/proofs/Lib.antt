@@ -2,3 +2,4 @@ pub mod Elements
 pub mod Viewing
 pub mod Laying
 pub mod Converting
+mod WorkedValues

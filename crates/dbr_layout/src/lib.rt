@@ -12,4 +12,6 @@ mod converted;
 mod dbr;
 mod fault;
 mod fields;
+#[cfg(test)]
+mod tests;
 mod view;
