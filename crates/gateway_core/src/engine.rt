@@ -1,17 +1,17 @@
 //! The engine: the rows, until a step is refused.
-
-ghost use Rattle.std.specs.Prelude.{◌≡◌, ◌≢◌, ℕ, ◌≤◌, ◌<◌, ◌↔◌, List, [], ◌∷◌, ◌++◌, length, Some, None, IsSome, IsNone, OnOk, OnErr, IfOk, IfErr, IsErrOf, IsOk};
+ghost use Rattle.std.specs.Prelude.{◌≡◌, ◌≢◌, ◌≤◌, ◌<◌, ◌↔◌, Some, None, IsSome, IsNone, OnOk, OnErr, IfOk, IsErrOf, IsOk};
 ghost use Rattle.std.specs.Option.{option_map};
 ghost use Rattle.gateway_state.specs.Gateway.{initial};
 ghost use Rattle.gateway_state.specs.declared.config.TheConstants.{LAST_FIRST};
 ghost use Rattle.gateway_state.specs.Step.{step, run, taken};
 ghost use Rattle.gateway_state.specs.Asked.{stands, ends, queued};
 
+use crate::NoMemory;
 use crate::fault::{Failed, StepFault};
 use crate::rows::Rows;
 use gateway_state::fanout::Out;
 use gateway_state::{Config, Dest, Event, Policy};
-use std::alloc::{AllocError, Global};
+use std::alloc::Global;
 use std::collections::VecDeque;
 use std::marker::Model;
 
@@ -32,7 +32,7 @@ impl Model for Engine {
 
 impl Engine {
     /// A gateway to which nothing happened yet.
-    pub fn new(alloc: Global, config: Config, policy: Policy) -> Result<Engine, AllocError>
+    pub fn new(alloc: Global, config: Config, policy: Policy) -> Result<Engine, NoMemory>
         requires lowest { 0 < config.first }
         requires highest { config.first ≤ LAST_FIRST }
         ensures { IfOk result (λ engine. engine ≡ Some (initial config policy)) }
@@ -54,10 +54,7 @@ impl Engine {
         };
         match rows.step(event) {
             Ok(()) => Ok(()),
-            Err(_) => {
-                self.rows = None;
-                Err(StepFault::OutOfMemory)
-            }
+            Err(_) => Err(self.fail()),
         }
     }
 
@@ -91,10 +88,7 @@ impl Engine {
         };
         match rows.drain(dest, count) {
             Ok(outs) => Ok(outs),
-            Err(_) => {
-                self.rows = None;
-                Err(StepFault::OutOfMemory)
-            }
+            Err(_) => Err(self.fail()),
         }
     }
 
@@ -132,5 +126,14 @@ impl Engine {
             Some(rows) => Ok(rows.queued(dest)),
             None => Err(Failed),
         }
+    }
+
+    /// Gives up for good: a step was refused memory, and is half done.
+    fn fail(&mut self) -> StepFault
+        ensures cause { result ≡ StepFault.OutOfMemory }
+        ensures failed { self.new ≡ None }
+    {
+        self.rows = None;
+        StepFault::OutOfMemory
     }
 }

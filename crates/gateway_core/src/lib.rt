@@ -16,3 +16,6 @@ pub use engine::Engine;
 pub use fault::{Failed, StepFault};
 pub use gateway_state::fanout::Out;
 pub use gateway_state::{Config, Dest, Event, Policy};
+
+/// Want of memory, of a call that fails for nothing else.
+pub type NoMemory = std::alloc::AllocError;

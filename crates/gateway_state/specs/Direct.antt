@@ -17,7 +17,7 @@ use Rattle.gateway_state.specs.declared.event.Event.TheVariants.{Opened, Lost, C
 use Rattle.gateway_state.specs.Asked.{stands, ends}
 use Rattle.gateway_state.specs.Connections.{is_to, is_not_to, relieved, fresh}
 use Rattle.gateway_state.specs.Gateway.{Gateway}
-use Rattle.gateway_state.specs.Rows.{change_first}
+use Rattle.rows.specs.Rows.{change_first}
 use Rattle.gateway_state.specs.Sessions.{is_not_numbered}
 use Rattle.gateway_state.specs.Telling.{told, marked}
 

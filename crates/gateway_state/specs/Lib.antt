@@ -4,7 +4,6 @@ pub mod Connections
 pub mod Direct
 pub mod Gateway
 pub mod Outbox
-pub mod Rows
 pub mod Sessions
 pub mod Step
 pub mod Telling

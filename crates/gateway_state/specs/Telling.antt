@@ -8,7 +8,7 @@ use Rattle.gateway_state.specs.declared.event.Dest.TheVariants.{Session}
 use Rattle.gateway_state.specs.declared.fanout.outbox.Out.{Out}
 use Rattle.gateway_state.specs.Connections.{is_to, given, marked_now}
 use Rattle.gateway_state.specs.Gateway.{Gateway}
-use Rattle.gateway_state.specs.Rows.{change_first}
+use Rattle.rows.specs.Rows.{change_first}
 
 -- a message to a client as it goes out: its wire form
 unfoldable pub outgoing : ToClient → Out

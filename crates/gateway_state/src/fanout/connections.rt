@@ -2,7 +2,7 @@
 ghost use Rattle.std.specs.Prelude.{◌≡◌, ◌∷◌, ◌++◌, [], length, take, OnOk, OnErr, IfOk};
 ghost use Rattle.std.specs.List.{position, list_any, filter, find};
 ghost use Rattle.std.specs.Option.{option_copied};
-ghost use Rattle.gateway_state.specs.Rows.{change_first};
+ghost use Rattle.rows.specs.Rows.{change_first};
 ghost use Rattle.gateway_state.specs.Connections.{is_to, is_not_to, given, marked_now, relieved, fresh, outbox_of};
 
 use crate::event::Dest;
@@ -135,7 +135,7 @@ fn remove(rows: &mut Vec<Connection>, dest: Dest)
     rows.retain(|row| row.dest != dest);
 }
 
-#[tactic(auto, using(crate::proofs::RowLemmas::set_is_change_first, crate::proofs::RowLemmas::change_first_none))]
+#[tactic(auto, using(rows::proofs::RowLemmas::set_is_change_first, rows::proofs::RowLemmas::change_first_none))]
 fn give(rows: &mut Vec<Connection>, dest: Dest, out: Out) -> Result<(), AllocError>
     ensures { OnOk result (rows.new.items ≡ change_first (is_to dest) (given out) rows.old.items) }
 {
@@ -150,7 +150,7 @@ fn give(rows: &mut Vec<Connection>, dest: Dest, out: Out) -> Result<(), AllocErr
     }
 }
 
-#[tactic(auto, using(crate::proofs::RowLemmas::set_is_change_first, crate::proofs::RowLemmas::change_first_none))]
+#[tactic(auto, using(rows::proofs::RowLemmas::set_is_change_first, rows::proofs::RowLemmas::change_first_none))]
 fn mark(rows: &mut Vec<Connection>, dest: Dest)
     ensures { rows.new.items ≡ change_first (is_to dest) marked_now rows.old.items }
 {
@@ -160,7 +160,7 @@ fn mark(rows: &mut Vec<Connection>, dest: Dest)
     }
 }
 
-#[tactic(auto, using(crate::proofs::RowLemmas::set_is_change_first, crate::proofs::RowLemmas::change_first_none, crate::proofs::RowLemmas::find_is_there, crate::proofs::RowLemmas::find_none))]
+#[tactic(auto, using(rows::proofs::RowLemmas::set_is_change_first, rows::proofs::RowLemmas::change_first_none, rows::proofs::RowLemmas::find_is_there, rows::proofs::RowLemmas::find_none))]
 fn take(
     rows: &mut Vec<Connection>,
     alloc: Global,

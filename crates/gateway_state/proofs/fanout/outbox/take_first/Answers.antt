@@ -1,5 +1,5 @@
 use Rattle.std.proofs.Common.{◌≡◌, ℕ, ◌+◌, ◌-◌, List, [], ◌∷◌, ◌++◌, length, take, drop, append_assoc, sym, ap, ◌∙◌, arith, rules}
-use Rattle.gateway_state.proofs.RowLemmas.{take_first_of, drop_first_of}
+use Rattle.rows.proofs.RowLemmas.{take_first_of, drop_first_of}
 use Rattle.gateway_state.proofs.fanout.outbox.take_first.Goals as goal
 
 -- one more is taken from the front of what is left

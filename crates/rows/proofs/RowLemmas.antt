@@ -2,7 +2,7 @@ use Rattle.std.proofs.Common.{◌≡◌, ℕ, zero, suc, ◌+◌, ◌<◌, ◌�
 use Rattle.std.specs.List.{find, position, position_or_len}
 use Rattle.std.proofs.lemmas.List.Quantifiers.{position-Some}
 use Rattle.std.proofs.lemmas.Bool.{ltb-false}
-use Rattle.gateway_state.specs.Rows.{change_first}
+use Rattle.rows.specs.Rows.{change_first}
 
 -- a row that passes, behind rows that don't
 change_first_at : {A : Type 0} (p : A → Bool) (f : A → A) (rows : List A) (i : ℕ) (d : A) → i < length rows → p (get_or rows i d) ≡ true → ((k : ℕ) → k < i → p (get_or rows k d) ≡ false) → change_first p f rows ≡ set rows i (f (get_or rows i d))
