@@ -1,8 +1,8 @@
 use Rattle.std.proofs.Common.{◌≡◌, ℕ, zero, suc, ◌+◌, ◌<◌, ◌≤◌, List, [], ◌∷◌, Bool, true, false, cond, ltb, not, Some, None, length, get_or, set, take, drop, refl, sym, ap, ◌∙◌, arith}
-use Rattle.std.specs.List.{find, position, position_or_len}
+use Rattle.std.specs.List.{find, position, position_or_len, remove}
 use Rattle.std.proofs.lemmas.List.Quantifiers.{position-Some}
 use Rattle.std.proofs.lemmas.Bool.{ltb-false}
-use Rattle.rows.specs.Rows.{change_first}
+use Rattle.rows.specs.Rows.{change_first, remove_first}
 
 -- a row that passes, behind rows that don't
 change_first_at : {A : Type 0} (p : A → Bool) (f : A → A) (rows : List A) (i : ℕ) (d : A) → i < length rows → p (get_or rows i d) ≡ true → ((k : ℕ) → k < i → p (get_or rows k d) ≡ false) → change_first p f rows ≡ set rows i (f (get_or rows i d))
@@ -33,6 +33,28 @@ change_first_none p f rows e = none_passes p f rows (no_place _ _ e)
 pub set_is_change_first : {A : Type 0} (p : A → Bool) (f : A → A) (rows : List A) (i : ℕ) (row new : A) → position p rows ≡ Some i → row ≡ get_or rows i row → new ≡ f row → set rows i new ≡ change_first p f rows
 set_is_change_first p f rows i row new e here is =
     ap (set rows i) (is ∙ ap f here) ∙ sym (change_first_at_place p f rows i row e)
+
+remove_first_at : {A : Type 0} (p : A → Bool) (rows : List A) (i : ℕ) (d : A) → i < length rows → p (get_or rows i d) ≡ true → ((k : ℕ) → k < i → p (get_or rows k d) ≡ false) → remove rows i ≡ remove_first p rows
+remove_first_at p [] i d within here below = absurd (omega arith)
+remove_first_at p (row ∷ rows) zero d within here below = rw here refl
+remove_first_at p (row ∷ rows) (suc i) d within here below =
+    rw (below 0 (omega arith)) (ap (λ rest. row ∷ rest) (remove_first_at p rows i d (omega arith) here (λ k h. below (suc k) (omega arith))))
+
+-- the row at the first place that passes is the one that is removed
+pub remove_is_remove_first : {A : Type 0} (p : A → Bool) (rows : List A) (i : ℕ) → position p rows ≡ Some i → remove rows i ≡ remove_first p rows
+remove_is_remove_first p [] i e = cc
+remove_is_remove_first p (row ∷ rows) i e =
+    let found = position-Some p (row ∷ rows) i row e in remove_first_at p (row ∷ rows) i row found.0 found.1 found.2
+
+none_is_removed : {A : Type 0} (p : A → Bool) (rows : List A) → length rows ≤ position_or_len p rows → remove_first p rows ≡ rows
+none_is_removed p [] h = refl
+none_is_removed p (row ∷ rows) h =
+    elim (p row) as (λ t. p row ≡ t → length (row ∷ rows) ≤ cond (not t) (1 + position_or_len p rows) 0 → cond t rows (row ∷ remove_first p rows) ≡ row ∷ rows)
+    [ true ↦ λ _ g. absurd (omega arith) | false ↦ λ _ g. ap (λ rest. row ∷ rest) (none_is_removed p rows (omega arith)) ] refl h
+
+-- with no row that passes none is removed
+pub remove_first_none : {A : Type 0} (p : A → Bool) (rows : List A) → position p rows ≡ None → remove_first p rows ≡ rows
+remove_first_none p rows e = none_is_removed p rows (no_place _ _ e)
 
 found_at : {A : Type 0} (p : A → Bool) (rows : List A) (i : ℕ) (d : A) → i < length rows → p (get_or rows i d) ≡ true → ((k : ℕ) → k < i → p (get_or rows k d) ≡ false) → find p rows ≡ Some (get_or rows i d)
 found_at p [] i d within here below = absurd (omega arith)
