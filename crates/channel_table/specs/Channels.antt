@@ -1,0 +1,23 @@
+-- Rows of channels.
+use Rattle.std.specs.Prelude.{ℕ, Bool, not, ◌&&◌, ◌==◌}
+use Rattle.channel_table.specs.declared.channels.Channel.{Channel}
+
+-- the session's channel of this ID
+abbrev pub is_channel : ℕ → ℕ → Channel → Bool
+is_channel session sid channel = channel.session == session && channel.sid == sid
+
+-- another
+abbrev pub is_not_channel : ℕ → ℕ → Channel → Bool
+is_not_channel session sid channel = not (is_channel session sid channel)
+
+-- a channel of the session
+abbrev pub is_channel_of : ℕ → Channel → Bool
+is_channel_of session channel = channel.session == session
+
+-- a channel of another
+abbrev pub is_not_channel_of : ℕ → Channel → Bool
+is_not_channel_of session channel = not (is_channel_of session channel)
+
+-- the channel with its reach and the rights last told
+abbrev pub with_reach_and_rights : ℕ → ℕ → Channel → Channel
+with_reach_and_rights reach rights channel = record channel { reach = reach; rights = rights }

@@ -1,0 +1,31 @@
+-- The value of the table of clients.
+use Rattle.std.specs.Prelude.{ℕ, List, Bool}
+use Rattle.std.specs.List.{list_any, count_by}
+use Rattle.channel_table.specs.declared.channels.Channel.{Channel}
+use Rattle.channel_table.specs.declared.reads.WaitingRead.{WaitingRead}
+use Rattle.channel_table.specs.declared.sessions.Session.{Session}
+use Rattle.channel_table.specs.Channels.{is_channel, is_channel_of}
+use Rattle.channel_table.specs.Reads.{is_read_of}
+use Rattle.channel_table.specs.Sessions.{is_numbered}
+
+-- the rows of clients, each list in the order in which they were added
+pub record ClientRows : Type 0 where
+  pub sessions : List Session
+  pub channels : List Channel
+  pub reads : List WaitingRead
+
+-- whether the session stands
+abbrev pub has_session : ℕ → ClientRows → Bool
+has_session number rows = list_any (is_numbered number) rows.sessions
+
+-- whether the session's channel of this ID stands
+abbrev pub has_channel : ℕ → ℕ → ClientRows → Bool
+has_channel session sid rows = list_any (is_channel session sid) rows.channels
+
+-- how many channels of the session stand
+abbrev pub channel_count : ℕ → ClientRows → ℕ
+channel_count session rows = count_by (is_channel_of session) rows.channels
+
+-- how many reads of the session wait
+abbrev pub read_count : ℕ → ClientRows → ℕ
+read_count session rows = count_by (is_read_of session) rows.reads

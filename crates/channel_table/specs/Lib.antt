@@ -1,0 +1,4 @@
+pub mod Channels
+pub mod ClientRows
+pub mod Reads
+pub mod Sessions

@@ -1,0 +1,235 @@
+//! The table of clients.
+ghost use Rattle.std.specs.Prelude.{◌≡◌, ◌≢◌, ◌≤◌, ◌<◌, ◌↔◌, [], ◌∷◌, ◌++◌, length, true, false, Err, OnOk, OnErr, IsErrOf};
+ghost use Rattle.std.specs.List.{filter, find};
+ghost use Rattle.std.specs.Option.{option_copied};
+ghost use Rattle.rows.specs.Rows.{change_first, remove_first};
+ghost use Rattle.channel_table.specs.Channels.{is_channel, is_not_channel, is_not_channel_of, with_reach_and_rights};
+ghost use Rattle.channel_table.specs.ClientRows.{has_session, has_channel, channel_count, read_count};
+ghost use Rattle.channel_table.specs.Reads.{same_read, is_not_read_of, is_not_read_on};
+ghost use Rattle.channel_table.specs.Sessions.{is_numbered, is_not_numbered, with_host_and_pause};
+
+use crate::channels::{self, Channel};
+use crate::reads::{self, WaitingRead};
+use crate::sessions::{self, Session};
+use pv_name::Host;
+use std::alloc::Global;
+use std::marker::Model;
+
+/// How many sessions stand at most.
+pub const SESSION_LIMIT: usize = 1_024;
+
+/// How many channels of one session stand at most.
+pub const CHANNEL_LIMIT: usize = 4_096;
+
+/// How many reads of one session wait at most.
+pub const READ_LIMIT: usize = 256;
+
+/// Why a row was not added. The table is as before.
+#[derive(Clone, Copy, Debug, PartialEq, Eq)]
+pub enum TableFault {
+    /// Memory was refused.
+    OutOfMemory,
+    /// The session or channel that the row names doesn't stand.
+    Missing,
+    /// There are as many such rows as there may be.
+    Full,
+}
+
+/// The rows of clients, each list in the order in which they were added.
+#[derive(Debug, Drop)]
+pub struct Table {
+    sessions: Vec<Session>,
+    channels: Vec<Channel>,
+    reads: Vec<WaitingRead>,
+}
+
+impl Model for Table {
+    ghost use Rattle.channel_table.specs.ClientRows.{ClientRows};
+
+    ghost Value = { ClientRows };
+
+    ghost view = { λ t. record {
+      sessions = t.sessions.items;
+      channels = t.channels.items;
+      reads = t.reads.items;
+    } };
+}
+
+impl Table {
+    /// No row.
+    pub fn new(alloc: Global) -> Table
+        ensures { result ≡ record { sessions = []; channels = []; reads = [] } }
+    {
+        Table {
+            sessions: Vec::new(alloc),
+            channels: Vec::new(alloc),
+            reads: Vec::new(alloc),
+        }
+    }
+
+    /// All sessions, in the order in which they were added.
+    pub fn sessions(&self) -> &[Session]
+        ensures { result.now ≡ self.now.sessions }
+    {
+        &self.sessions
+    }
+
+    /// All channels, in the order in which they were added.
+    pub fn channels(&self) -> &[Channel]
+        ensures { result.now ≡ self.now.channels }
+    {
+        &self.channels
+    }
+
+    /// All waiting reads, in the order in which they were added.
+    pub fn reads(&self) -> &[WaitingRead]
+        ensures { result.now ≡ self.now.reads }
+    {
+        &self.reads
+    }
+
+    /// The session of this number.
+    pub fn session(&self, number: u32) -> Option<&Session>
+        ensures { option_copied result ≡ find (is_numbered number) self.now.sessions }
+    {
+        sessions::find(&self.sessions, number)
+    }
+
+    /// The session's channel of this ID.
+    pub fn channel(&self, session: u32, sid: u32) -> Option<&Channel>
+        ensures { option_copied result ≡ find (is_channel session sid) self.now.channels }
+    {
+        channels::find(&self.channels, session, sid)
+    }
+
+    /// How many channels of the session stand.
+    pub fn channel_count(&self, session: u32) -> usize
+        ensures { result ≡ channel_count session self.now }
+    {
+        channels::count(&self.channels, session)
+    }
+
+    /// How many reads of the session wait.
+    pub fn read_count(&self, session: u32) -> usize
+        ensures { result ≡ read_count session self.now }
+    {
+        reads::count(&self.reads, session)
+    }
+
+    /// Adds a session. The caller sees to it that none of its number stands.
+    pub fn add_session(&mut self, session: Session) -> Result<(), TableFault>
+        ensures ok { OnOk result (self.new ≡ record self.old { sessions = self.old.sessions ++ session ∷ [] }) }
+        ensures room { OnOk result (length self.old.sessions < SESSION_LIMIT) }
+        ensures missing { result ≢ Err TableFault.Missing }
+        ensures full { IsErrOf result TableFault.Full ↔ (SESSION_LIMIT ≤ length self.old.sessions) }
+        ensures err { OnErr result (self.new ≡ self.old) }
+    {
+        if self.sessions.len() >= SESSION_LIMIT {
+            return Err(TableFault::Full);
+        }
+        match self.sessions.push(session) {
+            Ok(()) => Ok(()),
+            Err(_) => Err(TableFault::OutOfMemory),
+        }
+    }
+
+    /// Adds a channel to the session that it names. The caller sees to it that none of its ID stands
+    /// there.
+    pub fn add_channel(&mut self, channel: Channel) -> Result<(), TableFault>
+        ensures ok { OnOk result (self.new ≡ record self.old { channels = self.old.channels ++ channel ∷ [] }) }
+        ensures there { OnOk result (has_session channel.session self.old ≡ true) }
+        ensures room { OnOk result (channel_count channel.session self.old < CHANNEL_LIMIT) }
+        ensures missing { IsErrOf result TableFault.Missing ↔
+            (has_session channel.session self.old ≡ false) }
+        ensures full { IsErrOf result TableFault.Full ↔
+            ((has_session channel.session self.old ≡ true)
+            × (CHANNEL_LIMIT ≤ channel_count channel.session self.old)) }
+        ensures err { OnErr result (self.new ≡ self.old) }
+    {
+        if !sessions::stands(&self.sessions, channel.session) {
+            return Err(TableFault::Missing);
+        }
+        if channels::count(&self.channels, channel.session) >= CHANNEL_LIMIT {
+            return Err(TableFault::Full);
+        }
+        match self.channels.push(channel) {
+            Ok(()) => Ok(()),
+            Err(_) => Err(TableFault::OutOfMemory),
+        }
+    }
+
+    /// Adds a read to the channel that it names. An equal one may wait there.
+    pub fn add_read(&mut self, read: WaitingRead) -> Result<(), TableFault>
+        ensures ok { OnOk result (self.new ≡ record self.old { reads = self.old.reads ++ read ∷ [] }) }
+        ensures there { OnOk result (has_channel read.session read.sid self.old ≡ true) }
+        ensures room { OnOk result (read_count read.session self.old < READ_LIMIT) }
+        ensures missing { IsErrOf result TableFault.Missing ↔
+            (has_channel read.session read.sid self.old ≡ false) }
+        ensures full { IsErrOf result TableFault.Full ↔
+            ((has_channel read.session read.sid self.old ≡ true)
+            × (READ_LIMIT ≤ read_count read.session self.old)) }
+        ensures err { OnErr result (self.new ≡ self.old) }
+    {
+        if !channels::stands(&self.channels, read.session, read.sid) {
+            return Err(TableFault::Missing);
+        }
+        if reads::count(&self.reads, read.session) >= READ_LIMIT {
+            return Err(TableFault::Full);
+        }
+        match self.reads.push(read) {
+            Ok(()) => Ok(()),
+            Err(_) => Err(TableFault::OutOfMemory),
+        }
+    }
+
+    /// Changes a session that stands: its host, whether that stays, and whether it wants no updates.
+    pub fn put_session(&mut self, number: u32, host: Host, host_fixed: bool, paused: bool)
+        ensures { self.new ≡ record self.old {
+          sessions = change_first
+              (is_numbered number) (with_host_and_pause host host_fixed paused) self.old.sessions;
+        } }
+    {
+        sessions::put(&mut self.sessions, number, host, host_fixed, paused);
+    }
+
+    /// Changes a channel that stands: its reach and the rights last told.
+    pub fn put_channel(&mut self, session: u32, sid: u32, reach: u32, rights: u32)
+        ensures { self.new ≡ record self.old {
+          channels = change_first
+              (is_channel session sid) (with_reach_and_rights reach rights) self.old.channels;
+        } }
+    {
+        channels::put(&mut self.channels, session, sid, reach, rights);
+    }
+
+    /// Removes a session with its channels and reads.
+    pub fn remove_session(&mut self, number: u32)
+        ensures { self.new ≡ record {
+          sessions = filter (is_not_numbered number) self.old.sessions;
+          channels = filter (is_not_channel_of number) self.old.channels;
+          reads = filter (is_not_read_of number) self.old.reads;
+        } }
+    {
+        sessions::remove(&mut self.sessions, number);
+        channels::remove_of(&mut self.channels, number);
+        reads::remove_of(&mut self.reads, number);
+    }
+
+    /// Removes a channel with its reads.
+    pub fn remove_channel(&mut self, session: u32, sid: u32)
+        ensures { self.new ≡ record self.old {
+          channels = filter (is_not_channel session sid) self.old.channels;
+          reads = filter (is_not_read_on session sid) self.old.reads;
+        } }
+    {
+        channels::remove(&mut self.channels, session, sid);
+        reads::remove_on(&mut self.reads, session, sid);
+    }
+
+    /// Removes a read, the first of those that are equal.
+    pub fn remove_read(&mut self, read: &WaitingRead)
+        ensures { self.new ≡ record self.old { reads = remove_first (same_read read.now) self.old.reads } }
+    {
+        reads::remove(&mut self.reads, read);
+    }
+}
