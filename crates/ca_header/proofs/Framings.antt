@@ -1,7 +1,7 @@
 -- The framing of a whole stream: it is one, and the calls of `Frames` and `Intake` give it.
-use Rattle.std.proofs.Common.{◌≡◌, ℕ, ◌+◌, List, [], ◌∷◌, ◌++◌, length, take, Some, Ok, refl, sym, ap, subst, ◌∙◌, append_assoc}
+use Rattle.std.proofs.Common.{◌≡◌, ℕ, ◌+◌, List, [], ◌∷◌, ◌++◌, length, take, Some, Ok, refl, sym, ap, subst, ◌∙◌, append_assoc, ◌<◌, zero, suc, arith, inl, inr}
 use Rattle.std.proofs.Math.Seq.{take-append_seam, drop-append_seam}
-use Rattle.std.proofs.lemmas.List.{append-nil}
+use Rattle.std.proofs.lemmas.List.{append-nil, length-append}
 use Rattle.ca_header.specs.declared.frames.Frame.{Frame}
 use Rattle.ca_header.specs.declared.frames.Frame.TheVariants as frames
 use Rattle.ca_header.specs.declared.header.Header.{Header}
@@ -13,7 +13,7 @@ use Rattle.ca_header.specs.Frames.{AreNext, IsNext, ending_in, messages_in}
 use Rattle.ca_header.specs.Framing.{Ending, Ends, Fault, IsFramed, Rest}
 use Rattle.ca_header.specs.Intake.{Fed, Happening, IsTake, LeadsTo, Taken, ending_at, fed, taken}
 use Rattle.ca_header.specs.Reading.{after_first, first_message, front_at}
-use Rattle.ca_header.specs.Spelling.{AreSpelled, IsBytes}
+use Rattle.ca_header.specs.Spelling.{AreSpelled, IsBytes, IsSpelling}
 use Rattle.ca_header.proofs.Fields.{IsBytes-drop, IsBytes-take}
 use Rattle.ca_header.proofs.Fronts.{faulty-front_at, front_at-faulty, partial-front_at}
 use Rattle.ca_header.proofs.Messages.{IsCut, IsFound, cut-front_at, found-spelled, front_at-partial}
@@ -226,3 +226,39 @@ framed-intake happenings held end fits leads e =
       ends = ends-at held (front_at held) end (IsBytes-back on.whole held (subst IsBytes on.parts fits)) refl e;
       parts = on.parts;
     }
+
+-- ---- each stream has a framing
+
+IsSpelling-long : (h : Header) (head : List ℕ) → IsSpelling h head → 0 < length head
+IsSpelling-long h head spelling =
+    elim spelling.1 as (λ _. 0 < length head) [
+      | inl plain ↦ subst (λ (t : List ℕ). 0 < length t) (sym plain.1) (omega arith)
+      | inr extended ↦ subst (λ (t : List ℕ). 0 < length t) (sym extended) (omega arith)
+    ]
+
+abbrev HasFraming : List ℕ → Type 0
+HasFraming stream = (ms : List Message) × (end : Ending) × IsFramed stream ms end
+
+framing_by : (fuel : ℕ) (stream : List ℕ) (found : Front) → length stream < suc fuel → IsBytes stream → front_at stream ≡ found
+    → ((rest : List ℕ) → length rest < fuel → IsBytes rest → HasFraming rest) → HasFraming stream
+framing_by fuel stream (fronts.Whole h n) short fits is next =
+    let m = first_message h n stream in
+    let rest = after_first h n stream in
+    let cut = cut-front_at stream h n fits is in
+    let head_long = IsSpelling-long h cut.spelled.head cut.spelled.spelling in
+    let text_len : length cut.text ≡ length cut.spelled.head + length m.payload = ap length cut.spelled.parts ∙ length-append cut.spelled.head m.payload in
+    let lens : length stream ≡ length cut.text + length rest = ap length cut.parts ∙ length-append cut.text rest in
+    let more = next rest (omega arith) (IsBytes-drop (n + h.size) stream fits) in
+    (m ∷ more.0, more.1, more-framed stream m rest more.0 more.1 cut more.2)
+framing_by fuel stream fronts.Partial short fits is next =
+    ([], Rest stream, ends-framed stream (Rest stream) (ends-at stream fronts.Partial (Rest stream) fits is refl))
+framing_by fuel stream (fronts.Fault f) short fits is next =
+    ([], Fault f, ends-framed stream (Fault f) (ends-at stream (fronts.Fault f) (Fault f) fits is refl))
+
+framing_within : (fuel : ℕ) (stream : List ℕ) → length stream < fuel → IsBytes stream → HasFraming stream
+framing_within zero stream short fits = absurd (omega arith)
+framing_within (suc fuel) stream short fits =
+    framing_by fuel stream (front_at stream) short fits refl (λ rest shorter all. framing_within fuel rest shorter all)
+
+pub framing_of : (stream : List ℕ) → IsBytes stream → (ms : List Message) × (end : Ending) × IsFramed stream ms end
+framing_of stream fits = framing_within (length stream + 1) stream (omega arith) fits

@@ -114,7 +114,7 @@ fn cut_payload(held: &mut BytesMut, len: usize, size: usize) -> Result<Bytes, Al
     requires fits { len + size < 2 ^ 63 }
     ensures ok { IfOk result (λ payload. payload ≡ take size (drop len held.old.items)) }
     ensures rest { OnOk result (held.new.items ≡ drop (len + size) held.old.items) }
-    ensures err { OnErr result (held.new.items ≡ held.old.items) }
+    ensures err { OnErr result ((0 < size) × (held.new.items ≡ held.old.items)) }
 {
     if size == 0 {
         held.advance(len);

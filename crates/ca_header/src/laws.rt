@@ -61,6 +61,12 @@ pub fn framing_is_unique()
         → IsFramed stream ms end → IsFramed stream ns other → (ms ≡ ns) × (end ≡ other) }
 {}
 
+/// Every stream can be cut into messages in one way.
+pub fn every_stream_has_a_framing()
+    ensures { (stream : List ℕ) → IsBytes stream
+        → (messages : List Message) × (end : Ending) × IsFramed stream messages end }
+{}
+
 /// What `Frames::next` gives, up to a frame that is no message, is the framing of the bytes.
 pub fn frames_are_the_framing()
     ensures { (bytes : List ℕ) (frames : List Frame) (last : Frame) (end : Ending) → IsBytes bytes
