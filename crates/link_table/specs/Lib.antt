@@ -1,0 +1,4 @@
+pub mod Counters
+pub mod LinkRows
+pub mod Links
+pub mod Servers
