@@ -8,6 +8,8 @@ mod channels;
 mod reads;
 mod sessions;
 mod table;
+#[cfg(test)]
+mod tests;
 
 pub use channels::Channel;
 pub use reads::WaitingRead;

@@ -1,0 +1,170 @@
+//! Tables that are filled and emptied.
+use crate::{Channel, Session, Table, TableFault, WaitingRead};
+use pv_name::{Host, Name, NameFault};
+use std::alloc::Global;
+use std::test::Fail;
+
+fn session(alloc: Global, number: u32) -> Result<Session, NameFault> {
+    Ok(Session {
+        number,
+        host: Host::read(alloc, b"10.0.0.5")?,
+        host_fixed: false,
+        paused: false,
+    })
+}
+
+fn channel(alloc: Global, session: u32, sid: u32) -> Result<Channel, NameFault> {
+    Ok(Channel {
+        session,
+        sid,
+        cid: 7,
+        asked: Name::read(alloc, b"A:SET")?,
+        real: Name::read(alloc, b"A:SP")?,
+        reach: 0,
+        rights: 3,
+    })
+}
+
+fn read(session: u32, sid: u32, ioid: u32) -> WaitingRead {
+    WaitingRead {
+        session,
+        sid,
+        dtype: 5,
+        count: 1,
+        ioid,
+    }
+}
+
+/// Sessions 1 and 2, of which 1 has channels 11 and 12 and 2 has channel 21, each with a read.
+fn two_clients(alloc: Global) -> Result<Table, Fail> {
+    let mut table = Table::new(alloc);
+    for number in [1, 2] {
+        table.add_session(session(alloc, number)?)?;
+    }
+    for (number, sid) in [(1, 11), (1, 12), (2, 21)] {
+        table.add_channel(channel(alloc, number, sid)?)?;
+        table.add_read(read(number, sid, sid))?;
+    }
+    Ok(table)
+}
+
+#[test]
+fn a_row_that_is_added_is_found(rt: HostRuntime) -> Result<(), Fail> {
+    let table = two_clients(rt.alloc())?;
+    assert_eq!(rt;
+        table.session(2).map(|row| row.host.text()),
+        Some("10.0.0.5")
+    );
+    assert_eq!(rt; table.session(3).is_none(), true);
+    assert_eq!(rt;
+        table.channel(1, 12).map(|row| row.real.text()),
+        Some("A:SP")
+    );
+    assert_eq!(rt; table.channel(2, 12).is_none(), true);
+    assert_eq!(rt; table.sessions().len(), 2);
+    assert_eq!(rt; table.channels().len(), 3);
+    assert_eq!(rt;
+        table.reads(),
+        [read(1, 11, 11), read(1, 12, 12), read(2, 21, 21)].as_slice()
+    );
+    assert_eq!(rt; table.channel_count(1), 2);
+    assert_eq!(rt; table.read_count(2), 1);
+    Ok(())
+}
+
+#[test]
+fn a_row_that_is_put_is_changed(rt: HostRuntime) -> Result<(), Fail> {
+    let alloc = rt.alloc();
+    let mut table = two_clients(alloc)?;
+    table.put_session(2, Host::read(alloc, b"desk1")?, true, true);
+    table.put_session(3, Host::read(alloc, b"desk2")?, true, true);
+    table.put_channel(1, 12, 20, 1);
+    table.put_channel(2, 12, 30, 1);
+    for (row, want) in table
+        .sessions()
+        .iter()
+        .zip([("10.0.0.5", false), ("desk1", true)])
+    {
+        let found = (row.host.text(), row.paused);
+        assert_eq!(rt; found, want);
+        assert_eq!(rt; row.host_fixed, row.paused);
+    }
+    for (row, want) in table.channels().iter().zip([(0, 3), (20, 1), (0, 3)]) {
+        assert_eq!(rt; (row.reach, row.rights), want);
+    }
+    Ok(())
+}
+
+#[test]
+fn a_session_leaves_with_its_channels_and_reads(rt: HostRuntime) -> Result<(), Fail> {
+    let mut table = two_clients(rt.alloc())?;
+    table.remove_session(1);
+    assert_eq!(rt; table.session(1).is_none(), true);
+    assert_eq!(rt; table.sessions().len(), 1);
+    assert_eq!(rt; table.channels().len(), 1);
+    assert_eq!(rt; table.reads(), [read(2, 21, 21)].as_slice());
+    Ok(())
+}
+
+#[test]
+fn a_channel_leaves_with_its_reads(rt: HostRuntime) -> Result<(), Fail> {
+    let mut table = two_clients(rt.alloc())?;
+    table.remove_channel(1, 11);
+    assert_eq!(rt; table.channel(1, 11).is_none(), true);
+    assert_eq!(rt; table.channels().len(), 2);
+    assert_eq!(rt;
+        table.reads(),
+        [read(1, 12, 12), read(2, 21, 21)].as_slice()
+    );
+    Ok(())
+}
+
+#[test]
+fn the_first_of_equal_reads_leaves(rt: HostRuntime) -> Result<(), Fail> {
+    let mut table = two_clients(rt.alloc())?;
+    table.add_read(read(1, 11, 11))?;
+    table.remove_read(&read(1, 11, 11));
+    table.remove_read(&read(1, 11, 99));
+    assert_eq!(rt;
+        table.reads(),
+        [read(1, 12, 12), read(2, 21, 21), read(1, 11, 11)].as_slice()
+    );
+    Ok(())
+}
+
+#[test]
+fn a_row_without_its_session_or_channel_is_refused(rt: HostRuntime) -> Result<(), Fail> {
+    let alloc = rt.alloc();
+    let mut table = two_clients(alloc)?;
+    let refused = table.add_channel(channel(alloc, 3, 31)?);
+    assert_eq!(rt; refused, Err(TableFault::Missing));
+    assert_eq!(rt; table.add_read(read(2, 11, 1)), Err(TableFault::Missing));
+    Ok(())
+}
+
+#[test]
+fn the_row_past_each_limit_is_refused(rt: HostRuntime) -> Result<(), Fail> {
+    let alloc = rt.alloc();
+    let mut table = Table::new(alloc);
+    for number in 0..1_024 {
+        table.add_session(session(alloc, number)?)?;
+    }
+    assert_eq!(rt;
+        table.add_session(session(alloc, 1_024)?),
+        Err(TableFault::Full)
+    );
+    for sid in 0..4_096 {
+        table.add_channel(channel(alloc, 1, sid)?)?;
+    }
+    assert_eq!(rt;
+        table.add_channel(channel(alloc, 1, 4_096)?),
+        Err(TableFault::Full)
+    );
+    assert_eq!(rt; table.add_channel(channel(alloc, 2, 4_096)?), Ok(()));
+    for ioid in 0..256 {
+        table.add_read(read(1, 9, ioid))?;
+    }
+    assert_eq!(rt; table.add_read(read(1, 9, 0)), Err(TableFault::Full));
+    assert_eq!(rt; table.add_read(read(2, 4_096, 0)), Ok(()));
+    Ok(())
+}
