@@ -1,0 +1,2 @@
+mod OutputLemmas
+mod WordsLemmas
