@@ -9,8 +9,8 @@ use Rattle.ca_header.specs.Framing.{Ending}
 use Rattle.ca_header.specs.Framing as endings
 use Rattle.ca_header.specs.Reading.{after_first, first_message, front_at}
 
--- what `take` gives, from what stands at the front of the bytes held, and what it leaves of them; a message without a
--- payload needs no memory
+-- what `take` gives, from what stands at the front of the bytes held, and what it leaves of them; it takes memory for a
+-- payload alone
 abbrev pub IsTake : List ℕ → Front → Result (Option Message) IntakeFault → List ℕ → Type 0
 IsTake old (Whole h n) (Ok (Some m)) new = (m ≡ first_message h n old) × (new ≡ after_first h n old)
 IsTake old (Whole h n) (Err OutOfMemory) new = (0 < h.size) × (new ≡ old)

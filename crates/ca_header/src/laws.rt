@@ -6,7 +6,7 @@ ghost use Rattle.ca_header.specs.declared.header.Message.{Message};
 ghost use Rattle.ca_header.specs.declared.reading.FrameFault.{FrameFault};
 ghost use Rattle.ca_header.specs.Frames.{AreNext, ending_in, messages_in};
 ghost use Rattle.ca_header.specs.Framing.{Ending, IsFaulty, IsFramed, IsPartHead, IsPartial};
-ghost use Rattle.ca_header.specs.Header.{canonical_header};
+ghost use Rattle.ca_header.specs.Header.{canonical_header, message_text};
 ghost use Rattle.ca_header.specs.Intake.{Happening, LeadsTo, ending_at, fed, taken};
 ghost use Rattle.ca_header.specs.Reading.{front_at, head_at, refused};
 ghost use Rattle.ca_header.specs.Spelling.{AreSpelled, BeginsWith, IsBytes, IsHeader, IsSpelled, IsWellFormed};
@@ -65,6 +65,12 @@ pub fn framing_is_unique()
 pub fn every_stream_has_a_framing()
     ensures { (stream : List ℕ) → IsBytes stream
         → (messages : List Message) × (end : Ending) × IsFramed stream messages end }
+{}
+
+/// A message that is sent is one of the spellings of that message.
+pub fn message_text_is_a_spelling()
+    ensures { (m : Message) → IsHeader m.head → IsWellFormed m.head → length m.payload ≡ m.head.size
+        → IsSpelled m (message_text m) }
 {}
 
 /// What `Frames::next` gives, up to a frame that is no message, is the framing of the bytes.
