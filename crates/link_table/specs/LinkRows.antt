@@ -1,7 +1,10 @@
 -- The value of the table of servers and links.
-use Rattle.std.specs.Prelude.{ℕ, List}
-use Rattle.link_table.specs.declared.link.Link.{Link}
-use Rattle.link_table.specs.declared.server.Server.{Server}
+use Rattle.std.specs.Prelude.{ℕ, List, Bool}
+use Rattle.std.specs.List.{list_any}
+use Rattle.link_table.specs.declared.links.Link.{Link}
+use Rattle.link_table.specs.declared.servers.Server.{Server}
+use Rattle.link_table.specs.Links.{is_link}
+use Rattle.link_table.specs.Servers.{is_server}
 
 -- the next number of each counter
 pub record Counters : Type 0 where
@@ -15,3 +18,11 @@ pub record LinkRows : Type 0 where
   pub servers : List Server
   pub links : List Link
   pub counters : Counters
+
+-- whether the server stands
+abbrev pub has_server : ℕ → LinkRows → Bool
+has_server number rows = list_any (is_server number) rows.servers
+
+-- whether the link of this server with this ID stands
+abbrev pub has_link : ℕ → ℕ → LinkRows → Bool
+has_link server cid rows = list_any (is_link server cid) rows.links

@@ -1,8 +1,8 @@
 -- The rows of links.
 use Rattle.std.specs.Prelude.{ℕ, List, Bool, false, not, ◌&&◌, ◌==◌, bytes_eq, Option, Some, None}
-use Rattle.link_table.specs.declared.link.Link.{Link}
-use Rattle.link_table.specs.declared.link.LinkState.{LinkState}
-use Rattle.link_table.specs.declared.link.Subscription.{Subscription}
+use Rattle.link_table.specs.declared.links.Link.{Link}
+use Rattle.link_table.specs.declared.links.LinkState.{LinkState}
+use Rattle.link_table.specs.declared.links.Subscription.{Subscription}
 
 -- a link of this server
 abbrev pub is_of : ℕ → Link → Bool

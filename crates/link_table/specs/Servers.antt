@@ -1,6 +1,6 @@
 -- The rows of servers.
 use Rattle.std.specs.Prelude.{ℕ, Bool, not, ◌==◌}
-use Rattle.link_table.specs.declared.server.Server.{Server}
+use Rattle.link_table.specs.declared.servers.Server.{Server}
 
 -- the row of this server
 abbrev pub is_server : ℕ → Server → Bool

@@ -6,15 +6,13 @@
 #![tactic(auto)]
 
 mod counter;
-mod link;
-mod link_rows;
 mod links;
-mod server;
-mod server_rows;
+mod servers;
+mod table;
 #[cfg(test)]
 mod tests;
 
 pub use counter::{Counter, LAST_NUMBER};
-pub use link::{LINK_LIMIT, Link, LinkState, Subscription};
-pub use links::{Links, TableFault};
-pub use server::{SERVER_LIMIT, Server};
+pub use links::{Link, LinkState, Subscription};
+pub use servers::Server;
+pub use table::{LINK_LIMIT, Links, SERVER_LIMIT, TableFault};

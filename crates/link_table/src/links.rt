@@ -1,197 +1,136 @@
-//! The table of servers and links.
-ghost use Rattle.std.specs.Prelude.{◌≡◌, ◌≤◌, ◌<◌, ◌↔◌, [], ◌∷◌, ◌++◌, length, slice_get, OnOk, OnErr, OnSome, IsErrOf, IsNone, IsSome, IfSome, IfNone};
-ghost use Rattle.std.specs.List.{filter, find};
+//! Rows of links.
+ghost use Rattle.std.specs.Prelude.{◌≡◌};
+ghost use Rattle.std.specs.List.{list_any, filter, find, position};
 ghost use Rattle.std.specs.Option.{option_copied};
 ghost use Rattle.rows.specs.Rows.{change_first};
-ghost use Rattle.link_table.specs.declared.counter.TheConstants.{LAST_NUMBER};
-ghost use Rattle.link_table.specs.Servers.{is_server, is_not_server, with_minor};
-ghost use Rattle.link_table.specs.Links.{is_link, is_not_link, is_not_of, is_named, has_subscription, with_state, with_subscription};
-ghost use Rattle.link_table.specs.Counters.{AreBounded, all_at, counter_of, raised};
+ghost use Rattle.link_table.specs.Links.{has_id, is_link, is_not_link, is_not_of, is_named, has_subscription, with_state, with_subscription};
 
-use crate::counter::{Counter, NextNumbers};
-use crate::link::{LINK_LIMIT, Link, LinkState, Subscription};
-use crate::server::{SERVER_LIMIT, Server};
-use crate::{link_rows, server_rows};
 use pv_name::Name;
-use std::alloc::Global;
-use std::marker::Model;
 
-/// Why a row was not added or changed. The table is as before.
-#[derive(Clone, Copy, Debug, PartialEq, Eq)]
-pub enum TableFault {
-    /// Memory was refused.
-    OutOfMemory,
-    /// A row that this one names doesn't stand.
-    Missing,
-    /// There are as many such rows as there may be.
-    Full,
-}
-
-/// Servers and links, each list in the order in which they were added, and the next numbers.
+/// The gateway's channel on one server, for one process variable.
 #[derive(Debug, Drop)]
-pub struct Links {
-    servers: Vec<Server>,
-    links: Vec<Link>,
-    next: NextNumbers,
+pub struct Link {
+    /// The gateway's ID of the channel.
+    pub cid: u32,
+    /// The number of its server.
+    pub server: u32,
+    /// The variable's name on the server.
+    pub name: Name,
+    pub state: LinkState,
+    /// The access rights that the server told: bit 0 to read, bit 1 to write.
+    pub rights: u32,
+    /// The present data subscription.
+    pub subscription: Option<Subscription>,
 }
 
-impl Model for Links {
-    ghost use Rattle.link_table.specs.LinkRows.{LinkRows};
-
-    ghost Value = { LinkRows };
-
-    ghost view = { λ l. record { servers = l.servers.items; links = l.links.items; counters = l.next } };
+/// How far a link has come.
+#[derive(Clone, Copy, Debug, PartialEq, Eq)]
+pub enum LinkState {
+    /// The server was asked for the channel.
+    Creating,
+    /// The server made the channel.
+    Connected {
+        /// The server's ID of the channel.
+        sid: u32,
+        /// The native DBR type.
+        dtype: u16,
+        /// The native element count.
+        count: u32,
+    },
+    /// The server made a channel that the gateway can't use.
+    Unusable,
 }
 
-impl Links {
-    /// No row, and each number given out from `first` on.
-    pub fn new(alloc: Global, first: u32) -> Links
-        ensures { result ≡ record { servers = []; links = []; counters = all_at first } }
-    {
-        Links {
-            servers: Vec::new(alloc),
-            links: Vec::new(alloc),
-            next: NextNumbers::new(first),
-        }
-    }
+/// The data subscription of a link.
+#[derive(Clone, Copy, Debug, PartialEq, Eq)]
+pub struct Subscription {
+    /// The gateway's ID of it.
+    pub id: u32,
+    /// The events that are reported.
+    pub mask: u32,
+    /// How many elements an update has at most.
+    pub count: u32,
+    /// The count field as it was sent.
+    pub sent: u32,
+}
 
-    /// The server of this number.
-    pub fn server(&self, number: u32) -> Option<&Server>
-        ensures { option_copied result ≡ find (is_server number) self.now.servers }
-    {
-        server_rows::find(&self.servers, number)
-    }
+pub(crate) fn stands(rows: &[Link], server: u32, cid: u32) -> bool
+    ensures { result ≡ list_any (is_link server cid) rows.now }
+{
+    rows.iter()
+        .any(|row| row.server == server && row.cid == cid)
+}
 
-    /// The link of this server with this CID.
-    pub fn by_cid(&self, server: u32, cid: u32) -> Option<&Link>
-        ensures { option_copied result ≡ find (is_link server cid) self.now.links }
-    {
-        link_rows::by_cid(&self.links, server, cid)
-    }
+pub(crate) fn by_cid(rows: &[Link], server: u32, cid: u32) -> Option<&Link>
+    ensures { option_copied result ≡ find (is_link server cid) rows.now }
+{
+    rows.iter()
+        .find(|row| row.server == server && row.cid == cid)
+}
 
-    /// The link for the variable of this name.
-    pub fn by_name(&self, name: &Name) -> Option<&Link>
-        ensures { option_copied result ≡ find (is_named name.now) self.now.links }
-    {
-        link_rows::by_name(&self.links, name)
-    }
+pub(crate) fn by_name<'a>(rows: &'a [Link], name: &Name) -> Option<&'a Link>
+    ensures { option_copied result ≡ find (is_named name.now) rows.now }
+{
+    rows.iter().find(|row| row.name == *name)
+}
 
-    /// The link of this server whose present subscription has this ID.
-    pub fn by_sub(&self, server: u32, id: u32) -> Option<&Link>
-        ensures { option_copied result ≡ find (has_subscription server id) self.now.links }
-    {
-        link_rows::by_sub(&self.links, server, id)
-    }
+pub(crate) fn by_sub(rows: &[Link], server: u32, id: u32) -> Option<&Link>
+    ensures { option_copied result ≡ find (has_subscription server id) rows.now }
+{
+    rows.iter()
+        .find(|row| row.server == server && has_id(row.subscription, id))
+}
 
-    /// The n-th link, counted from 0 in the order of adding. Since CIDs rise, this is their order.
-    pub fn link(&self, n: usize) -> Option<&Link>
-        ensures { option_copied result ≡ slice_get self.now.links n }
-    {
-        self.links.get(n)
+fn has_id(subscription: Option<Subscription>, id: u32) -> bool
+    ensures { result ≡ has_id id subscription }
+{
+    match subscription {
+        Some(subscription) => subscription.id == id,
+        None => false,
     }
+}
 
-    /// How many links stand.
-    pub fn link_count(&self) -> usize
-        ensures { result ≡ length self.now.links }
-    {
-        self.links.len()
-    }
+fn place_of(rows: &[Link], server: u32, cid: u32) -> Option<usize>
+    ensures { result ≡ position (is_link server cid) rows.now }
+{
+    rows.iter()
+        .position(|row| row.server == server && row.cid == cid)
+}
 
-    /// Adds a server. The caller sees to it that none of its number stands.
-    pub fn add_server(&mut self, server: Server) -> Result<(), TableFault>
-        ensures ok { OnOk result (self.new ≡ record self.old { servers = self.old.servers ++ server ∷ [] }) }
-        ensures room { OnOk result (length self.old.servers < SERVER_LIMIT) }
-        ensures full { IsErrOf result TableFault.Full ↔ (SERVER_LIMIT ≤ length self.old.servers) }
-        ensures none_missing { ¬ IsErrOf result TableFault.Missing }
-        ensures err { OnErr result (self.new ≡ self.old) }
-    {
-        if self.servers.len() >= SERVER_LIMIT {
-            return Err(TableFault::Full);
-        }
-        match self.servers.push(server) {
-            Ok(()) => Ok(()),
-            Err(_) => Err(TableFault::OutOfMemory),
-        }
+#[tactic(auto, using(rows::proofs::RowLemmas::set_is_change_first, rows::proofs::RowLemmas::change_first_none))]
+pub(crate) fn put(rows: &mut Vec<Link>, server: u32, cid: u32, state: LinkState, rights: u32)
+    ensures { rows.new.items ≡ change_first (is_link server cid) (with_state state rights) rows.old.items }
+{
+    if let Some(place) = place_of(rows, server, cid) {
+        let row = &mut rows[place];
+        row.state = state;
+        row.rights = rights;
     }
+}
 
-    /// Adds a link. The caller sees to it that none of its CID and none for its name stands.
-    pub fn add_link(&mut self, link: Link) -> Result<(), TableFault>
-        ensures ok { OnOk result (self.new ≡ record self.old { links = self.old.links ++ link ∷ [] }) }
-        ensures room { OnOk result (length self.old.links < LINK_LIMIT) }
-        ensures missing { IsErrOf result TableFault.Missing ↔ IsNone (find (is_server link.server) self.old.servers) }
-        ensures full { IsErrOf result TableFault.Full ↔ (IsSome (find (is_server link.server) self.old.servers) × (LINK_LIMIT ≤ length self.old.links)) }
-        ensures err { OnErr result (self.new ≡ self.old) }
-    {
-        if self.server(link.server).is_none() {
-            return Err(TableFault::Missing);
-        }
-        if self.links.len() >= LINK_LIMIT {
-            return Err(TableFault::Full);
-        }
-        match self.links.push(link) {
-            Ok(()) => Ok(()),
-            Err(_) => Err(TableFault::OutOfMemory),
-        }
+#[tactic(auto, using(rows::proofs::RowLemmas::set_is_change_first, rows::proofs::RowLemmas::change_first_none))]
+pub(crate) fn set_sub(
+    rows: &mut Vec<Link>,
+    server: u32,
+    cid: u32,
+    subscription: Option<Subscription>,
+)
+    ensures { rows.new.items ≡ change_first (is_link server cid) (with_subscription subscription) rows.old.items }
+{
+    if let Some(place) = place_of(rows, server, cid) {
+        let row = &mut rows[place];
+        row.subscription = subscription;
     }
+}
 
-    /// Keeps the minor version that a server said.
-    pub fn put_server(&mut self, number: u32, minor: u32)
-        ensures { self.new ≡ record self.old { servers = change_first (is_server number) (with_minor minor) self.old.servers } }
-    {
-        server_rows::put(&mut self.servers, number, minor);
-    }
+pub(crate) fn remove(rows: &mut Vec<Link>, server: u32, cid: u32)
+    ensures { rows.new.items ≡ filter (is_not_link server cid) rows.old.items }
+{
+    rows.retain(|row| !(row.server == server && row.cid == cid));
+}
 
-    /// Keeps how far a link has come, and its access rights.
-    pub fn put_link(&mut self, server: u32, cid: u32, state: LinkState, rights: u32)
-        ensures { self.new ≡ record self.old { links = change_first (is_link server cid) (with_state state rights) self.old.links } }
-    {
-        link_rows::put(&mut self.links, server, cid, state, rights);
-    }
-
-    /// Keeps the present subscription of a link, or that it has none. The caller sees to it that
-    /// no other link has one of its ID.
-    pub fn set_sub(
-        &mut self,
-        server: u32,
-        cid: u32,
-        subscription: Option<Subscription>,
-    ) -> Result<(), TableFault>
-        ensures ok { OnOk result (self.new ≡ record self.old { links = change_first (is_link server cid) (with_subscription subscription) self.old.links }) }
-        ensures missing { IsErrOf result TableFault.Missing ↔ IsNone (find (is_link server cid) self.old.links) }
-        ensures never_full { ¬ IsErrOf result TableFault.Full }
-        ensures err { OnErr result (self.new ≡ self.old) }
-    {
-        if link_rows::set_sub(&mut self.links, server, cid, subscription) {
-            Ok(())
-        } else {
-            Err(TableFault::Missing)
-        }
-    }
-
-    /// Removes a server with its links.
-    pub fn remove_server(&mut self, number: u32)
-        ensures { self.new ≡ record self.old { servers = filter (is_not_server number) self.old.servers; links = filter (is_not_of number) self.old.links } }
-    {
-        server_rows::remove(&mut self.servers, number);
-        link_rows::remove_all_of(&mut self.links, number);
-    }
-
-    /// Removes a link.
-    pub fn remove_link(&mut self, server: u32, cid: u32)
-        ensures { self.new ≡ record self.old { links = filter (is_not_link server cid) self.old.links } }
-    {
-        link_rows::remove(&mut self.links, server, cid);
-    }
-
-    /// Gives out the next number of a counter. There is none past `LAST_NUMBER`, and then nothing
-    /// changes.
-    pub fn give_out(&mut self, counter: Counter) -> Option<u32>
-        ensures found { IfSome result (λ number. number ≡ counter_of counter self.old.counters) }
-        ensures raised { OnSome result (self.new ≡ record self.old { counters = raised counter self.old.counters }) }
-        ensures none { IsNone result ↔ (LAST_NUMBER < counter_of counter self.old.counters) }
-        ensures same { IfNone result (self.new ≡ self.old) }
-        ensures bounded { AreBounded self.old.counters }
-    {
-        self.next.give_out(counter)
-    }
+pub(crate) fn remove_of(rows: &mut Vec<Link>, server: u32)
+    ensures { rows.new.items ≡ filter (is_not_of server) rows.old.items }
+{
+    rows.retain(|row| row.server != server);
 }

@@ -1,7 +1,7 @@
 use Rattle.std.proofs.Common.{rules}
 use Rattle.std.proofs.lemmas.Fn.{filter_same}
 use Rattle.link_table.specs.Links.{is_not_of}
-use Rattle.link_table.proofs.link_rows.remove_all_of.Goals as goal
+use Rattle.link_table.proofs.links.remove_of.Goals as goal
 
 -- the closure answers the test and stays as it is
 pub returns : goal.returns

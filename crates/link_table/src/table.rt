@@ -1,0 +1,217 @@
+//! The table of servers and links.
+ghost use Rattle.std.specs.Prelude.{◌≡◌, ◌≢◌, ◌≤◌, ◌<◌, ◌↔◌, [], ◌∷◌, ◌++◌, length, true, false, Err, slice_get, OnOk, OnErr, OnSome, IsErrOf, IsNone, IfSome, IfNone};
+ghost use Rattle.std.specs.List.{filter, find};
+ghost use Rattle.std.specs.Option.{option_copied};
+ghost use Rattle.rows.specs.Rows.{change_first};
+ghost use Rattle.link_table.specs.declared.counter.TheConstants.{LAST_NUMBER};
+ghost use Rattle.link_table.specs.LinkRows.{has_server, has_link};
+ghost use Rattle.link_table.specs.Servers.{is_server, is_not_server, with_minor};
+ghost use Rattle.link_table.specs.Links.{is_link, is_not_link, is_not_of, is_named, has_subscription, with_state, with_subscription};
+ghost use Rattle.link_table.specs.Counters.{AreBounded, all_at, counter_of, raised};
+
+use crate::counter::{Counter, NextNumbers};
+use crate::links::{self, Link, LinkState, Subscription};
+use crate::servers::{self, Server};
+use pv_name::Name;
+use std::alloc::Global;
+use std::marker::Model;
+
+/// How many servers stand at most. One is enough as long as no name is searched for; it becomes 16
+/// with searches.
+pub const SERVER_LIMIT: usize = 1;
+
+/// How many links stand at most.
+pub const LINK_LIMIT: usize = 65_536;
+
+/// Why a row was not added or changed. The table is as before.
+#[derive(Clone, Copy, Debug, PartialEq, Eq)]
+pub enum TableFault {
+    /// Memory was refused.
+    OutOfMemory,
+    /// A row that this one names doesn't stand.
+    Missing,
+    /// There are as many such rows as there may be.
+    Full,
+}
+
+/// Servers and links, each list in the order in which they were added, and the next numbers.
+#[derive(Debug, Drop)]
+pub struct Links {
+    servers: Vec<Server>,
+    links: Vec<Link>,
+    next: NextNumbers,
+}
+
+impl Model for Links {
+    ghost use Rattle.link_table.specs.LinkRows.{LinkRows};
+
+    ghost Value = { LinkRows };
+
+    ghost view = { λ l. record {
+      servers = l.servers.items;
+      links = l.links.items;
+      counters = l.next;
+    } };
+}
+
+impl Links {
+    /// No row, and each number given out from `first` on.
+    pub fn new(alloc: Global, first: u32) -> Links
+        ensures { result ≡ record { servers = []; links = []; counters = all_at first } }
+    {
+        Links {
+            servers: Vec::new(alloc),
+            links: Vec::new(alloc),
+            next: NextNumbers::new(first),
+        }
+    }
+
+    /// The server of this number.
+    pub fn server(&self, number: u32) -> Option<&Server>
+        ensures { option_copied result ≡ find (is_server number) self.now.servers }
+    {
+        servers::find(&self.servers, number)
+    }
+
+    /// The link of this server with this CID.
+    pub fn by_cid(&self, server: u32, cid: u32) -> Option<&Link>
+        ensures { option_copied result ≡ find (is_link server cid) self.now.links }
+    {
+        links::by_cid(&self.links, server, cid)
+    }
+
+    /// The link for the variable of this name.
+    pub fn by_name(&self, name: &Name) -> Option<&Link>
+        ensures { option_copied result ≡ find (is_named name.now) self.now.links }
+    {
+        links::by_name(&self.links, name)
+    }
+
+    /// The link of this server whose present subscription has this ID.
+    pub fn by_sub(&self, server: u32, id: u32) -> Option<&Link>
+        ensures { option_copied result ≡ find (has_subscription server id) self.now.links }
+    {
+        links::by_sub(&self.links, server, id)
+    }
+
+    /// The n-th link, counted from 0 in the order of adding. Since CIDs rise, this is their order.
+    pub fn link(&self, n: usize) -> Option<&Link>
+        ensures { option_copied result ≡ slice_get self.now.links n }
+    {
+        self.links.get(n)
+    }
+
+    /// How many links stand.
+    pub fn link_count(&self) -> usize
+        ensures { result ≡ length self.now.links }
+    {
+        self.links.len()
+    }
+
+    /// Adds a server. The caller sees to it that none of its number stands.
+    pub fn add_server(&mut self, server: Server) -> Result<(), TableFault>
+        ensures ok { OnOk result (self.new ≡ record self.old { servers = self.old.servers ++ server ∷ [] }) }
+        ensures room { OnOk result (length self.old.servers < SERVER_LIMIT) }
+        ensures full { IsErrOf result TableFault.Full ↔ (SERVER_LIMIT ≤ length self.old.servers) }
+        ensures missing { result ≢ Err TableFault.Missing }
+        ensures err { OnErr result (self.new ≡ self.old) }
+    {
+        if self.servers.len() >= SERVER_LIMIT {
+            return Err(TableFault::Full);
+        }
+        match self.servers.push(server) {
+            Ok(()) => Ok(()),
+            Err(_) => Err(TableFault::OutOfMemory),
+        }
+    }
+
+    /// Adds a link. The caller sees to it that none of its CID and none for its name stands.
+    pub fn add_link(&mut self, link: Link) -> Result<(), TableFault>
+        ensures ok { OnOk result (self.new ≡ record self.old { links = self.old.links ++ link ∷ [] }) }
+        ensures there { OnOk result (has_server link.server self.old ≡ true) }
+        ensures room { OnOk result (length self.old.links < LINK_LIMIT) }
+        ensures missing { IsErrOf result TableFault.Missing ↔ (has_server link.server self.old ≡ false) }
+        ensures full { IsErrOf result TableFault.Full ↔
+            ((has_server link.server self.old ≡ true) × (LINK_LIMIT ≤ length self.old.links)) }
+        ensures err { OnErr result (self.new ≡ self.old) }
+    {
+        if !servers::stands(&self.servers, link.server) {
+            return Err(TableFault::Missing);
+        }
+        if self.links.len() >= LINK_LIMIT {
+            return Err(TableFault::Full);
+        }
+        match self.links.push(link) {
+            Ok(()) => Ok(()),
+            Err(_) => Err(TableFault::OutOfMemory),
+        }
+    }
+
+    /// Keeps the minor version that a server said.
+    pub fn put_server(&mut self, number: u32, minor: u32)
+        ensures { self.new ≡
+            record self.old { servers = change_first (is_server number) (with_minor minor) self.old.servers } }
+    {
+        servers::put(&mut self.servers, number, minor);
+    }
+
+    /// Keeps how far a link has come, and its access rights.
+    pub fn put_link(&mut self, server: u32, cid: u32, state: LinkState, rights: u32)
+        ensures { self.new ≡
+            record self.old { links = change_first (is_link server cid) (with_state state rights) self.old.links } }
+    {
+        links::put(&mut self.links, server, cid, state, rights);
+    }
+
+    /// Keeps the present subscription of a link, or that it has none. The caller sees to it that
+    /// no other link has one of its ID.
+    pub fn set_sub(
+        &mut self,
+        server: u32,
+        cid: u32,
+        subscription: Option<Subscription>,
+    ) -> Result<(), TableFault>
+        ensures ok { OnOk result (self.new ≡
+            record self.old { links = change_first (is_link server cid) (with_subscription subscription) self.old.links }) }
+        ensures there { OnOk result (has_link server cid self.old ≡ true) }
+        ensures missing { IsErrOf result TableFault.Missing ↔ (has_link server cid self.old ≡ false) }
+        ensures full { result ≢ Err TableFault.Full }
+        ensures err { OnErr result (self.new ≡ self.old) }
+    {
+        if !links::stands(&self.links, server, cid) {
+            return Err(TableFault::Missing);
+        }
+        links::set_sub(&mut self.links, server, cid, subscription);
+        Ok(())
+    }
+
+    /// Removes a server with its links.
+    pub fn remove_server(&mut self, number: u32)
+        ensures { self.new ≡ record self.old {
+          servers = filter (is_not_server number) self.old.servers;
+          links = filter (is_not_of number) self.old.links;
+        } }
+    {
+        servers::remove(&mut self.servers, number);
+        links::remove_of(&mut self.links, number);
+    }
+
+    /// Removes a link.
+    pub fn remove_link(&mut self, server: u32, cid: u32)
+        ensures { self.new ≡ record self.old { links = filter (is_not_link server cid) self.old.links } }
+    {
+        links::remove(&mut self.links, server, cid);
+    }
+
+    /// Gives out the next number of a counter. There is none past `LAST_NUMBER`, and then nothing
+    /// changes.
+    pub fn give_out(&mut self, counter: Counter) -> Option<u32>
+        ensures found { IfSome result (λ number. number ≡ counter_of counter self.old.counters) }
+        ensures raised { OnSome result (self.new ≡ record self.old { counters = raised counter self.old.counters }) }
+        ensures none { IsNone result ↔ (LAST_NUMBER < counter_of counter self.old.counters) }
+        ensures same { IfNone result (self.new ≡ self.old) }
+        ensures bounded { AreBounded self.old.counters }
+    {
+        self.next.give_out(counter)
+    }
+}
