@@ -21,7 +21,7 @@ length-fields Time parts = refl
 length-fields _ parts = refl
 
 -- the fields stand before the value
-length-fields-le : (dbr : Dbr) (parts : Parts) → length (fields dbr.form parts) ≤ value_offset dbr
+pub length-fields-le : (dbr : Dbr) (parts : Parts) → length (fields dbr.form parts) ≤ value_offset dbr
 length-fields-le dbr parts = omega (arith, length-fields dbr.form parts, fields_len-le dbr)
 
 pub length-filled_to : (len : ℕ) (bytes : List ℕ) → length bytes ≤ len → length (filled_to len bytes) ≡ len
@@ -52,7 +52,7 @@ length-given size given elements sized =
     let whole : min given (length elements) + (given - length elements) ≡ given = omega arith in
     rw (length-concat size (take given elements) (AreSized-take size given elements sized), length-take given elements, ← add-mul (min given (length elements)) (given - length elements) size, whole) refl
 
-le-next_multiple_of : (n : ℕ) → n ≤ next_multiple_of n ALIGNMENT
+pub le-next_multiple_of : (n : ℕ) → n ≤ next_multiple_of n ALIGNMENT
 le-next_multiple_of n = omega arith
 
 -- the fields, the bytes up to the value and the elements that are there, filled up at once, are the layout

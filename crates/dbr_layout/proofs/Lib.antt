@@ -3,3 +3,4 @@ pub mod Viewing
 pub mod Laying
 pub mod Converting
 mod WorkedValues
+pub mod ReadingBack

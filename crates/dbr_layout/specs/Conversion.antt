@@ -23,9 +23,11 @@ given_count count there = if count == 0 then there else count
 abbrev pub first_elements : ℕ → ℕ → List (List ℕ) → List (List ℕ)
 first_elements size count elements = take count elements ++ replicate (count - length elements) (replicate size 0)
 
--- the elements that a count asks for in the base `to`, where the conversion is served
+-- the elements in the base `to`, so many of them
+abbrev pub given_elements : Base → Conversion → ℕ → List (List ℕ) → List (List ℕ)
+given_elements to how given elements = first_elements (element_size to) given (map (converted_element how) elements)
+
+-- the elements that a count asks for, in the base `to`, where the conversion is served
 abbrev pub conversion : Base → Base → List (List ℕ) → ℕ → Option (List (List ℕ))
 conversion from to elements count =
-    option_map
-    (λ how. first_elements (element_size to) (given_count count (length elements)) (map (converted_element how) elements))
-    (conversion_between from to)
+    option_map (λ how. given_elements to how (given_count count (length elements)) elements) (conversion_between from to)

@@ -5,3 +5,4 @@ pub mod Layout
 pub mod View
 pub mod Conversion
 pub mod Converted
+pub mod Laws

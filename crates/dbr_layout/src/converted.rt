@@ -1,13 +1,13 @@
 //! Payloads that are laid out.
-ghost use Rattle.std.specs.Prelude.{◌≡◌, ◌++◌, length, map, IfOk, IfErr, Some, Ok, OnOk};
-ghost use Rattle.dbr_layout.specs.Conversion.{conversion_between, converted_element, first_elements};
+ghost use Rattle.std.specs.Prelude.{◌≡◌, Some, Ok, IfOk, IfErr, OnOk};
+ghost use Rattle.dbr_layout.specs.Conversion.{conversion_between, given_elements};
 ghost use Rattle.dbr_layout.specs.Converted.{written};
-ghost use Rattle.dbr_layout.specs.Dbr.{element_size, payload_size};
+ghost use Rattle.dbr_layout.specs.Dbr.{payload_size};
 ghost use Rattle.dbr_layout.specs.Fault.{IsFaultOf};
 ghost use Rattle.dbr_layout.specs.Layout.{filled_to, layout};
 
 use crate::conversion::{Conversion, put_elements};
-use crate::dbr::{Dbr, Form};
+use crate::dbr::Dbr;
 use crate::fault::LayoutFault;
 use crate::fields::put_fields;
 use crate::view::View;
@@ -20,7 +20,8 @@ pub enum Converted {}
 impl Converted {
     /// The payload of `count` elements of the type with the number `dtype`: the first that the view
     /// shows, and elements of zero bytes where fewer are there. A count of 0 asks for all that the
-    /// view shows. The payload is one block, allocated at its size.
+    /// view shows. `View::given` says how many elements these are. The payload is one block,
+    /// allocated at its size once that is known to be within `MAX_PAYLOAD`.
     pub fn write(
         alloc: Global,
         view: &View<'_>,
@@ -52,7 +53,7 @@ fn lay_out(
     requires known { conversion_between view.now.dbr.base asked.base ≡ Some how }
     requires size { size ≡ payload_size asked given }
     ensures { IfOk result (λ payload. payload.items ≡ layout asked (record view.now.parts {
-      elements = first_elements (element_size asked.base) given (map (converted_element how) view.now.parts.elements);
+      elements = given_elements asked.base how given view.now.parts.elements;
     })) }
 {
     let mut payload = Vec::with_capacity(alloc, size as usize)?;

@@ -1,6 +1,6 @@
 //! The DBR types: a base and a form each (Channel Access Protocol Specification, "Payload Data
 //! Types").
-ghost use Rattle.std.specs.Prelude.{◌≡◌, ◌+◌, ◌*◌, ◌<◌, ◌≤◌, ◌^◌, IsNone, IfSome, SomeIff};
+ghost use Rattle.std.specs.Prelude.{◌≡◌, ◌*◌, ◌<◌, ◌≤◌, ◌^◌, IsNone, IfSome, SomeIff};
 ghost use Rattle.dbr_layout.specs.Dbr.{base_number, form_number};
 
 /// The size of a payload is a multiple of this many bytes.

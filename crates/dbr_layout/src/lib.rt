@@ -12,6 +12,7 @@ mod converted;
 mod dbr;
 mod fault;
 mod fields;
+pub mod laws;
 #[cfg(test)]
 mod tests;
 mod view;

@@ -1,0 +1,31 @@
+-- Laws of layouts and of what is shown.
+use Rattle.std.specs.Prelude.{◌≡◌, ℕ, ◌^◌, ◌<◌, pos, List, ◌++◌, length, FitsSigned, Some, Ok}
+use Rattle.std.specs.Int.{w16}
+use Rattle.dbr_layout.specs.declared.dbr.Form.{Form}
+use Rattle.dbr_layout.specs.declared.dbr.Form.TheVariants as form
+use Rattle.dbr_layout.specs.declared.dbr.Dbr.{Dbr}
+use Rattle.dbr_layout.specs.Dbr.{dbr_of, element_size}
+use Rattle.dbr_layout.specs.Layout.{layout}
+use Rattle.dbr_layout.specs.Parts.{AreSized, Parts, no_stamp}
+use Rattle.dbr_layout.specs.View.{shown}
+
+-- what a form has room for; the rest reads as 0
+abbrev pub kept : Form → Parts → Parts
+kept form.Plain parts = record parts { status = pos 0; severity = pos 0; stamp = no_stamp }
+kept form.Time parts = parts
+kept _ parts = record parts { stamp = no_stamp }
+
+-- parts that can be laid out under a type
+pub record CanHold (dbr : Dbr) (parts : Parts) : Type 0 where
+  pub status : FitsSigned w16 parts.status
+  pub severity : FitsSigned w16 parts.severity
+  pub seconds : parts.stamp.seconds < 2 ^ 32
+  pub nanoseconds : parts.stamp.nanoseconds < 2 ^ 32
+  pub elements : AreSized (element_size dbr.base) parts.elements
+
+-- what is laid out under a served type is shown again, whatever bytes follow it
+abbrev pub ReadsBack : Type 0
+ReadsBack =
+    (number : ℕ) (dbr : Dbr) (parts : Parts) (rest : List ℕ)
+    → dbr_of number ≡ Some dbr → CanHold dbr parts
+    → shown number (length parts.elements) (layout dbr parts ++ rest) ≡ Ok (record { dbr = dbr; parts = kept dbr.form parts })
