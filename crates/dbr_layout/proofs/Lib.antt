@@ -4,3 +4,4 @@ pub mod Laying
 pub mod Converting
 mod WorkedValues
 pub mod ReadingBack
+pub mod WritingBack

@@ -1,13 +1,15 @@
 -- Laws of layouts and of what is shown.
-use Rattle.std.specs.Prelude.{◌≡◌, ℕ, ◌^◌, ◌<◌, pos, List, ◌++◌, length, FitsSigned, Some, Ok}
+use Rattle.std.specs.Prelude.{◌≡◌, ℕ, ◌^◌, ◌<◌, ◌≤◌, pos, List, ◌++◌, length, take, slice_index, FitsSigned, Some, Ok}
 use Rattle.std.specs.Int.{w16}
 use Rattle.dbr_layout.specs.declared.dbr.Form.{Form}
 use Rattle.dbr_layout.specs.declared.dbr.Form.TheVariants as form
 use Rattle.dbr_layout.specs.declared.dbr.Dbr.{Dbr}
+use Rattle.dbr_layout.specs.Conversion.{given_count}
+use Rattle.dbr_layout.specs.Converted.{written}
 use Rattle.dbr_layout.specs.Dbr.{dbr_of, element_size}
 use Rattle.dbr_layout.specs.Layout.{layout}
 use Rattle.dbr_layout.specs.Parts.{AreSized, Parts, no_stamp}
-use Rattle.dbr_layout.specs.View.{shown}
+use Rattle.dbr_layout.specs.View.{Shown, shown}
 
 -- what a form has room for; the rest reads as 0
 abbrev pub kept : Form → Parts → Parts
@@ -29,3 +31,13 @@ ReadsBack =
     (number : ℕ) (dbr : Dbr) (parts : Parts) (rest : List ℕ)
     → dbr_of number ≡ Some dbr → CanHold dbr parts
     → shown number (length parts.elements) (layout dbr parts ++ rest) ≡ Ok (record { dbr = dbr; parts = kept dbr.form parts })
+
+-- as many elements of a view as a count asks for, where they are there, are shown again once they are written under
+-- the type of the view, with the same alarm and stamp
+abbrev pub WritesBack : Type 0
+WritesBack =
+    (number there count : ℕ) (bytes payload rest : List ℕ) (old : Shown)
+    → ((i : ℕ) → slice_index bytes i < 256)
+    → shown number there bytes ≡ Ok old → count ≤ there → written old number count ≡ Ok payload
+    → let given : ℕ = given_count count there in
+    shown number given (payload ++ rest) ≡ Ok (record old { parts = record old.parts { elements = take given old.parts.elements } })
