@@ -17,7 +17,8 @@ alarm_bytes parts =
 abbrev pub stamp_bytes : Stamp → List ℕ
 stamp_bytes stamp = to_be_bytes w32 stamp.seconds ++ to_be_bytes w32 stamp.nanoseconds
 
--- the fields of a form
+-- the fields of a form. Those of GR and CTRL behind the alarm (units, limits, texts) are not served yet, nor is a type
+-- of these forms.
 abbrev pub fields : Form → Parts → List ℕ
 fields form.Plain parts = []
 fields form.Time parts = alarm_bytes parts ++ stamp_bytes parts.stamp
