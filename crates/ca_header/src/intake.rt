@@ -196,6 +196,25 @@ mod tests {
         Ok(())
     }
 
+    #[test]
+    fn says_what_is_wrong(rt: HostRuntime) -> Result<(), Fail> {
+        let cases = [
+            (IntakeFault::OutOfMemory, "out of memory"),
+            (
+                IntakeFault::Faulted(FrameFault::Misaligned),
+                "a payload's size is no multiple of 8",
+            ),
+            (
+                IntakeFault::Faulted(FrameFault::TooLarge),
+                "a payload's size is above 1048576",
+            ),
+        ];
+        for (fault, text) in cases {
+            assert_eq!(rt; format!(in rt.alloc(); "{fault}")?.as_str(), text);
+        }
+        Ok(())
+    }
+
     // A fault comes after the messages before it, and then for good.
     #[test]
     fn stays_at_a_fault(rt: HostRuntime) -> Result<(), Fail> {
