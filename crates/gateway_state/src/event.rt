@@ -3,7 +3,7 @@ use ca_header::Message;
 use pv_name::Host;
 
 /// A connection, by the number that the caller gave it.
-#[derive(Clone, Copy, Debug, PartialEq, Eq)]
+#[derive(Clone, Copy, Debug, PartialEq, Eq, PartialOrd, Ord)]
 pub enum Dest {
     /// A client's.
     Session(u32),

@@ -5,7 +5,7 @@ use Rattle.std.proofs.lemmas.Bool.Decides.{nat_tests}
 use Rattle.std.specs.Io.KnownBytes.{Appends}
 use Rattle.hex.specs.Hex.{encode_with, encode_lower, lower_digits}
 use Rattle.pvgate.specs.Output.{dest_text, message_line}
-use Rattle.pvgate.specs.declared.dest.Dest.{Dest}
+use Rattle.gateway_state.specs.declared.event.Dest.{Dest}
 
 -- the text of bytes that stand one after another
 pub encode_with-append : (t xs ys : List ℕ) → encode_with t (xs ++ ys) ≡ encode_with t xs ++ encode_with t ys

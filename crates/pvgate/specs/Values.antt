@@ -7,8 +7,8 @@ use Rattle.hex.specs.declared.error.FromHexError.{FromHexError}
 use Rattle.hex.specs.declared.error.FromHexError.TheVariants as hex_faults
 use Rattle.pv_name.specs.declared.fault.NameFault.{NameFault}
 use Rattle.pv_name.specs.declared.fault.NameFault.TheVariants as name_faults
-use Rattle.pvgate.specs.declared.dest.Dest.{Dest}
-use Rattle.pvgate.specs.declared.dest.Dest.TheVariants.{Session, Upstream}
+use Rattle.gateway_state.specs.declared.event.Dest.{Dest}
+use Rattle.gateway_state.specs.declared.event.Dest.TheVariants.{Session, Upstream}
 use Rattle.pvgate.specs.declared.script.values.LineFault.{LineFault}
 use Rattle.pvgate.specs.declared.script.values.LineFault.TheVariants.{Bad, OutOfMemory}
 

@@ -1,12 +1,49 @@
 //! A gateway for EPICS process variables over Channel Access.
 #![tactic(auto)]
 
-mod dest;
+mod arguments;
 mod output;
+mod replay;
 mod script;
+mod status;
 
-use std::io;
+use arguments::Program;
+use clap::error::ErrorKind;
+use replay::replay;
+use std::io::BufWriter;
+use std::process::ExitCode;
+use std::{env, io};
 
-fn main(_rt: HostRuntime) -> io::Result<()> {
-    Ok(())
+fn main(rt: HostRuntime) -> ExitCode {
+    let status = match run(&rt) {
+        Ok(status) => status,
+        Err(fault) => {
+            let status = match fault.kind() {
+                io::ErrorKind::OutOfMemory => status::FAILED,
+                _ => status::STREAM_FAILED,
+            };
+            let _ = eprintln!(rt; "pvgate: {fault}");
+            status
+        }
+    };
+    ExitCode::from(status)
+}
+
+fn run(rt: &HostRuntime) -> io::Result<u8> {
+    let alloc = rt.alloc();
+    let words: Vec<String> = env::args(rt)?.collect(alloc)?;
+    match arguments::read(alloc, &words) {
+        Ok(Program::Replay) => {
+            let mut out = BufWriter::new(alloc, io::writer(rt))?;
+            Ok(replay(alloc, rt.reader(), &mut out))
+        }
+        Err(fault) => {
+            fault.print(rt)?;
+            Ok(match fault.kind() {
+                ErrorKind::DisplayHelp => status::GOOD,
+                ErrorKind::OutOfMemory => status::FAILED,
+                _ => status::BAD_INPUT,
+            })
+        }
+    }
 }

@@ -2,9 +2,10 @@
 ghost use Rattle.std.specs.Prelude.{◌++◌, OnOk};
 ghost use Rattle.std.specs.Io.KnownBytes.{Appends};
 ghost use Rattle.hex.specs.Hex.{encode_lower};
-ghost use Rattle.pvgate.specs.Output.{dest_text, message_line};
+ghost use Rattle.pvgate.specs.Output.{dest_text, message_line, shut_line, end_line};
 
-use crate::dest::Dest;
+use ca_header::FrameFault;
+use gateway_core::Dest;
 use std::io;
 use std::io::Write;
 
@@ -28,6 +29,27 @@ pub fn write_message<W: Write>(
     out.write_all(b" ")?;
     write_hex(out, head)?;
     write_hex(out, payload)?;
+    out.write_all(b"\n")
+}
+
+/// Writes the line that says that a connection is cut off, since its bytes are no messages.
+pub fn write_shut<W: Write>(out: &mut W, dest: Dest, fault: FrameFault) -> io::Result<()>
+    ensures ok { OnOk result (Appends (W.contents out.old) (W.contents out.new) (shut_line dest fault)) }
+{
+    out.write_all(b"shut ")?;
+    write_dest(out, dest)?;
+    match fault {
+        FrameFault::Misaligned => out.write_all(b" misaligned\n"),
+        FrameFault::TooLarge => out.write_all(b" toolarge\n"),
+    }
+}
+
+/// Writes the line that says that a connection is cut off since it must end.
+pub fn write_end<W: Write>(out: &mut W, dest: Dest) -> io::Result<()>
+    ensures ok { OnOk result (Appends (W.contents out.old) (W.contents out.new) (end_line dest)) }
+{
+    out.write_all(b"end ")?;
+    write_dest(out, dest)?;
     out.write_all(b"\n")
 }
 

@@ -5,7 +5,7 @@ mod tests;
 mod values;
 mod words;
 
-use crate::dest::Dest;
+use gateway_core::Dest;
 use pv_name::Host;
 use std::alloc::Global;
 pub use values::LineFault;

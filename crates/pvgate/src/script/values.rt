@@ -2,7 +2,7 @@
 ghost use Rattle.std.specs.Prelude.{◌≡◌, ◌≢◌, ◌<◌, ◌^◌, List, ℕ, Some, None, IfOk, IfErr, IsErrOf};
 ghost use Rattle.pvgate.specs.Values.{IsDest, IsNumber, bytes_of};
 
-use crate::dest::Dest;
+use gateway_core::Dest;
 use hex::FromHexError;
 use pv_name::NameFault;
 use std::alloc::Global;

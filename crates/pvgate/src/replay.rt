@@ -1,0 +1,78 @@
+//! Scripts, performed on an engine.
+ghost use Rattle.std.specs.Prelude.{◌≡◌, IfOk};
+ghost use Rattle.pvgate.specs.Replay.{IsStatus, status_at};
+
+mod counted;
+mod fault;
+mod player;
+#[cfg(test)]
+mod tests;
+
+use crate::script::{LineFault, read_line};
+use crate::status;
+use counted::Counted;
+use fault::ReplayFault;
+use player::Player;
+use std::alloc::Global;
+use std::io;
+use std::io::{BufRead, BufReader, Read, Write};
+
+// How many bytes of a script are read at a time.
+const PIECE: usize = 65_536;
+
+// How many times a script is read from at most, so that a replay ends whatever its reader does.
+const MOST_READS: u64 = 1_099_511_627_775;
+
+/// Performs the script that the reader gives, one line after another, and prints what the gateway
+/// sends to each connection. Returns the status that the program ends with. All that was printed
+/// is flushed then.
+pub fn replay<R: Read + Drop, W: Write>(alloc: Global, reader: R, writer: &mut W) -> u8
+    ensures { IsStatus result }
+{
+    let ended = play_script(alloc, reader, writer);
+    match report(ended, writer) {
+        Ok(status) => status,
+        Err(_) => status::STREAM_FAILED,
+    }
+}
+
+fn play_script<R: Read + Drop, W: Write>(
+    alloc: Global,
+    reader: R,
+    writer: &mut W,
+) -> Result<(), ReplayFault> {
+    let counted = Counted::new(reader, MOST_READS);
+    let mut script = BufReader::with_capacity(alloc, PIECE, counted)?;
+    let mut player = Player::new(alloc)?;
+    let mut line = Vec::new(alloc);
+    for number in 1..u64::MAX {
+        line.clear();
+        if script.read_until(b'\n', &mut line)? == 0 {
+            return Ok(());
+        }
+        match read_line(alloc, line.strip_suffix(b"\n").unwrap_or(&line)) {
+            Ok(command) => player.play(command, writer)?,
+            Err(LineFault::Bad) => return Err(ReplayFault::BadLine(number)),
+            Err(LineFault::OutOfMemory) => return Err(ReplayFault::OutOfMemory),
+        }
+    }
+    Err(ReplayFault::StreamFailed)
+}
+
+/// Prints how the script ended, where that is printed, and gives the program's status.
+fn report<W: Write>(ended: Result<(), ReplayFault>, writer: &mut W) -> io::Result<u8>
+    ensures ok { IfOk result (λ status. status ≡ status_at ended) }
+    ensures among { IfOk result IsStatus }
+{
+    let status = match ended {
+        Ok(()) => status::GOOD,
+        Err(fault) => {
+            if let ReplayFault::BadLine(_) | ReplayFault::EngineFailed = fault {
+                writeln!(writer, "{fault}")?;
+            }
+            fault.status()
+        }
+    };
+    writer.flush()?;
+    Ok(status)
+}

@@ -1,0 +1,183 @@
+//! The lines of a script, performed on an engine.
+
+use super::fault::ReplayFault;
+use crate::output::{write_end, write_message, write_shut};
+use crate::script::Line;
+use ca_header::{FrameFault, Intake, IntakeFault};
+use gateway_core::{Config, Dest, Engine, Event, Policy};
+use pv_name::{Host, Name, NameFault};
+use std::alloc::Global;
+use std::collections::{BTreeMap, BTreeSet};
+use std::io::Write;
+
+// How many messages are taken from an outbox at a time.
+const PIECE: usize = 1_024;
+
+/// An engine, and what a script needs to know beside it.
+#[derive(Drop)]
+pub struct Player {
+    alloc: Global,
+    engine: Engine,
+    /// The connections that stand, with the bytes that came from each and are no whole message yet.
+    intakes: BTreeMap<Dest, Intake>,
+    /// The connections whose messages are kept back, whether they stand or not.
+    held: BTreeSet<Dest>,
+}
+
+/// A connection whose bytes have a framing fault.
+#[derive(Clone, Copy)]
+struct Misframed {
+    dest: Dest,
+    fault: FrameFault,
+}
+
+impl Player {
+    /// A gateway that admits every name, before any line.
+    pub fn new(alloc: Global) -> Result<Player, ReplayFault> {
+        let config = Config {
+            client_name: name(alloc, b"pvgate")?,
+            host_name: name(alloc, b"gw")?,
+            port: 5064,
+            first: 1,
+        };
+        Ok(Player {
+            alloc,
+            engine: Engine::new(alloc, config, Policy::open_to_all())?,
+            intakes: BTreeMap::new(alloc),
+            held: BTreeSet::new(alloc),
+        })
+    }
+
+    /// Performs a line, and what follows from it: messages that wait are printed, and connections
+    /// that must end are ended.
+    pub fn play<W: Write>(&mut self, line: Line, out: &mut W) -> Result<(), ReplayFault> {
+        let misframed = self.perform(line, out)?;
+        self.print_waiting(out)?;
+        if let Some(Misframed { dest, fault }) = misframed {
+            write_shut(out, dest, fault)?;
+            self.lose(dest)?;
+            self.print_waiting(out)?;
+        }
+        self.end_marked(out)
+    }
+
+    fn perform<W: Write>(
+        &mut self,
+        line: Line,
+        out: &mut W,
+    ) -> Result<Option<Misframed>, ReplayFault> {
+        match line {
+            Line::Skipped => {}
+            Line::OpenSession(number, host) => self.open_session(number, host)?,
+            Line::Lost(dest) => self.lose(dest)?,
+            Line::Client(number, bytes) => return self.receive(number, &bytes),
+            Line::Hold(dest) => {
+                self.held.insert(dest)?;
+            }
+            Line::Flow(dest) => {
+                self.held.remove(&dest);
+            }
+            Line::Drain(dest, count) => {
+                print_messages(&mut self.engine, dest, count, out)?;
+            }
+        }
+        Ok(None)
+    }
+
+    fn open_session(&mut self, number: u32, host: Host) -> Result<(), ReplayFault> {
+        let dest = Dest::Session(number);
+        self.engine.step(Event::Opened(number, host))?;
+        if !self.intakes.contains_key(&dest) && self.engine.is_open(dest)? {
+            self.intakes.insert(dest, Intake::new(self.alloc))?;
+        }
+        Ok(())
+    }
+
+    fn lose(&mut self, dest: Dest) -> Result<(), ReplayFault> {
+        if let Dest::Session(number) = dest {
+            self.engine.step(Event::Lost(number))?;
+        }
+        self.intakes.remove(&dest);
+        Ok(())
+    }
+
+    /// Takes bytes from a client: each message that is whole then is an event.
+    fn receive(&mut self, number: u32, bytes: &[u8]) -> Result<Option<Misframed>, ReplayFault> {
+        let dest = Dest::Session(number);
+        let Some(intake) = self.intakes.get_mut(&dest) else {
+            return Ok(None);
+        };
+        // After a fault nothing is fed, and the fault is what is taken next.
+        if let Err(IntakeFault::OutOfMemory) = intake.feed(bytes) {
+            return Err(ReplayFault::OutOfMemory);
+        }
+        for _ in 0..u64::MAX {
+            match intake.take() {
+                Ok(Some(message)) => self.engine.step(Event::Client(number, message))?,
+                Ok(None) => break,
+                Err(IntakeFault::Faulted(fault)) => return Ok(Some(Misframed { dest, fault })),
+                Err(IntakeFault::OutOfMemory) => return Err(ReplayFault::OutOfMemory),
+            }
+        }
+        Ok(None)
+    }
+
+    /// Prints all that waits for the connections that aren't held.
+    fn print_waiting<W: Write>(&mut self, out: &mut W) -> Result<(), ReplayFault> {
+        for dest in self.intakes.keys() {
+            if !self.held.contains(dest) {
+                for _ in 0..u64::MAX {
+                    if print_messages(&mut self.engine, *dest, PIECE, out)? == 0 {
+                        break;
+                    }
+                }
+            }
+        }
+        Ok(())
+    }
+
+    /// Ends the connections that must end, one after another: the loss of one may mark others.
+    fn end_marked<W: Write>(&mut self, out: &mut W) -> Result<(), ReplayFault> {
+        for _ in 0..self.intakes.len() {
+            let Some(dest) = self.first_marked()? else {
+                break;
+            };
+            write_end(out, dest)?;
+            self.lose(dest)?;
+            self.print_waiting(out)?;
+        }
+        Ok(())
+    }
+
+    fn first_marked(&mut self) -> Result<Option<Dest>, ReplayFault> {
+        for dest in self.intakes.keys() {
+            if self.engine.must_end(*dest)? {
+                return Ok(Some(*dest));
+            }
+        }
+        Ok(None)
+    }
+}
+
+/// Takes the oldest messages of a connection, and prints them. Says how many there were.
+fn print_messages<W: Write>(
+    engine: &mut Engine,
+    dest: Dest,
+    count: usize,
+    out: &mut W,
+) -> Result<usize, ReplayFault> {
+    let messages = engine.drain(dest, count)?;
+    for message in &messages {
+        write_message(
+            out,
+            dest,
+            message.head.as_slice(),
+            message.payload.as_slice(),
+        )?;
+    }
+    Ok(messages.len())
+}
+
+fn name(alloc: Global, text: &[u8]) -> Result<Name, ReplayFault> {
+    Name::read(alloc, text).map_err(|_| ReplayFault::OutOfMemory)
+}
