@@ -78,9 +78,15 @@ def main():
     many = measure("ECHO, 16,000 in 1,000 lines each", echoes(1_000, 16_000), 16_000_000, times) - start
     few = measure("ECHO of 1 MiB in 1,000 lines", in_pieces(LARGE_ECHO, 1_000), 1, times)
     more = measure("ECHO of 1 MiB in 60,000 lines", in_pieces(LARGE_ECHO, 60_000), 1, times)
+    most = measure("ECHO of 1 MiB in 600,000 lines", in_pieces(LARGE_ECHO, 600_000), 1, times)
     print("The start of the program is left out of the first ratio.")
     print(f"cost of a message, in 1,000 lines to in 1 line: {many / 1_000 / one:.2f}")
     print(f"cost of the whole, in 60,000 lines to in 1,000: {more / few:.2f}")
+    # A line has a cost of its own, beside that of its bytes. It must not depend on what came before.
+    near = (more - few) / 59_000
+    far = (most - more) / 540_000
+    print(f"a further line: {near * 1e9:.0f} ns up to 60,000, {far * 1e9:.0f} ns up to 600,000")
+    print(f"cost of a further line, up to 600,000 to up to 60,000: {far / near:.2f}")
 
 
 if __name__ == "__main__":

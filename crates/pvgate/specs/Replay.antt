@@ -1,5 +1,6 @@
 -- How a replay ends.
-use Rattle.std.specs.Prelude.{◌≡◌, ℕ, ◌⊎◌, Result, Ok, Err}
+use Rattle.std.specs.Prelude.{◌≡◌, ℕ, ◌⊎◌, List, [], ◌++◌, codes, Result, Ok, Err}
+use Rattle.std.specs.Fmt.{decimal}
 use Rattle.pvgate.specs.declared.replay.fault.ReplayFault.{ReplayFault}
 use Rattle.pvgate.specs.declared.replay.fault.ReplayFault.TheVariants.{BadLine, StreamFailed, OutOfMemory, EngineFailed}
 
@@ -18,3 +19,15 @@ status_at (Err fault) = status_of fault
 -- the statuses of a replay
 abbrev pub IsStatus : ℕ → Type 0
 IsStatus status = (status ≡ 0) ⊎ (status ≡ 2) ⊎ (status ≡ 3) ⊎ (status ≡ 4)
+
+-- the line that says why a replay ended
+abbrev pub fault_line : ReplayFault → List ℕ
+fault_line (BadLine n) = codes "line " ++ decimal n ++ codes ": bad\n"
+fault_line EngineFailed = codes "failed\n"
+fault_line StreamFailed = []
+fault_line OutOfMemory = []
+
+-- the same, none at the script's end
+abbrev pub last_line : {A : Type 0} → Result A ReplayFault → List ℕ
+last_line (Ok a) = []
+last_line (Err fault) = fault_line fault

@@ -18,12 +18,13 @@ fn main(rt: HostRuntime) -> ExitCode {
     let status = match run(&rt) {
         Ok(status) => status,
         Err(fault) => {
-            let status = match fault.kind() {
-                io::ErrorKind::OutOfMemory => status::FAILED,
-                _ => status::STREAM_FAILED,
-            };
             let _ = eprintln!(rt; "pvgate: {fault}");
-            status
+            match fault.kind() {
+                io::ErrorKind::OutOfMemory => status::FAILED,
+                // An argument that is no UTF-8.
+                io::ErrorKind::InvalidData => status::BAD_INPUT,
+                _ => status::STREAM_FAILED,
+            }
         }
     };
     ExitCode::from(status)

@@ -1,6 +1,7 @@
 //! Scripts, performed on an engine.
-ghost use Rattle.std.specs.Prelude.{◌≡◌, IfOk};
-ghost use Rattle.pvgate.specs.Replay.{IsStatus, status_at};
+ghost use Rattle.std.specs.Prelude.{◌≡◌, IfOk, OnOk};
+ghost use Rattle.std.specs.Io.KnownBytes.{Appends, Keeps};
+ghost use Rattle.pvgate.specs.Replay.{IsStatus, last_line, status_at};
 
 mod counted;
 mod fault;
@@ -63,16 +64,25 @@ fn play_script<R: Read + Drop, W: Write>(
 fn report<W: Write>(ended: Result<(), ReplayFault>, writer: &mut W) -> io::Result<u8>
     ensures ok { IfOk result (λ status. status ≡ status_at ended) }
     ensures among { IfOk result IsStatus }
+    ensures printed { OnOk result (Appends (W.contents writer.old) (W.contents writer.new) (last_line ended)) }
 {
-    let status = match ended {
-        Ok(()) => status::GOOD,
+    match ended {
+        Ok(()) => finish(status::GOOD, writer),
         Err(fault) => {
-            if let ReplayFault::BadLine(_) | ReplayFault::EngineFailed = fault {
-                writeln!(writer, "{fault}")?;
+            match fault {
+                ReplayFault::BadLine(number) => writeln!(writer, "line {number}: bad")?,
+                ReplayFault::EngineFailed => writer.write_all(b"failed\n")?,
+                ReplayFault::StreamFailed | ReplayFault::OutOfMemory => {}
             }
-            fault.status()
+            finish(fault.status(), writer)
         }
-    };
+    }
+}
+
+fn finish<W: Write>(status: u8, writer: &mut W) -> io::Result<u8>
+    ensures ok { IfOk result (λ s. s ≡ status) }
+    ensures same { OnOk result (Keeps (W.contents writer.old) (W.contents writer.new)) }
+{
     writer.flush()?;
     Ok(status)
 }

@@ -12,7 +12,7 @@ use thiserror::Error;
 #[derive(Clone, Copy, Debug, PartialEq, Eq, Error)]
 pub enum ReplayFault {
     /// The line of this number, counted from 1, is no line of a script.
-    #[error("line {0}: bad")]
+    #[error("line {0} is no line of a script")]
     BadLine(u64),
     /// The script can't be read, or what is printed can't be written.
     #[error("a stream failed")]
@@ -21,7 +21,7 @@ pub enum ReplayFault {
     #[error("out of memory")]
     OutOfMemory,
     /// The engine refused a step, and is failed for good.
-    #[error("failed")]
+    #[error("the engine failed")]
     EngineFailed,
 }
 
