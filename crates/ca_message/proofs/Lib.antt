@@ -1,1 +1,2 @@
 pub mod NulEnded
+pub mod ReadBack

@@ -1,4 +1,9 @@
 pub mod ClientRequest
 pub mod ErrorText
+pub mod Laws
 pub mod Padding
+pub mod ServerReply
+pub mod Text
 pub mod ToClient
+pub mod ToServer
+pub mod Wire

@@ -1,34 +1,41 @@
--- The wire form of the messages to a client.
-use Rattle.std.specs.Prelude.{◌≡◌, ℕ, ◌%◌, List, [], ◌++◌, length}
+-- The wire form of the messages to a client (Channel Access Protocol Specification, "Commands").
+use Rattle.std.specs.Prelude.{ℕ, List, [], ◌++◌}
 use Rattle.ca_header.specs.Header.{canonical_header}
 use Rattle.ca_header.specs.declared.header.Header.{Header}
-use Rattle.ca_header.specs.declared.header.TheConstants.{ALIGNMENT}
-use Rattle.ca_message.specs.Padding.{nul_ended}
+use Rattle.ca_header.specs.declared.header.Message.{Message}
 use Rattle.ca_message.specs.ErrorText.{text_of}
-use Rattle.ca_message.specs.declared.commands.TheConstants.{CA_PROTO_VERSION, CA_PROTO_ERROR, MINOR_VERSION}
+use Rattle.ca_message.specs.Padding.{nul_ended}
+use Rattle.ca_message.specs.Wire.{message, IsPayload, IsWholeMessage}
+use Rattle.ca_message.specs.declared.codes.TheConstants.{ECA_NORMAL}
+use Rattle.ca_message.specs.declared.commands.TheConstants.{CA_PROTO_VERSION, CA_PROTO_ERROR, CA_PROTO_CLEAR_CHANNEL, CA_PROTO_READ_NOTIFY, CA_PROTO_CREATE_CHAN, CA_PROTO_ACCESS_RIGHTS, CA_PROTO_CREATE_CH_FAIL, CA_PROTO_SERVER_DISCONN, MINOR_VERSION}
 use Rattle.ca_message.specs.declared.to_client.ToClient.{ToClient}
-use Rattle.ca_message.specs.declared.to_client.ToClient.TheVariants.{Version, Echo, Error}
+use Rattle.ca_message.specs.declared.to_client.ToClient.TheVariants.{Version, Echo, Error, ClearChannel, ReadNotify, ReadNotifyRefused, CreateChannel, CreateChannelFail, AccessRights, ServerDisconnect}
 
 -- what an ERROR carries: the header of the refused request, then the text of the code
 abbrev pub error_payload : Header → ℕ → List ℕ
 error_payload request code = nul_ended (canonical_header request ++ text_of code)
 
--- the payload of a message
-abbrev pub client_payload : ToClient → List ℕ
-client_payload Version = []
-client_payload (Echo message) = message.payload
-client_payload (Error cid code request) = error_payload request code
+-- the message on the wire: its command, type, count, p1, p2 and payload
+abbrev pub client_message : ToClient → Message
+client_message Version = message CA_PROTO_VERSION 0 MINOR_VERSION 0 0 []
+client_message (Echo m) = m
+client_message (Error cid code request) = message CA_PROTO_ERROR 0 0 cid code (error_payload request code)
+client_message (ClearChannel sid cid) = message CA_PROTO_CLEAR_CHANNEL 0 0 sid cid []
+client_message (ReadNotify ioid dtype count value) = message CA_PROTO_READ_NOTIFY dtype count ECA_NORMAL ioid value
+client_message (ReadNotifyRefused ioid dtype count code) = message CA_PROTO_READ_NOTIFY dtype count code ioid []
+client_message (CreateChannel cid sid dtype count) = message CA_PROTO_CREATE_CHAN dtype count cid sid []
+client_message (CreateChannelFail cid) = message CA_PROTO_CREATE_CH_FAIL 0 0 cid 0 []
+client_message (AccessRights cid rights) = message CA_PROTO_ACCESS_RIGHTS 0 0 cid rights []
+client_message (ServerDisconnect cid) = message CA_PROTO_SERVER_DISCONN 0 0 cid 0 []
 
--- the header of a message
 abbrev pub client_head : ToClient → Header
-client_head Version =
-    record { command = CA_PROTO_VERSION; dtype = 0; p1 = 0; p2 = 0; count = MINOR_VERSION; size = 0 }
-client_head (Echo message) = message.head
-client_head (Error cid code request) =
-    record { command = CA_PROTO_ERROR; dtype = 0; p1 = cid; p2 = code; count = 0; size = length (error_payload request code) }
+client_head m = (client_message m).head
 
--- an echoed message has as many bytes as its header says, a multiple of 8, as each message that came whole
-abbrev pub IsWhole : ToClient → Type 0
-IsWhole (Echo message) = (length message.payload ≡ message.head.size) × (message.head.size % ALIGNMENT ≡ 0)
-IsWhole Version = Unit {0}
-IsWhole (Error cid code request) = Unit {0}
+abbrev pub client_payload : ToClient → List ℕ
+client_payload m = (client_message m).payload
+
+-- the parts that the message is given fit: an echoed message came whole, and a value may be a payload
+abbrev pub HasWholeParts : ToClient → Type 0
+HasWholeParts (Echo m) = IsWholeMessage m
+HasWholeParts (ReadNotify ioid dtype count value) = IsPayload value
+HasWholeParts _ = Unit {0}

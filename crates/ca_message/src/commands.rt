@@ -43,3 +43,12 @@ pub const MINOR_VERSION: u32 = 13;
 
 /// What stands in place of a CID in an ERROR that concerns no channel.
 pub const NO_CHANNEL: u32 = 0xFFFF_FFFF;
+
+/// The bit of the access rights that lets a client read.
+pub const CA_PROTO_ACCESS_RIGHT_READ: u32 = 1;
+
+/// The bit of the access rights that lets a client write.
+pub const CA_PROTO_ACCESS_RIGHT_WRITE: u32 = 2;
+
+/// The access rights of a channel that a client may read and write.
+pub const READ_AND_WRITE: u32 = CA_PROTO_ACCESS_RIGHT_READ | CA_PROTO_ACCESS_RIGHT_WRITE;

@@ -1,17 +1,46 @@
-//! How payloads are padded.
-ghost use Rattle.std.specs.Prelude.{◌≡◌, ◌+◌, ◌<◌, ◌++◌, length, IfOk};
+//! Headers by their fields, and how payloads are padded.
+ghost use Rattle.std.specs.Prelude.{◌≡◌, ◌+◌, ◌<◌, [], ◌++◌, length, IfOk};
 ghost use Rattle.ca_header.specs.declared.header.TheConstants.{MAX_PAYLOAD};
 ghost use Rattle.ca_message.specs.Padding.{nul_ended};
+ghost use Rattle.ca_message.specs.Wire.{message, size_field};
 
 use crate::NoMemory;
 use bytes::Bytes;
-use ca_header::{MAX_PAYLOAD, pad8};
+use ca_header::{Header, MAX_PAYLOAD, pad8};
 use std::alloc::Global;
 
-/// How many bytes a payload has that is `front`, `text`, a NUL and padding.
+/// The most bytes that the size field can speak of.
+pub(crate) const LARGEST_SIZE: u32 = 0xFFFF_FFFF;
+
+/// How many bytes the payload of an EVENT_ADD request has.
+pub(crate) const EVENT_PAYLOAD_LEN: u32 = 16;
+
+/// The header of a message without a payload.
+pub(crate) fn header(command: u16, dtype: u16, count: u32, p1: u32, p2: u32) -> Header
+    ensures { result ≡ (message command dtype count p1 p2 []).head }
+{
+    Header {
+        command,
+        dtype,
+        p1,
+        p2,
+        count,
+        size: 0,
+    }
+}
+
+/// What the size field says of a payload.
+pub(crate) fn size_of(payload: &Bytes) -> u32
+    ensures { result ≡ size_field payload.now }
+{
+    u32::try_from(payload.len()).unwrap_or(LARGEST_SIZE)
+}
+
+/// What the size field says of a payload that is `front`, `text`, a NUL and padding.
 pub(crate) fn size_of_nul_ended(front: &[u8], text: &[u8]) -> u32
     requires { length front.now + length text.now < MAX_PAYLOAD }
-    ensures { result ≡ length (nul_ended (front.now ++ text.now)) }
+    ensures bytes { result ≡ length (nul_ended (front.now ++ text.now)) }
+    ensures field { result ≡ size_field (nul_ended (front.now ++ text.now)) }
 {
     let len = front.len() + text.len() + 1;
     pad8(len as u32)

@@ -2,19 +2,51 @@
 ghost use Rattle.std.specs.Prelude.{◌≡◌};
 ghost use Rattle.ca_message.specs.ClientRequest.{request_of};
 
-use crate::commands::{CA_PROTO_ECHO, CA_PROTO_VERSION};
+use crate::commands::{
+    CA_PROTO_CLEAR_CHANNEL, CA_PROTO_CLIENT_NAME, CA_PROTO_CREATE_CHAN, CA_PROTO_ECHO,
+    CA_PROTO_HOST_NAME, CA_PROTO_READ_NOTIFY, CA_PROTO_VERSION,
+};
+use crate::text::{HostText, NameText};
 use ca_header::Header;
 
-/// A message from a client, as it is meant.
+/// A message from a client, as it is meant. Its texts are slices of the payload.
+///
+/// `sid` and `cid` are the server's and the client's ID of a channel, `ioid` is the client's ID of
+/// a request, and `dtype` the number of a DBR type.
 #[derive(Debug, PartialEq, Eq, Drop)]
-pub enum ClientRequest {
+pub enum ClientRequest<'a> {
     /// The client speaks this minor version of the protocol.
-    Version { minor: u32 },
+    Version {
+        minor: u32,
+    },
+    /// The client gives up its channel.
+    ClearChannel {
+        sid: u32,
+        cid: u32,
+    },
+    /// The client wants the value in this type, of so many elements; 0 stands for all.
+    ReadNotify {
+        sid: u32,
+        ioid: u32,
+        dtype: u16,
+        count: u32,
+    },
+    /// The client wants a channel on this variable, which it calls `cid`.
+    CreateChannel {
+        cid: u32,
+        minor: u32,
+        name: NameText<'a>,
+    },
+    /// The client's user is called so.
+    ClientName(NameText<'a>),
+    /// The client's host is called so.
+    HostName(HostText<'a>),
     /// The client wants the same message back.
     Echo,
 }
 
-/// Why a message isn't a request.
+/// Why a message isn't a request. What follows from it depends on the command: a text that can't be
+/// read is `NoNul` or `BadName` for CREATE_CHAN, CLIENT_NAME and HOST_NAME alike.
 #[derive(Clone, Copy, Debug, PartialEq, Eq)]
 pub enum RequestFault {
     /// A text is owed, and no byte of the payload is NUL.
@@ -28,11 +60,28 @@ pub enum RequestFault {
 }
 
 /// What a message from a client asks for. It takes no memory.
-pub fn read_request(head: &Header, payload: &[u8]) -> Result<ClientRequest, RequestFault>
+pub fn read_request<'a>(head: &Header, payload: &'a [u8]) -> Result<ClientRequest<'a>, RequestFault>
     ensures { result ≡ request_of head.now payload.now }
 {
     match head.command {
         CA_PROTO_VERSION => Ok(ClientRequest::Version { minor: head.count }),
+        CA_PROTO_CLEAR_CHANNEL => Ok(ClientRequest::ClearChannel {
+            sid: head.p1,
+            cid: head.p2,
+        }),
+        CA_PROTO_READ_NOTIFY => Ok(ClientRequest::ReadNotify {
+            sid: head.p1,
+            ioid: head.p2,
+            dtype: head.dtype,
+            count: head.count,
+        }),
+        CA_PROTO_CREATE_CHAN => Ok(ClientRequest::CreateChannel {
+            cid: head.p1,
+            minor: head.p2,
+            name: NameText::read(payload)?,
+        }),
+        CA_PROTO_CLIENT_NAME => Ok(ClientRequest::ClientName(NameText::read(payload)?)),
+        CA_PROTO_HOST_NAME => Ok(ClientRequest::HostName(HostText::read(payload)?)),
         CA_PROTO_ECHO => Ok(ClientRequest::Echo),
         _ => Err(RequestFault::Unknown),
     }

@@ -1,18 +1,23 @@
 //! What the gateway says to clients.
-ghost use Rattle.std.specs.Prelude.{◌≡◌, ◌%◌, length, IfOk, IsOk};
-ghost use Rattle.ca_header.specs.declared.header.TheConstants.{ALIGNMENT};
-ghost use Rattle.ca_message.specs.declared.to_client.ToClient.{ToClient};
-ghost use Rattle.ca_message.specs.ToClient.{client_head, client_payload, error_payload, IsWhole};
+ghost use Rattle.std.specs.Prelude.{◌≡◌, length, IfOk, IsOk};
+ghost use Rattle.ca_message.specs.Wire.{size_field};
+ghost use Rattle.ca_message.specs.ToClient.{client_head, client_payload, error_payload};
 
 use crate::NoMemory;
-use crate::codes::error_text;
-use crate::commands::{CA_PROTO_ERROR, CA_PROTO_VERSION, MINOR_VERSION};
-use crate::payload::{size_of_nul_ended, write_nul_ended};
+use crate::codes::{ECA_NORMAL, error_text};
+use crate::commands::{
+    CA_PROTO_ACCESS_RIGHTS, CA_PROTO_CLEAR_CHANNEL, CA_PROTO_CREATE_CH_FAIL, CA_PROTO_CREATE_CHAN,
+    CA_PROTO_ERROR, CA_PROTO_READ_NOTIFY, CA_PROTO_SERVER_DISCONN, CA_PROTO_VERSION, MINOR_VERSION,
+};
+use crate::payload::{header, size_of, size_of_nul_ended, write_nul_ended};
 use bytes::Bytes;
 use ca_header::{Header, Message, write_head};
 use std::alloc::Global;
 
 /// A message to a client. Its wire form is its head, written canonically, and then its payload.
+///
+/// `sid` and `cid` are the gateway's and the client's ID of a channel, `ioid` is the client's ID of
+/// a request, and `dtype` the number of a DBR type.
 #[derive(Debug, Drop)]
 pub enum ToClient {
     /// The gateway speaks minor version 13 of the protocol.
@@ -26,6 +31,46 @@ pub enum ToClient {
         code: u32,
         request: Header,
     },
+    /// The client's channel is given up.
+    ClearChannel {
+        sid: u32,
+        cid: u32,
+    },
+    /// The value that was asked for, in this type, of so many elements. Its padding is part of it.
+    ReadNotify {
+        ioid: u32,
+        dtype: u16,
+        count: u32,
+        value: Bytes,
+    },
+    /// The value isn't had, for the reason that the code says. Type and count are those asked for.
+    ReadNotifyRefused {
+        ioid: u32,
+        dtype: u16,
+        count: u32,
+        code: u32,
+    },
+    /// The channel that was asked for as `cid` stands as `sid`, with this native type and count.
+    CreateChannel {
+        cid: u32,
+        sid: u32,
+        dtype: u16,
+        count: u32,
+    },
+    /// The channel that was asked for isn't had.
+    CreateChannelFail {
+        cid: u32,
+    },
+    /// What may be done with the channel: `CA_PROTO_ACCESS_RIGHT_READ` and
+    /// `CA_PROTO_ACCESS_RIGHT_WRITE`, added up.
+    AccessRights {
+        cid: u32,
+        rights: u32,
+    },
+    /// The channel is no longer there.
+    ServerDisconnect {
+        cid: u32,
+    },
 }
 
 impl ToClient {
@@ -34,51 +79,66 @@ impl ToClient {
         ensures { result ≡ client_head self.now }
     {
         match self {
-            ToClient::Version => Header {
-                command: CA_PROTO_VERSION,
-                dtype: 0,
-                p1: 0,
-                p2: 0,
-                count: MINOR_VERSION,
-                size: 0,
-            },
+            ToClient::Version => header(CA_PROTO_VERSION, 0, MINOR_VERSION, 0, 0),
             ToClient::Echo(message) => message.head,
             ToClient::Error { cid, code, request } => Header {
-                command: CA_PROTO_ERROR,
-                dtype: 0,
-                p1: *cid,
-                p2: *code,
-                count: 0,
                 size: error_size(request, *code),
+                ..header(CA_PROTO_ERROR, 0, 0, *cid, *code)
             },
+            ToClient::ClearChannel { sid, cid } => header(CA_PROTO_CLEAR_CHANNEL, 0, 0, *sid, *cid),
+            ToClient::ReadNotify {
+                ioid,
+                dtype,
+                count,
+                value,
+            } => Header {
+                size: size_of(value),
+                ..header(CA_PROTO_READ_NOTIFY, *dtype, *count, ECA_NORMAL, *ioid)
+            },
+            ToClient::ReadNotifyRefused {
+                ioid,
+                dtype,
+                count,
+                code,
+            } => header(CA_PROTO_READ_NOTIFY, *dtype, *count, *code, *ioid),
+            ToClient::CreateChannel {
+                cid,
+                sid,
+                dtype,
+                count,
+            } => header(CA_PROTO_CREATE_CHAN, *dtype, *count, *cid, *sid),
+            ToClient::CreateChannelFail { cid } => header(CA_PROTO_CREATE_CH_FAIL, 0, 0, *cid, 0),
+            ToClient::AccessRights { cid, rights } => {
+                header(CA_PROTO_ACCESS_RIGHTS, 0, 0, *cid, *rights)
+            }
+            ToClient::ServerDisconnect { cid } => header(CA_PROTO_SERVER_DISCONN, 0, 0, *cid, 0),
         }
     }
 
     /// The payload, padded with zero bytes to a multiple of 8. An echo shares the payload of its
-    /// message.
+    /// message, and a reply the bytes of its value.
     pub fn payload(&self, alloc: Global) -> Result<Bytes, NoMemory>
         ensures ok { IfOk result (λ payload. payload ≡ client_payload self.now) }
         // Where there is no payload, no memory is wanted.
         ensures none { length (client_payload self.now) ≡ 0 → IsOk result }
     {
         match self {
-            ToClient::Version => Ok(Bytes::new()),
             ToClient::Echo(message) => message.payload.slice(..),
             ToClient::Error { code, request, .. } => error_payload(alloc, request, *code),
+            ToClient::ReadNotify { value, .. } => value.slice(..),
+            ToClient::Version
+            | ToClient::ClearChannel { .. }
+            | ToClient::ReadNotifyRefused { .. }
+            | ToClient::CreateChannel { .. }
+            | ToClient::CreateChannelFail { .. }
+            | ToClient::AccessRights { .. }
+            | ToClient::ServerDisconnect { .. } => Ok(Bytes::new()),
         }
     }
 }
 
-/// The law that a payload has as many bytes as its header says, padding counted.
-pub fn payload_has_its_size()
-    ensures size { (message : ToClient) → IsWhole message
-        → length (client_payload message) ≡ (client_head message).size }
-    ensures padding { (message : ToClient) → IsWhole message
-        → (client_head message).size % ALIGNMENT ≡ 0 }
-{}
-
 fn error_size(request: &Header, code: u32) -> u32
-    ensures { result ≡ length (error_payload request.now code) }
+    ensures { result ≡ size_field (error_payload request.now code) }
 {
     size_of_nul_ended(write_head(request).as_slice(), error_text(code).as_bytes())
 }

@@ -1,0 +1,134 @@
+//! What a server says.
+ghost use Rattle.std.specs.Prelude.{◌≡◌, bytes_eq};
+ghost use Rattle.std.specs.Cmp.{partial_equiv_from_equiv};
+ghost use Rattle.std.specs.Cmp.Lexicographic.{nat_list_eq_equiv};
+ghost use Rattle.ca_message.specs.ServerReply.{reply_of};
+
+use crate::commands::{
+    CA_PROTO_ACCESS_RIGHTS, CA_PROTO_CREATE_CH_FAIL, CA_PROTO_CREATE_CHAN, CA_PROTO_EVENT_ADD,
+    CA_PROTO_SERVER_DISCONN, CA_PROTO_VERSION, READ_AND_WRITE,
+};
+use ca_header::Header;
+use std::marker::Model;
+
+/// The bytes of a value, borrowed from the payload in which it came.
+#[derive(Debug, Drop)]
+pub struct ValueBytes<'a> {
+    bytes: &'a [u8],
+}
+
+impl<'a> Model for ValueBytes<'a> {
+    ghost use Rattle.std.specs.Prelude.{ℕ, List};
+
+    ghost Value = { List ℕ };
+
+    ghost view = { λ v. v.bytes.now };
+}
+
+impl<'a> ValueBytes<'a> {
+    pub fn as_slice(&self) -> &'a [u8]
+        ensures { result.now ≡ self.now }
+    {
+        self.bytes
+    }
+}
+
+impl<'a> From<&'a [u8]> for ValueBytes<'a> {
+    ghost from_gives = { λ bytes value. value ≡ bytes.now };
+
+    fn from(bytes: &'a [u8]) -> ValueBytes<'a> {
+        ValueBytes { bytes }
+    }
+}
+
+impl<'a> PartialEq for ValueBytes<'a> {
+    ghost eq = { bytes_eq };
+
+    ghost laws = { partial_equiv_from_equiv nat_list_eq_equiv };
+
+    fn eq(&self, other: &ValueBytes<'a>) -> bool {
+        self.bytes == other.bytes
+    }
+}
+
+impl<'a> Eq for ValueBytes<'a> {
+    ghost laws = { nat_list_eq_equiv };
+}
+
+/// A message from a server, as it is meant. A value is a slice of the payload.
+///
+/// `sid` and `cid` are the server's and the gateway's ID of a channel, `id` is the gateway's ID of
+/// a subscription, and `dtype` the number of a DBR type.
+#[derive(Debug, PartialEq, Eq, Drop)]
+pub enum ServerReply<'a> {
+    /// The server speaks this minor version of the protocol.
+    Version {
+        minor: u32,
+    },
+    /// An update of the subscription `id`: a value in this type, of so many elements. A `status`
+    /// other than `ECA_NORMAL` says that there is none.
+    EventAdd {
+        id: u32,
+        status: u32,
+        dtype: u16,
+        count: u32,
+        value: ValueBytes<'a>,
+    },
+    /// The channel that was asked for as `cid` stands as `sid`, with this native type and count.
+    CreateChannel {
+        cid: u32,
+        sid: u32,
+        dtype: u16,
+        count: u32,
+    },
+    /// What may be done with the channel: `CA_PROTO_ACCESS_RIGHT_READ` and
+    /// `CA_PROTO_ACCESS_RIGHT_WRITE`, added up.
+    AccessRights {
+        cid: u32,
+        rights: u32,
+    },
+    /// The channel that was asked for isn't had.
+    CreateChannelFail {
+        cid: u32,
+    },
+    /// The server has dropped the channel.
+    ServerDisconnect {
+        cid: u32,
+    },
+}
+
+/// Why a message isn't a reply.
+#[derive(Clone, Copy, Debug, PartialEq, Eq)]
+pub enum ReplyFault {
+    /// The gateway doesn't know the command.
+    Unknown,
+}
+
+/// What a message from a server says. It takes no memory.
+pub fn read_reply<'a>(head: &Header, payload: &'a [u8]) -> Result<ServerReply<'a>, ReplyFault>
+    ensures { result ≡ reply_of head.now payload.now }
+{
+    match head.command {
+        CA_PROTO_VERSION => Ok(ServerReply::Version { minor: head.count }),
+        CA_PROTO_EVENT_ADD => Ok(ServerReply::EventAdd {
+            id: head.p2,
+            status: head.p1,
+            dtype: head.dtype,
+            count: head.count,
+            value: ValueBytes::from(payload),
+        }),
+        CA_PROTO_CREATE_CHAN => Ok(ServerReply::CreateChannel {
+            cid: head.p1,
+            sid: head.p2,
+            dtype: head.dtype,
+            count: head.count,
+        }),
+        CA_PROTO_ACCESS_RIGHTS => Ok(ServerReply::AccessRights {
+            cid: head.p1,
+            rights: head.p2 & READ_AND_WRITE,
+        }),
+        CA_PROTO_CREATE_CH_FAIL => Ok(ServerReply::CreateChannelFail { cid: head.p1 }),
+        CA_PROTO_SERVER_DISCONN => Ok(ServerReply::ServerDisconnect { cid: head.p1 }),
+        _ => Err(ReplyFault::Unknown),
+    }
+}
