@@ -59,6 +59,7 @@ impl Engine {
     }
 
     /// Performs events in order, up to the first that is refused.
+    #[tactic(auto, unfolding(gateway_state::specs::Step::run))]
     pub fn run(&mut self, events: Vec<Event>) -> Result<(), StepFault>
         ensures ok { OnOk result (self.new ≡ option_map (λ w. run w events.items) self.old) }
         ensures failed { IsErrOf result StepFault.Failed ↔ IsNone self.old }
@@ -76,6 +77,7 @@ impl Engine {
     }
 
     /// Takes the first `count` messages of an outbox, or all, and hands them out in order.
+    #[tactic(auto, unfolding(gateway_state::specs::Step::step))]
     pub fn drain(&mut self, dest: Dest, count: usize) -> Result<Vec<Out>, StepFault>
         ensures ok { OnOk result (self.new ≡ option_map (λ w. step w (Event.Drain dest count)) self.old) }
         ensures found { IfOk result (λ outs. Some outs.items ≡ option_map (λ w. taken w (Event.Drain dest count) dest) self.old) }

@@ -96,6 +96,7 @@ impl Rows {
     }
 
     /// Performs one event.
+    #[tactic(auto, unfolding(gateway_state::specs::Step::step))]
     pub(crate) fn step(&mut self, event: Event) -> Result<(), AllocError>
         ensures { OnOk result (self.new ≡ step self.old event) }
     {

@@ -49,11 +49,11 @@ not_understood w number message = told number (replies.Error NO_CHANNEL ECA_INTE
 abbrev pub versioned : Gateway → ℕ → ℕ → Gateway
 versioned w number minor = if nat_lt minor LOWEST_MINOR then marked (Session number) w else w
 
--- what a request does, by what it means
+-- what a request does, by what it means; what isn't served yet isn't understood
 abbrev pub requested : Gateway → ℕ → Message → Result ClientRequest RequestFault → Gateway
 requested w number message (Ok (requests.Version minor)) = versioned w number minor
 requested w number message (Ok requests.Echo) = told number (replies.Echo message) w
-requested w number message (Err fault) = not_understood w number message
+requested w number message _ = not_understood w number message
 
 -- a session's message has an effect: it stands and isn't marked
 abbrev pub acts : Gateway → Dest → Bool

@@ -15,11 +15,11 @@ abbrev pub consequences : Gateway → Gateway → Gateway
 consequences before now = now
 
 -- one event
-abbrev pub step : Gateway → Event → Gateway
+unfoldable pub step : Gateway → Event → Gateway
 step w event = consequences w (direct_effect w event)
 
 -- events in order
-abbrev pub run : Gateway → List Event → Gateway
+unfoldable pub run : Gateway → List Event → Gateway
 run w [] = w
 run w (event ∷ events) = run (step w event) events
 

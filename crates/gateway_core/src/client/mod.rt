@@ -24,7 +24,7 @@ impl Rows {
                 Ok(())
             }
             Ok(ClientRequest::Echo) => self.tell(number, &ToClient::Echo(message)),
-            Err(_) => self.refuse(number, message),
+            _ => self.refuse(number, message),
         }
     }
 
