@@ -1,30 +1,21 @@
 //! The gateway, one event at a time.
 //!
 //! An `Engine` performs events, each an atomic step. What a step does is stated over the whole rows
-//! of the gateway (`gateway_state`, `specs/`): the event's direct effect, and then the notices that
-//! follow from it on channels, on links and on waiting reads.
+//! of the gateway (`gateway_state`, `specs/`).
 #![tactic(auto)]
 
-mod answer;
-mod asks;
 mod client;
 mod connections;
 mod engine;
 mod fault;
-mod interest;
-mod notices;
-mod rights;
 mod rows;
-mod server;
-mod step;
 #[cfg(test)]
 mod tests;
-mod variables;
 
-pub use engine::{AskFault, Engine};
+pub use engine::Engine;
 pub use fault::{Failed, StepFault};
 pub use gateway_state::fanout::Out;
-pub use gateway_state::{Config, Dest, Event, Policy, Reading};
+pub use gateway_state::{Config, Dest, Event, Policy};
 
 /// Want of memory, of a call that fails for nothing else.
 pub type NoMemory = std::alloc::AllocError;

@@ -101,13 +101,6 @@ impl Links {
         self.links.get(n)
     }
 
-    /// All links, in the order of adding, which is that of their CIDs.
-    pub fn links(&self) -> &[Link]
-        ensures { result.now ≡ self.now.links }
-    {
-        self.links.as_slice()
-    }
-
     /// How many links stand.
     pub fn link_count(&self) -> usize
         ensures { result ≡ length self.now.links }

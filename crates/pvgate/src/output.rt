@@ -5,9 +5,7 @@ ghost use Rattle.hex.specs.Hex.{encode_lower};
 ghost use Rattle.pvgate.specs.Output.{dest_text, message_line, shut_line, end_line};
 
 use ca_header::FrameFault;
-use gateway_core::{Dest, Reading};
-use link_table::Subscription;
-use pv_name::Name;
+use gateway_core::Dest;
 use std::io;
 use std::io::Write;
 
@@ -53,55 +51,6 @@ pub fn write_end<W: Write>(out: &mut W, dest: Dest) -> io::Result<()>
     out.write_all(b"end ")?;
     write_dest(out, dest)?;
     out.write_all(b"\n")
-}
-
-/// Writes the names that are asked for, by rising bytes.
-pub fn write_asks<W: Write>(out: &mut W, names: &[Name]) -> io::Result<()> {
-    out.write_all(b"asks")?;
-    for name in names {
-        out.write_all(b" ")?;
-        out.write_all(name.text().as_bytes())?;
-    }
-    out.write_all(b"\n")
-}
-
-/// Writes what a read would be answered.
-pub fn write_reading<W: Write>(out: &mut W, reading: &Reading) -> io::Result<()> {
-    match reading {
-        Reading::Value(count, payload) => {
-            write!(out, "value {count} ")?;
-            if payload.is_empty() {
-                out.write_all(b"-")?;
-            } else {
-                write_hex(out, payload.as_slice())?;
-            }
-            out.write_all(b"\n")
-        }
-        Reading::Refused(code) => writeln!(out, "refused {code}"),
-        Reading::Waits => out.write_all(b"waits\n"),
-        Reading::NoChannel => out.write_all(b"no channel\n"),
-    }
-}
-
-/// Writes what is subscribed to upstream.
-pub fn write_subscription<W: Write>(
-    out: &mut W,
-    subscription: Option<Subscription>,
-) -> io::Result<()> {
-    match subscription {
-        Some(Subscription {
-            id, mask, count, ..
-        }) => writeln!(out, "sub {id} {mask} {count}"),
-        None => out.write_all(b"sub -\n"),
-    }
-}
-
-/// Writes what a client may do with a channel.
-pub fn write_rights<W: Write>(out: &mut W, rights: Option<u32>) -> io::Result<()> {
-    match rights {
-        Some(rights) => writeln!(out, "rights {rights}"),
-        None => out.write_all(b"rights -\n"),
-    }
 }
 
 fn write_dest<W: Write>(out: &mut W, dest: Dest) -> io::Result<()>

@@ -1,14 +1,11 @@
 //! The lines of a script, performed on an engine.
 
 use super::fault::ReplayFault;
-use crate::output::{
-    write_asks, write_end, write_message, write_reading, write_rights, write_shut,
-    write_subscription,
-};
+use crate::output::{write_end, write_message, write_shut};
 use crate::script::Line;
-use ca_header::{FrameFault, Intake, IntakeFault, Message};
+use ca_header::{FrameFault, Intake, IntakeFault};
 use gateway_core::{Config, Dest, Engine, Event, Policy};
-use pv_name::Name;
+use pv_name::{Host, Name, NameFault};
 use std::alloc::Global;
 use std::collections::{BTreeMap, BTreeSet};
 use std::io::Write;
@@ -71,30 +68,9 @@ impl Player {
     ) -> Result<Option<Misframed>, ReplayFault> {
         match line {
             Line::Skipped => {}
-            Line::OpenSession(number, host) => {
-                self.open(Dest::Session(number), Event::Opened(number, host))?;
-            }
-            Line::OpenServer(number) => {
-                self.open(Dest::Upstream(number), Event::UpOpened(number))?;
-            }
+            Line::OpenSession(number, host) => self.open_session(number, host)?,
             Line::Lost(dest) => self.lose(dest)?,
-            Line::Client(number, bytes) => return self.receive(Dest::Session(number), &bytes),
-            Line::Server(number, bytes) => return self.receive(Dest::Upstream(number), &bytes),
-            Line::Found(name, number) => self.engine.step(Event::Found(name, number))?,
-            Line::Sweep => self.engine.step(Event::Sweep)?,
-            Line::Asks => write_asks(out, &self.engine.asks()?)?,
-            Line::Read {
-                session,
-                sid,
-                dtype,
-                count,
-            } => write_reading(out, &self.engine.read(session, sid, dtype, count)?)?,
-            Line::Subscription(name) => {
-                write_subscription(out, self.engine.subscription(&name)?)?;
-            }
-            Line::Rights { session, sid } => {
-                write_rights(out, self.engine.rights(session, sid)?)?;
-            }
+            Line::Client(number, bytes) => return self.receive(number, &bytes),
             Line::Hold(dest) => {
                 self.held.insert(dest)?;
             }
@@ -108,8 +84,9 @@ impl Player {
         Ok(None)
     }
 
-    fn open(&mut self, dest: Dest, event: Event) -> Result<(), ReplayFault> {
-        self.engine.step(event)?;
+    fn open_session(&mut self, number: u32, host: Host) -> Result<(), ReplayFault> {
+        let dest = Dest::Session(number);
+        self.engine.step(Event::Opened(number, host))?;
         if !self.intakes.contains_key(&dest) && self.engine.is_open(dest)? {
             self.intakes.insert(dest, Intake::new(self.alloc))?;
         }
@@ -117,17 +94,16 @@ impl Player {
     }
 
     fn lose(&mut self, dest: Dest) -> Result<(), ReplayFault> {
-        let event = match dest {
-            Dest::Session(number) => Event::Lost(number),
-            Dest::Upstream(number) => Event::UpLost(number),
-        };
-        self.engine.step(event)?;
+        if let Dest::Session(number) = dest {
+            self.engine.step(Event::Lost(number))?;
+        }
         self.intakes.remove(&dest);
         Ok(())
     }
 
-    /// Takes bytes from a connection: each message that is whole then is an event.
-    fn receive(&mut self, dest: Dest, bytes: &[u8]) -> Result<Option<Misframed>, ReplayFault> {
+    /// Takes bytes from a client: each message that is whole then is an event.
+    fn receive(&mut self, number: u32, bytes: &[u8]) -> Result<Option<Misframed>, ReplayFault> {
+        let dest = Dest::Session(number);
         let Some(intake) = self.intakes.get_mut(&dest) else {
             return Ok(None);
         };
@@ -137,7 +113,7 @@ impl Player {
         }
         for _ in 0..u64::MAX {
             match intake.take() {
-                Ok(Some(message)) => self.engine.step(said_by(dest, message))?,
+                Ok(Some(message)) => self.engine.step(Event::Client(number, message))?,
                 Ok(None) => break,
                 Err(IntakeFault::Faulted(fault)) => return Ok(Some(Misframed { dest, fault })),
                 Err(IntakeFault::OutOfMemory) => return Err(ReplayFault::OutOfMemory),
@@ -180,14 +156,6 @@ impl Player {
             }
         }
         Ok(None)
-    }
-}
-
-/// The event that a connection's message is.
-fn said_by(dest: Dest, message: Message) -> Event {
-    match dest {
-        Dest::Session(number) => Event::Client(number, message),
-        Dest::Upstream(number) => Event::Server(number, message),
     }
 }
 
