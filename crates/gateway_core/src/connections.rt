@@ -2,10 +2,10 @@
 ghost use Rattle.std.specs.Prelude.{◌≡◌, OnOk};
 ghost use Rattle.gateway_state.specs.Direct.{opened, lost};
 
-use crate::rows::Rows;
+use crate::state::Rows;
 use ca_message::ToClient;
 use gateway_state::Dest;
-use gateway_state::channel_table::{Session, TableFault};
+use gateway_state::clients::{Session, TableFault};
 use pv_name::Host;
 use std::alloc::AllocError;
 

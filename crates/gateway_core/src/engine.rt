@@ -8,7 +8,7 @@ ghost use Rattle.gateway_state.specs.Asked.{stands, ends, queued};
 
 use crate::NoMemory;
 use crate::fault::{Failed, StepFault};
-use crate::rows::Rows;
+use crate::state::Rows;
 use gateway_state::fanout::Out;
 use gateway_state::{Config, Dest, Event, Policy};
 use std::alloc::Global;

@@ -8,7 +8,7 @@ mod client;
 mod connections;
 mod engine;
 mod fault;
-mod rows;
+mod state;
 #[cfg(test)]
 mod tests;
 

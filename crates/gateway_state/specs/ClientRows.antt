@@ -1,6 +1,6 @@
 -- The value of the table of clients.
 use Rattle.std.specs.Prelude.{List}
-use Rattle.gateway_state.specs.declared.channel_table.session.Session.{Session}
+use Rattle.gateway_state.specs.declared.clients.session.Session.{Session}
 
 -- the rows of clients, each list in the order in which they were added
 pub record ClientRows : Type 0 where

@@ -8,7 +8,7 @@ use Rattle.ca_message.specs.declared.request.ClientRequest.TheVariants as reques
 use Rattle.ca_message.specs.declared.request.RequestFault.{RequestFault}
 use Rattle.ca_message.specs.declared.to_client.ToClient.TheVariants as replies
 use Rattle.ca_message.specs.ClientRequest.{request_of}
-use Rattle.gateway_state.specs.declared.channel_table.table.TheConstants.{SESSION_LIMIT}
+use Rattle.gateway_state.specs.declared.clients.table.TheConstants.{SESSION_LIMIT}
 use Rattle.gateway_state.specs.declared.limits.TheConstants.{LOWEST_MINOR}
 use Rattle.gateway_state.specs.declared.event.Dest.{Dest}
 use Rattle.gateway_state.specs.declared.event.Dest.TheVariants.{Session}

@@ -1,6 +1,6 @@
 -- The rows of client connections.
 use Rattle.std.specs.Prelude.{ℕ, Bool, not, ◌==◌}
-use Rattle.gateway_state.specs.declared.channel_table.session.Session.{Session}
+use Rattle.gateway_state.specs.declared.clients.session.Session.{Session}
 
 -- the row of this session
 abbrev pub is_numbered : ℕ → Session → Bool

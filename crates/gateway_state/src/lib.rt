@@ -5,7 +5,7 @@
 //! lists.
 #![tactic(auto)]
 
-pub mod channel_table;
+pub mod clients;
 mod config;
 mod event;
 pub mod fanout;

@@ -2,7 +2,7 @@
 ghost use Rattle.std.specs.Prelude.{◌≡◌, OnOk};
 ghost use Rattle.gateway_state.specs.Direct.{from_client, versioned, not_understood};
 
-use crate::rows::Rows;
+use crate::state::Rows;
 use ca_header::Message;
 use ca_message::codes::ECA_INTERNAL;
 use ca_message::commands::NO_CHANNEL;

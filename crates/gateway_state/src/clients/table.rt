@@ -3,7 +3,7 @@ ghost use Rattle.std.specs.Prelude.{◌≡◌, ◌≤◌, ◌<◌, ◌↔◌, []
 ghost use Rattle.std.specs.List.{list_any, filter};
 ghost use Rattle.gateway_state.specs.Sessions.{is_numbered, is_not_numbered};
 
-use crate::channel_table::session::Session;
+use crate::clients::session::Session;
 use std::alloc::Global;
 use std::marker::Model;
 

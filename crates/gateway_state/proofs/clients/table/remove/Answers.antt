@@ -1,7 +1,7 @@
 use Rattle.std.proofs.Common.{rules}
 use Rattle.std.proofs.lemmas.Fn.{filter_same}
 use Rattle.gateway_state.specs.Sessions.{is_not_numbered}
-use Rattle.gateway_state.proofs.channel_table.table.remove.Goals as goal
+use Rattle.gateway_state.proofs.clients.table.remove.Goals as goal
 
 -- the closure answers the test and stays as it is
 pub returns : goal.returns

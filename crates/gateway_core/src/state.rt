@@ -9,7 +9,7 @@ ghost use Rattle.gateway_state.specs.Telling.{outgoing, told, marked};
 
 use ca_header::write_head;
 use ca_message::ToClient;
-use gateway_state::channel_table::Table;
+use gateway_state::clients::Table;
 use gateway_state::fanout::{Connections, Out};
 use gateway_state::{Config, Dest, Event, Policy};
 use std::alloc::{AllocError, Global};
