@@ -12,7 +12,7 @@ use crate::channels::{self, Channel};
 use crate::reads::{self, WaitingRead};
 use crate::sessions::{self, Session};
 use pv_name::Host;
-use std::alloc::Global;
+use std::alloc::{AllocError, Global};
 use std::marker::Model;
 
 /// How many sessions stand at most.
@@ -180,6 +180,16 @@ impl Table {
             Ok(()) => Ok(()),
             Err(_) => Err(TableFault::OutOfMemory),
         }
+    }
+
+    /// Adds a read past the limit too, and without a look at its channel: for a caller that tests
+    /// both itself, and answers what is past the limit before anything else happens.
+    pub fn keep_read(&mut self, read: WaitingRead) -> Result<(), AllocError>
+        ensures ok { OnOk result (self.new ≡ record self.old { reads = self.old.reads ++ read ∷ [] }) }
+        ensures err { OnErr result (self.new ≡ self.old) }
+    {
+        self.reads.push(read)?;
+        Ok(())
     }
 
     /// Changes a session that stands: its host, whether that stays, and whether it wants no updates.

@@ -1,19 +1,34 @@
 //! The engine: the rows, until a step is refused.
-ghost use Rattle.std.specs.Prelude.{◌≡◌, ◌≢◌, ◌≤◌, ◌<◌, ◌↔◌, Some, None, IsSome, IsNone, OnOk, OnErr, IfOk, IsErrOf, IsOk};
+ghost use Rattle.std.specs.Prelude.{◌≡◌, ◌≢◌, ◌≤◌, ◌<◌, ◌↔◌, Some, None, IsSome, IsNone, true, false, OnOk, OnErr, IfOk, IsErrOf, IsOk};
 ghost use Rattle.std.specs.Option.{option_map};
 ghost use Rattle.gateway_state.specs.Gateway.{initial};
 ghost use Rattle.gateway_state.specs.declared.config.TheConstants.{LAST_FIRST};
+ghost use Rattle.gateway_state.specs.Numbers.{is_past_numbers, runs_out};
 ghost use Rattle.gateway_state.specs.Step.{step, run, taken};
+ghost use Rattle.gateway_state.specs.Answer.{reading};
 ghost use Rattle.gateway_state.specs.Asked.{stands, ends, queued};
+ghost use Rattle.gateway_state.specs.Interest.{subscription_of};
+ghost use Rattle.gateway_state.specs.Rights.{rights_asked};
+ghost use Rattle.gateway_state.specs.Variables.{asks};
 
 use crate::NoMemory;
-use crate::fault::{Failed, StepFault};
+use crate::fault::{Failed, Refusal, StepFault};
 use crate::state::Rows;
 use gateway_state::fanout::Out;
-use gateway_state::{Config, Dest, Event, Policy};
+use gateway_state::{Config, Dest, Event, Policy, Reading, Sub};
+use pv_name::Name;
 use std::alloc::Global;
 use std::collections::VecDeque;
 use std::marker::Model;
+
+/// Why a question isn't answered. Nothing changed.
+#[derive(Clone, Copy, Debug, PartialEq, Eq)]
+pub enum AskFault {
+    /// Memory was refused.
+    OutOfMemory,
+    /// An earlier step was refused.
+    Failed,
+}
 
 /// The gateway, one event at a time. A refused step leaves it failed for good.
 #[derive(Drop)]
@@ -45,8 +60,9 @@ impl Engine {
     /// Performs one event.
     pub fn step(&mut self, event: Event) -> Result<(), StepFault>
         ensures ok { OnOk result (self.new ≡ option_map (λ w. step w event) self.old) }
+        ensures used_up { IsErrOf result StepFault.NumbersUsedUp → option_map (λ w. is_past_numbers (step w event)) self.old ≡ Some true }
+        ensures in_range { OnOk result (option_map (λ w. is_past_numbers (step w event)) self.old ≡ Some false) }
         ensures failed { IsErrOf result StepFault.Failed ↔ IsNone self.old }
-        ensures numbers { result ≢ Err StepFault.NumbersUsedUp }
         ensures err { OnErr result (self.new ≡ None) }
     {
         let Some(rows) = &mut self.rows else {
@@ -54,16 +70,17 @@ impl Engine {
         };
         match rows.step(event) {
             Ok(()) => Ok(()),
-            Err(_) => Err(self.fail()),
+            Err(refusal) => Err(self.fail(refusal)),
         }
     }
 
     /// Performs events in order, up to the first that is refused.
-    #[tactic(auto, unfolding(gateway_state::specs::Step::run))]
+    #[tactic(auto, unfolding(gateway_state::specs::Step::run, gateway_state::specs::Numbers::runs_out))]
     pub fn run(&mut self, events: Vec<Event>) -> Result<(), StepFault>
         ensures ok { OnOk result (self.new ≡ option_map (λ w. run w events.items) self.old) }
+        ensures used_up { IsErrOf result StepFault.NumbersUsedUp → option_map (λ w. runs_out w events.items) self.old ≡ Some true }
+        ensures in_range { OnOk result (option_map (λ w. runs_out w events.items) self.old ≡ Some false) }
         ensures failed { IsErrOf result StepFault.Failed ↔ IsNone self.old }
-        ensures numbers { result ≢ Err StepFault.NumbersUsedUp }
         ensures err { OnErr result (self.new ≡ None) }
     {
         if self.rows.is_none() {
@@ -77,12 +94,12 @@ impl Engine {
     }
 
     /// Takes the first `count` messages of an outbox, or all, and hands them out in order.
-    #[tactic(auto, unfolding(gateway_state::specs::Step::step))]
     pub fn drain(&mut self, dest: Dest, count: usize) -> Result<Vec<Out>, StepFault>
         ensures ok { OnOk result (self.new ≡ option_map (λ w. step w (Event.Drain dest count)) self.old) }
+        ensures used_up { IsErrOf result StepFault.NumbersUsedUp → option_map (λ w. is_past_numbers (step w (Event.Drain dest count))) self.old ≡ Some true }
+        ensures in_range { OnOk result (option_map (λ w. is_past_numbers (step w (Event.Drain dest count))) self.old ≡ Some false) }
         ensures found { IfOk result (λ outs. Some outs.items ≡ option_map (λ w. taken w (Event.Drain dest count) dest) self.old) }
         ensures failed { IsErrOf result StepFault.Failed ↔ IsNone self.old }
-        ensures numbers { result ≢ Err StepFault.NumbersUsedUp }
         ensures err { OnErr result (self.new ≡ None) }
     {
         let Some(rows) = &mut self.rows else {
@@ -90,7 +107,7 @@ impl Engine {
         };
         match rows.drain(dest, count) {
             Ok(outs) => Ok(outs),
-            Err(_) => Err(self.fail()),
+            Err(refusal) => Err(self.fail(refusal)),
         }
     }
 
@@ -130,12 +147,76 @@ impl Engine {
         }
     }
 
-    /// Gives up for good: a step was refused memory, and is half done.
-    fn fail(&mut self) -> StepFault
-        ensures cause { result ≡ StepFault.OutOfMemory }
+    /// The present subscription of a variable upstream, nothing where there is none.
+    pub fn subscription(&mut self, name: &Name) -> Result<Option<Sub>, Failed>
+        ensures found { IfOk result (λ answer. Some answer ≡ option_map (λ w. subscription_of w name.now) self.old) }
+        ensures failed { IsOk result ↔ IsSome self.old }
+        ensures same { self.new ≡ self.old }
+    {
+        match &self.rows {
+            Some(rows) => Ok(rows.subscription_of(name)),
+            None => Err(Failed),
+        }
+    }
+
+    /// What a client may do with its channel (1: read, 2: write), nothing where it has no such channel.
+    pub fn rights(&mut self, session: u32, sid: u32) -> Result<Option<u32>, Failed>
+        ensures found { IfOk result (λ answer. Some answer ≡ option_map (λ w. rights_asked w session sid) self.old) }
+        ensures failed { IsOk result ↔ IsSome self.old }
+        ensures same { self.new ≡ self.old }
+    {
+        match &self.rows {
+            Some(rows) => Ok(rows.rights_asked(session, sid)),
+            None => Err(Failed),
+        }
+    }
+
+    /// What a READ_NOTIFY would be answered now. The limit of reads that wait isn't part of it.
+    pub fn read(
+        &mut self,
+        session: u32,
+        sid: u32,
+        dtype: u16,
+        count: u32,
+    ) -> Result<Reading, AskFault>
+        ensures found { IfOk result (λ answer. Some answer ≡ option_map (λ w. reading w session sid dtype count) self.old) }
+        ensures failed { IsErrOf result AskFault.Failed ↔ IsNone self.old }
+        ensures same { self.new ≡ self.old }
+    {
+        match &self.rows {
+            Some(rows) => match rows.reading(session, sid, dtype, count) {
+                Ok(answer) => Ok(answer),
+                Err(_) => Err(AskFault::OutOfMemory),
+            },
+            None => Err(AskFault::Failed),
+        }
+    }
+
+    /// The names to ask servers for: wanted, without a link, by rising bytes, each once.
+    pub fn asks(&mut self) -> Result<Vec<Name>, AskFault>
+        ensures found { IfOk result (λ names. Some names.items ≡ option_map asks self.old) }
+        ensures failed { IsErrOf result AskFault.Failed ↔ IsNone self.old }
+        ensures same { self.new ≡ self.old }
+    {
+        match &self.rows {
+            Some(rows) => match rows.asks() {
+                Ok(names) => Ok(names),
+                Err(_) => Err(AskFault::OutOfMemory),
+            },
+            None => Err(AskFault::Failed),
+        }
+    }
+
+    /// Gives up for good: a step was refused, and is half done.
+    fn fail(&mut self, refusal: Refusal) -> StepFault
+        ensures cause { result ≢ StepFault.Failed }
+        ensures used_up { result ≡ StepFault.NumbersUsedUp → refusal ≡ Refusal.NumbersUsedUp }
         ensures failed { self.new ≡ None }
     {
         self.rows = None;
-        StepFault::OutOfMemory
+        match refusal {
+            Refusal::OutOfMemory => StepFault::OutOfMemory,
+            Refusal::NumbersUsedUp => StepFault::NumbersUsedUp,
+        }
     }
 }

@@ -1,21 +1,29 @@
 //! The gateway, one event at a time.
 //!
 //! An `Engine` performs events, each an atomic step. What a step does is stated over the whole rows
-//! of the gateway (`gateway_state`, `specs/`).
+//! of the gateway (`gateway_state`, `specs/`): the event's direct effect, and then the notices that
+//! follow from it on channels, on links and on waiting reads.
 #![tactic(auto)]
 
+mod answer;
+mod asks;
 mod client;
 mod connections;
 mod engine;
 mod fault;
+mod interest;
+pub mod laws;
+mod notices;
+mod rights;
+mod server;
 mod state;
-#[cfg(test)]
-mod tests;
+mod step;
+mod variables;
 
-pub use engine::Engine;
+pub use engine::{AskFault, Engine};
 pub use fault::{Failed, StepFault};
 pub use gateway_state::fanout::Out;
-pub use gateway_state::{Config, Dest, Event, Policy};
+pub use gateway_state::{Config, Dest, Event, Policy, Reading, Sub};
 
 /// Want of memory, of a call that fails for nothing else.
 pub type NoMemory = std::alloc::AllocError;

@@ -1,0 +1,15 @@
+pub mod InOrder
+pub mod Kept
+pub mod KeptByClients
+pub mod KeptByRuns
+pub mod KeptByServers
+pub mod LinksApart
+pub mod NumberLemmas
+pub mod ReadsOnChannels
+pub mod RisingRows
+pub mod SettledChannels
+pub mod SettledLinks
+pub mod SettledMeaning
+pub mod SettledReads
+pub mod SettledRuns
+pub mod SettledSteps

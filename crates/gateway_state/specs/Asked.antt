@@ -1,5 +1,5 @@
 -- What the gateway answers about its connections.
-use Rattle.std.specs.Prelude.{ℕ, Bool, length}
+use Rattle.std.specs.Prelude.{ℕ, Bool, not, ◌&&◌, length}
 use Rattle.std.specs.List.{list_any}
 use Rattle.gateway_state.specs.declared.event.Dest.{Dest}
 use Rattle.gateway_state.specs.Connections.{is_to, outbox_of}
@@ -16,3 +16,7 @@ ends w dest = (outbox_of dest w.connections).marked
 -- how many messages wait for it
 abbrev pub queued : Gateway → Dest → ℕ
 queued w dest = length (outbox_of dest w.connections).messages
+
+-- a connection's messages have an effect: it stands and isn't marked
+abbrev pub acts : Gateway → Dest → Bool
+acts w dest = stands w dest && not (ends w dest)

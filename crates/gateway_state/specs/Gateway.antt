@@ -1,9 +1,12 @@
 -- The gateway state.
-use Rattle.std.specs.Prelude.{List, []}
+use Rattle.std.specs.Prelude.{ℕ, List, []}
+use Rattle.channel_table.specs.ClientRows.{ClientRows}
+use Rattle.link_table.specs.LinkRows.{LinkRows}
+use Rattle.gateway_state.specs.declared.cached.Cached.{Cached}
 use Rattle.gateway_state.specs.declared.config.Config.{Config}
 use Rattle.gateway_state.specs.declared.config.Policy.{Policy}
 use Rattle.gateway_state.specs.declared.fanout.connections.Connection.{Connection}
-use Rattle.gateway_state.specs.ClientRows.{ClientRows}
+use Rattle.gateway_state.specs.declared.search.Search.{Search}
 
 -- all that the gateway knows, as whole lists of rows
 pub record Gateway : Type 0 where
@@ -11,8 +14,22 @@ pub record Gateway : Type 0 where
   pub policy : Policy
   pub connections : List Connection
   pub clients : ClientRows
+  pub upstream : LinkRows
+  pub cache : List Cached
+  pub searches : List Search
 
--- what it knows before any event
+-- what it knows before any event: nothing but its configuration, and where its four counters begin
 abbrev pub initial : Config → Policy → Gateway
-initial config policy =
-    record { config = config; policy = policy; connections = []; clients = record { sessions = [] } }
+initial config policy = record {
+  config = config;
+  policy = policy;
+  connections = [];
+  clients = record { sessions = []; channels = []; reads = [] };
+  upstream = record {
+    servers = [];
+    links = [];
+    counters = record { sid = config.first; cid = config.first; subscription = config.first; write = config.first };
+  };
+  cache = [];
+  searches = [];
+}

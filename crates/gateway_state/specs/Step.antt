@@ -8,15 +8,16 @@ use Rattle.gateway_state.specs.Asked.{stands}
 use Rattle.gateway_state.specs.Connections.{outbox_of, same_dest}
 use Rattle.gateway_state.specs.Direct.{direct_effect}
 use Rattle.gateway_state.specs.Gateway.{Gateway}
+use Rattle.gateway_state.specs.Notices.{channels_told, links_told, reads_told}
 
--- what follows from the rows before an event and those after its direct effect: the notices that
--- others are owed. Nothing yet, as no row depends on another's
-abbrev pub consequences : Gateway → Gateway → Gateway
-consequences before now = now
+-- what follows from an event for everybody: the notices on channels, on links and on waiting reads
+-- (updates of subscriptions come behind them)
+abbrev pub consequences : Gateway → Gateway
+consequences w = reads_told (links_told (channels_told w))
 
 -- one event
 unfoldable pub step : Gateway → Event → Gateway
-step w event = consequences w (direct_effect w event)
+step w event = consequences (direct_effect w event)
 
 -- events in order
 unfoldable pub run : Gateway → List Event → Gateway

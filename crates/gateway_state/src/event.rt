@@ -1,6 +1,6 @@
 //! What can happen to the gateway.
 use ca_header::Message;
-use pv_name::Host;
+use pv_name::{Host, Name};
 
 /// A connection, by the number that the caller gave it.
 #[derive(Clone, Copy, Debug, PartialEq, Eq, PartialOrd, Ord)]
@@ -20,6 +20,16 @@ pub enum Event {
     Lost(u32),
     /// A client sent a message.
     Client(u32, Message),
+    /// A server is connected.
+    UpOpened(u32),
+    /// A server's connection is gone.
+    UpLost(u32),
+    /// A server sent a message.
+    Server(u32, Message),
+    /// A server has the variable of this real name.
+    Found(Name, u32),
+    /// All remembered searches are forgotten.
+    Sweep,
     /// The oldest messages of an outbox are taken: so many, or all where there are fewer.
     Drain(Dest, usize),
 }

@@ -1,16 +1,27 @@
 //! What the gateway knows, as rows, and what its contracts cite.
 //!
-//! The rows are kept here, in an outbox for each connection and a table of the clients' rows. The
-//! definitions of `specs/` say what the gateway does with them, one event at a time, over whole
-//! lists.
+//! The rows of connections, cached values and remembered searches are kept here; those of clients
+//! and of servers in `channel_table` and `link_table`. The definitions of `specs/` say what the
+//! gateway does with them all, one event at a time, over whole lists.
 #![tactic(auto)]
 
-pub mod clients;
+mod cached;
 mod config;
 mod event;
 pub mod fanout;
+mod interest;
 mod limits;
+mod notice;
+mod reading;
+mod search;
 
+pub use cached::{Cache, Cached};
 pub use config::{Config, LAST_FIRST, Policy};
 pub use event::{Dest, Event};
-pub use limits::LOWEST_MINOR;
+pub use interest::{
+    ALWAYS_ASKED, Interest, KNOWN_EVENTS, PLAIN_TYPES, READ_EVENTS, Sub, TIME_FORM,
+};
+pub use limits::{LOWEST_MINOR, SEARCH_LIMIT, UPDATE_MINOR};
+pub use notice::{ChannelNotice, LinkNotice, ReadNotice, ReadVerdict};
+pub use reading::{Given, Native, Reading};
+pub use search::{Search, Searches};

@@ -1,7 +1,8 @@
 -- The numbers that are given out.
-use Rattle.std.specs.Prelude.{ℕ, ◌+◌, ◌^◌, ◌<◌}
+use Rattle.std.specs.Prelude.{ℕ, ◌+◌, ◌^◌, ◌<◌, Bool, ◌||◌, nat_lt}
 use Rattle.link_table.specs.declared.counter.Counter.{Counter}
 use Rattle.link_table.specs.declared.counter.Counter.TheVariants.{Sid, Cid, Subscription, Write}
+use Rattle.link_table.specs.declared.counter.TheConstants.{LAST_NUMBER}
 use Rattle.link_table.specs.LinkRows.{Counters}
 
 -- each counter at this number
@@ -28,3 +29,12 @@ pub record AreBounded (counters : Counters) : Type 0 where
   pub cid : counters.cid < 2 ^ 32
   pub subscription : counters.subscription < 2 ^ 32
   pub write : counters.write < 2 ^ 32
+
+-- a number past the last one was given out
+abbrev pub is_over : ℕ → Bool
+is_over next = nat_lt (LAST_NUMBER + 1) next
+
+-- a number past the last one was given out by one of the counters
+abbrev pub are_over : Counters → Bool
+are_over counters =
+    is_over counters.sid || is_over counters.cid || is_over counters.subscription || is_over counters.write

@@ -1,6 +1,6 @@
 //! The numbers that the gateway gives out to its servers and clients.
-ghost use Rattle.std.specs.Prelude.{◌≡◌, ◌+◌, ◌<◌, ◌↔◌, IfSome, IfNone, IsNone, OnSome};
-ghost use Rattle.link_table.specs.Counters.{AreBounded, all_at, counter_of, raised};
+ghost use Rattle.std.specs.Prelude.{◌≡◌, ◌+◌, ◌<◌, ◌↔◌, true, false, IfSome, IfNone, IsNone, OnSome};
+ghost use Rattle.link_table.specs.Counters.{AreBounded, all_at, are_over, counter_of, raised};
 
 use std::marker::Model;
 
@@ -53,12 +53,19 @@ impl NextNumbers {
         }
     }
 
+    /// No number past the last one was given out, whatever was done: this call does nothing.
+    pub(crate) fn are_in_range(&self)
+        ensures { are_over self.now ≡ false }
+    {
+        let _ = &self.sid;
+    }
+
     pub(crate) fn give_out(&mut self, counter: Counter) -> Option<u32>
         ensures found { IfSome result (λ number. number ≡ counter_of counter self.old) }
         ensures raised { OnSome result (self.new ≡ raised counter self.old) }
         ensures none { IsNone result ↔ (LAST_NUMBER < counter_of counter self.old) }
         ensures same { IfNone result (self.new ≡ self.old) }
-        ensures bounded { AreBounded self.old }
+        ensures used_up { IsNone result → are_over (raised counter self.old) ≡ true }
     {
         match counter {
             Counter::Sid => next_of(&mut self.sid),

@@ -47,7 +47,7 @@ pub struct Subscription {
     /// The gateway's ID of it.
     pub id: u32,
     /// The events that are reported.
-    pub mask: u32,
+    pub mask: u16,
     /// How many elements an update has at most.
     pub count: u32,
     /// The count field as it was sent.

@@ -7,7 +7,7 @@ ghost use Rattle.link_table.specs.declared.counter.TheConstants.{LAST_NUMBER};
 ghost use Rattle.link_table.specs.LinkRows.{has_server, has_link};
 ghost use Rattle.link_table.specs.Servers.{is_server, is_not_server, with_minor};
 ghost use Rattle.link_table.specs.Links.{is_link, is_not_link, is_not_of, is_named, has_subscription, with_state, with_subscription};
-ghost use Rattle.link_table.specs.Counters.{AreBounded, all_at, counter_of, raised};
+ghost use Rattle.link_table.specs.Counters.{all_at, are_over, counter_of, raised};
 
 use crate::counter::{Counter, NextNumbers};
 use crate::links::{self, Link, LinkState, Subscription};
@@ -99,6 +99,13 @@ impl Links {
         ensures { option_copied result ≡ slice_get self.now.links n }
     {
         self.links.get(n)
+    }
+
+    /// All links, in the order of adding, which is that of their CIDs.
+    pub fn links(&self) -> &[Link]
+        ensures { result.now ≡ self.now.links }
+    {
+        self.links.as_slice()
     }
 
     /// How many links stand.
@@ -203,6 +210,13 @@ impl Links {
         links::remove(&mut self.links, server, cid);
     }
 
+    /// No number past the last one was given out, whatever was done: this call does nothing.
+    pub fn numbers_are_in_range(&self)
+        ensures { are_over self.now.counters ≡ false }
+    {
+        self.next.are_in_range();
+    }
+
     /// Gives out the next number of a counter. There is none past `LAST_NUMBER`, and then nothing
     /// changes.
     pub fn give_out(&mut self, counter: Counter) -> Option<u32>
@@ -210,7 +224,7 @@ impl Links {
         ensures raised { OnSome result (self.new ≡ record self.old { counters = raised counter self.old.counters }) }
         ensures none { IsNone result ↔ (LAST_NUMBER < counter_of counter self.old.counters) }
         ensures same { IfNone result (self.new ≡ self.old) }
-        ensures bounded { AreBounded self.old.counters }
+        ensures used_up { IsNone result → are_over (raised counter self.old.counters) ≡ true }
     {
         self.next.give_out(counter)
     }

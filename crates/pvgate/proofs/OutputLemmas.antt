@@ -1,10 +1,11 @@
 -- Facts on what is printed, one write after another.
-use Rattle.std.proofs.Common.{◌≡◌, ℕ, ◌/◌, ◌%◌, ◌==◌, true, List, [], ◌∷◌, ◌++◌, length, take, drop, Option, Some, None, slice_index, refl, ap, sym, subst, ◌∙◌, arith}
-use Rattle.std.proofs.lemmas.List.{append_assoc, append-nil, take-append-drop}
+use Rattle.std.proofs.Common.{◌≡◌, ℕ, suc, ◌+◌, ◌/◌, ◌%◌, ◌==◌, ◌<◌, ◌≤◌, true, List, [], ◌∷◌, ◌++◌, length, take, drop, Option, Some, None, slice_index, get_or, drop-cons, add-one, refl, ap, sym, subst, ◌∙◌, arith}
+use Rattle.std.specs.Prelude.{flat_map}
+use Rattle.std.proofs.lemmas.List.{append_assoc, append-nil, drop_all, take-append-drop}
 use Rattle.std.proofs.lemmas.Bool.Decides.{nat_tests}
 use Rattle.std.specs.Io.KnownBytes.{Appends}
 use Rattle.hex.specs.Hex.{encode_with, encode_lower, lower_digits}
-use Rattle.pvgate.specs.Output.{dest_text, message_line}
+use Rattle.pvgate.specs.Output.{dest_text, message_line, after_blank}
 use Rattle.gateway_state.specs.declared.event.Dest.{Dest}
 
 -- the text of bytes that stand one after another
@@ -46,3 +47,31 @@ Appends-message_line dest head payload a b c d e f to blank first second end =
     (append_assoc (dest_text dest) (32 ∷ []) (encode_lower head ++ encode_lower payload)
     ∙ ap (λ (text : List ℕ). dest_text dest ++ (32 ∷ text)) (sym (encode_with-append lower_digits head payload)))
     (Appends-append a e f _ _ (Appends-append a c e _ _ front bytes) end)
+
+-- nothing is written
+pub Appends-nil : (a : Option (List ℕ)) → Appends a a []
+Appends-nil None = tt
+Appends-nil (Some a) = sym (append-nil a)
+
+drop-name : (names : List (List ℕ)) (i : ℕ) (name : List ℕ) → i < length names → name ≡ get_or names i name
+    → drop i names ≡ name ∷ drop (i + 1) names
+drop-name names i name h is =
+    drop-cons names i name h
+    ∙ ap (λ (first : List ℕ). first ∷ drop (suc i) names) (sym is)
+    ∙ ap (λ (k : ℕ). name ∷ drop k names) (sym (add-one i))
+
+-- a name is written after a blank, and then the names after it
+pub Appends-name : (names : List (List ℕ)) (i : ℕ) (name : List ℕ) (a b c d : Option (List ℕ))
+    → i < length names → name ≡ get_or names i name
+    → Appends a b (32 ∷ []) → Appends b c name → Appends c d (flat_map after_blank (drop (i + 1) names))
+    → Appends a d (flat_map after_blank (drop i names))
+Appends-name names i name a b c d h is blank text more =
+    let P : List (List ℕ) → Type 0 = λ left. Appends a d (flat_map after_blank left) in
+    let left = Appends-append a c d (32 ∷ name) _ (Appends-append a b c (32 ∷ []) name blank text) more in
+    subst P (sym (drop-name names i name h is)) left
+
+-- all names are written
+pub Appends-names_end : (names : List (List ℕ)) (i : ℕ) (a : Option (List ℕ)) → length names ≤ i → Appends a a (flat_map after_blank (drop i names))
+Appends-names_end names i a h =
+    let P : List (List ℕ) → Type 0 = λ left. Appends a a (flat_map after_blank left) in
+    subst P (sym (drop_all i names h)) (Appends-nil a)

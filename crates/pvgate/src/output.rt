@@ -1,11 +1,13 @@
 //! What a replay prints.
-ghost use Rattle.std.specs.Prelude.{◌++◌, OnOk};
+ghost use Rattle.std.specs.Prelude.{◌++◌, OnOk, flat_map};
 ghost use Rattle.std.specs.Io.KnownBytes.{Appends};
+ghost use Rattle.std.specs.Option.{option_map};
 ghost use Rattle.hex.specs.Hex.{encode_lower};
-ghost use Rattle.pvgate.specs.Output.{dest_text, message_line, shut_line, end_line};
+ghost use Rattle.pvgate.specs.Output.{dest_text, message_line, shut_line, end_line, asks_line, after_blank, reading_line, value_line, bytes_text, subscription_line, subscription_text, rights_line};
 
 use ca_header::FrameFault;
-use gateway_core::Dest;
+use gateway_core::{Dest, Reading, Sub};
+use pv_name::Name;
 use std::io;
 use std::io::Write;
 
@@ -51,6 +53,78 @@ pub fn write_end<W: Write>(out: &mut W, dest: Dest) -> io::Result<()>
     out.write_all(b"end ")?;
     write_dest(out, dest)?;
     out.write_all(b"\n")
+}
+
+/// Writes the line of the names that are asked for, each after a blank.
+pub fn write_asks<W: Write>(out: &mut W, names: &[Name]) -> io::Result<()>
+    ensures ok { OnOk result (Appends (W.contents out.old) (W.contents out.new) (asks_line names.now)) }
+{
+    out.write_all(b"asks")?;
+    write_names(out, names)?;
+    out.write_all(b"\n")
+}
+
+/// Writes the line of what a read would be answered.
+pub fn write_reading<W: Write>(out: &mut W, reading: &Reading) -> io::Result<()>
+    ensures ok { OnOk result (Appends (W.contents out.old) (W.contents out.new) (reading_line reading.now)) }
+{
+    match reading {
+        Reading::Value(count, payload) => write_value(out, *count, payload.as_slice()),
+        Reading::Refused(code) => writeln!(out, "refused {code}"),
+        Reading::Waits => out.write_all(b"waits\n"),
+        Reading::NoChannel => out.write_all(b"no channel\n"),
+    }
+}
+
+/// Writes the line of what is subscribed to upstream: the subscription's ID, mask and count, or `-`
+/// where there is none.
+pub fn write_subscription<W: Write>(out: &mut W, subscription: Option<Sub>) -> io::Result<()>
+    ensures ok { OnOk result (Appends (W.contents out.old) (W.contents out.new) (subscription_line (option_map (λ sub. subscription_text sub.id sub.mask sub.count) subscription))) }
+{
+    match subscription {
+        Some(sub) => writeln!(out, "sub {} {} {}", sub.id, sub.mask, sub.count),
+        None => out.write_all(b"sub -\n"),
+    }
+}
+
+/// Writes the line of what a client may do with a channel (1: read, 2: write), or `-` where it has no
+/// such channel.
+pub fn write_rights<W: Write>(out: &mut W, rights: Option<u32>) -> io::Result<()>
+    ensures ok { OnOk result (Appends (W.contents out.old) (W.contents out.new) (rights_line rights)) }
+{
+    match rights {
+        Some(rights) => writeln!(out, "rights {rights}"),
+        None => out.write_all(b"rights -\n"),
+    }
+}
+
+fn write_names<W: Write>(out: &mut W, names: &[Name]) -> io::Result<()>
+    ensures ok { OnOk result (Appends (W.contents out.old) (W.contents out.new) (flat_map after_blank names.now)) }
+{
+    for name in names {
+        out.write_all(b" ")?;
+        out.write_all(name.text().as_bytes())?;
+    }
+    Ok(())
+}
+
+fn write_value<W: Write>(out: &mut W, count: u32, payload: &[u8]) -> io::Result<()>
+    ensures ok { OnOk result (Appends (W.contents out.old) (W.contents out.new) (value_line count payload.now)) }
+{
+    write!(out, "value {count} ")?;
+    write_bytes(out, payload)?;
+    out.write_all(b"\n")
+}
+
+/// Writes bytes as scripts do, `-` for none.
+fn write_bytes<W: Write>(out: &mut W, bytes: &[u8]) -> io::Result<()>
+    ensures ok { OnOk result (Appends (W.contents out.old) (W.contents out.new) (bytes_text bytes.now)) }
+{
+    if bytes.is_empty() {
+        out.write_all(b"-")
+    } else {
+        write_hex(out, bytes)
+    }
 }
 
 fn write_dest<W: Write>(out: &mut W, dest: Dest) -> io::Result<()>

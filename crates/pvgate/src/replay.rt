@@ -13,7 +13,9 @@ use crate::script::{LineFault, read_line};
 use crate::status;
 use counted::Counted;
 use fault::ReplayFault;
+use gateway_core::{Config, Engine, Policy};
 use player::Player;
+use pv_name::Name;
 use std::alloc::Global;
 use std::io;
 use std::io::{BufRead, BufReader, Read, Write};
@@ -30,21 +32,40 @@ const MOST_READS: u64 = 1_099_511_627_775;
 pub fn replay<R: Read + Drop, W: Write>(alloc: Global, reader: R, writer: &mut W) -> u8
     ensures { IsStatus result }
 {
-    let ended = play_script(alloc, reader, writer);
+    let ended = match gateway(alloc) {
+        Ok(engine) => play_script(alloc, engine, reader, writer),
+        Err(fault) => Err(fault),
+    };
     match report(ended, writer) {
         Ok(status) => status,
         Err(_) => status::STREAM_FAILED,
     }
 }
 
+/// The gateway that scripts are performed on. It admits every name.
+fn gateway(alloc: Global) -> Result<Engine, ReplayFault> {
+    let config = Config {
+        client_name: name(alloc, b"pvgate")?,
+        host_name: name(alloc, b"gw")?,
+        port: 5064,
+        first: 1,
+    };
+    Ok(Engine::new(alloc, config, Policy::open_to_all())?)
+}
+
+fn name(alloc: Global, text: &[u8]) -> Result<Name, ReplayFault> {
+    Name::read(alloc, text).map_err(|_| ReplayFault::OutOfMemory)
+}
+
 fn play_script<R: Read + Drop, W: Write>(
     alloc: Global,
+    engine: Engine,
     reader: R,
     writer: &mut W,
 ) -> Result<(), ReplayFault> {
     let counted = Counted::new(reader, MOST_READS);
     let mut script = BufReader::with_capacity(alloc, PIECE, counted)?;
-    let mut player = Player::new(alloc)?;
+    let mut player = Player::new(alloc, engine);
     let mut line = Vec::new(alloc);
     for number in 1..u64::MAX {
         line.clear();

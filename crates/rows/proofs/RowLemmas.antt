@@ -1,5 +1,5 @@
-use Rattle.std.proofs.Common.{◌≡◌, ℕ, zero, suc, ◌+◌, ◌<◌, ◌≤◌, List, [], ◌∷◌, Bool, true, false, cond, ltb, not, Some, None, length, get_or, set, take, drop, refl, sym, ap, ◌∙◌, arith}
-use Rattle.std.specs.List.{find, position, position_or_len, remove}
+use Rattle.std.proofs.Common.{◌≡◌, ℕ, zero, suc, ◌+◌, ◌<◌, ◌≤◌, List, [], ◌∷◌, Bool, true, false, cond, ltb, not, ◌||◌, Some, None, length, get_or, set, take, drop, refl, sym, ap, ◌∙◌, arith}
+use Rattle.std.specs.List.{find, list_any, position, position_or_len, remove}
 use Rattle.std.proofs.lemmas.List.Quantifiers.{position-Some}
 use Rattle.std.proofs.lemmas.Bool.{ltb-false}
 use Rattle.rows.specs.Rows.{change_first, remove_first}
@@ -86,3 +86,31 @@ take_first_of (suc n) m x xs e = let same : n ≡ m = omega arith in ap (λ k. x
 pub drop_first_of : {A : Type 0} (n m : ℕ) (x : A) (xs : List A) → n ≡ m + 1 → drop n (x ∷ xs) ≡ drop m xs
 drop_first_of zero m x xs e = absurd (omega arith)
 drop_first_of (suc n) m x xs e = let same : n ≡ m = omega arith in ap (λ k. drop k xs) same
+
+-- the first row that passes, changed in another way that gives the same row there
+pub change_first_as : {A : Type 0} (p : A → Bool) (f g : A → A) (rows : List A) (row : A) → find p rows ≡ Some row → f row ≡ g row → change_first p f rows ≡ change_first p g rows
+change_first_as p f g [] row e same = refl
+change_first_as p f g (first ∷ rows) row e same =
+    elim (p first) as (λ t. cond t (Some first) (find p rows) ≡ Some row → cond t (f first ∷ rows) (first ∷ change_first p f rows) ≡ cond t (g first ∷ rows) (first ∷ change_first p g rows))
+    [ true ↦ λ h. let here : first ≡ row = cc in ap (λ x. x ∷ rows) (ap f here ∙ same ∙ ap g (sym here)) | false ↦ λ h. ap (λ rest. first ∷ rest) (change_first_as p f g rows row h same) ] e
+
+-- with no row that passes nothing changes
+pub change_first_unfound : {A : Type 0} (p : A → Bool) (f : A → A) (rows : List A) → find p rows ≡ None → change_first p f rows ≡ rows
+change_first_unfound p f [] e = refl
+change_first_unfound p f (first ∷ rows) e =
+    elim (p first) as (λ t. cond t (Some first) (find p rows) ≡ None → cond t (f first ∷ rows) (first ∷ change_first p f rows) ≡ first ∷ rows)
+    [ true ↦ λ h. cc | false ↦ λ h. ap (λ rest. first ∷ rest) (change_first_unfound p f rows h) ] e
+
+-- a change that leaves the first row that passes as it is changes nothing
+pub change_first_kept : {A : Type 0} (p : A → Bool) (f : A → A) (rows : List A) (row : A) → find p rows ≡ Some row → f row ≡ row → change_first p f rows ≡ rows
+change_first_kept p f [] row e same = refl
+change_first_kept p f (first ∷ rows) row e same =
+    elim (p first) as (λ t. cond t (Some first) (find p rows) ≡ Some row → cond t (f first ∷ rows) (first ∷ change_first p f rows) ≡ first ∷ rows)
+    [ true ↦ λ h. let here : first ≡ row = cc in ap (λ x. x ∷ rows) (ap f here ∙ same ∙ sym here) | false ↦ λ h. ap (λ rest. first ∷ rest) (change_first_kept p f rows row h same) ] e
+
+-- with no row that passes nothing changes
+pub change_first_absent : {A : Type 0} (p : A → Bool) (f : A → A) (rows : List A) → list_any p rows ≡ false → change_first p f rows ≡ rows
+change_first_absent p f [] e = refl
+change_first_absent p f (first ∷ rows) e =
+    elim (p first) as (λ t. (t || list_any p rows) ≡ false → cond t (f first ∷ rows) (first ∷ change_first p f rows) ≡ first ∷ rows)
+    [ true ↦ λ h. cc | false ↦ λ h. ap (λ rest. first ∷ rest) (change_first_absent p f rows h) ] e

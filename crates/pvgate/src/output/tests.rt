@@ -1,4 +1,5 @@
 use super::*;
+use bytes::Bytes;
 use std::test::Fail;
 
 #[test]
@@ -18,6 +19,54 @@ fn a_long_payload_is_written_whole(rt: HostRuntime) -> Result<(), Fail> {
     write_message(&mut out, Dest::Session(2), b"", &payload)?;
     assert_eq!(rt; out.len(), 3 + 2 * 1040 + 1);
     assert!(rt; out[3..2083].iter().all(|b| *b == b'a' || *b == b'b'));
+    Ok(())
+}
+
+#[test]
+fn names_are_asked_for_in_a_line(rt: HostRuntime) -> Result<(), Fail> {
+    let mut out = Vec::new(rt.alloc());
+    let mut names = Vec::new(rt.alloc());
+    write_asks(&mut out, &names)?;
+    for text in [b"!~".as_slice(), b"T1"] {
+        names.push(Name::read(rt.alloc(), text)?)?;
+        write_asks(&mut out, &names)?;
+    }
+    assert_eq!(rt; out.as_slice(), b"asks\nasks !~\nasks !~ T1\n".as_slice());
+    Ok(())
+}
+
+#[test]
+fn what_a_read_is_answered_is_a_line(rt: HostRuntime) -> Result<(), Fail> {
+    let mut out = Vec::new(rt.alloc());
+    for reading in [
+        Reading::Value(4294967295, Bytes::from_static(b"\x00\x2a\xff")),
+        Reading::Value(0, Bytes::new()),
+        Reading::Refused(368),
+        Reading::Waits,
+        Reading::NoChannel,
+    ] {
+        write_reading(&mut out, &reading)?;
+    }
+    let want = b"value 4294967295 002aff\nvalue 0 -\nrefused 368\nwaits\nno channel\n";
+    assert_eq!(rt; out.as_slice(), want.as_slice());
+    Ok(())
+}
+
+#[test]
+fn a_subscription_and_rights_are_lines(rt: HostRuntime) -> Result<(), Fail> {
+    let mut out = Vec::new(rt.alloc());
+    let subscription = Sub {
+        id: 4294967294,
+        mask: 5,
+        count: 20,
+    };
+    write_subscription(&mut out, Some(subscription))?;
+    write_subscription(&mut out, None)?;
+    write_rights(&mut out, Some(3))?;
+    write_rights(&mut out, Some(0))?;
+    write_rights(&mut out, None)?;
+    let want = b"sub 4294967294 5 20\nsub -\nrights 3\nrights 0\nrights -\n";
+    assert_eq!(rt; out.as_slice(), want.as_slice());
     Ok(())
 }
 

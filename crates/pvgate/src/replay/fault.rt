@@ -3,7 +3,7 @@ ghost use Rattle.std.specs.Prelude.{◌≡◌};
 ghost use Rattle.pvgate.specs.Replay.{IsStatus, status_of};
 
 use crate::status;
-use gateway_core::{Failed, StepFault};
+use gateway_core::{AskFault, Failed, StepFault};
 use std::alloc::{AllocError, AllocFailed};
 use std::io;
 use thiserror::Error;
@@ -57,6 +57,15 @@ impl From<StepFault> for ReplayFault {
 impl From<Failed> for ReplayFault {
     fn from(_fault: Failed) -> ReplayFault {
         ReplayFault::EngineFailed
+    }
+}
+
+impl From<AskFault> for ReplayFault {
+    fn from(fault: AskFault) -> ReplayFault {
+        match fault {
+            AskFault::OutOfMemory => ReplayFault::OutOfMemory,
+            AskFault::Failed => ReplayFault::EngineFailed,
+        }
     }
 }
 

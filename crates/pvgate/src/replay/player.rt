@@ -1,11 +1,13 @@
 //! The lines of a script, performed on an engine.
 
 use super::fault::ReplayFault;
-use crate::output::{write_end, write_message, write_shut};
+use crate::output::{
+    write_asks, write_end, write_message, write_reading, write_rights, write_shut,
+    write_subscription,
+};
 use crate::script::Line;
-use ca_header::{FrameFault, Intake, IntakeFault};
-use gateway_core::{Config, Dest, Engine, Event, Policy};
-use pv_name::{Host, Name, NameFault};
+use ca_header::{FrameFault, Intake, IntakeFault, Message};
+use gateway_core::{Dest, Engine, Event};
 use std::alloc::Global;
 use std::collections::{BTreeMap, BTreeSet};
 use std::io::Write;
@@ -32,20 +34,14 @@ struct Misframed {
 }
 
 impl Player {
-    /// A gateway that admits every name, before any line.
-    pub fn new(alloc: Global) -> Result<Player, ReplayFault> {
-        let config = Config {
-            client_name: name(alloc, b"pvgate")?,
-            host_name: name(alloc, b"gw")?,
-            port: 5064,
-            first: 1,
-        };
-        Ok(Player {
+    /// A player of scripts on a gateway to which nothing happened yet.
+    pub fn new(alloc: Global, engine: Engine) -> Player {
+        Player {
             alloc,
-            engine: Engine::new(alloc, config, Policy::open_to_all())?,
+            engine,
             intakes: BTreeMap::new(alloc),
             held: BTreeSet::new(alloc),
-        })
+        }
     }
 
     /// Performs a line, and what follows from it: messages that wait are printed, and connections
@@ -68,9 +64,30 @@ impl Player {
     ) -> Result<Option<Misframed>, ReplayFault> {
         match line {
             Line::Skipped => {}
-            Line::OpenSession(number, host) => self.open_session(number, host)?,
+            Line::OpenSession(number, host) => {
+                self.open(Dest::Session(number), Event::Opened(number, host))?;
+            }
+            Line::OpenServer(number) => {
+                self.open(Dest::Upstream(number), Event::UpOpened(number))?;
+            }
             Line::Lost(dest) => self.lose(dest)?,
-            Line::Client(number, bytes) => return self.receive(number, &bytes),
+            Line::Client(number, bytes) => return self.receive(Dest::Session(number), &bytes),
+            Line::Server(number, bytes) => return self.receive(Dest::Upstream(number), &bytes),
+            Line::Found(name, number) => self.engine.step(Event::Found(name, number))?,
+            Line::Sweep => self.engine.step(Event::Sweep)?,
+            Line::Asks => write_asks(out, &self.engine.asks()?)?,
+            Line::Read {
+                session,
+                sid,
+                dtype,
+                count,
+            } => write_reading(out, &self.engine.read(session, sid, dtype, count)?)?,
+            Line::Subscription(name) => {
+                write_subscription(out, self.engine.subscription(&name)?)?;
+            }
+            Line::Rights { session, sid } => {
+                write_rights(out, self.engine.rights(session, sid)?)?;
+            }
             Line::Hold(dest) => {
                 self.held.insert(dest)?;
             }
@@ -84,9 +101,8 @@ impl Player {
         Ok(None)
     }
 
-    fn open_session(&mut self, number: u32, host: Host) -> Result<(), ReplayFault> {
-        let dest = Dest::Session(number);
-        self.engine.step(Event::Opened(number, host))?;
+    fn open(&mut self, dest: Dest, event: Event) -> Result<(), ReplayFault> {
+        self.engine.step(event)?;
         if !self.intakes.contains_key(&dest) && self.engine.is_open(dest)? {
             self.intakes.insert(dest, Intake::new(self.alloc))?;
         }
@@ -94,16 +110,17 @@ impl Player {
     }
 
     fn lose(&mut self, dest: Dest) -> Result<(), ReplayFault> {
-        if let Dest::Session(number) = dest {
-            self.engine.step(Event::Lost(number))?;
-        }
+        let event = match dest {
+            Dest::Session(number) => Event::Lost(number),
+            Dest::Upstream(number) => Event::UpLost(number),
+        };
+        self.engine.step(event)?;
         self.intakes.remove(&dest);
         Ok(())
     }
 
-    /// Takes bytes from a client: each message that is whole then is an event.
-    fn receive(&mut self, number: u32, bytes: &[u8]) -> Result<Option<Misframed>, ReplayFault> {
-        let dest = Dest::Session(number);
+    /// Takes bytes from a connection: each message that is whole then is an event.
+    fn receive(&mut self, dest: Dest, bytes: &[u8]) -> Result<Option<Misframed>, ReplayFault> {
         let Some(intake) = self.intakes.get_mut(&dest) else {
             return Ok(None);
         };
@@ -113,7 +130,7 @@ impl Player {
         }
         for _ in 0..u64::MAX {
             match intake.take() {
-                Ok(Some(message)) => self.engine.step(Event::Client(number, message))?,
+                Ok(Some(message)) => self.engine.step(said_by(dest, message))?,
                 Ok(None) => break,
                 Err(IntakeFault::Faulted(fault)) => return Ok(Some(Misframed { dest, fault })),
                 Err(IntakeFault::OutOfMemory) => return Err(ReplayFault::OutOfMemory),
@@ -159,6 +176,14 @@ impl Player {
     }
 }
 
+/// The event that a connection's message is.
+fn said_by(dest: Dest, message: Message) -> Event {
+    match dest {
+        Dest::Session(number) => Event::Client(number, message),
+        Dest::Upstream(number) => Event::Server(number, message),
+    }
+}
+
 /// Takes the oldest messages of a connection, and prints them. Says how many there were.
 fn print_messages<W: Write>(
     engine: &mut Engine,
@@ -176,8 +201,4 @@ fn print_messages<W: Write>(
         )?;
     }
     Ok(messages.len())
-}
-
-fn name(alloc: Global, text: &[u8]) -> Result<Name, ReplayFault> {
-    Name::read(alloc, text).map_err(|_| ReplayFault::OutOfMemory)
 }

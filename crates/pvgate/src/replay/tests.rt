@@ -3,11 +3,137 @@ use super::*;
 use std::process::Abort;
 use std::test::Fail;
 
+mod channels;
+mod limits;
+mod links;
+mod reads;
+mod servers;
+
 const VERSION: &[u8] = b"s1 000000000000000d0000000000000000\n";
 
 const ECHO: &[u8] = b"s1 00170000000000000000000000000000\n";
 
 const ECHO_DIGITS: &[u8; 32] = b"00170000000000000000000000000000";
+
+// The length of `client s1 ` and `server u1 `.
+const COMMAND: usize = 10;
+
+/// A client and a server of version 13 connect.
+const CONNECTED: [(&[u8], &[u8]); 3] = [
+    (
+        b"open s1 10.0.0.5",
+        b"s1 000000000000000d0000000000000000\n",
+    ),
+    (
+        b"open u1",
+        b"u1 000000000000000d0000000000000000\n\
+        u1 001400080000000000000000000000007076676174650000\n\
+        u1 001500080000000000000000000000006777000000000000\n",
+    ),
+    (b"server u1 000000000000000d0000000000000000", b""),
+];
+
+/// Then the client wants a channel on T1, which no server has yet.
+const WANTED: [(&[u8], &[u8]); 4] = [
+    (
+        b"open s1 10.0.0.5",
+        b"s1 000000000000000d0000000000000000\n",
+    ),
+    (
+        b"open u1",
+        b"u1 000000000000000d0000000000000000\n\
+        u1 001400080000000000000000000000007076676174650000\n\
+        u1 001500080000000000000000000000006777000000000000\n",
+    ),
+    (b"server u1 000000000000000d0000000000000000", b""),
+    (
+        b"client s1 0012000800000000000000070000000d5431000000000000",
+        b"s1 001a0000000000000000000700000000\n",
+    ),
+];
+
+/// Then the server has T1, and is asked for a channel.
+const LINKED: [(&[u8], &[u8]); 5] = [
+    (
+        b"open s1 10.0.0.5",
+        b"s1 000000000000000d0000000000000000\n",
+    ),
+    (
+        b"open u1",
+        b"u1 000000000000000d0000000000000000\n\
+        u1 001400080000000000000000000000007076676174650000\n\
+        u1 001500080000000000000000000000006777000000000000\n",
+    ),
+    (b"server u1 000000000000000d0000000000000000", b""),
+    (
+        b"client s1 0012000800000000000000070000000d5431000000000000",
+        b"s1 001a0000000000000000000700000000\n",
+    ),
+    (
+        b"found T1 u1",
+        b"u1 0012000800000000000000010000000d5431000000000000\n",
+    ),
+];
+
+/// Then the server makes it, and the client gets its channel.
+const SERVED: [(&[u8], &[u8]); 8] = [
+    (
+        b"open s1 10.0.0.5",
+        b"s1 000000000000000d0000000000000000\n",
+    ),
+    (
+        b"open u1",
+        b"u1 000000000000000d0000000000000000\n\
+        u1 001400080000000000000000000000007076676174650000\n\
+        u1 001500080000000000000000000000006777000000000000\n",
+    ),
+    (b"server u1 000000000000000d0000000000000000", b""),
+    (
+        b"client s1 0012000800000000000000070000000d5431000000000000",
+        b"s1 001a0000000000000000000700000000\n",
+    ),
+    (
+        b"found T1 u1",
+        b"u1 0012000800000000000000010000000d5431000000000000\n",
+    ),
+    (b"server u1 00160000000000000000000100000003", b""),
+    (b"server u1 00120000000500010000000100000065", b""),
+    (
+        b"client s1 0012000800000000000000070000000d5431000000000000",
+        b"s1 00160000000000000000000700000003\n\
+        s1 00120000000500010000000700000001\n",
+    ),
+];
+
+/// The same with 20 elements.
+const SERVED20: [(&[u8], &[u8]); 8] = [
+    (
+        b"open s1 10.0.0.5",
+        b"s1 000000000000000d0000000000000000\n",
+    ),
+    (
+        b"open u1",
+        b"u1 000000000000000d0000000000000000\n\
+        u1 001400080000000000000000000000007076676174650000\n\
+        u1 001500080000000000000000000000006777000000000000\n",
+    ),
+    (b"server u1 000000000000000d0000000000000000", b""),
+    (
+        b"client s1 0012000800000000000000070000000d5431000000000000",
+        b"s1 001a0000000000000000000700000000\n",
+    ),
+    (
+        b"found T1 u1",
+        b"u1 0012000800000000000000010000000d5431000000000000\n",
+    ),
+    (b"server u1 00160000000000000000000100000003", b""),
+    (b"server u1 00120000000500140000000100000065", b""),
+    (
+        b"client s1 0012000800000000000000070000000d5431000000000000",
+        b"s1 00160000000000000000000700000003\n\
+        s1 00120000000500140000000700000001\n",
+    ),
+];
 
 /// The lines, one after another.
 fn joined(alloc: Global, lines: &[&[u8]]) -> Result<Vec<u8>, Fail> {
@@ -35,6 +161,79 @@ fn prints(
     );
     assert_eq!(rt; got, status, "of {script:?}");
     Ok(())
+}
+
+/// A script, and what it has to print.
+#[derive(Drop)]
+struct Story {
+    script: Vec<u8>,
+    output: Vec<u8>,
+}
+
+impl Story {
+    /// The story of lines, with what each prints.
+    fn of(alloc: Global, steps: &[(&[u8], &[u8])]) -> Result<Story, Fail> {
+        let mut story = Story {
+            script: Vec::new(alloc),
+            output: Vec::new(alloc),
+        };
+        for (line, printed) in steps {
+            story.tell(line, printed)?;
+        }
+        Ok(story)
+    }
+
+    /// One more line, and what it prints.
+    fn tell(&mut self, line: &[u8], printed: &[u8]) -> Result<(), Fail> {
+        self.script.extend_from_slice(line)?;
+        self.script.push(b'\n')?;
+        self.output.extend_from_slice(printed)?;
+        Ok(())
+    }
+
+    /// Asserts that the script prints this and nothing else.
+    fn check(&self, rt: &impl Abort, alloc: Global) -> Result<(), Fail> {
+        prints(rt, alloc, &self.script, &[&self.output], 0)
+    }
+}
+
+/// Asserts that the lines print what stands beside them, and that it makes no difference where the
+/// bytes that connections bring are cut.
+fn tells(
+    rt: &impl Abort,
+    alloc: Global,
+    before: &[(&[u8], &[u8])],
+    steps: &[(&[u8], &[u8])],
+) -> Result<(), Fail> {
+    let mut story = Story::of(alloc, before)?;
+    for (line, printed) in steps {
+        story.tell(line, printed)?;
+    }
+    story.check(rt, alloc)?;
+    for place in 1..48 {
+        let script = cut(alloc, &story.script, place)?;
+        prints(rt, alloc, &script, &[&story.output], 0)?;
+    }
+    Ok(())
+}
+
+/// The script with the bytes of each message cut after so many, in two lines.
+fn cut(alloc: Global, script: &[u8], place: u8) -> Result<Vec<u8>, Fail> {
+    let end = COMMAND + 2 * usize::from(place);
+    let mut text = Vec::new(alloc);
+    for line in script.split(|b| *b == b'\n') {
+        if (line.starts_with(b"client ") || line.starts_with(b"server ")) && line.len() > end {
+            let (first, rest) = line.split_at(end);
+            text.extend_from_slice(first)?;
+            text.push(b'\n')?;
+            text.extend_from_slice(&first[..COMMAND])?;
+            text.extend_from_slice(rest)?;
+        } else {
+            text.extend_from_slice(line)?;
+        }
+        text.push(b'\n')?;
+    }
+    Ok(text)
 }
 
 #[test]
@@ -172,8 +371,8 @@ fn ends_a_client_that_never_reads(rt: HostRuntime) -> Result<(), Fail> {
 #[test]
 fn stops_at_the_first_bad_line(rt: HostRuntime) -> Result<(), Fail> {
     let lines: [&[u8]; 14] = [
-        b"sweep",
-        b"open u1",
+        b"sweep u1",
+        b"open u1 a",
         b"open s1",
         b"open s1 a b",
         b"open s1 a\xff",
@@ -182,7 +381,7 @@ fn stops_at_the_first_bad_line(rt: HostRuntime) -> Result<(), Fail> {
         b"client s1 0",
         b"client s1 0g",
         b"client u1 00",
-        b"lost u1",
+        b"found T1 s1",
         b"lost s+1",
         b"drain s1 18446744073709551616",
         b"lost s1\r",
@@ -242,7 +441,7 @@ impl Write for Narrow {
 #[test]
 fn says_so_when_a_stream_fails(rt: HostRuntime) -> Result<(), Fail> {
     let mut out = Vec::new(rt.alloc());
-    let status = replay(rt.alloc(), Broken(b"open s1 h\nsweep"), &mut out);
+    let status = replay(rt.alloc(), Broken(b"open s1 h\nswe"), &mut out);
     assert_eq!(rt; status, 3);
     assert_eq!(rt; out.as_slice(), VERSION);
     for room in 0..VERSION.len() {

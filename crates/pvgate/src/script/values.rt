@@ -70,6 +70,41 @@ pub fn session(word: &[u8]) -> Result<u32, LineFault>
     }
 }
 
+/// The server's connection that a word names.
+pub fn server(word: &[u8]) -> Result<u32, LineFault>
+    ensures ok { IfOk result (λ number. IsDest word.now (Dest.Upstream number)) }
+    ensures err { IfErr result (λ fault. (fault ≡ LineFault.Bad) × ((number : ℕ) → ¬ IsDest word.now (Dest.Upstream number))) }
+{
+    match dest(word)? {
+        Dest::Upstream(number) => Ok(number),
+        Dest::Session(_) => Err(LineFault::Bad),
+    }
+}
+
+/// The gateway's ID of a channel.
+pub fn server_id(word: &[u8]) -> Result<u32, LineFault>
+    ensures ok { IfOk result (λ number. IsNumber 32 word.now number) }
+    ensures err { IfErr result (λ fault. (fault ≡ LineFault.Bad) × ((number : ℕ) → ¬ IsNumber 32 word.now number)) }
+{
+    connection(word)
+}
+
+/// The count of elements that a word says.
+pub fn element_count(word: &[u8]) -> Result<u32, LineFault>
+    ensures ok { IfOk result (λ number. IsNumber 32 word.now number) }
+    ensures err { IfErr result (λ fault. (fault ≡ LineFault.Bad) × ((number : ℕ) → ¬ IsNumber 32 word.now number)) }
+{
+    connection(word)
+}
+
+/// The number of a DBR type.
+pub fn type_number(word: &[u8]) -> Result<u16, LineFault>
+    ensures ok { IfOk result (λ number. IsNumber 16 word.now number) }
+    ensures err { IfErr result (λ fault. (fault ≡ LineFault.Bad) × ((number : ℕ) → ¬ IsNumber 16 word.now number)) }
+{
+    u16::try_from(number(word)?).map_err(|_| LineFault::Bad)
+}
+
 /// The number of messages that a word says.
 pub fn count(word: &[u8]) -> Result<usize, LineFault>
     ensures ok { IfOk result (λ number. IsNumber 64 word.now number) }

@@ -1,5 +1,6 @@
 use Rattle.std.proofs.Common.{◌≡◌, IsSome, length}
 use Rattle.std.specs.Option.{option_map}
+use Rattle.gateway_state.specs.Numbers.{runs_out}
 use Rattle.gateway_state.specs.Step.{run}
 use Rattle.gateway_core.proofs.engine.Engine.run.Given as goal
 
@@ -7,6 +8,7 @@ use Rattle.gateway_core.proofs.engine.Engine.run.Given as goal
 abbrev pub invariant-loop-event : goal.invariant-loop-event
 invariant-loop-event l = record {
   standing : IsSome l.self;
+  numbers : option_map (λ w. runs_out w l.left.items) l.self ≡ option_map (λ w. runs_out w l.fn.events.items) l.fn.self;
   rest : option_map (λ w. run w l.left.items) l.self ≡ option_map (λ w. run w l.fn.events.items) l.fn.self;
 }
 

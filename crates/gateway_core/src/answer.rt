@@ -1,0 +1,166 @@
+//! What reads are answered.
+ghost use Rattle.std.specs.Prelude.{◌≡◌, Some, IfOk};
+ghost use Rattle.gateway_state.specs.Answer.{is_type_served, converts_to, fits_payload, meant_count, refusal, laid_out, shown_as, cached_as, cached_value, reading, reading_at, reading_on, reading_of, refused_or};
+ghost use Rattle.dbr_layout.specs.Dbr.{dbr_of};
+ghost use Rattle.dbr_layout.specs.Converted.{written};
+ghost use Rattle.dbr_layout.specs.View.{shown};
+
+use crate::rights::may_read;
+use crate::state::Rows;
+use crate::variables::native_in;
+use ca_message::codes::{ECA_BADCOUNT, ECA_BADTYPE, ECA_NORDACCESS, ECA_TOLARGE};
+use channel_table::Channel;
+use dbr_layout::{Converted, Dbr, LayoutFault, View, converts};
+use gateway_state::{Cached, Given, Native, Reading};
+use link_table::Link;
+use std::alloc::{AllocError, Global};
+
+impl Rows {
+    /// A link's last message, as an asked type and count; nothing where it doesn't cover that count.
+    pub(crate) fn cached_value(
+        &self,
+        cid: u32,
+        native: u32,
+        dtype: u16,
+        count: u32,
+    ) -> Result<Option<Given>, AllocError>
+        ensures { IfOk result (λ given. given ≡ cached_value self.now cid native dtype count) }
+    {
+        match self.cache.get(cid) {
+            Some(last) => cached_as(self.alloc, native, dtype, count, last),
+            None => Ok(None),
+        }
+    }
+
+    fn reading_of(
+        &self,
+        rights: u32,
+        dtype: u16,
+        count: u32,
+        link: &Link,
+        native: Native,
+    ) -> Result<Reading, AllocError>
+        ensures { IfOk result (λ reading. reading ≡ reading_of self.now rights dtype count link.now (Some native)) }
+    {
+        if let Some(code) = refusal(native, rights, dtype, count) {
+            return Ok(Reading::Refused(code));
+        }
+        match self.cached_value(link.cid, native.count, dtype, count)? {
+            Some(given) => Ok(Reading::Value(given.count, given.payload)),
+            None => Ok(Reading::Waits),
+        }
+    }
+
+    fn reading_at(&self, channel: &Channel, dtype: u16, count: u32) -> Result<Reading, AllocError>
+        ensures { IfOk result (λ reading. reading ≡ reading_at self.now channel.now dtype count) }
+    {
+        let rights = self.rights_of(channel);
+        match self.link_of(&channel.real) {
+            Some(link) => match native_in(link.state) {
+                Some(native) => self.reading_of(rights, dtype, count, link, native),
+                None => Ok(Reading::NoChannel),
+            },
+            None => Ok(Reading::NoChannel),
+        }
+    }
+
+    /// What a session's read would be answered.
+    pub(crate) fn reading(
+        &self,
+        session: u32,
+        sid: u32,
+        dtype: u16,
+        count: u32,
+    ) -> Result<Reading, AllocError>
+        ensures { IfOk result (λ answer. answer ≡ reading self.now session sid dtype count) }
+    {
+        match self.channel_of(session, sid) {
+            Some(channel) => self.reading_at(channel, dtype, count),
+            None => Ok(Reading::NoChannel),
+        }
+    }
+}
+
+/// The count that is meant: 0 stands for the native one.
+pub(crate) fn meant_count(native: u32, count: u32) -> u32
+    ensures { result ≡ meant_count native count }
+{
+    if count == 0 { native } else { count }
+}
+
+fn is_type_served(native: Native, dtype: u16) -> bool
+    ensures { result ≡ is_type_served native dtype }
+{
+    match Dbr::of(native.dtype) {
+        Some(from) => match Dbr::of(dtype) {
+            Some(to) => converts(from, to),
+            None => false,
+        },
+        None => false,
+    }
+}
+
+fn fits_payload(dtype: u16, count: u32) -> bool
+    ensures { result ≡ fits_payload (dbr_of dtype) count }
+{
+    match Dbr::of(dtype) {
+        Some(dbr) => match dbr.size_of(count) {
+            Some(_) => true,
+            None => false,
+        },
+        None => false,
+    }
+}
+
+/// Why a read of a variable is refused, the first reason that applies.
+pub(crate) fn refusal(native: Native, rights: u32, dtype: u16, count: u32) -> Option<u32>
+    ensures { result ≡ refusal native rights dtype count }
+{
+    if !is_type_served(native, dtype) {
+        Some(ECA_BADTYPE)
+    } else if native.count < count {
+        Some(ECA_BADCOUNT)
+    } else if !fits_payload(dtype, meant_count(native.count, count)) {
+        Some(ECA_TOLARGE)
+    } else if !may_read(rights) {
+        Some(ECA_NORDACCESS)
+    } else {
+        None
+    }
+}
+
+fn cached_as(
+    alloc: Global,
+    native: u32,
+    dtype: u16,
+    count: u32,
+    last: &Cached,
+) -> Result<Option<Given>, AllocError>
+    ensures { IfOk result (λ given. given ≡ cached_as native dtype count (Some last.now)) }
+{
+    if meant_count(native, count) > last.asked_with {
+        return Ok(None);
+    }
+    match View::new(last.dtype, last.count, &last.payload) {
+        Ok(view) => laid_out(alloc, &view, dtype, count),
+        Err(_) => Ok(None),
+    }
+}
+
+fn laid_out(
+    alloc: Global,
+    view: &View<'_>,
+    dtype: u16,
+    count: u32,
+) -> Result<Option<Given>, AllocError>
+    ensures { IfOk result (λ given. given ≡ laid_out view.now count (written view.now dtype count)) }
+{
+    match Converted::write(alloc, view, dtype, count) {
+        Ok(payload) => Ok(Some(Given {
+            count: view.given(count),
+            payload,
+        })),
+        Err(LayoutFault::OutOfMemory) => Err(AllocError),
+        Err(LayoutFault::BadType | LayoutFault::Short | LayoutFault::TooLarge) => Ok(None),
+    }
+}

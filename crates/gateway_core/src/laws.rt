@@ -1,0 +1,55 @@
+//! Laws of whole runs. Each is a call that does nothing, and its contract is the law.
+ghost use Rattle.std.specs.Prelude.{◌≡◌, List};
+ghost use Rattle.std.specs.List.{All};
+ghost use Rattle.gateway_state.specs.declared.config.Config.{Config};
+ghost use Rattle.gateway_state.specs.declared.config.Policy.{Policy};
+ghost use Rattle.gateway_state.specs.declared.event.Event.{Event};
+ghost use Rattle.gateway_state.specs.Gateway.{Gateway, initial};
+ghost use Rattle.gateway_state.specs.Settled.{AreInOrder, HasLinksApart, IsInUse, IsSettled, IsUpToDate, IsWaiting};
+ghost use Rattle.gateway_state.specs.Step.{consequences, run};
+
+/// In every state that a run reaches nobody is owed anything: no pass over channels, links or waiting
+/// reads would tell or change anything.
+pub fn run_is_settled()
+    ensures { (config : Config) (policy : Policy) (events : List Event)
+        → IsSettled (run (initial config policy) events) }
+{}
+
+/// Where nobody is owed anything, the passes change and send nothing.
+pub fn settled_states_stay()
+    ensures { (w : Gateway) → IsSettled w → consequences w ≡ w }
+{}
+
+/// In every state that a run reaches each channel is served, and has the rights that its client was
+/// last told.
+pub fn run_leaves_channels_up_to_date()
+    ensures { (config : Config) (policy : Policy) (events : List Event)
+        → let w = run (initial config policy) events in All (IsUpToDate w) w.clients.channels }
+{}
+
+/// In every state that a run reaches each link is wanted, and where it is connected it has a
+/// subscription exactly for what is read.
+pub fn run_leaves_links_in_use()
+    ensures { (config : Config) (policy : Policy) (events : List Event)
+        → let w = run (initial config policy) events in All (IsInUse w) w.upstream.links }
+{}
+
+/// In every state that a run reaches each waiting read still waits for its value: its channel stands
+/// and may be read, over a connected link whose last message doesn't cover it.
+pub fn run_leaves_reads_that_wait()
+    ensures { (config : Config) (policy : Policy) (events : List Event)
+        → let w = run (initial config policy) events in All (IsWaiting w) w.clients.reads }
+{}
+
+/// In no state that a run reaches has a name two links.
+pub fn run_links_names_once()
+    ensures { (config : Config) (policy : Policy) (events : List Event)
+        → HasLinksApart (run (initial config policy) events) }
+{}
+
+/// In every state that a run reaches channels stand in the order of their SIDs, and links in the
+/// order of their CIDs: no number stands twice, and the counters are above them all.
+pub fn run_keeps_numbers_in_order()
+    ensures { (config : Config) (policy : Policy) (events : List Event)
+        → AreInOrder (run (initial config policy) events) }
+{}

@@ -1,0 +1,100 @@
+-- What every state of a run has, if each change of rows keeps it.
+use Rattle.std.proofs.Common.{◌≡◌, ℕ, ◌+◌, List, [], ◌∷◌, ◌++◌, Bool, true, false, cond, Option, None, refl}
+use Rattle.std.specs.List.{list_any}
+use Rattle.rows.specs.Rows.{change_first}
+use Rattle.ca_message.specs.declared.to_client.ToClient.{ToClient}
+use Rattle.ca_message.specs.declared.to_server.ToServer.{ToServer}
+use Rattle.channel_table.specs.declared.reads.WaitingRead.{WaitingRead}
+use Rattle.channel_table.specs.declared.sessions.Session.{Session}
+use Rattle.channel_table.specs.Channels.{is_channel}
+use Rattle.link_table.specs.declared.links.LinkState.{LinkState}
+use Rattle.link_table.specs.declared.links.LinkState.TheVariants.{Creating}
+use Rattle.link_table.specs.declared.links.Subscription.{Subscription}
+use Rattle.link_table.specs.declared.servers.Server.{Server}
+use Rattle.gateway_state.specs.declared.cached.Cached.{Cached}
+use Rattle.gateway_state.specs.declared.event.Dest.{Dest}
+use Rattle.gateway_state.specs.declared.event.Dest.TheVariants as dests
+use Rattle.gateway_state.specs.declared.fanout.connections.Connection.{Connection}
+use Rattle.gateway_state.specs.declared.fanout.outbox.Out.{Out}
+use Rattle.gateway_state.specs.declared.search.Search.{Search}
+use Rattle.gateway_state.specs.Clients.{with_channel, without_channel}
+use Rattle.gateway_state.specs.Connections.{given, is_to}
+use Rattle.gateway_state.specs.Gateway.{Gateway}
+use Rattle.gateway_state.specs.Notices.{with_reach, with_subscription_of, without_read}
+use Rattle.gateway_state.specs.Servers.{with_link_state, without_link}
+use Rattle.gateway_state.specs.Sessions.{lost, up_lost}
+use Rattle.gateway_state.specs.Telling.{asked, outgoing, outgoing_upstream, sent, told}
+use Rattle.gateway_state.specs.Variables.{is_linked}
+
+-- rows that are changed whole
+abbrev pub with_connections : List Connection → Gateway → Gateway
+with_connections rows w = record w { connections = rows }
+
+abbrev pub with_sessions : List Session → Gateway → Gateway
+with_sessions rows w = record w { clients = record w.clients { sessions = rows } }
+
+abbrev pub with_servers : List Server → Gateway → Gateway
+with_servers rows w = record w { upstream = record w.upstream { servers = rows } }
+
+abbrev pub with_cache : List Cached → Gateway → Gateway
+with_cache rows w = record w { cache = rows }
+
+abbrev pub with_searches : List Search → Gateway → Gateway
+with_searches rows w = record w { searches = rows }
+
+abbrev pub with_next_subscription : ℕ → Gateway → Gateway
+with_next_subscription next w = record w { upstream = record w.upstream { counters = record w.upstream.counters { subscription = next } } }
+
+-- rows that are added and removed
+abbrev pub with_read : WaitingRead → Gateway → Gateway
+with_read read w = record w { clients = record w.clients { reads = w.clients.reads ++ read ∷ [] } }
+
+abbrev pub with_link : ℕ → List ℕ → Gateway → Gateway
+with_link server name w = record w {
+  upstream = record w.upstream {
+    links = w.upstream.links ++ record {
+      cid = w.upstream.counters.cid;
+      server = server;
+      name = name;
+      state = Creating;
+      rights = 0;
+      subscription = None;
+    } ∷ [];
+    counters = record w.upstream.counters { cid = w.upstream.counters.cid + 1 };
+  };
+}
+
+-- each change of rows that a step is made of keeps it
+pub record IsKept (P : Gateway → Type 0) : Type 0 where
+  pub connections : (rows : List Connection) (w : Gateway) → P w → P (with_connections rows w)
+  pub sessions : (rows : List Session) (w : Gateway) → P w → P (with_sessions rows w)
+  pub servers : (rows : List Server) (w : Gateway) → P w → P (with_servers rows w)
+  pub cache : (rows : List Cached) (w : Gateway) → P w → P (with_cache rows w)
+  pub searches : (rows : List Search) (w : Gateway) → P w → P (with_searches rows w)
+  pub next_subscription : (next : ℕ) (w : Gateway) → P w → P (with_next_subscription next w)
+  pub channel_added : (session cid : ℕ) (name real : List ℕ) (rights : ℕ) (w : Gateway) → P w → P (with_channel session cid name real rights w)
+  pub channel_changed : (session sid reach rights : ℕ) (w : Gateway) → P w → P (with_reach session sid reach rights w)
+  pub channel_removed : (session sid : ℕ) (w : Gateway) → P w → P (without_channel session sid w)
+  pub session_removed : (session : ℕ) (w : Gateway) → P w → P (lost w session)
+  pub read_added : (read : WaitingRead) (w : Gateway) → list_any (is_channel read.session read.sid) w.clients.channels ≡ true → P w → P (with_read read w)
+  pub read_removed : (read : WaitingRead) (w : Gateway) → P w → P (without_read read w)
+  pub link_added : (server : ℕ) (name : List ℕ) (w : Gateway) → is_linked w name ≡ false → P w → P (with_link server name w)
+  pub link_changed : (server cid : ℕ) (state : LinkState) (rights : ℕ) (w : Gateway) → P w → P (with_link_state server cid state rights w)
+  pub subscription_changed : (server cid : ℕ) (sub : Option Subscription) (w : Gateway) → P w → P (with_subscription_of server cid sub w)
+  pub link_removed : (server cid : ℕ) (w : Gateway) → P w → P (without_link server cid w)
+  pub server_removed : (server : ℕ) (w : Gateway) → P w → P (up_lost w server)
+
+-- one or the other
+pub kept_either : (P : Gateway → Type 0) (test : Bool) (v w : Gateway) → (test ≡ true → P v) → P w → P (cond test v w)
+kept_either P true v w first second = first refl
+kept_either P false v w first second = second
+
+pub kept_sent : (P : Gateway → Type 0) → IsKept P → (dest : Dest) (out : Out) (w : Gateway) → P w → P (sent dest out w)
+unfolding sent
+kept_sent P kept dest out w holds = kept.connections (change_first (is_to dest) (given out) w.connections) w holds
+
+pub kept_told : (P : Gateway → Type 0) → IsKept P → (number : ℕ) (said : ToClient) (w : Gateway) → P w → P (told number said w)
+kept_told P kept number said w holds = kept_sent P kept (dests.Session number) (outgoing said) w holds
+
+pub kept_asked : (P : Gateway → Type 0) → IsKept P → (number : ℕ) (said : ToServer) (w : Gateway) → P w → P (asked number said w)
+kept_asked P kept number said w holds = kept_sent P kept (dests.Upstream number) (outgoing_upstream said) w holds

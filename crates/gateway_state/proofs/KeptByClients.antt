@@ -1,0 +1,157 @@
+-- What clients say and do keeps what each change of rows keeps.
+use Rattle.std.proofs.Common.{◌≡◌, ℕ, List, [], ◌∷◌, ◌++◌, length, Bool, true, false, cond, eqb, leb, ltb, ◌||◌, Option, Some, None, Ok, Err, Result, refl}
+use Rattle.std.specs.List.{find, list_any}
+use Rattle.rows.specs.Rows.{change_first}
+use Rattle.ca_header.specs.declared.header.Header.{Header}
+use Rattle.ca_header.specs.declared.header.Message.{Message}
+use Rattle.ca_message.specs.declared.codes.TheConstants.{ECA_INTERNAL, ECA_BADCHID}
+use Rattle.ca_message.specs.declared.commands.TheConstants.{NO_CHANNEL, CA_PROTO_CREATE_CHAN, CA_PROTO_CLIENT_NAME, CA_PROTO_HOST_NAME}
+use Rattle.ca_message.specs.declared.request.ClientRequest.{ClientRequest}
+use Rattle.ca_message.specs.declared.request.ClientRequest.TheVariants as requests
+use Rattle.ca_message.specs.declared.request.RequestFault.{RequestFault}
+use Rattle.ca_message.specs.declared.to_client.ToClient.TheVariants as replies
+use Rattle.ca_message.specs.ClientRequest.{request_of}
+use Rattle.channel_table.specs.declared.channels.Channel.{Channel}
+use Rattle.channel_table.specs.declared.reads.WaitingRead.{WaitingRead}
+use Rattle.channel_table.specs.declared.sessions.Session.{Session}
+use Rattle.channel_table.specs.declared.table.TheConstants.{CHANNEL_LIMIT, SESSION_LIMIT}
+use Rattle.channel_table.specs.Channels.{is_channel}
+use Rattle.channel_table.specs.ClientRows.{channel_count}
+use Rattle.channel_table.specs.Sessions.{is_numbered}
+use Rattle.link_table.specs.declared.links.Link.{Link}
+use Rattle.gateway_state.specs.declared.event.Dest.TheVariants.{Session as ToSession}
+use Rattle.gateway_state.specs.declared.limits.TheConstants.{LOWEST_MINOR, SEARCH_LIMIT}
+use Rattle.gateway_state.specs.declared.notice.ReadVerdict.{ReadVerdict}
+use Rattle.gateway_state.specs.declared.notice.ReadVerdict.TheVariants.{NoChannel, Ignored, Refused, Accepted}
+use Rattle.gateway_state.specs.declared.reading.Native.{Native}
+use Rattle.gateway_state.specs.Answer.{native_in}
+use Rattle.gateway_state.specs.Asked.{stands}
+use Rattle.gateway_state.specs.Clients.{channel_asked, cleared, client_said, created, created_as, created_on, created_on_native, creation_failed, judged, not_connected, read_verdict, remembered, remembered_by, requested, rights_on, unreadable, versioned, with_channel, with_host_fixed, without_channel, verdict_on, fixed, renamed}
+use Rattle.gateway_state.specs.Connections.{fresh, is_to, marked_now}
+use Rattle.gateway_state.specs.declared.search.Search.{Search}
+use Rattle.gateway_state.specs.Gateway.{Gateway}
+use Rattle.gateway_state.specs.Resolution.{resolution}
+use Rattle.gateway_state.specs.Rights.{channel_of, host_of}
+use Rattle.gateway_state.specs.Searches.{same_search}
+use Rattle.gateway_state.specs.Sessions.{opened, with_session}
+use Rattle.gateway_state.specs.Telling.{marked, told}
+use Rattle.gateway_state.specs.Variables.{link_of}
+use Rattle.gateway_state.proofs.Kept.{IsKept, kept_either, kept_told, with_connections, with_read, with_searches}
+
+-- there is a row where the first that passes is found
+found_there : {A : Type 0} (test : A → Bool) (rows : List A) (row : A) → find test rows ≡ Some row → list_any test rows ≡ true
+found_there test [] row e = absurd cc
+found_there test (first ∷ rows) row e =
+    elim (test first) as (λ t. cond t (Some first) (find test rows) ≡ Some row → (t || list_any test rows) ≡ true)
+    [ true ↦ λ h. refl | false ↦ λ h. found_there test rows row h ] e
+
+-- a read is accepted on a channel that stands
+accepted_on : (w : Gateway) (number sid dtype count reach rights : ℕ) → read_verdict w number sid dtype count ≡ Accepted reach rights → list_any (is_channel number sid) w.clients.channels ≡ true
+accepted_on w number sid dtype count reach rights e = by (channel_of w number sid) refl e
+  where
+    by : (found : Option Channel) → channel_of w number sid ≡ found → verdict_on w dtype count found ≡ Accepted reach rights → list_any (is_channel number sid) w.clients.channels ≡ true
+    by None is e = absurd cc
+    by (Some c) is e = found_there (is_channel number sid) w.clients.channels c is
+
+module _ (P : Gateway → Type 0) (kept : IsKept P) where
+  -- connections that come and go
+
+  pub kept_opened : (w : Gateway) (number : ℕ) (host : List ℕ) → P w → P (opened w number host)
+  kept_opened w number host holds =
+      let new : Session = record { number = number; host = host; host_fixed = false; paused = false } in
+      let first : Gateway = with_connections (w.connections ++ fresh (ToSession number) ∷ []) w in
+      let second = kept.sessions (w.clients.sessions ++ new ∷ []) first (kept.connections (w.connections ++ fresh (ToSession number) ∷ []) w holds) in
+      kept_either P (stands w (ToSession number) || leb SESSION_LIMIT (length w.clients.sessions)) w (told number replies.Version (with_session w number host))
+      (λ _. holds) (kept_told P kept number replies.Version (with_session w number host) second)
+
+  -- new channels
+
+  kept_created : (number cid : ℕ) (name real : List ℕ) (link : Link) (native : Native) (w : Gateway) → P w → P (created number cid name real link native w)
+  kept_created number cid name real link native w holds =
+      let rights : ℕ = rights_on w (host_of w number) name link in
+      let first : Gateway = with_channel number cid name real rights w in
+      kept_told P kept number (replies.CreateChannel cid w.upstream.counters.sid native.dtype native.count) (told number (replies.AccessRights cid rights) first)
+      (kept_told P kept number (replies.AccessRights cid rights) first (kept.channel_added number cid name real rights w holds))
+
+  kept_remembered : (host name : List ℕ) (w : Gateway) → P w → P (remembered host name w)
+  kept_remembered host name w holds =
+      let rows : List Search = w.searches ++ record { host = host; name = name } ∷ [] in
+      kept_either P (list_any (same_search host name) w.searches || leb SEARCH_LIMIT (length w.searches)) w (with_searches rows w)
+      (λ _. holds) (kept.searches rows w holds)
+
+  kept_remembered_by : (row : Option Session) (name : List ℕ) (w : Gateway) → P w → P (remembered_by row name w)
+  kept_remembered_by None name w holds = holds
+  kept_remembered_by (Some row) name w holds = kept_remembered row.host name w holds
+
+  kept_not_connected : (number cid : ℕ) (name : List ℕ) (w : Gateway) → P w → P (not_connected number cid name w)
+  kept_not_connected number cid name w holds =
+      let row : Option Session = find (is_numbered number) w.clients.sessions in
+      kept_told P kept number (replies.CreateChannelFail cid) (remembered_by row name w) (kept_remembered_by row name w holds)
+
+  kept_created_on_native : (number cid : ℕ) (name real : List ℕ) (link : Link) (native : Option Native) (w : Gateway) → P w → P (created_on_native number cid name real link native w)
+  kept_created_on_native number cid name real link None w holds = kept_not_connected number cid name w holds
+  kept_created_on_native number cid name real link (Some native) w holds = kept_created number cid name real link native w holds
+
+  kept_created_on : (number cid : ℕ) (name real : List ℕ) (link : Option Link) (w : Gateway) → P w → P (created_on number cid name real link w)
+  kept_created_on number cid name real None w holds = kept_not_connected number cid name w holds
+  kept_created_on number cid name real (Some link) w holds = kept_created_on_native number cid name real link (native_in link.state) w holds
+
+  kept_created_as : (number cid : ℕ) (name : List ℕ) (real : Option (List ℕ)) (w : Gateway) → P w → P (created_as number cid name real w)
+  kept_created_as number cid name None w holds = kept_told P kept number (replies.CreateChannelFail cid) w holds
+  kept_created_as number cid name (Some real) w holds =
+      kept_either P (leb CHANNEL_LIMIT (channel_count number w.clients)) (creation_failed number cid w) (created_on number cid name real (link_of w real) w)
+      (λ _. kept_told P kept number (replies.CreateChannelFail cid) w holds) (kept_created_on number cid name real (link_of w real) w holds)
+
+  kept_with_host_fixed : (number : ℕ) (w : Gateway) → P w → P (with_host_fixed number w)
+  kept_with_host_fixed number w holds = kept.sessions (change_first (is_numbered number) fixed w.clients.sessions) w holds
+
+  kept_channel_asked : (number cid : ℕ) (name : List ℕ) (w : Gateway) → P w → P (channel_asked number cid name w)
+  kept_channel_asked number cid name w holds =
+      kept_created_as number cid name (resolution w.policy (host_of w number) name) (with_host_fixed number w) (kept_with_host_fixed number w holds)
+
+  -- channels that go, and reads
+
+  kept_cleared : (number sid cid : ℕ) (head : Header) (found : Option Channel) (w : Gateway) → P w → P (cleared number sid cid head found w)
+  kept_cleared number sid cid head None w holds = kept_told P kept number (replies.Error NO_CHANNEL ECA_BADCHID head) w holds
+  kept_cleared number sid cid head (Some c) w holds =
+      kept_told P kept number (replies.ClearChannel sid cid) (without_channel number sid w) (kept.channel_removed number sid w holds)
+
+  kept_judged : (number sid ioid dtype count : ℕ) (head : Header) (verdict : ReadVerdict) (w : Gateway)
+      → ((reach rights : ℕ) → verdict ≡ Accepted reach rights → list_any (is_channel number sid) w.clients.channels ≡ true)
+      → P w → P (judged number sid ioid dtype count head verdict w)
+  kept_judged number sid ioid dtype count head NoChannel w on holds = kept_told P kept number (replies.Error NO_CHANNEL ECA_BADCHID head) w holds
+  kept_judged number sid ioid dtype count head Ignored w on holds = holds
+  kept_judged number sid ioid dtype count head (Refused code) w on holds = kept_told P kept number (replies.ReadNotifyRefused ioid dtype count code) w holds
+  kept_judged number sid ioid dtype count head (Accepted reach rights) w on holds =
+      let read : WaitingRead = record { session = number; sid = sid; dtype = dtype; count = count; ioid = ioid } in
+      kept.channel_changed number sid reach rights (with_read read w) (kept.read_added read w (on reach rights refl) holds)
+
+  -- what a client says
+
+  kept_versioned : (w : Gateway) (number minor : ℕ) → P w → P (versioned w number minor)
+  kept_versioned w number minor holds =
+      kept_either P (ltb minor LOWEST_MINOR) (marked (ToSession number) w) w
+      (λ _. kept.connections (change_first (is_to (ToSession number)) marked_now w.connections) w holds) holds
+
+  kept_unreadable : (w : Gateway) (number : ℕ) (head : Header) → P w → P (unreadable w number head)
+  kept_unreadable w number head holds =
+      let failed : Gateway = creation_failed number head.p1 (with_host_fixed number w) in
+      let refused : Gateway = told number (replies.Error NO_CHANNEL ECA_INTERNAL head) w in
+      let ignored : Bool = eqb head.command CA_PROTO_CLIENT_NAME || eqb head.command CA_PROTO_HOST_NAME in
+      kept_either P (eqb head.command CA_PROTO_CREATE_CHAN) failed (cond ignored w refused)
+      (λ _. kept_told P kept number (replies.CreateChannelFail head.p1) (with_host_fixed number w) (kept_with_host_fixed number w holds))
+      (kept_either P ignored w refused (λ _. holds) (kept_told P kept number (replies.Error NO_CHANNEL ECA_INTERNAL head) w holds))
+
+  kept_requested : (w : Gateway) (number : ℕ) (message : Message) (request : Result ClientRequest RequestFault) → P w → P (requested w number message request)
+  kept_requested w number message (Ok (requests.Version minor)) holds = kept_versioned w number minor holds
+  kept_requested w number message (Ok (requests.ClearChannel sid cid)) holds = kept_cleared number sid cid message.head (channel_of w number sid) w holds
+  kept_requested w number message (Ok (requests.ReadNotify sid ioid dtype count)) holds =
+      kept_judged number sid ioid dtype count message.head (read_verdict w number sid dtype count) w (accepted_on w number sid dtype count) holds
+  kept_requested w number message (Ok (requests.CreateChannel cid minor name)) holds = kept_channel_asked number cid name w holds
+  kept_requested w number message (Ok (requests.ClientName name)) holds = holds
+  kept_requested w number message (Ok (requests.HostName host)) holds = kept.sessions (change_first (is_numbered number) (renamed host) w.clients.sessions) w holds
+  kept_requested w number message (Ok requests.Echo) holds = kept_told P kept number (replies.Echo message) w holds
+  kept_requested w number message (Err fault) holds = kept_unreadable w number message.head holds
+
+  pub kept_client_said : (w : Gateway) (number : ℕ) (message : Message) → P w → P (client_said w number message)
+  kept_client_said w number message holds = kept_requested w number message (request_of message.head message.payload) holds

@@ -1,0 +1,105 @@
+-- What each change of rows keeps, every run keeps.
+use Rattle.std.proofs.Common.{ℕ, ◌+◌, List, [], ◌∷◌, Option, Some, None}
+use Rattle.std.specs.Prelude.{filter}
+use Rattle.std.specs.List.{fold}
+use Rattle.rows.specs.Rows.{change_first}
+use Rattle.ca_message.specs.declared.to_client.ToClient.TheVariants as replies
+use Rattle.ca_message.specs.declared.to_server.ToServer.TheVariants as requests
+use Rattle.link_table.specs.declared.links.LinkState.TheVariants.{Creating, Connected, Unusable}
+use Rattle.link_table.specs.declared.links.Subscription.{Subscription}
+use Rattle.gateway_state.specs.declared.event.Dest.TheVariants as dests
+use Rattle.gateway_state.specs.declared.event.Event.{Event}
+use Rattle.gateway_state.specs.declared.event.Event.TheVariants.{Opened, Lost, Client, UpOpened, UpLost, Server, Found, Sweep, Drain}
+use Rattle.gateway_state.specs.declared.notice.ChannelNotice.{ChannelNotice}
+use Rattle.gateway_state.specs.declared.notice.ChannelNotice.TheVariants.{Disconnected, RightsChanged}
+use Rattle.gateway_state.specs.declared.notice.LinkNotice.{LinkNotice}
+use Rattle.gateway_state.specs.declared.notice.LinkNotice.TheVariants.{Cancelled, Unread, Subscribed, Dropped}
+use Rattle.gateway_state.specs.declared.notice.ReadNotice.{ReadNotice}
+use Rattle.gateway_state.specs.declared.notice.ReadNotice.TheVariants.{Refused, Answered}
+use Rattle.gateway_state.specs.Asked.{acts}
+use Rattle.gateway_state.specs.CachedRows.{is_cached_elsewhere}
+use Rattle.gateway_state.specs.Clients.{client_said, without_channel}
+use Rattle.gateway_state.specs.Connections.{is_to, relieved}
+use Rattle.gateway_state.specs.Direct.{direct_effect}
+use Rattle.gateway_state.specs.Gateway.{Gateway}
+use Rattle.gateway_state.specs.Notices.{channel_notices, channel_told, channels_told, link_notices, link_told, links_told, read_notices, read_told, with_reach, with_subscription_of, without_read}
+use Rattle.gateway_state.specs.Servers.{server_said, without_link}
+use Rattle.gateway_state.specs.Step.{consequences, run, step}
+use Rattle.gateway_state.proofs.Kept.{IsKept, kept_asked, kept_either, kept_told, with_next_subscription}
+use Rattle.gateway_state.proofs.KeptByClients.{kept_client_said, kept_opened}
+use Rattle.gateway_state.proofs.KeptByServers.{kept_found, kept_server_said, kept_up_opened}
+
+module _ (P : Gateway → Type 0) (kept : IsKept P) where
+  pub kept_direct_effect : (w : Gateway) (event : Event) → P w → P (direct_effect w event)
+  kept_direct_effect w (Opened number host) holds = kept_opened P kept w number host holds
+  kept_direct_effect w (Lost number) holds = kept.session_removed number w holds
+  kept_direct_effect w (Client number message) holds =
+      kept_either P (acts w (dests.Session number)) (client_said w number message) w (λ _. kept_client_said P kept w number message holds) holds
+  kept_direct_effect w (UpOpened number) holds = kept_up_opened P kept w number holds
+  kept_direct_effect w (UpLost number) holds = kept.server_removed number w holds
+  kept_direct_effect w (Server number message) holds =
+      kept_either P (acts w (dests.Upstream number)) (server_said w number message) w (λ _. kept_server_said P kept w number message holds) holds
+  kept_direct_effect w (Found name number) holds = kept_found P kept w name number holds
+  kept_direct_effect w Sweep holds = kept.searches [] w holds
+  kept_direct_effect w (Drain dest count) holds = kept.connections (change_first (is_to dest) (relieved count) w.connections) w holds
+
+  -- the three passes
+
+  kept_channel_told : (w : Gateway) (notice : ChannelNotice) → P w → P (channel_told w notice)
+  kept_channel_told w (Disconnected session sid cid) holds =
+      kept_told P kept session (replies.ServerDisconnect cid) (without_channel session sid w) (kept.channel_removed session sid w holds)
+  kept_channel_told w (RightsChanged session sid cid reach rights) holds =
+      kept_told P kept session (replies.AccessRights cid rights) (with_reach session sid reach rights w) (kept.channel_changed session sid reach rights w holds)
+
+  kept_channels : (notices : List ChannelNotice) (w : Gateway) → P w → P (fold channel_told w notices)
+  kept_channels [] w holds = holds
+  kept_channels (notice ∷ notices) w holds = kept_channels notices (channel_told w notice) (kept_channel_told w notice holds)
+
+  pub kept_channels_told : (w : Gateway) → P w → P (channels_told w)
+  kept_channels_told w holds = kept_channels (channel_notices w) w holds
+
+  kept_link_told : (w : Gateway) (notice : LinkNotice) → P w → P (link_told w notice)
+  kept_link_told w (Cancelled server cid sid dtype sub) holds =
+      kept_asked P kept server (requests.EventCancel sid sub.id dtype sub.sent) (with_subscription_of server cid None w) (kept.subscription_changed server cid None w holds)
+  kept_link_told w (Unread cid) holds = kept.cache (filter (is_cached_elsewhere cid) w.cache) w holds
+  kept_link_told w (Subscribed server cid sid dtype interest sent) holds =
+      let id : ℕ = w.upstream.counters.subscription in
+      let sub : Option Subscription = Some (record { id = id; mask = interest.mask; count = interest.count; sent = sent }) in
+      let first : Gateway = with_next_subscription (id + 1) w in
+      kept_asked P kept server (requests.EventAdd sid id dtype sent interest.mask) (with_subscription_of server cid sub first)
+      (kept.subscription_changed server cid sub first (kept.next_subscription (id + 1) w holds))
+  kept_link_told w (Dropped server cid Creating) holds = kept.link_removed server cid w holds
+  kept_link_told w (Dropped server cid Unusable) holds = kept.link_removed server cid w holds
+  kept_link_told w (Dropped server cid (Connected sid dtype native)) holds =
+      kept_asked P kept server (requests.ClearChannel sid cid) (without_link server cid w) (kept.link_removed server cid w holds)
+
+  kept_links : (notices : List LinkNotice) (w : Gateway) → P w → P (fold link_told w notices)
+  kept_links [] w holds = holds
+  kept_links (notice ∷ notices) w holds = kept_links notices (link_told w notice) (kept_link_told w notice holds)
+
+  kept_read_told : (w : Gateway) (notice : ReadNotice) → P w → P (read_told w notice)
+  kept_read_told w (Refused read code) holds =
+      kept_told P kept read.session (replies.ReadNotifyRefused read.ioid read.dtype read.count code) (without_read read w) (kept.read_removed read w holds)
+  kept_read_told w (Answered read count payload) holds =
+      kept_told P kept read.session (replies.ReadNotify read.ioid read.dtype count payload) (without_read read w) (kept.read_removed read w holds)
+
+  kept_reads : (notices : List ReadNotice) (w : Gateway) → P w → P (fold read_told w notices)
+  kept_reads [] w holds = holds
+  kept_reads (notice ∷ notices) w holds = kept_reads notices (read_told w notice) (kept_read_told w notice holds)
+
+  -- steps and runs
+
+  kept_consequences : (w : Gateway) → P w → P (consequences w)
+  kept_consequences w holds =
+      let first : Gateway = channels_told w in
+      let second : Gateway = links_told first in
+      kept_reads (read_notices second) second (kept_links (link_notices first) first (kept_channels_told w holds))
+
+  pub kept_step : (w : Gateway) (event : Event) → P w → P (step w event)
+  unfolding step
+  kept_step w event holds = kept_consequences (direct_effect w event) (kept_direct_effect w event holds)
+
+  pub kept_run : (w : Gateway) (events : List Event) → P w → P (run w events)
+  unfolding run
+  kept_run w [] holds = holds
+  kept_run w (event ∷ events) holds = kept_run (step w event) events (kept_step w event holds)

@@ -1,0 +1,133 @@
+-- What servers say and do keeps what each change of rows keeps.
+use Rattle.std.proofs.Common.{◌≡◌, ℕ, List, [], ◌∷◌, ◌++◌, length, false, eqb, leb, ltb, not, ◌||◌, ◌&&◌, Option, Some, None, Ok, Err, Result}
+use Rattle.std.specs.Prelude.{filter}
+use Rattle.std.specs.List.{find, fold}
+use Rattle.rows.specs.Rows.{change_first}
+use Rattle.ca_header.specs.declared.header.Message.{Message}
+use Rattle.ca_message.specs.declared.codes.TheConstants.{ECA_NORMAL, ECA_GETFAIL}
+use Rattle.ca_message.specs.declared.reply.ReplyFault.{ReplyFault}
+use Rattle.ca_message.specs.declared.reply.ServerReply.{ServerReply}
+use Rattle.ca_message.specs.declared.reply.ServerReply.TheVariants as says
+use Rattle.ca_message.specs.declared.to_client.ToClient.TheVariants as replies
+use Rattle.ca_message.specs.declared.to_server.ToServer.TheVariants as requests
+use Rattle.ca_message.specs.ServerReply.{reply_of}
+use Rattle.channel_table.specs.declared.reads.WaitingRead.{WaitingRead}
+use Rattle.link_table.specs.declared.links.Link.{Link}
+use Rattle.link_table.specs.declared.links.LinkState.{LinkState}
+use Rattle.link_table.specs.declared.links.LinkState.TheVariants.{Creating, Connected, Unusable}
+use Rattle.link_table.specs.declared.links.Subscription.{Subscription}
+use Rattle.link_table.specs.declared.table.TheConstants.{LINK_LIMIT, SERVER_LIMIT}
+use Rattle.link_table.specs.Links.{has_subscription, is_link}
+use Rattle.gateway_state.specs.declared.cached.Cached.{Cached}
+use Rattle.gateway_state.specs.declared.event.Dest.TheVariants.{Upstream}
+use Rattle.gateway_state.specs.Asked.{acts, stands}
+use Rattle.gateway_state.specs.Gateway.{Gateway}
+use Rattle.gateway_state.specs.Servers.{answered_creating, created_for, failed_for, found, gone_for, is_usable, is_value, linked, read_failed, reads_failed, replied, rights_given, server_said, updated_by, updated_link, waits_for, with_cached, with_link_state, without_link}
+use Rattle.gateway_state.specs.Sessions.{introduced, up_opened, with_server}
+use Rattle.gateway_state.specs.CachedRows.{with_row}
+use Rattle.gateway_state.specs.Connections.{fresh}
+use Rattle.gateway_state.specs.Notices.{without_read}
+use Rattle.link_table.specs.declared.servers.Server.{Server}
+use Rattle.link_table.specs.Servers.{is_server, with_minor}
+use Rattle.std.proofs.lemmas.Bool.{and_parts, not-true}
+use Rattle.gateway_state.specs.Telling.{asked}
+use Rattle.gateway_state.specs.Variables.{is_creating, is_linked, is_missing, is_wanted}
+use Rattle.gateway_state.proofs.Kept.{IsKept, kept_asked, kept_either, kept_told, with_connections, with_link}
+
+module _ (P : Gateway → Type 0) (kept : IsKept P) where
+  -- connections that come and go, and new links
+
+  kept_introduced : (number : ℕ) (w : Gateway) → P w → P (introduced number w)
+  kept_introduced number w holds =
+      let first : Gateway = asked number requests.Version w in
+      let second : Gateway = asked number (requests.ClientName w.config.client_name) first in
+      kept_asked P kept number (requests.HostName w.config.host_name) second
+      (kept_asked P kept number (requests.ClientName w.config.client_name) first (kept_asked P kept number requests.Version w holds))
+
+  pub kept_up_opened : (w : Gateway) (number : ℕ) → P w → P (up_opened w number)
+  kept_up_opened w number holds =
+      let new : Server = record { number = number; minor = 0 } in
+      let first : Gateway = with_connections (w.connections ++ fresh (Upstream number) ∷ []) w in
+      let second = kept.servers (w.upstream.servers ++ new ∷ []) first (kept.connections (w.connections ++ fresh (Upstream number) ∷ []) w holds) in
+      kept_either P (stands w (Upstream number) || leb SERVER_LIMIT (length w.upstream.servers)) w (introduced number (with_server w number))
+      (λ _. holds) (kept_introduced number (with_server w number) second)
+
+  kept_linked : (w : Gateway) (server : ℕ) (name : List ℕ) → is_linked w name ≡ false → P w → P (linked w server name)
+  kept_linked w server name missing holds =
+      kept_asked P kept server (requests.CreateChannel w.upstream.counters.cid name) (with_link server name w) (kept.link_added server name w missing holds)
+
+  pub kept_found : (w : Gateway) (name : List ℕ) (server : ℕ) → P w → P (found w name server)
+  kept_found w name server holds =
+      kept_either P (is_missing w name && acts w (Upstream server) && ltb (length w.upstream.links) LINK_LIMIT) (linked w server name) w
+      (λ e.
+      let tests = and_parts (is_missing w name && acts w (Upstream server)) (ltb (length w.upstream.links) LINK_LIMIT) e in
+      let parts = and_parts (is_missing w name) (acts w (Upstream server)) tests.0 in
+      kept_linked w server name (not-true (is_linked w name) (and_parts (is_wanted w name) (not (is_linked w name)) parts.0).1) holds)
+      holds
+
+  -- changes of one link
+
+  kept_created_for : (server cid sid dtype count : ℕ) (link : Option Link) (w : Gateway) → P w → P (created_for server cid sid dtype count link w)
+  kept_created_for server cid sid dtype count None w holds = kept_asked P kept server (requests.ClearChannel sid cid) w holds
+  kept_created_for server cid sid dtype count (Some link) w holds =
+      let connected : Gateway = with_link_state server cid (Connected sid dtype count) link.rights w in
+      let unusable : Gateway = with_link_state server cid Unusable link.rights w in
+      kept_either P (is_creating link.state) (answered_creating server cid sid dtype count link w) w
+      (λ _. kept_either P (is_usable dtype count) connected (asked server (requests.ClearChannel sid cid) unusable)
+      (λ _. kept.link_changed server cid (Connected sid dtype count) link.rights w holds)
+      (kept_asked P kept server (requests.ClearChannel sid cid) unusable (kept.link_changed server cid Unusable link.rights w holds)))
+      holds
+
+  kept_rights_given : (server cid rights : ℕ) (link : Option Link) (w : Gateway) → P w → P (rights_given server cid rights link w)
+  kept_rights_given server cid rights None w holds = holds
+  kept_rights_given server cid rights (Some link) w holds = kept.link_changed server cid link.state rights w holds
+
+  kept_failed_for : (server cid : ℕ) (link : Option Link) (w : Gateway) → P w → P (failed_for server cid link w)
+  kept_failed_for server cid None w holds = holds
+  kept_failed_for server cid (Some link) w holds =
+      kept_either P (is_creating link.state) (without_link server cid w) w (λ _. kept.link_removed server cid w holds) holds
+
+  kept_gone_for : (server cid : ℕ) (link : Option Link) (w : Gateway) → P w → P (gone_for server cid link w)
+  kept_gone_for server cid None w holds = holds
+  kept_gone_for server cid (Some link) w holds = kept.link_removed server cid w holds
+
+  -- updates
+
+  kept_read_failed : (w : Gateway) (read : WaitingRead) → P w → P (read_failed w read)
+  kept_read_failed w read holds =
+      kept_told P kept read.session (replies.ReadNotifyRefused read.ioid read.dtype read.count ECA_GETFAIL) (without_read read w) (kept.read_removed read w holds)
+
+  kept_all_failed : (reads : List WaitingRead) (w : Gateway) → P w → P (fold read_failed w reads)
+  kept_all_failed [] w holds = holds
+  kept_all_failed (read ∷ reads) w holds = kept_all_failed reads (read_failed w read) (kept_read_failed w read holds)
+
+  kept_updated_link : (link : Link) (state : LinkState) (sub : Option Subscription) (dtype count : ℕ) (payload : List ℕ) (w : Gateway) → P w → P (updated_link link state sub dtype count payload w)
+  kept_updated_link link (Connected sid native native_count) (Some sub) dtype count payload w holds =
+      let row : Cached = record { server = link.server; cid = link.cid; dtype = dtype; count = count; payload = payload; asked_with = sub.count } in
+      kept_either P (is_value native sub.count dtype count payload) (with_cached row w) w (λ _. kept.cache (with_row row w.cache) w holds) holds
+  kept_updated_link link (Connected sid native native_count) None dtype count payload w holds = holds
+  kept_updated_link link Creating sub dtype count payload w holds = holds
+  kept_updated_link link Unusable sub dtype count payload w holds = holds
+
+  kept_updated_by : (status dtype count : ℕ) (payload : List ℕ) (link : Option Link) (w : Gateway) → P w → P (updated_by status dtype count payload link w)
+  kept_updated_by status dtype count payload None w holds = holds
+  kept_updated_by status dtype count payload (Some link) w holds =
+      kept_either P (eqb status ECA_NORMAL) (updated_link link link.state link.subscription dtype count payload w) (reads_failed w link.name)
+      (λ _. kept_updated_link link link.state link.subscription dtype count payload w holds)
+      (kept_all_failed (filter (waits_for w link.name) w.clients.reads) w holds)
+
+  -- what a server says
+
+  kept_replied : (w : Gateway) (server : ℕ) (reply : Result ServerReply ReplyFault) → P w → P (replied w server reply)
+  kept_replied w server (Ok (says.Version minor)) holds = kept.servers (change_first (is_server server) (with_minor minor) w.upstream.servers) w holds
+  kept_replied w server (Ok (says.EventAdd id status dtype count value)) holds =
+      kept_updated_by status dtype count value (find (has_subscription server id) w.upstream.links) w holds
+  kept_replied w server (Ok (says.CreateChannel cid sid dtype count)) holds =
+      kept_created_for server cid sid dtype count (find (is_link server cid) w.upstream.links) w holds
+  kept_replied w server (Ok (says.AccessRights cid rights)) holds = kept_rights_given server cid rights (find (is_link server cid) w.upstream.links) w holds
+  kept_replied w server (Ok (says.CreateChannelFail cid)) holds = kept_failed_for server cid (find (is_link server cid) w.upstream.links) w holds
+  kept_replied w server (Ok (says.ServerDisconnect cid)) holds = kept_gone_for server cid (find (is_link server cid) w.upstream.links) w holds
+  kept_replied w server (Err fault) holds = holds
+
+  pub kept_server_said : (w : Gateway) (server : ℕ) (message : Message) → P w → P (server_said w server message)
+  kept_server_said w server message holds = kept_replied w server (reply_of message.head message.payload) holds

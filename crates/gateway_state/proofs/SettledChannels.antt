@@ -1,0 +1,106 @@
+-- The pass over channels leaves nothing that it would tell.
+use Rattle.std.proofs.Common.{◌≡◌, ℕ, ◌+◌, ◌<◌, List, [], ◌∷◌, Bool, true, false, cond, eqb, not, Option, Some, None, refl, ap, ◌∙◌, arith}
+use Rattle.std.specs.Prelude.{filter, filter_map}
+use Rattle.std.specs.List.{fold, cons_option}
+use Rattle.std.proofs.lemmas.Bool.{and_from, and_right, ne_eqb, eq-eqb}
+use Rattle.rows.specs.Rows.{change_first}
+use Rattle.channel_table.specs.declared.channels.Channel.{Channel}
+use Rattle.channel_table.specs.declared.reads.WaitingRead.{WaitingRead}
+use Rattle.channel_table.specs.Channels.{is_channel, is_not_channel, with_reach_and_rights}
+use Rattle.gateway_state.specs.declared.fanout.connections.Connection.{Connection}
+use Rattle.gateway_state.specs.declared.notice.ChannelNotice.{ChannelNotice}
+use Rattle.gateway_state.specs.declared.notice.ChannelNotice.TheVariants.{Disconnected, RightsChanged}
+use Rattle.gateway_state.specs.Gateway.{Gateway}
+use Rattle.gateway_state.specs.Notices.{channel_notice, channel_notices, channel_told, channels_told}
+use Rattle.gateway_state.specs.Rights.{rights_of, is_served}
+use Rattle.gateway_state.specs.Settled.{AreRising, sid_of}
+use Rattle.gateway_state.specs.Telling.{sent}
+use Rattle.gateway_state.proofs.RisingRows.{none_rising, filter_absent}
+
+-- what a notice leaves of the channels
+abbrev left_by : List Channel → ChannelNotice → List Channel
+left_by rows (Disconnected session sid cid) = filter (is_not_channel session sid) rows
+left_by rows (RightsChanged session sid cid reach rights) = change_first (is_channel session sid) (with_reach_and_rights reach rights) rows
+
+-- a state with other channels, and what goes with them
+abbrev with_channels : Gateway → List Connection → List Channel → List WaitingRead → Gateway
+with_channels w connections channels reads =
+    record w { connections = connections; clients = record w.clients { channels = channels; reads = reads } }
+
+-- notices on channels change nothing else
+channels_changed : (notices : List ChannelNotice) (w : Gateway)
+    → fold channel_told w notices
+    ≡ with_channels w (fold channel_told w notices).connections (fold left_by w.clients.channels notices) (fold channel_told w notices).clients.reads
+unfolding sent
+channels_changed [] w = refl
+channels_changed (Disconnected session sid cid ∷ notices) w = channels_changed notices (channel_told w (Disconnected session sid cid))
+channels_changed (RightsChanged session sid cid reach rights ∷ notices) w =
+    channels_changed notices (channel_told w (RightsChanged session sid cid reach rights))
+
+-- the notice on a channel, by what it rests on
+abbrev pub notice_by : Bool → Bool → ℕ → Channel → Option ChannelNotice
+notice_by served same rights c =
+    cond (not served) (Some (Disconnected c.session c.sid c.cid)) (cond same None (Some (RightsChanged c.session c.sid c.cid c.reach rights)))
+
+other_number : (c : Channel) (session sid : ℕ) → (c.sid ≡ sid → ⊥) → is_channel session sid c ≡ false
+other_number c session sid differ = and_right (eqb c.session session) (eqb c.sid sid) (ne_eqb c.sid sid differ)
+
+itself : (c : Channel) → is_channel c.session c.sid c ≡ true
+itself c = and_from (eqb c.session c.session) (eqb c.sid c.sid) (eq-eqb c.session c.session refl) (eq-eqb c.sid c.sid refl)
+
+-- notices on later channels leave a channel as it is
+kept_by_later : (w : Gateway) (low high : ℕ) (rows : List Channel) (c : Channel) (others : List Channel) → c.sid < low → AreRising sid_of low rows high
+    → fold left_by (c ∷ others) (filter_map (channel_notice w) rows) ≡ c ∷ fold left_by others (filter_map (channel_notice w) rows)
+kept_by_later w low high [] c others below rising = refl
+kept_by_later w low high (row ∷ rows) c others below rising =
+    by (is_served w row) (eqb row.rights (rights_of w row)) (λ left. kept_by_later w (row.sid + 1) high rows c left (omega (arith, rising.0)) rising.1)
+  where
+    other : is_channel row.session row.sid c ≡ false
+    other = other_number c row.session row.sid (λ same. omega (arith, rising.0))
+
+    by : (served same : Bool)
+        → ((left : List Channel) → fold left_by (c ∷ left) (filter_map (channel_notice w) rows) ≡ c ∷ fold left_by left (filter_map (channel_notice w) rows))
+        → fold left_by (c ∷ others) (cons_option (notice_by served same (rights_of w row) row) (filter_map (channel_notice w) rows))
+        ≡ c ∷ fold left_by others (cons_option (notice_by served same (rights_of w row) row) (filter_map (channel_notice w) rows))
+    by false same on =
+        let step : filter (is_not_channel row.session row.sid) (c ∷ others) ≡ c ∷ filter (is_not_channel row.session row.sid) others = rw other refl in
+        ap (λ (left : List Channel). fold left_by left (filter_map (channel_notice w) rows)) step ∙ on (filter (is_not_channel row.session row.sid) others)
+    by true true on = on others
+    by true false on =
+        let change : Channel → Channel = with_reach_and_rights row.reach (rights_of w row) in
+        let step : change_first (is_channel row.session row.sid) change (c ∷ others) ≡ c ∷ change_first (is_channel row.session row.sid) change others = rw other refl in
+        ap (λ (left : List Channel). fold left_by left (filter_map (channel_notice w) rows)) step ∙ on (change_first (is_channel row.session row.sid) change others)
+
+-- once all notices on channels are given, none of the channels left has one
+quiet_channels : (w : Gateway) (low high : ℕ) (rows : List Channel) → AreRising sid_of low rows high
+    → filter_map (channel_notice w) (fold left_by rows (filter_map (channel_notice w) rows)) ≡ []
+quiet_channels w low high [] rising = refl
+quiet_channels w low high (row ∷ rows) rising =
+    by (is_served w row) (eqb row.rights (rights_of w row)) refl refl (quiet_channels w (row.sid + 1) high rows rising.1)
+  where
+    gone : filter (is_not_channel row.session row.sid) rows ≡ rows
+    gone =
+        filter_absent (is_channel row.session row.sid) rows
+        (none_rising sid_of (is_channel row.session row.sid) (row.sid + 1) high rows (λ x above. other_number x row.session row.sid (λ same. omega arith)) rising.1)
+
+    kept : (c : Channel) → c.sid ≡ row.sid
+        → fold left_by (c ∷ rows) (filter_map (channel_notice w) rows) ≡ c ∷ fold left_by rows (filter_map (channel_notice w) rows)
+    kept c same = kept_by_later w (row.sid + 1) high rows c rows (omega arith) rising.1
+
+    by : (served same : Bool) → is_served w row ≡ served → eqb row.rights (rights_of w row) ≡ same
+        → filter_map (channel_notice w) (fold left_by rows (filter_map (channel_notice w) rows)) ≡ []
+        → filter_map (channel_notice w) (fold left_by (row ∷ rows) (cons_option (notice_by served same (rights_of w row) row) (filter_map (channel_notice w) rows))) ≡ []
+    by false same is_so is_same rest =
+        let step : filter (is_not_channel row.session row.sid) (row ∷ rows) ≡ rows = rw (itself row) gone in
+        ap (λ (left : List Channel). filter_map (channel_notice w) (fold left_by left (filter_map (channel_notice w) rows))) step ∙ rest
+    by true true is_so is_same rest = rw (kept row refl, is_so, is_same) rest
+    by true false is_so is_same rest =
+        let new : Channel = with_reach_and_rights row.reach (rights_of w row) row in
+        let step : change_first (is_channel row.session row.sid) (with_reach_and_rights row.reach (rights_of w row)) (row ∷ rows) ≡ new ∷ rows = rw (itself row) refl in
+        ap (λ (left : List Channel). filter_map (channel_notice w) (fold left_by left (filter_map (channel_notice w) rows))) step
+        ∙ rw (kept new refl, is_so, eq-eqb (rights_of w row) (rights_of w row) refl) rest
+
+-- after the pass no channel is owed a notice
+pub channels_settled : (w : Gateway) → AreRising sid_of 0 w.clients.channels w.upstream.counters.sid → channel_notices (channels_told w) ≡ []
+channels_settled w rising =
+    ap channel_notices (channels_changed (channel_notices w) w) ∙ quiet_channels w 0 w.upstream.counters.sid w.clients.channels rising

@@ -1,0 +1,172 @@
+-- What it means, row by row, that nobody is owed anything.
+use Rattle.std.proofs.Common.{◌≡◌, ℕ, List, [], ◌∷◌, ◌++◌, Bool, true, false, cond, eqb, ◌||◌, Option, Some, None, refl, sym, ap, ◌∙◌}
+use Rattle.std.specs.Prelude.{filter_map, flat_map, option_map}
+use Rattle.std.specs.List.{All, cons_option, find, list_all, list_any}
+use Rattle.std.proofs.lemmas.Bool.{and_parts, eqb-true, true≢false}
+use Rattle.std.proofs.lemmas.List.Elements.{All-cons, All-head, All-nil, All-tail, All-weaker}
+use Rattle.ca_message.specs.declared.codes.TheConstants.{ECA_NORDACCESS}
+use Rattle.channel_table.specs.declared.channels.Channel.{Channel}
+use Rattle.channel_table.specs.declared.reads.WaitingRead.{WaitingRead}
+use Rattle.channel_table.specs.Channels.{is_channel}
+use Rattle.link_table.specs.declared.links.Link.{Link}
+use Rattle.link_table.specs.declared.links.LinkState.{LinkState}
+use Rattle.link_table.specs.declared.links.LinkState.TheVariants.{Creating, Connected, Unusable}
+use Rattle.link_table.specs.declared.links.Subscription.{Subscription}
+use Rattle.gateway_state.specs.declared.interest.Interest.{Interest}
+use Rattle.gateway_state.specs.declared.notice.LinkNotice.{LinkNotice}
+use Rattle.gateway_state.specs.declared.notice.LinkNotice.TheVariants.{Dropped}
+use Rattle.gateway_state.specs.declared.notice.ReadNotice.TheVariants.{Refused}
+use Rattle.gateway_state.specs.declared.reading.Given.{Given}
+use Rattle.gateway_state.specs.declared.reading.Native.{Native}
+use Rattle.gateway_state.specs.Answer.{cached_value, native_in}
+use Rattle.gateway_state.specs.Gateway.{Gateway}
+use Rattle.gateway_state.specs.Interest.{interest_of, is_for, minor_of}
+use Rattle.gateway_state.specs.Notices.{answered_by, answered_natively, answered_over, cancelled, channel_notice, interest_notices, link_notices_of, notice_on, read_notice, subscribed}
+use Rattle.gateway_state.specs.Rights.{channel_of, is_served, link_connected, may_read, rights_of}
+use Rattle.gateway_state.specs.Settled.{HasReadsOnChannels, IsInUse, IsSettled, IsUpToDate, IsWaiting, interest_in, is_on_channel}
+use Rattle.gateway_state.specs.Variables.{is_connected, is_wanted, link_of}
+use Rattle.gateway_state.proofs.SettledChannels.{notice_by}
+
+-- ---- lists of notices that are empty
+
+none_told : {A B : Type 0} (notice : A → Option B) (rows : List A) → filter_map notice rows ≡ [] → All (λ (row : A). notice row ≡ None) rows
+none_told {A = A} notice [] none = All-nil (λ (row : A). notice row ≡ None)
+none_told {A = A} {B = B} notice (row ∷ rows) none = by (notice row) refl none (λ rest. none_told notice rows rest)
+  where
+    by : (found : Option B) → notice row ≡ found → cons_option found (filter_map notice rows) ≡ [] → (filter_map notice rows ≡ [] → All (λ (x : A). notice x ≡ None) rows)
+        → All (λ (x : A). notice x ≡ None) (row ∷ rows)
+    by None is empty rest = All-cons (λ (x : A). notice x ≡ None) row rows is (rest empty)
+    by (Some told) is empty rest = absurd cc
+
+nothing_told : {A B : Type 0} (notices : A → List B) (rows : List A) → flat_map notices rows ≡ [] → All (λ (row : A). notices row ≡ []) rows
+nothing_told {A = A} notices [] none = All-nil (λ (row : A). notices row ≡ [])
+nothing_told {A = A} {B = B} notices (row ∷ rows) none = by (notices row) refl none (λ rest. nothing_told notices rows rest)
+  where
+    by : (found : List B) → notices row ≡ found → found ++ flat_map notices rows ≡ [] → (flat_map notices rows ≡ [] → All (λ (x : A). notices x ≡ []) rows)
+        → All (λ (x : A). notices x ≡ []) (row ∷ rows)
+    by [] is empty rest = All-cons (λ (x : A). notices x ≡ []) row rows is (rest empty)
+    by (told ∷ more) is empty rest = absurd cc
+
+-- ---- channels
+
+up_to_date : (w : Gateway) (c : Channel) → channel_notice w c ≡ None → IsUpToDate w c
+up_to_date w c none = by (is_served w c) (eqb c.rights (rights_of w c)) refl refl none
+  where
+    by : (served same : Bool) → is_served w c ≡ served → eqb c.rights (rights_of w c) ≡ same → notice_by served same (rights_of w c) c ≡ None → IsUpToDate w c
+    by false same is_so is_same none = absurd cc
+    by true false is_so is_same none = absurd cc
+    by true true is_so is_same none = record { served = is_so; rights = eqb-true c.rights (rights_of w c) is_same }
+
+pub all_up_to_date : (w : Gateway) → IsSettled w → All (IsUpToDate w) w.clients.channels
+all_up_to_date w settled =
+    All-weaker (λ (c : Channel). channel_notice w c ≡ None) (IsUpToDate w) (up_to_date w) w.clients.channels (none_told (channel_notice w) w.clients.channels settled.channels)
+
+-- ---- links
+
+is_for-same : (interest : Option Interest) (sub : Option Subscription) → is_for interest sub ≡ true → option_map interest_in sub ≡ interest
+is_for-same None None is = refl
+is_for-same None (Some sub) is = absurd (true≢false (sym is))
+is_for-same (Some interest) None is = absurd (true≢false (sym is))
+is_for-same (Some interest) (Some sub) is =
+    let parts = and_parts (eqb sub.mask interest.mask) (eqb sub.count interest.count) is in
+    let masks = eqb-true sub.mask interest.mask parts.0 in
+    let counts = eqb-true sub.count interest.count parts.1 in
+    λ i. Some (record { mask = masks i; count = counts i })
+
+-- where the subscription isn't for what is wanted, something is told
+told_anew : (link : Link) (minor sid dtype native : ℕ) (sub : Option Subscription) (interest : Option Interest)
+    → cancelled link sid dtype sub ++ subscribed minor link sid dtype native interest ≡ [] → ⊥
+told_anew link minor sid dtype native None None none = cc
+told_anew link minor sid dtype native None (Some interest) none = cc
+told_anew link minor sid dtype native (Some sub) interest none = cc
+
+subscribed_for : (w : Gateway) (link : Link) (state : LinkState) → interest_notices w link state ≡ [] → is_connected state ≡ true → option_map interest_in link.subscription ≡ interest_of w link.name
+subscribed_for w link Creating none connected = absurd (true≢false (sym connected))
+subscribed_for w link Unusable none connected = absurd (true≢false (sym connected))
+subscribed_for w link (Connected sid dtype native) none connected = by (is_for (interest_of w link.name) link.subscription) refl none
+  where
+    by : (met : Bool) → is_for (interest_of w link.name) link.subscription ≡ met
+        → cond met [] (cancelled link sid dtype link.subscription ++ subscribed (minor_of w link.server) link sid dtype native (interest_of w link.name)) ≡ []
+        → option_map interest_in link.subscription ≡ interest_of w link.name
+    by true met none = is_for-same (interest_of w link.name) link.subscription met
+    by false met none = absurd (told_anew link (minor_of w link.server) sid dtype native link.subscription (interest_of w link.name) none)
+
+in_use : (w : Gateway) (link : Link) → link_notices_of w link ≡ [] → IsInUse w link
+in_use w link none = by (interest_notices w link link.state) (is_wanted w link.name) refl refl none
+  where
+    by : (first : List LinkNotice) (wanted : Bool) → interest_notices w link link.state ≡ first → is_wanted w link.name ≡ wanted
+        → first ++ cond wanted [] (Dropped link.server link.cid link.state ∷ []) ≡ [] → IsInUse w link
+    by [] true is is_so none = record { wanted = is_so; subscribed = subscribed_for w link link.state is }
+    by [] false is is_so none = absurd cc
+    by (notice ∷ more) wanted is is_so none = absurd cc
+
+pub all_in_use : (w : Gateway) → IsSettled w → All (IsInUse w) w.upstream.links
+all_in_use w settled =
+    All-weaker (λ (link : Link). link_notices_of w link ≡ []) (IsInUse w) (in_use w) w.upstream.links (nothing_told (link_notices_of w) w.upstream.links settled.links)
+
+-- ---- waiting reads
+
+-- the first row that passes, with what holds of all rows
+record IsFound {A : Type 0} (P : A → Type 0) (test : A → Bool) (rows : List A) : Type 0 where
+  row : A
+  first : find test rows ≡ Some row
+  holds : P row
+
+found_in : {A : Type 0} (P : A → Type 0) (test : A → Bool) (rows : List A) → All P rows → list_any test rows ≡ true → IsFound P test rows
+found_in P test [] all any = absurd (true≢false (sym any))
+found_in {A = A} P test (row ∷ rows) all any = by (test row) refl any (λ there. found_in P test rows (All-tail P row rows all) there)
+  where
+    by : (passes : Bool) → test row ≡ passes → (passes || list_any test rows) ≡ true → (list_any test rows ≡ true → IsFound P test rows) → IsFound P test (row ∷ rows)
+    by true is there rest = record { row = row; first = rw is refl; holds = All-head P row rows all }
+    by false is there rest = let found = rest there in record { row = found.row; first = rw is found.first; holds = found.holds }
+
+connected_native : (state : LinkState) → is_connected state ≡ true → (native : Native) × (native_in state ≡ Some native)
+connected_native Creating connected = absurd (true≢false (sym connected))
+connected_native Unusable connected = absurd (true≢false (sym connected))
+connected_native (Connected sid dtype count) connected = (record { dtype = dtype; count = count }, refl)
+
+unanswered : (read : WaitingRead) (given : Option Given) → answered_by read given ≡ None → given ≡ None
+unanswered read None none = refl
+unanswered read (Some given) none = absurd cc
+
+-- a read without a notice waits, on a channel that is served
+waiting_over : (w : Gateway) (read : WaitingRead) (c : Channel) (link : Option Link) → channel_of w read.session read.sid ≡ Some c → link_of w c.real ≡ link
+    → link_connected link ≡ true → may_read (rights_of w c) ≡ true → answered_over w read link ≡ None → IsWaiting w read
+waiting_over w read c None on is connected readable none = absurd (true≢false (sym connected))
+waiting_over w read c (Some link) on is connected readable none =
+    let known = connected_native link.state connected in
+    let given : Option Given = cached_value w link.cid known.0.count read.dtype read.count in
+    let unmet : answered_natively w read link (Some known.0) ≡ None = ap (answered_natively w read link) (sym known.1) ∙ none in
+    record {
+      channel = c;
+      link = link;
+      native = known.0;
+      on = on;
+      over = is;
+      connected = known.1;
+      readable = readable;
+      uncovered = unanswered read (cached_value w link.cid known.0.count read.dtype read.count) unmet;
+    }
+
+waiting_on : (w : Gateway) (read : WaitingRead) (c : Channel) → channel_of w read.session read.sid ≡ Some c → IsUpToDate w c → notice_on w read (Some c) ≡ None → IsWaiting w read
+waiting_on w read c on up none = by (may_read (rights_of w c)) refl none
+  where
+    by : (may : Bool) → may_read (rights_of w c) ≡ may → cond may (answered_over w read (link_of w c.real)) (Some (Refused read ECA_NORDACCESS)) ≡ None → IsWaiting w read
+    by true is none = waiting_over w read c (link_of w c.real) on refl (and_parts _ (link_connected (link_of w c.real)) up.served).1 is none
+    by false is none = absurd cc
+
+waiting : (w : Gateway) (read : WaitingRead) → IsSettled w → is_on_channel w read ≡ true → read_notice w read ≡ None → IsWaiting w read
+waiting w read settled on none =
+    let found = found_in (IsUpToDate w) (is_channel read.session read.sid) w.clients.channels (all_up_to_date w settled) on in
+    waiting_on w read found.row found.first found.holds (ap (notice_on w read) (sym found.first) ∙ none)
+
+waiting_each : (w : Gateway) (reads : List WaitingRead) → IsSettled w → list_all (is_on_channel w) reads ≡ true → All (λ (read : WaitingRead). read_notice w read ≡ None) reads → All (IsWaiting w) reads
+waiting_each w [] settled on none = All-nil (IsWaiting w)
+waiting_each w (read ∷ reads) settled on none =
+    let parts = and_parts (is_on_channel w read) (list_all (is_on_channel w) reads) on in
+    let quiet : read_notice w read ≡ None = All-head (λ (x : WaitingRead). read_notice w x ≡ None) read reads none in
+    All-cons (IsWaiting w) read reads (waiting w read settled parts.0 quiet)
+    (waiting_each w reads settled parts.1 (All-tail (λ (x : WaitingRead). read_notice w x ≡ None) read reads none))
+
+pub all_waiting : (w : Gateway) → IsSettled w → HasReadsOnChannels w → All (IsWaiting w) w.clients.reads
+all_waiting w settled on = waiting_each w w.clients.reads settled on (none_told (read_notice w) w.clients.reads settled.reads)

@@ -1,0 +1,46 @@
+-- Every state that a run reaches is settled, and what that means in it row by row.
+use Rattle.std.proofs.Common.{List, [], ◌∷◌, refl}
+use Rattle.std.specs.List.{All}
+use Rattle.gateway_state.specs.declared.config.Config.{Config}
+use Rattle.gateway_state.specs.declared.config.Policy.{Policy}
+use Rattle.gateway_state.specs.declared.event.Event.{Event}
+use Rattle.gateway_state.specs.Direct.{direct_effect}
+use Rattle.gateway_state.specs.Gateway.{Gateway, initial}
+use Rattle.gateway_state.specs.Settled.{AreInOrder, IsInUse, IsSettled, IsUpToDate, IsWaiting}
+use Rattle.gateway_state.specs.Step.{run, step}
+use Rattle.gateway_state.proofs.InOrder.{in_order_kept, initial_in_order}
+use Rattle.gateway_state.proofs.KeptByRuns.{kept_direct_effect, kept_run, kept_step}
+use Rattle.gateway_state.proofs.ReadsOnChannels.{run_reads_on_channels}
+use Rattle.gateway_state.proofs.SettledMeaning.{all_in_use, all_up_to_date, all_waiting}
+use Rattle.gateway_state.proofs.SettledSteps.{consequences_settled}
+
+-- after a step nobody is owed anything
+step_settled : (w : Gateway) (event : Event) → AreInOrder w → IsSettled (step w event)
+unfolding step
+step_settled w event order = consequences_settled (direct_effect w event) (kept_direct_effect AreInOrder in_order_kept w event order)
+
+run_settled_from : (w : Gateway) (events : List Event) → AreInOrder w → IsSettled w → IsSettled (run w events)
+unfolding run
+run_settled_from w [] order settled = settled
+run_settled_from w (event ∷ events) order settled =
+    run_settled_from (step w event) events (kept_step AreInOrder in_order_kept w event order) (step_settled w event order)
+
+pub run_settled : (config : Config) (policy : Policy) (events : List Event) → IsSettled (run (initial config policy) events)
+run_settled config policy events =
+    run_settled_from (initial config policy) events (initial_in_order config policy) (record { channels = refl; links = refl; reads = refl })
+
+pub run_in_order : (config : Config) (policy : Policy) (events : List Event) → AreInOrder (run (initial config policy) events)
+run_in_order config policy events = kept_run AreInOrder in_order_kept (initial config policy) events (initial_in_order config policy)
+
+pub run_up_to_date : (config : Config) (policy : Policy) (events : List Event)
+    → All (IsUpToDate (run (initial config policy) events)) (run (initial config policy) events).clients.channels
+run_up_to_date config policy events = all_up_to_date (run (initial config policy) events) (run_settled config policy events)
+
+pub run_in_use : (config : Config) (policy : Policy) (events : List Event)
+    → All (IsInUse (run (initial config policy) events)) (run (initial config policy) events).upstream.links
+run_in_use config policy events = all_in_use (run (initial config policy) events) (run_settled config policy events)
+
+pub run_waiting : (config : Config) (policy : Policy) (events : List Event)
+    → All (IsWaiting (run (initial config policy) events)) (run (initial config policy) events).clients.reads
+run_waiting config policy events =
+    all_waiting (run (initial config policy) events) (run_settled config policy events) (run_reads_on_channels config policy events)

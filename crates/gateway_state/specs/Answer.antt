@@ -1,0 +1,104 @@
+-- What reads are answered.
+use Rattle.std.specs.Prelude.{ℕ, ◌+◌, List, length, Bool, true, false, not, ◌==◌, ◌&&◌, nat_lt, nat_le, is_some, if◌then◌else◌, Option, Some, None, Result, Ok, Err}
+use Rattle.std.specs.List.{find}
+use Rattle.ca_message.specs.declared.codes.TheConstants.{ECA_BADTYPE, ECA_BADCOUNT, ECA_TOLARGE, ECA_NORDACCESS}
+use Rattle.channel_table.specs.declared.channels.Channel.{Channel}
+use Rattle.dbr_layout.specs.declared.dbr.Base.{Base}
+use Rattle.dbr_layout.specs.declared.dbr.Dbr.{Dbr}
+use Rattle.dbr_layout.specs.declared.dbr.TheConstants.{MAX_PAYLOAD}
+use Rattle.dbr_layout.specs.declared.fault.LayoutFault.{LayoutFault}
+use Rattle.dbr_layout.specs.Conversion.{conversion_between, given_count}
+use Rattle.dbr_layout.specs.Converted.{written}
+use Rattle.dbr_layout.specs.Dbr.{dbr_of, payload_size}
+use Rattle.dbr_layout.specs.View.{Shown, shown}
+use Rattle.link_table.specs.declared.links.Link.{Link}
+use Rattle.link_table.specs.declared.links.LinkState.{LinkState}
+use Rattle.link_table.specs.declared.links.LinkState.TheVariants.{Creating, Connected, Unusable}
+use Rattle.gateway_state.specs.declared.cached.Cached.{Cached}
+use Rattle.gateway_state.specs.declared.reading.Given.{Given}
+use Rattle.gateway_state.specs.declared.reading.Native.{Native}
+use Rattle.gateway_state.specs.declared.reading.Reading.{Reading}
+use Rattle.gateway_state.specs.declared.reading.Reading.TheVariants.{Value, Refused, Waits, NoChannel}
+use Rattle.gateway_state.specs.CachedRows.{is_cached_of}
+use Rattle.gateway_state.specs.Gateway.{Gateway}
+use Rattle.gateway_state.specs.Rights.{channel_of, rights_of, may_read}
+use Rattle.gateway_state.specs.Variables.{link_of}
+
+abbrev pub native_in : LinkState → Option Native
+native_in Creating = None
+native_in (Connected sid dtype count) = Some (record { dtype = dtype; count = count })
+native_in Unusable = None
+
+-- the count that is meant: 0 stands for the native one
+abbrev pub meant_count : ℕ → ℕ → ℕ
+meant_count native count = if count == 0 then native else count
+
+-- the plain type that the asked one can be had of
+abbrev pub converts_to : Option Dbr → Option Dbr → Bool
+converts_to (Some from) (Some to) = is_some (conversion_between from.base to.base)
+converts_to None asked = false
+converts_to (Some from) None = false
+
+abbrev pub is_type_served : Native → ℕ → Bool
+is_type_served native dtype = converts_to (dbr_of native.dtype) (dbr_of dtype)
+
+abbrev pub fits_payload : Option Dbr → ℕ → Bool
+fits_payload None count = false
+fits_payload (Some dbr) count = nat_le (payload_size dbr count) MAX_PAYLOAD
+
+-- why a read of the variable is refused, the first reason that applies
+abbrev pub refusal : Native → ℕ → ℕ → ℕ → Option ℕ
+refusal native rights dtype count =
+    if not (is_type_served native dtype) then Some ECA_BADTYPE
+    else if nat_lt native.count count then Some ECA_BADCOUNT
+    else if not (fits_payload (dbr_of dtype) (meant_count native.count count)) then Some ECA_TOLARGE
+    else if not (may_read rights) then Some ECA_NORDACCESS
+    else None
+
+abbrev pub laid_out : Shown → ℕ → Result (List ℕ) LayoutFault → Option Given
+laid_out view count (Ok payload) =
+    Some (record { count = given_count count (length view.parts.elements); payload = payload })
+laid_out view count (Err fault) = None
+
+abbrev pub shown_as : ℕ → ℕ → Result Shown LayoutFault → Option Given
+shown_as dtype count (Ok view) = laid_out view count (written view dtype count)
+shown_as dtype count (Err fault) = None
+
+abbrev pub cached_as : ℕ → ℕ → ℕ → Option Cached → Option Given
+cached_as native dtype count None = None
+cached_as native dtype count (Some last) =
+    if nat_le (meant_count native count) last.asked_with then shown_as dtype count (shown last.dtype last.count last.payload)
+    else None
+
+-- a link's last message, as an asked type and count; nothing where it doesn't cover that count
+abbrev pub cached_value : Gateway → ℕ → ℕ → ℕ → ℕ → Option Given
+cached_value w cid native dtype count = cached_as native dtype count (find (is_cached_of cid) w.cache)
+
+abbrev pub value_or_wait : Option Given → Reading
+value_or_wait None = Waits
+value_or_wait (Some given) = Value given.count given.payload
+
+abbrev pub refused_or : Option ℕ → Option Given → Reading
+refused_or None given = value_or_wait given
+refused_or (Some code) given = Refused code
+
+abbrev pub reading_of : Gateway → ℕ → ℕ → ℕ → Link → Option Native → Reading
+reading_of w rights dtype count link None = NoChannel
+reading_of w rights dtype count link (Some native) =
+    refused_or (refusal native rights dtype count) (cached_value w link.cid native.count dtype count)
+
+abbrev pub reading_on : Gateway → ℕ → ℕ → ℕ → Option Link → Reading
+reading_on w rights dtype count None = NoChannel
+reading_on w rights dtype count (Some link) = reading_of w rights dtype count link (native_in link.state)
+
+-- what a read on a channel would be answered
+abbrev pub reading_at : Gateway → Channel → ℕ → ℕ → Reading
+reading_at w c dtype count = reading_on w (rights_of w c) dtype count (link_of w c.real)
+
+abbrev pub reading_in : Gateway → ℕ → ℕ → Option Channel → Reading
+reading_in w dtype count None = NoChannel
+reading_in w dtype count (Some c) = reading_at w c dtype count
+
+-- what a session's read would be answered
+abbrev pub reading : Gateway → ℕ → ℕ → ℕ → ℕ → Reading
+reading w session sid dtype count = reading_in w dtype count (channel_of w session sid)

@@ -1,0 +1,230 @@
+-- What clients' messages do.
+use Rattle.std.specs.Prelude.{ℕ, ◌+◌, List, [], ◌∷◌, ◌++◌, length, filter, max, bit_and, Bool, true, false, not, ◌==◌, ◌||◌, ◌&&◌, nat_lt, nat_le, bytes_eq, is_some, if◌then◌else◌, Option, Some, None, Result, Ok, Err}
+use Rattle.std.specs.List.{find, list_any}
+use Rattle.rows.specs.Rows.{change_first}
+use Rattle.ca_header.specs.declared.header.Header.{Header}
+use Rattle.ca_header.specs.declared.header.Message.{Message}
+use Rattle.ca_message.specs.declared.codes.TheConstants.{ECA_INTERNAL, ECA_BADCHID, ECA_GETFAIL}
+use Rattle.ca_message.specs.declared.commands.TheConstants.{NO_CHANNEL, CA_PROTO_CREATE_CHAN, CA_PROTO_CLIENT_NAME, CA_PROTO_HOST_NAME}
+use Rattle.ca_message.specs.declared.request.ClientRequest.{ClientRequest}
+use Rattle.ca_message.specs.declared.request.ClientRequest.TheVariants as requests
+use Rattle.ca_message.specs.declared.request.RequestFault.{RequestFault}
+use Rattle.ca_message.specs.declared.to_client.ToClient.TheVariants as replies
+use Rattle.ca_message.specs.ClientRequest.{request_of}
+use Rattle.channel_table.specs.declared.channels.Channel.{Channel}
+use Rattle.channel_table.specs.declared.sessions.Session.{Session}
+use Rattle.channel_table.specs.declared.table.TheConstants.{CHANNEL_LIMIT, READ_LIMIT}
+use Rattle.channel_table.specs.Channels.{is_channel, is_not_channel, with_reach_and_rights}
+use Rattle.channel_table.specs.ClientRows.{channel_count, read_count}
+use Rattle.channel_table.specs.Reads.{is_not_read_on}
+use Rattle.channel_table.specs.Sessions.{is_numbered, with_host_and_pause}
+use Rattle.link_table.specs.declared.links.Link.{Link}
+use Rattle.gateway_state.specs.declared.event.Dest.TheVariants as dests
+use Rattle.gateway_state.specs.declared.limits.TheConstants.{LOWEST_MINOR, SEARCH_LIMIT}
+use Rattle.gateway_state.specs.Answer.{native_in, refusal, meant_count, cached_value}
+use Rattle.gateway_state.specs.declared.notice.ReadVerdict.{ReadVerdict}
+use Rattle.gateway_state.specs.declared.notice.ReadVerdict.TheVariants.{NoChannel, Ignored, Refused, Accepted}
+use Rattle.gateway_state.specs.declared.reading.Given.{Given}
+use Rattle.gateway_state.specs.declared.reading.Native.{Native}
+use Rattle.gateway_state.specs.Gateway.{Gateway}
+use Rattle.gateway_state.specs.Resolution.{resolution, policy_rights}
+use Rattle.gateway_state.specs.Searches.{same_search}
+use Rattle.gateway_state.specs.Rights.{host_of, rights_of, channel_of}
+use Rattle.gateway_state.specs.Telling.{told, marked}
+use Rattle.gateway_state.specs.Variables.{link_of}
+
+-- the session's message isn't understood
+abbrev pub not_understood : Gateway → ℕ → Header → Gateway
+not_understood w number head = told number (replies.Error NO_CHANNEL ECA_INTERNAL head) w
+
+-- it names no channel of the session
+abbrev pub no_channel : Gateway → ℕ → Header → Gateway
+no_channel w number head = told number (replies.Error NO_CHANNEL ECA_BADCHID head) w
+
+-- the session said which minor version it speaks
+abbrev pub versioned : Gateway → ℕ → ℕ → Gateway
+versioned w number minor = if nat_lt minor LOWEST_MINOR then marked (dests.Session number) w else w
+
+-- CREATE_CHAN
+
+-- the session's host can no longer change
+abbrev pub fixed : Session → Session
+fixed row = record row { host_fixed = true }
+
+abbrev pub with_host_fixed : ℕ → Gateway → Gateway
+with_host_fixed number w =
+    record w { clients = record w.clients { sessions = change_first (is_numbered number) fixed w.clients.sessions } }
+
+-- somebody at a host looks for the name: that is remembered, once, where there is room
+abbrev pub remembered : List ℕ → List ℕ → Gateway → Gateway
+remembered host name w =
+    if list_any (same_search host name) w.searches || nat_le SEARCH_LIMIT (length w.searches) then w
+    else record w { searches = w.searches ++ record { host = host; name = name } ∷ [] }
+
+-- with a new channel, which nothing was read on yet
+abbrev pub with_channel : ℕ → ℕ → List ℕ → List ℕ → ℕ → Gateway → Gateway
+with_channel number cid name real rights w = record w {
+  clients = record w.clients {
+    channels = w.clients.channels ++ record {
+      session = number;
+      sid = w.upstream.counters.sid;
+      cid = cid;
+      asked = name;
+      real = real;
+      reach = 0;
+      rights = rights;
+    } ∷ [];
+  };
+  upstream = record w.upstream { counters = record w.upstream.counters { sid = w.upstream.counters.sid + 1 } };
+}
+
+-- the rights on a link that the rules leave to a host that asked for a name
+abbrev pub rights_on : Gateway → List ℕ → List ℕ → Link → ℕ
+rights_on w host name link = bit_and link.rights (policy_rights w.policy host name)
+
+-- the client's channel is made, with these rights, and the client is told of both
+abbrev pub created_with : ℕ → ℕ → List ℕ → List ℕ → ℕ → Native → Gateway → Gateway
+created_with number cid name real rights native w =
+    told number (replies.CreateChannel cid w.upstream.counters.sid native.dtype native.count)
+    (told number (replies.AccessRights cid rights) (with_channel number cid name real rights w))
+
+-- the client's channel on a variable whose native type and count are known
+abbrev pub created : ℕ → ℕ → List ℕ → List ℕ → Link → Native → Gateway → Gateway
+created number cid name real link native w =
+    created_with number cid name real (rights_on w (host_of w number) name link) native w
+
+abbrev pub creation_failed : ℕ → ℕ → Gateway → Gateway
+creation_failed number cid w = told number (replies.CreateChannelFail cid) w
+
+abbrev pub remembered_by : Option Session → List ℕ → Gateway → Gateway
+remembered_by None name w = w
+remembered_by (Some row) name w = remembered row.host name w
+
+-- no connected variable was found: the session's host looks for the name
+abbrev pub not_connected : ℕ → ℕ → List ℕ → Gateway → Gateway
+not_connected number cid name w =
+    creation_failed number cid (remembered_by (find (is_numbered number) w.clients.sessions) name w)
+
+abbrev pub created_on_native : ℕ → ℕ → List ℕ → List ℕ → Link → Option Native → Gateway → Gateway
+created_on_native number cid name real link None w = not_connected number cid name w
+created_on_native number cid name real link (Some native) w = created number cid name real link native w
+
+abbrev pub created_on : ℕ → ℕ → List ℕ → List ℕ → Option Link → Gateway → Gateway
+created_on number cid name real None w = not_connected number cid name w
+created_on number cid name real (Some link) w = created_on_native number cid name real link (native_in link.state) w
+
+abbrev pub created_as : ℕ → ℕ → List ℕ → Option (List ℕ) → Gateway → Gateway
+created_as number cid name None w = creation_failed number cid w
+created_as number cid name (Some real) w =
+    if nat_le CHANNEL_LIMIT (channel_count number w.clients) then creation_failed number cid w
+    else created_on number cid name real (link_of w real) w
+
+-- the client wants a channel on the name
+abbrev pub channel_asked : ℕ → ℕ → List ℕ → Gateway → Gateway
+channel_asked number cid name w =
+    let fixed_w = with_host_fixed number w in
+    created_as number cid name (resolution w.policy (host_of w number) name) fixed_w
+
+-- CLEAR_CHANNEL
+
+abbrev pub without_channel : ℕ → ℕ → Gateway → Gateway
+without_channel number sid w = record w {
+  clients = record w.clients {
+    channels = filter (is_not_channel number sid) w.clients.channels;
+    reads = filter (is_not_read_on number sid) w.clients.reads;
+  };
+}
+
+abbrev pub cleared : ℕ → ℕ → ℕ → Header → Option Channel → Gateway → Gateway
+cleared number sid cid head None w = no_channel w number head
+cleared number sid cid head (Some c) w = told number (replies.ClearChannel sid cid) (without_channel number sid w)
+
+-- the client gives up a channel
+abbrev pub channel_cleared : ℕ → ℕ → ℕ → Header → Gateway → Gateway
+channel_cleared number sid cid head w = cleared number sid cid head (channel_of w number sid) w
+
+-- READ_NOTIFY
+
+abbrev pub read_refused : ℕ → ℕ → ℕ → ℕ → ℕ → Gateway → Gateway
+read_refused number ioid dtype count code w = told number (replies.ReadNotifyRefused ioid dtype count code) w
+
+-- a read that is accepted raises the channel's reach, and is answered later in the step or waits
+abbrev pub accepted : ℕ → ℕ → ℕ → ℕ → ℕ → ℕ → ℕ → Gateway → Gateway
+accepted number sid ioid dtype count reach rights w = record w {
+  clients = record w.clients {
+    channels = change_first (is_channel number sid) (with_reach_and_rights reach rights) w.clients.channels;
+    reads = w.clients.reads ++ record { session = number; sid = sid; dtype = dtype; count = count; ioid = ioid } ∷ [];
+  };
+}
+
+-- it isn't covered, and as many reads of the session wait as may
+abbrev pub is_one_too_many : Gateway → ℕ → Option Given → Bool
+is_one_too_many w number given = nat_le READ_LIMIT (read_count number w.clients) && not (is_some given)
+
+abbrev pub verdict_unless : Gateway → Channel → Link → Native → ℕ → ℕ → Option ℕ → ReadVerdict
+verdict_unless w c link native dtype count (Some code) = Refused code
+verdict_unless w c link native dtype count None =
+    if is_one_too_many w c.session (cached_value w link.cid native.count dtype count) then Refused ECA_GETFAIL
+    else Accepted (max c.reach (meant_count native.count count)) c.rights
+
+abbrev pub verdict_natively : Gateway → Channel → Link → ℕ → ℕ → Option Native → ReadVerdict
+verdict_natively w c link dtype count None = Ignored
+verdict_natively w c link dtype count (Some native) =
+    verdict_unless w c link native dtype count (refusal native (rights_of w c) dtype count)
+
+abbrev pub verdict_over : Gateway → Channel → ℕ → ℕ → Option Link → ReadVerdict
+verdict_over w c dtype count None = Ignored
+verdict_over w c dtype count (Some link) = verdict_natively w c link dtype count (native_in link.state)
+
+abbrev pub verdict_on : Gateway → ℕ → ℕ → Option Channel → ReadVerdict
+verdict_on w dtype count None = NoChannel
+verdict_on w dtype count (Some c) = verdict_over w c dtype count (link_of w c.real)
+
+-- what becomes of a read
+abbrev pub read_verdict : Gateway → ℕ → ℕ → ℕ → ℕ → ReadVerdict
+read_verdict w number sid dtype count = verdict_on w dtype count (channel_of w number sid)
+
+abbrev pub judged : ℕ → ℕ → ℕ → ℕ → ℕ → Header → ReadVerdict → Gateway → Gateway
+judged number sid ioid dtype count head NoChannel w = no_channel w number head
+judged number sid ioid dtype count head Ignored w = w
+judged number sid ioid dtype count head (Refused code) w = read_refused number ioid dtype count code w
+judged number sid ioid dtype count head (Accepted reach rights) w = accepted number sid ioid dtype count reach rights w
+
+-- the client wants a value
+abbrev pub read_asked : ℕ → ℕ → ℕ → ℕ → ℕ → Header → Gateway → Gateway
+read_asked number sid ioid dtype count head w =
+    judged number sid ioid dtype count head (read_verdict w number sid dtype count) w
+
+-- HOST_NAME
+
+-- with another host, unless it is fixed
+abbrev pub renamed : List ℕ → Session → Session
+renamed host row = if row.host_fixed then row else record row { host = host }
+
+abbrev pub host_named : ℕ → List ℕ → Gateway → Gateway
+host_named number host w =
+    record w { clients = record w.clients { sessions = change_first (is_numbered number) (renamed host) w.clients.sessions } }
+
+-- a message that is no request: a CREATE_CHAN without a name fails, texts that can't be read are
+-- ignored, and anything else isn't understood
+abbrev pub unreadable : Gateway → ℕ → Header → Gateway
+unreadable w number head =
+    if head.command == CA_PROTO_CREATE_CHAN then creation_failed number head.p1 (with_host_fixed number w)
+    else if head.command == CA_PROTO_CLIENT_NAME || head.command == CA_PROTO_HOST_NAME then w
+    else not_understood w number head
+
+-- what a request does, by what it means
+abbrev pub requested : Gateway → ℕ → Message → Result ClientRequest RequestFault → Gateway
+requested w number message (Ok (requests.Version minor)) = versioned w number minor
+requested w number message (Ok (requests.ClearChannel sid cid)) = channel_cleared number sid cid message.head w
+requested w number message (Ok (requests.ReadNotify sid ioid dtype count)) =
+    read_asked number sid ioid dtype count message.head w
+requested w number message (Ok (requests.CreateChannel cid minor name)) = channel_asked number cid name w
+requested w number message (Ok (requests.ClientName name)) = w
+requested w number message (Ok (requests.HostName host)) = host_named number host w
+requested w number message (Ok requests.Echo) = told number (replies.Echo message) w
+requested w number message (Err fault) = unreadable w number message.head
+
+-- a client sent a message
+abbrev pub client_said : Gateway → ℕ → Message → Gateway
+client_said w number message = requested w number message (request_of message.head message.payload)

@@ -1,0 +1,159 @@
+-- What others are owed after an event, in four passes. Each makes its list of notices from the rows
+-- as the pass begins, and then gives them one by one.
+use Rattle.std.specs.Prelude.{ℕ, ◌+◌, List, [], ◌∷◌, ◌++◌, filter, filter_map, flat_map, Bool, true, false, not, ◌==◌, ◌&&◌, if◌then◌else◌, Option, Some, None}
+use Rattle.std.specs.List.{fold}
+use Rattle.rows.specs.Rows.{change_first, remove_first}
+use Rattle.ca_message.specs.declared.codes.TheConstants.{ECA_NORDACCESS}
+use Rattle.ca_message.specs.declared.to_client.ToClient.TheVariants as replies
+use Rattle.ca_message.specs.declared.to_server.ToServer.TheVariants as requests
+use Rattle.channel_table.specs.declared.channels.Channel.{Channel}
+use Rattle.channel_table.specs.declared.reads.WaitingRead.{WaitingRead}
+use Rattle.channel_table.specs.Channels.{is_channel, with_reach_and_rights}
+use Rattle.channel_table.specs.Reads.{same_read}
+use Rattle.link_table.specs.declared.links.Link.{Link}
+use Rattle.link_table.specs.declared.links.LinkState.{LinkState}
+use Rattle.link_table.specs.declared.links.LinkState.TheVariants.{Creating, Connected, Unusable}
+use Rattle.link_table.specs.declared.links.Subscription.{Subscription}
+use Rattle.link_table.specs.Links.{is_link, with_subscription}
+use Rattle.gateway_state.specs.declared.interest.Interest.{Interest}
+use Rattle.gateway_state.specs.declared.notice.ChannelNotice.{ChannelNotice}
+use Rattle.gateway_state.specs.declared.notice.ChannelNotice.TheVariants.{Disconnected, RightsChanged}
+use Rattle.gateway_state.specs.declared.notice.LinkNotice.{LinkNotice}
+use Rattle.gateway_state.specs.declared.notice.LinkNotice.TheVariants.{Cancelled, Unread, Subscribed, Dropped}
+use Rattle.gateway_state.specs.declared.notice.ReadNotice.{ReadNotice}
+use Rattle.gateway_state.specs.declared.notice.ReadNotice.TheVariants.{Refused, Answered}
+use Rattle.gateway_state.specs.Answer.{native_in, cached_value}
+use Rattle.gateway_state.specs.Clients.{without_channel}
+use Rattle.gateway_state.specs.declared.reading.Given.{Given}
+use Rattle.gateway_state.specs.declared.reading.Native.{Native}
+use Rattle.gateway_state.specs.Gateway.{Gateway}
+use Rattle.gateway_state.specs.Interest.{interest_of, is_for, minor_of, sent_count}
+use Rattle.gateway_state.specs.Rights.{rights_of, may_read, is_served, channel_of}
+use Rattle.gateway_state.specs.Servers.{time_of, without_link}
+use Rattle.gateway_state.specs.Telling.{told, asked}
+use Rattle.gateway_state.specs.Variables.{link_of, is_wanted, without_cached}
+
+-- CHANNELS, in the order of adding, which is that of the SIDs of a session
+
+-- a channel that is no longer served is gone; one whose rights changed is told of them
+abbrev pub channel_notice : Gateway → Channel → Option ChannelNotice
+channel_notice w c =
+    if not (is_served w c) then Some (Disconnected c.session c.sid c.cid)
+    else if c.rights == rights_of w c then None
+    else Some (RightsChanged c.session c.sid c.cid c.reach (rights_of w c))
+
+abbrev pub channel_notices : Gateway → List ChannelNotice
+channel_notices w = filter_map (channel_notice w) w.clients.channels
+
+abbrev pub with_reach : ℕ → ℕ → ℕ → ℕ → Gateway → Gateway
+with_reach session sid reach rights w = record w {
+  clients = record w.clients {
+    channels = change_first (is_channel session sid) (with_reach_and_rights reach rights) w.clients.channels;
+  };
+}
+
+abbrev pub channel_told : Gateway → ChannelNotice → Gateway
+channel_told w (Disconnected session sid cid) =
+    told session (replies.ServerDisconnect cid) (without_channel session sid w)
+channel_told w (RightsChanged session sid cid reach rights) =
+    told session (replies.AccessRights cid rights) (with_reach session sid reach rights w)
+
+abbrev pub channels_told : Gateway → Gateway
+channels_told w = fold channel_told w (channel_notices w)
+
+-- LINKS, in the order of adding, which is that of their CIDs
+
+-- the present subscription is given up
+abbrev pub cancelled : Link → ℕ → ℕ → Option Subscription → List LinkNotice
+cancelled link sid dtype None = []
+cancelled link sid dtype (Some sub) = Cancelled link.server link.cid sid (time_of dtype) sub ∷ []
+
+-- what is wanted is asked for; with nothing wanted the last message goes
+abbrev pub subscribed : ℕ → Link → ℕ → ℕ → ℕ → Option Interest → List LinkNotice
+subscribed minor link sid dtype native None = Unread link.cid ∷ []
+subscribed minor link sid dtype native (Some interest) =
+    Subscribed link.server link.cid sid (time_of dtype) interest (sent_count minor native interest.count) ∷ []
+
+abbrev pub interest_notices : Gateway → Link → LinkState → List LinkNotice
+interest_notices w link Creating = []
+interest_notices w link Unusable = []
+interest_notices w link (Connected sid dtype native) =
+    if is_for (interest_of w link.name) link.subscription then []
+    else cancelled link sid dtype link.subscription
+    ++ subscribed (minor_of w link.server) link sid dtype native (interest_of w link.name)
+
+abbrev pub link_notices_of : Gateway → Link → List LinkNotice
+link_notices_of w link =
+    interest_notices w link link.state
+    ++ (if is_wanted w link.name then [] else Dropped link.server link.cid link.state ∷ [])
+
+abbrev pub link_notices : Gateway → List LinkNotice
+link_notices w = flat_map (link_notices_of w) w.upstream.links
+
+abbrev pub with_subscription_of : ℕ → ℕ → Option Subscription → Gateway → Gateway
+with_subscription_of server cid sub w =
+    record w { upstream = record w.upstream { links = change_first (is_link server cid) (with_subscription sub) w.upstream.links } }
+
+-- a new subscription, under the next ID
+abbrev pub subscribed_to : ℕ → ℕ → ℕ → ℕ → Interest → ℕ → Gateway → Gateway
+subscribed_to server cid sid dtype interest sent w =
+    let id = w.upstream.counters.subscription in
+    asked server (requests.EventAdd sid id dtype sent interest.mask)
+    (with_subscription_of server cid (Some (record { id = id; mask = interest.mask; count = interest.count; sent = sent }))
+    (record w { upstream = record w.upstream { counters = record w.upstream.counters { subscription = id + 1 } } }))
+
+-- a link goes; where it was connected, the server is told
+abbrev pub dropped : ℕ → ℕ → LinkState → Gateway → Gateway
+dropped server cid Creating w = without_link server cid w
+dropped server cid Unusable w = without_link server cid w
+dropped server cid (Connected sid dtype native) w =
+    asked server (requests.ClearChannel sid cid) (without_link server cid w)
+
+abbrev pub link_told : Gateway → LinkNotice → Gateway
+link_told w (Cancelled server cid sid dtype sub) =
+    asked server (requests.EventCancel sid sub.id dtype sub.sent) (with_subscription_of server cid None w)
+link_told w (Unread cid) = without_cached cid w
+link_told w (Subscribed server cid sid dtype interest sent) = subscribed_to server cid sid dtype interest sent w
+link_told w (Dropped server cid state) = dropped server cid state w
+
+abbrev pub links_told : Gateway → Gateway
+links_told w = fold link_told w (link_notices w)
+
+-- READS that wait, in the order of asking
+
+abbrev pub answered_by : WaitingRead → Option Given → Option ReadNotice
+answered_by read None = None
+answered_by read (Some given) = Some (Answered read given.count given.payload)
+
+abbrev pub answered_natively : Gateway → WaitingRead → Link → Option Native → Option ReadNotice
+answered_natively w read link None = None
+answered_natively w read link (Some native) =
+    answered_by read (cached_value w link.cid native.count read.dtype read.count)
+
+abbrev pub answered_over : Gateway → WaitingRead → Option Link → Option ReadNotice
+answered_over w read None = None
+answered_over w read (Some link) = answered_natively w read link (native_in link.state)
+
+abbrev pub notice_on : Gateway → WaitingRead → Option Channel → Option ReadNotice
+notice_on w read None = None
+notice_on w read (Some c) =
+    if may_read (rights_of w c) then answered_over w read (link_of w c.real) else Some (Refused read ECA_NORDACCESS)
+
+-- a read whose channel can't be read any more is refused; one that is covered is answered
+abbrev pub read_notice : Gateway → WaitingRead → Option ReadNotice
+read_notice w read = notice_on w read (channel_of w read.session read.sid)
+
+abbrev pub read_notices : Gateway → List ReadNotice
+read_notices w = filter_map (read_notice w) w.clients.reads
+
+abbrev pub without_read : WaitingRead → Gateway → Gateway
+without_read read w = record w { clients = record w.clients { reads = remove_first (same_read read) w.clients.reads } }
+
+abbrev pub read_told : Gateway → ReadNotice → Gateway
+read_told w (Refused read code) =
+    told read.session (replies.ReadNotifyRefused read.ioid read.dtype read.count code) (without_read read w)
+read_told w (Answered read count payload) =
+    told read.session (replies.ReadNotify read.ioid read.dtype count payload) (without_read read w)
+
+abbrev pub reads_told : Gateway → Gateway
+reads_told w = fold read_told w (read_notices w)

@@ -1,0 +1,14 @@
+-- The rows of remembered searches.
+use Rattle.std.specs.Prelude.{ℕ, List, Bool, ◌&&◌, bytes_eq}
+use Rattle.pv_name.specs.Host.{same_host}
+use Rattle.gateway_state.specs.declared.config.Policy.{Policy}
+use Rattle.gateway_state.specs.declared.search.Search.{Search}
+use Rattle.gateway_state.specs.Resolution.{resolution, is_real}
+
+-- a search for this name by this host; hosts are alike but for case
+abbrev pub same_search : List ℕ → List ℕ → Search → Bool
+same_search host name row = same_host row.host host && bytes_eq row.name name
+
+-- the search leads to this real name now
+abbrev pub leads_to : Policy → List ℕ → Search → Bool
+leads_to policy name row = is_real (resolution policy row.host row.name) name

@@ -1,0 +1,204 @@
+-- What servers' messages do.
+use Rattle.std.specs.Prelude.{ℕ, ◌+◌, List, [], ◌∷◌, ◌++◌, length, filter, Bool, true, false, not, ◌==◌, ◌||◌, ◌&&◌, nat_lt, nat_le, is_some, is_ok, if◌then◌else◌, Option, Some, None, Result, Ok, Err}
+use Rattle.std.specs.List.{find, fold}
+use Rattle.rows.specs.Rows.{change_first, remove_first}
+use Rattle.ca_header.specs.declared.header.Message.{Message}
+use Rattle.ca_message.specs.declared.codes.TheConstants.{ECA_NORMAL, ECA_GETFAIL}
+use Rattle.ca_message.specs.declared.reply.ReplyFault.{ReplyFault}
+use Rattle.ca_message.specs.declared.reply.ServerReply.{ServerReply}
+use Rattle.ca_message.specs.declared.reply.ServerReply.TheVariants as says
+use Rattle.ca_message.specs.declared.to_client.ToClient.TheVariants as replies
+use Rattle.ca_message.specs.declared.to_server.ToServer.TheVariants as requests
+use Rattle.ca_message.specs.ServerReply.{reply_of}
+use Rattle.channel_table.specs.declared.channels.Channel.{Channel}
+use Rattle.channel_table.specs.declared.reads.WaitingRead.{WaitingRead}
+use Rattle.channel_table.specs.Reads.{same_read}
+use Rattle.dbr_layout.specs.declared.dbr.Dbr.{Dbr}
+use Rattle.dbr_layout.specs.declared.dbr.TheConstants.{MAX_PAYLOAD}
+use Rattle.dbr_layout.specs.Dbr.{dbr_of, payload_size}
+use Rattle.dbr_layout.specs.View.{shown}
+use Rattle.link_table.specs.declared.links.Link.{Link}
+use Rattle.link_table.specs.declared.links.LinkState.{LinkState}
+use Rattle.link_table.specs.declared.links.LinkState.TheVariants.{Creating, Connected, Unusable}
+use Rattle.link_table.specs.declared.links.Subscription.{Subscription}
+use Rattle.link_table.specs.declared.table.TheConstants.{LINK_LIMIT}
+use Rattle.link_table.specs.Links.{is_link, is_not_link, has_subscription, with_state}
+use Rattle.link_table.specs.Servers.{is_server, with_minor}
+use Rattle.gateway_state.specs.declared.cached.Cached.{Cached}
+use Rattle.gateway_state.specs.declared.event.Dest.TheVariants as dests
+use Rattle.gateway_state.specs.declared.interest.TheConstants.{PLAIN_TYPES, TIME_FORM}
+use Rattle.gateway_state.specs.Asked.{acts}
+use Rattle.gateway_state.specs.CachedRows.{with_row}
+use Rattle.gateway_state.specs.Gateway.{Gateway}
+use Rattle.gateway_state.specs.Rights.{channel_of}
+use Rattle.gateway_state.specs.Telling.{told, asked}
+use Rattle.gateway_state.specs.Variables.{is_on, is_missing, is_creating, without_cached}
+
+-- FOUND
+
+-- with a new link, for which a channel is asked of the server
+abbrev pub linked : Gateway → ℕ → List ℕ → Gateway
+linked w server name =
+    asked server (requests.CreateChannel w.upstream.counters.cid name)
+    (record w {
+      upstream = record w.upstream {
+        links = w.upstream.links ++ record {
+          cid = w.upstream.counters.cid;
+          server = server;
+          name = name;
+          state = Creating;
+          rights = 0;
+          subscription = None;
+        } ∷ [];
+        counters = record w.upstream.counters { cid = w.upstream.counters.cid + 1 };
+      };
+    })
+
+-- a server has a variable: it is asked for a channel, where the name is asked for, the server can be
+-- told, and a link has room
+abbrev pub found : Gateway → List ℕ → ℕ → Gateway
+found w name server =
+    if is_missing w name && acts w (dests.Upstream server) && nat_lt (length w.upstream.links) LINK_LIMIT
+    then linked w server name else w
+
+-- VERSION
+
+abbrev pub server_versioned : Gateway → ℕ → ℕ → Gateway
+server_versioned w server minor =
+    record w { upstream = record w.upstream { servers = change_first (is_server server) (with_minor minor) w.upstream.servers } }
+
+-- CREATE_CHAN
+
+abbrev pub with_link_state : ℕ → ℕ → LinkState → ℕ → Gateway → Gateway
+with_link_state server cid state rights w =
+    record w { upstream = record w.upstream { links = change_first (is_link server cid) (with_state state rights) w.upstream.links } }
+
+-- the number of a plain type's TIME form; any other number stays
+abbrev pub time_of : ℕ → ℕ
+time_of dtype = if nat_lt dtype PLAIN_TYPES then dtype + TIME_FORM else dtype
+
+abbrev pub fits_in_time : Option Dbr → ℕ → Bool
+fits_in_time None count = false
+fits_in_time (Some dbr) count = nat_le (payload_size dbr count) MAX_PAYLOAD
+
+-- updates of such a channel can be taken: a plain type that is served, at least one element, and a
+-- TIME payload that may come
+abbrev pub is_usable : ℕ → ℕ → Bool
+is_usable dtype count = nat_lt dtype PLAIN_TYPES && nat_lt 0 count && fits_in_time (dbr_of (time_of dtype)) count
+
+-- the gateway gives up a channel that it doesn't want
+abbrev pub channel_returned : ℕ → ℕ → ℕ → Gateway → Gateway
+channel_returned server sid cid w = asked server (requests.ClearChannel sid cid) w
+
+abbrev pub answered_creating : ℕ → ℕ → ℕ → ℕ → ℕ → Link → Gateway → Gateway
+answered_creating server cid sid dtype count link w =
+    if is_usable dtype count then with_link_state server cid (Connected sid dtype count) link.rights w
+    else channel_returned server sid cid (with_link_state server cid Unusable link.rights w)
+
+abbrev pub created_for : ℕ → ℕ → ℕ → ℕ → ℕ → Option Link → Gateway → Gateway
+created_for server cid sid dtype count None w = channel_returned server sid cid w
+created_for server cid sid dtype count (Some link) w =
+    if is_creating link.state then answered_creating server cid sid dtype count link w else w
+
+-- the server made the channel
+abbrev pub channel_made : Gateway → ℕ → ℕ → ℕ → ℕ → ℕ → Gateway
+channel_made w server cid sid dtype count =
+    created_for server cid sid dtype count (find (is_link server cid) w.upstream.links) w
+
+-- ACCESS_RIGHTS
+
+abbrev pub rights_given : ℕ → ℕ → ℕ → Option Link → Gateway → Gateway
+rights_given server cid rights None w = w
+rights_given server cid rights (Some link) w = with_link_state server cid link.state rights w
+
+abbrev pub rights_said : Gateway → ℕ → ℕ → ℕ → Gateway
+rights_said w server cid rights = rights_given server cid rights (find (is_link server cid) w.upstream.links) w
+
+-- CREATE_CH_FAIL and SERVER_DISCONN
+
+-- without a link and its last message
+abbrev pub without_link : ℕ → ℕ → Gateway → Gateway
+without_link server cid w =
+    record (without_cached cid w) { upstream = record w.upstream { links = filter (is_not_link server cid) w.upstream.links } }
+
+abbrev pub failed_for : ℕ → ℕ → Option Link → Gateway → Gateway
+failed_for server cid None w = w
+failed_for server cid (Some link) w = if is_creating link.state then without_link server cid w else w
+
+abbrev pub creation_refused : Gateway → ℕ → ℕ → Gateway
+creation_refused w server cid = failed_for server cid (find (is_link server cid) w.upstream.links) w
+
+abbrev pub gone_for : ℕ → ℕ → Option Link → Gateway → Gateway
+gone_for server cid None w = w
+gone_for server cid (Some link) w = without_link server cid w
+
+abbrev pub channel_dropped : Gateway → ℕ → ℕ → Gateway
+channel_dropped w server cid = gone_for server cid (find (is_link server cid) w.upstream.links) w
+
+-- EVENT_ADD: updates
+
+abbrev pub is_channel_on : List ℕ → Option Channel → Bool
+is_channel_on name None = false
+is_channel_on name (Some c) = is_on name c
+
+-- the read waits for this variable
+abbrev pub waits_for : Gateway → List ℕ → WaitingRead → Bool
+waits_for w name read = is_channel_on name (channel_of w read.session read.sid)
+
+-- the read can't be had
+abbrev pub read_failed : Gateway → WaitingRead → Gateway
+read_failed w read =
+    told read.session (replies.ReadNotifyRefused read.ioid read.dtype read.count ECA_GETFAIL)
+    (record w { clients = record w.clients { reads = remove_first (same_read read) w.clients.reads } })
+
+-- none of the reads that wait for the variable can be had, in the order of asking
+abbrev pub reads_failed : Gateway → List ℕ → Gateway
+reads_failed w name = fold read_failed w (filter (waits_for w name) w.clients.reads)
+
+-- with a link's last message in place of the one before
+abbrev pub with_cached : Cached → Gateway → Gateway
+with_cached row w = record w { cache = with_row row w.cache }
+
+-- an update counts as the last message: its type is the native TIME type, it has no more elements than
+-- were asked for, and it is long enough
+abbrev pub is_value : ℕ → ℕ → ℕ → ℕ → List ℕ → Bool
+is_value native asked_with dtype count payload =
+    dtype == time_of native && nat_le count asked_with && is_ok (shown dtype count payload)
+
+abbrev pub updated_connected : ℕ → ℕ → ℕ → ℕ → ℕ → ℕ → List ℕ → Gateway → Gateway
+updated_connected server cid native asked_with dtype count payload w =
+    if is_value native asked_with dtype count payload
+    then with_cached (record { server = server; cid = cid; dtype = dtype; count = count; payload = payload; asked_with = asked_with }) w
+    else w
+
+abbrev pub updated_link : Link → LinkState → Option Subscription → ℕ → ℕ → List ℕ → Gateway → Gateway
+updated_link link (Connected sid native native_count) (Some sub) dtype count payload w =
+    updated_connected link.server link.cid native sub.count dtype count payload w
+updated_link link (Connected sid native native_count) None dtype count payload w = w
+updated_link link Creating sub dtype count payload w = w
+updated_link link Unusable sub dtype count payload w = w
+
+abbrev pub updated_by : ℕ → ℕ → ℕ → List ℕ → Option Link → Gateway → Gateway
+updated_by status dtype count payload None w = w
+updated_by status dtype count payload (Some link) w =
+    if status == ECA_NORMAL then updated_link link link.state link.subscription dtype count payload w
+    else reads_failed w link.name
+
+-- an update under a present subscription's ID; under any other it is ignored
+abbrev pub updated : Gateway → ℕ → ℕ → ℕ → ℕ → ℕ → List ℕ → Gateway
+updated w server id status dtype count payload =
+    updated_by status dtype count payload (find (has_subscription server id) w.upstream.links) w
+
+-- what a server's message does, by what it means
+abbrev pub replied : Gateway → ℕ → Result ServerReply ReplyFault → Gateway
+replied w server (Ok (says.Version minor)) = server_versioned w server minor
+replied w server (Ok (says.EventAdd id status dtype count value)) = updated w server id status dtype count value
+replied w server (Ok (says.CreateChannel cid sid dtype count)) = channel_made w server cid sid dtype count
+replied w server (Ok (says.AccessRights cid rights)) = rights_said w server cid rights
+replied w server (Ok (says.CreateChannelFail cid)) = creation_refused w server cid
+replied w server (Ok (says.ServerDisconnect cid)) = channel_dropped w server cid
+replied w server (Err fault) = w
+
+-- a server sent a message
+abbrev pub server_said : Gateway → ℕ → Message → Gateway
+server_said w server message = replied w server (reply_of message.head message.payload)

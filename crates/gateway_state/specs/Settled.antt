@@ -1,0 +1,77 @@
+-- What every state that a run reaches has: nobody is owed anything.
+use Rattle.std.specs.Prelude.{◌≡◌, ℕ, ◌+◌, ◌≤◌, List, [], ◌∷◌, length, filter, Bool, true, Some, None, option_map}
+use Rattle.std.specs.List.{list_all}
+use Rattle.channel_table.specs.declared.channels.Channel.{Channel}
+use Rattle.channel_table.specs.declared.reads.WaitingRead.{WaitingRead}
+use Rattle.channel_table.specs.ClientRows.{has_channel}
+use Rattle.link_table.specs.declared.links.Link.{Link}
+use Rattle.link_table.specs.declared.links.Subscription.{Subscription}
+use Rattle.link_table.specs.Links.{is_named}
+use Rattle.gateway_state.specs.declared.interest.Interest.{Interest}
+use Rattle.gateway_state.specs.declared.reading.Native.{Native}
+use Rattle.gateway_state.specs.Answer.{cached_value, native_in}
+use Rattle.gateway_state.specs.Gateway.{Gateway}
+use Rattle.gateway_state.specs.Interest.{interest_of}
+use Rattle.gateway_state.specs.Notices.{channel_notices, link_notices, read_notices}
+use Rattle.gateway_state.specs.Rights.{channel_of, is_served, may_read, rights_of}
+use Rattle.gateway_state.specs.Variables.{is_connected, is_wanted, link_of}
+
+-- no pass over the rows has anything to tell
+pub record IsSettled (w : Gateway) : Type 0 where
+  pub channels : channel_notices w ≡ []
+  pub links : link_notices w ≡ []
+  pub reads : read_notices w ≡ []
+
+-- the numbers of rows rise: from this one on, and below that one
+abbrev pub AreRising : {A : Type 0} → (A → ℕ) → ℕ → List A → ℕ → Type 0
+AreRising number low [] high = low ≤ high
+AreRising number low (row ∷ rows) high = (low ≤ number row) × AreRising number (number row + 1) rows high
+
+-- the server's number of a channel, the gateway's own of a link
+abbrev pub sid_of : Channel → ℕ
+sid_of c = c.sid
+
+abbrev pub cid_of : Link → ℕ
+cid_of link = link.cid
+
+-- channels and links stand in the order of their numbers, each number once and below the counter
+pub record AreInOrder (w : Gateway) : Type 0 where
+  pub channels : AreRising sid_of 0 w.clients.channels w.upstream.counters.sid
+  pub links : AreRising cid_of 0 w.upstream.links w.upstream.counters.cid
+
+-- no name has two links
+abbrev pub HasLinksApart : Gateway → Type 0
+HasLinksApart w = (name : List ℕ) → length (filter (is_named name) w.upstream.links) ≤ 1
+
+-- the read is on a channel that stands
+abbrev pub is_on_channel : Gateway → WaitingRead → Bool
+is_on_channel w read = has_channel read.session read.sid w.clients
+
+abbrev pub HasReadsOnChannels : Gateway → Type 0
+HasReadsOnChannels w = list_all (is_on_channel w) w.clients.reads ≡ true
+
+-- a channel is served, and has the rights that its client was last told
+pub record IsUpToDate (w : Gateway) (c : Channel) : Type 0 where
+  pub served : is_served w c ≡ true
+  pub rights : c.rights ≡ rights_of w c
+
+-- what a subscription is for
+abbrev pub interest_in : Subscription → Interest
+interest_in sub = record { mask = sub.mask; count = sub.count }
+
+-- a link is wanted, and where it is connected it has a subscription exactly for what is read
+pub record IsInUse (w : Gateway) (link : Link) : Type 0 where
+  pub wanted : is_wanted w link.name ≡ true
+  pub subscribed : is_connected link.state ≡ true → option_map interest_in link.subscription ≡ interest_of w link.name
+
+-- a read waits for its value: its channel may be read, over a connected link, whose last message
+-- doesn't cover it
+pub record IsWaiting (w : Gateway) (read : WaitingRead) : Type 0 where
+  pub channel : Channel
+  pub link : Link
+  pub native : Native
+  pub on : channel_of w read.session read.sid ≡ Some channel
+  pub over : link_of w channel.real ≡ Some link
+  pub connected : native_in link.state ≡ Some native
+  pub readable : may_read (rights_of w channel) ≡ true
+  pub uncovered : cached_value w link.cid native.count read.dtype read.count ≡ None

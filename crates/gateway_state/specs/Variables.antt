@@ -1,0 +1,83 @@
+-- Links, values and wanted names, by variable.
+use Rattle.std.specs.Prelude.{ℕ, List, [], ◌∷◌, ◌++◌, Bool, true, false, not, ◌==◌, ◌&&◌, ◌||◌, map, filter, filter_map, bytes_eq, is_some, fold, if◌then◌else◌, Option, Some, None}
+use Rattle.std.specs.List.{list_any, find}
+use Rattle.std.specs.Ordering.{nat_cmp}
+use Rattle.std.specs.Cmp.Lexicographic.{slice_cmp}
+use Rattle.std.specs.declared.cmp.Ordering.{Ordering}
+use Rattle.std.specs.declared.cmp.Ordering.TheVariants.{Less, Equal, Greater}
+use Rattle.channel_table.specs.declared.channels.Channel.{Channel}
+use Rattle.link_table.specs.declared.links.Link.{Link}
+use Rattle.link_table.specs.declared.links.LinkState.{LinkState}
+use Rattle.link_table.specs.declared.links.LinkState.TheVariants.{Creating, Connected, Unusable}
+use Rattle.link_table.specs.Links.{is_named}
+use Rattle.gateway_state.specs.declared.config.Policy.{Policy}
+use Rattle.gateway_state.specs.declared.search.Search.{Search}
+use Rattle.gateway_state.specs.CachedRows.{is_cached_elsewhere}
+use Rattle.gateway_state.specs.Gateway.{Gateway}
+use Rattle.gateway_state.specs.Resolution.{resolution}
+use Rattle.gateway_state.specs.Searches.{leads_to}
+
+-- the link of a real name
+abbrev pub link_of : Gateway → List ℕ → Option Link
+link_of w name = find (is_named name) w.upstream.links
+
+abbrev pub is_linked : Gateway → List ℕ → Bool
+is_linked w name = is_some (link_of w name)
+
+abbrev pub is_connected : LinkState → Bool
+is_connected Creating = false
+is_connected (Connected sid dtype count) = true
+is_connected Unusable = false
+
+abbrev pub is_creating : LinkState → Bool
+is_creating Creating = true
+is_creating (Connected sid dtype count) = false
+is_creating Unusable = false
+
+-- a link's last message goes
+abbrev pub without_cached : ℕ → Gateway → Gateway
+without_cached cid w = record w { cache = filter (is_cached_elsewhere cid) w.cache }
+
+-- the channel is on this real name
+abbrev pub is_on : List ℕ → Channel → Bool
+is_on name row = bytes_eq row.real name
+
+-- a channel is open on the real name, or a remembered search leads to it
+abbrev pub is_wanted : Gateway → List ℕ → Bool
+is_wanted w name = list_any (is_on name) w.clients.channels || list_any (leads_to w.policy name) w.searches
+
+-- wanted, and without a link
+abbrev pub is_missing : Gateway → List ℕ → Bool
+is_missing w name = is_wanted w name && not (is_linked w name)
+
+-- the real names that channels are open on
+abbrev pub channel_names : List Channel → List (List ℕ)
+channel_names channels = map (λ (c : Channel). c.real) channels
+
+abbrev pub search_name : Policy → Search → Option (List ℕ)
+search_name policy row = resolution policy row.host row.name
+
+-- the real names that searches lead to
+abbrev pub search_names : Policy → List Search → List (List ℕ)
+search_names policy searches = filter_map (search_name policy) searches
+
+-- the wanted names, as often as they are wanted
+abbrev pub wanted_names : Gateway → List (List ℕ)
+wanted_names w = channel_names w.clients.channels ++ search_names w.policy w.searches
+
+-- names by rising bytes, with one more that isn't there yet
+abbrev pub with_name : List ℕ → List (List ℕ) → List (List ℕ)
+with_name name [] = name ∷ []
+with_name name (first ∷ names) =
+    elim (slice_cmp nat_cmp name first) [ Less ↦ name ∷ first ∷ names | Equal ↦ first ∷ names | Greater ↦ first ∷ with_name name names ]
+
+abbrev pub is_unlinked : Gateway → List ℕ → Bool
+is_unlinked w name = not (is_linked w name)
+
+-- names by rising bytes, with one more where it has no link
+abbrev pub with_unlinked : Gateway → List (List ℕ) → List ℕ → List (List ℕ)
+with_unlinked w names name = if is_unlinked w name then with_name name names else names
+
+-- the names to ask servers for: wanted, without a link, by rising bytes, each once
+abbrev pub asks : Gateway → List (List ℕ)
+asks w = fold (with_unlinked w) [] (wanted_names w)

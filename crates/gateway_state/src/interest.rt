@@ -1,0 +1,36 @@
+//! What readers want of a variable.
+
+/// The events that a subscription's mask may ask for: VALUE, LOG and ALARM.
+pub const KNOWN_EVENTS: u16 = 7;
+
+/// The events that the gateway always asks a server for, VALUE and ALARM.
+pub const ALWAYS_ASKED: u16 = 5;
+
+/// The events that a channel wants whose reads are answered from the cache, VALUE and ALARM.
+pub const READ_EVENTS: u16 = 5;
+
+/// How many plain types there are; their numbers are below this.
+pub const PLAIN_TYPES: u16 = 7;
+
+/// What is added to a plain type's number for its TIME form.
+pub const TIME_FORM: u16 = 14;
+
+/// A variable's subscription upstream.
+#[derive(Clone, Copy, Debug, PartialEq, Eq)]
+pub struct Sub {
+    /// The gateway's ID of it.
+    pub id: u32,
+    /// The events.
+    pub mask: u16,
+    /// The count of elements that updates may have.
+    pub count: u32,
+}
+
+/// What the readers of a variable want together.
+#[derive(Clone, Copy, Debug, PartialEq, Eq)]
+pub struct Interest {
+    /// The events.
+    pub mask: u16,
+    /// The greatest count of elements.
+    pub count: u32,
+}

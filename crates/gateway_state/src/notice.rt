@@ -1,0 +1,78 @@
+//! What others are owed after an event.
+use crate::interest::Interest;
+use bytes::Bytes;
+use channel_table::WaitingRead;
+use link_table::{LinkState, Subscription};
+
+/// What becomes of a READ_NOTIFY.
+#[derive(Clone, Copy, Debug, PartialEq, Eq)]
+pub enum ReadVerdict {
+    /// The session has no such channel.
+    NoChannel,
+    /// The channel has no connected variable, so nothing is said.
+    Ignored,
+    /// It is refused with this code.
+    Refused(u32),
+    /// It is accepted: the channel's reach and rights from now on.
+    Accepted { reach: u32, rights: u32 },
+}
+
+/// What a client is owed about one of its channels.
+#[derive(Clone, Copy, Debug, PartialEq, Eq)]
+pub enum ChannelNotice {
+    /// The channel is gone.
+    Disconnected {
+        session: u32,
+        sid: u32,
+        cid: u32,
+    },
+    /// It has other access rights.
+    RightsChanged {
+        session: u32,
+        sid: u32,
+        cid: u32,
+        reach: u32,
+        rights: u32,
+    },
+}
+
+/// What a server is owed about one of its links.
+#[derive(Clone, Copy, Debug)]
+pub enum LinkNotice {
+    /// The present subscription is given up.
+    Cancelled {
+        server: u32,
+        cid: u32,
+        sid: u32,
+        dtype: u16,
+        subscription: Subscription,
+    },
+    /// Nobody reads the variable any more, so its last message goes.
+    Unread {
+        cid: u32,
+    },
+    /// A new subscription is wanted.
+    Subscribed {
+        server: u32,
+        cid: u32,
+        sid: u32,
+        dtype: u16,
+        interest: Interest,
+        sent: u32,
+    },
+    /// The link is no longer wanted.
+    Dropped {
+        server: u32,
+        cid: u32,
+        state: LinkState,
+    },
+}
+
+/// What a client is owed about a read that waits.
+#[derive(Debug, Drop)]
+pub enum ReadNotice {
+    /// The read is refused with this code.
+    Refused(WaitingRead, u32),
+    /// The read is answered by so many elements with this payload.
+    Answered(WaitingRead, u32, Bytes),
+}
