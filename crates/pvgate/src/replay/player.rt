@@ -119,7 +119,7 @@ impl Player {
         Ok(())
     }
 
-    /// Takes bytes from a connection: each message that is whole then is an event.
+    /// Takes bytes from a connection: the messages that are whole then are a run of events.
     fn receive(&mut self, dest: Dest, bytes: &[u8]) -> Result<Option<Misframed>, ReplayFault> {
         let Some(intake) = self.intakes.get_mut(&dest) else {
             return Ok(None);
@@ -128,15 +128,21 @@ impl Player {
         if let Err(IntakeFault::OutOfMemory) = intake.feed(bytes) {
             return Err(ReplayFault::OutOfMemory);
         }
+        let mut events = Vec::new(self.alloc);
+        let mut misframed = None;
         for _ in 0..u64::MAX {
             match intake.take() {
-                Ok(Some(message)) => self.engine.step(said_by(dest, message))?,
+                Ok(Some(message)) => events.push(said_by(dest, message))?,
                 Ok(None) => break,
-                Err(IntakeFault::Faulted(fault)) => return Ok(Some(Misframed { dest, fault })),
+                Err(IntakeFault::Faulted(fault)) => {
+                    misframed = Some(Misframed { dest, fault });
+                    break;
+                }
                 Err(IntakeFault::OutOfMemory) => return Err(ReplayFault::OutOfMemory),
             }
         }
-        Ok(None)
+        self.engine.run(events)?;
+        Ok(misframed)
     }
 
     /// Prints all that waits for the connections that aren't held.
