@@ -56,13 +56,16 @@ def replay(script_file):
 
 def cost(same, others, line, printed, times):
     """Microseconds of a message, which is sent so often that it can be timed."""
-    count = max(20, 200_000 // (same + others * others + 1))
+    message = READ if printed else UPDATE
+    lines = max(1, 200 // (same + others * others))
+    each = min(1_000, max(20, 200_000 // max(1, others * others)))
+    count = lines * each
     with tempfile.TemporaryDirectory() as folder:
         without, with_them = (os.path.join(folder, file) for file in ("without", "with"))
         script = "".join(setup(same, others))
-        for file, messages in ((without, 0), (with_them, count)):
+        for file, more in ((without, ""), (with_them, f"{line}{message * each}\n" * lines)):
             with open(file, "w") as out:
-                out.write(script + (f"{line}{(READ if printed else UPDATE) * messages}\n" if messages else ""))
+                out.write(script + more)
         bare = [replay(without) for _ in range(times)]
         full = [replay(with_them) for _ in range(times)]
     more = full[0][1] - bare[0][1]
