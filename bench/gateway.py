@@ -57,8 +57,8 @@ def replay(script_file):
 def cost(same, others, line, printed, times):
     """Microseconds of a message, which is sent so often that it can be timed."""
     message = READ if printed else UPDATE
-    lines = max(1, 200 // (same + others * others))
-    each = min(1_000, max(20, 200_000 // max(1, others * others)))
+    lines = 200 if same + others == 1 else 10 if others < 1_000 else 1
+    each = min(1_000, max(100, 200_000 // max(1, others * others)))
     count = lines * each
     with tempfile.TemporaryDirectory() as folder:
         without, with_them = (os.path.join(folder, file) for file in ("without", "with"))
