@@ -1,7 +1,7 @@
 -- Elements that stand one after another in bytes.
-use Rattle.std.proofs.Common.{◌≡◌, ℕ, zero, suc, ◌+◌, ◌-◌, ◌*◌, ◌<◌, ◌≤◌, min, List, [], ◌∷◌, ◌++◌, replicate, ⊎_elim, length, take, drop, refl, sym, ap, ◌∙◌, arith}
+use Rattle.std.proofs.Common.{◌≡◌, ℕ, zero, suc, ◌+◌, ◌-◌, ◌*◌, ◌<◌, ◌≤◌, min, List, [], ◌∷◌, ◌++◌, replicate, ⊎_elim, length, take, drop, get_or, refl, sym, ap, ◌∙◌, arith}
 use Rattle.std.proofs.lemmas.Bool.{cases_lt}
-use Rattle.std.proofs.lemmas.List.{append_assoc, length-append, replicate-append-replicate, take_all, length-drop, length-take, nil_from_length, take-append-drop, take-append-le, drop-append-le}
+use Rattle.std.proofs.lemmas.List.{append_assoc, length-append, replicate-append-replicate, take_all, drop-drop, length-drop, length-take, nil_from_length, take-append-drop, take-append-le, drop-append-le}
 use Rattle.std.proofs.Math.Nat.{add_comm, mul-le-mul_right, suc-mul, zero-mul}
 use Rattle.std.specs.List.{concat}
 use Rattle.dbr_layout.specs.Parts.{AreSized, elements_in}
@@ -104,3 +104,36 @@ pub AreSized-take : (size n : ℕ) (elements : List (List ℕ)) → AreSized siz
 AreSized-take size zero elements h = tt
 AreSized-take size (suc n) [] h = tt
 AreSized-take size (suc n) (element ∷ elements) h = (h.0, AreSized-take size n elements h.1)
+
+pub AreSized-append : (size : ℕ) (xs ys : List (List ℕ)) → AreSized size xs → AreSized size ys → AreSized size (xs ++ ys)
+AreSized-append size [] ys none h = h
+AreSized-append size (x ∷ xs) ys sized h = (sized.0, AreSized-append size xs ys sized.1 h)
+
+-- the element at an index stands as many elements behind the first
+pub get_or-elements_in : (size count i : ℕ) (bytes : List ℕ) → i < count → get_or (elements_in size count bytes) i [] ≡ take size (drop (i * size) bytes)
+get_or-elements_in size zero i bytes h = absurd (omega (arith, h))
+get_or-elements_in size (suc count) zero bytes h = rw (zero-mul size) refl
+get_or-elements_in size (suc count) (suc i) bytes h =
+    let less : i < count = omega (arith, h) in
+    let moved : size + i * size ≡ suc i * size = omega (arith, suc-mul i size) in
+    get_or-elements_in size count i (drop size bytes) less
+    ∙ ap (take size) (drop-drop (i * size) size bytes)
+    ∙ ap (λ (n : ℕ). take size (drop n bytes)) moved
+
+-- the bytes of the element at an index, of those that begin at a place
+pub take-drop_element : (start size count i : ℕ) (bytes : List ℕ) → i < count → take (start + i * size + size - (start + i * size)) (drop (start + i * size) bytes) ≡ get_or (elements_in size count (drop start bytes)) i []
+take-drop_element start size count i bytes h =
+    let one : start + i * size + size - (start + i * size) ≡ size = omega arith in
+    rw (one, ← drop-drop (i * size) start bytes) (sym (get_or-elements_in size count i (drop start bytes) h))
+
+-- they are there
+pub element_end-le : (start size count i : ℕ) (bytes : List ℕ) → start + count * size ≤ length bytes → i < count → start + i * size + size ≤ length bytes
+element_end-le start size count i bytes there h =
+    let behind : suc i * size ≤ count * size = mul-le-mul_right size (omega (arith, h)) in
+    omega (arith, there, behind, suc-mul i size)
+
+-- as many as an element has
+pub length-element : (start size count i : ℕ) (bytes : List ℕ) → start + count * size ≤ length bytes → i < count → length (get_or (elements_in size count (drop start bytes)) i []) ≡ size
+length-element start size count i bytes there h =
+    rw (get_or-elements_in size count i (drop start bytes) h, drop-drop (i * size) start bytes)
+    (omega (arith, element_end-le start size count i bytes there h, length-take size (drop (start + i * size) bytes), length-drop (start + i * size) bytes))

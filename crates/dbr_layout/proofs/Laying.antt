@@ -13,7 +13,7 @@ use Rattle.dbr_layout.specs.Dbr.{element_size, payload_size, value_offset}
 use Rattle.dbr_layout.specs.Layout.{fields, filled_to, layout}
 use Rattle.dbr_layout.specs.Parts.{AreSized, Parts, fields_len}
 use Rattle.dbr_layout.proofs.Viewing.{fields_len-le}
-use Rattle.dbr_layout.proofs.Elements.{AreSized-take, concat-append, concat-replicate, length-concat}
+use Rattle.dbr_layout.proofs.Elements.{concat-append, concat-replicate, length-concat}
 
 length-fields : (form : Form) (parts : Parts) → length (fields form parts) ≡ fields_len form
 length-fields Plain parts = refl
@@ -47,16 +47,16 @@ length-first_elements size given elements =
     omega (arith, length-append (take given elements) (replicate (given - length elements) zeros), length-take given elements, length-replicate (given - length elements) zeros)
 
 -- how many bytes the elements that are there have, and the others
-length-given : (size given : ℕ) (elements : List (List ℕ)) → AreSized size elements → length (concat (take given elements)) + (given - length elements) * size ≡ given * size
+length-given : (size given : ℕ) (elements : List (List ℕ)) → AreSized size (take given elements) → length (concat (take given elements)) + (given - length elements) * size ≡ given * size
 length-given size given elements sized =
     let whole : min given (length elements) + (given - length elements) ≡ given = omega arith in
-    rw (length-concat size (take given elements) (AreSized-take size given elements sized), length-take given elements, ← add-mul (min given (length elements)) (given - length elements) size, whole) refl
+    rw (length-concat size (take given elements) sized, length-take given elements, ← add-mul (min given (length elements)) (given - length elements) size, whole) refl
 
 pub le-next_multiple_of : (n : ℕ) → n ≤ next_multiple_of n ALIGNMENT
 le-next_multiple_of n = omega arith
 
 -- the fields, the bytes up to the value and the elements that are there, filled up at once, are the layout
-laid_out : (start size given len : ℕ) (front : List ℕ) (elements : List (List ℕ)) → length front ≤ start → AreSized size elements → len ≡ next_multiple_of (start + given * size) ALIGNMENT
+laid_out : (start size given len : ℕ) (front : List ℕ) (elements : List (List ℕ)) → length front ≤ start → AreSized size (take given elements) → len ≡ next_multiple_of (start + given * size) ALIGNMENT
     → let value : List ℕ = filled_to start front ++ concat (first_elements size given elements) in
     filled_to len (filled_to start front ++ concat (take given elements)) ≡ filled_to (next_multiple_of (length value) ALIGNMENT) value
 laid_out start size given len front elements short sized padded =
@@ -81,7 +81,7 @@ fields-elements Time parts elements = refl
 fields-elements _ parts elements = refl
 
 -- the same of a type and the parts that are laid out under it
-pub laid_out_as : (dbr : Dbr) (parts : Parts) (given len : ℕ) (elements : List (List ℕ)) → AreSized (element_size dbr.base) elements → len ≡ payload_size dbr given
+pub laid_out_as : (dbr : Dbr) (parts : Parts) (given len : ℕ) (elements : List (List ℕ)) → AreSized (element_size dbr.base) (take given elements) → len ≡ payload_size dbr given
     → filled_to len (filled_to (value_offset dbr) (fields dbr.form parts) ++ concat (take given elements)) ≡ layout dbr (record parts { elements = first_elements (element_size dbr.base) given elements })
 laid_out_as dbr parts given len elements sized padded =
     let front : List ℕ = fields dbr.form parts in

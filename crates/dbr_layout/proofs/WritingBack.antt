@@ -8,6 +8,7 @@ use Rattle.std.specs.Prelude.{if◌then◌else◌, nat_le, ok_or, option_map}
 use Rattle.byteorder.specs.Endian.{big_number}
 use Rattle.byteorder.specs.Numbers.{big_from-lt}
 use Rattle.dbr_layout.specs.declared.conversion.Conversion.{Conversion}
+use Rattle.dbr_layout.specs.declared.conversion.Conversion.TheVariants.{Unchanged}
 use Rattle.dbr_layout.specs.declared.dbr.Form.{Form}
 use Rattle.dbr_layout.specs.declared.dbr.Form.TheVariants.{Plain, Time}
 use Rattle.dbr_layout.specs.declared.dbr.Dbr.{Dbr}
@@ -22,7 +23,7 @@ use Rattle.dbr_layout.specs.Laws.{CanHold, WritesBack, kept}
 use Rattle.dbr_layout.specs.Layout.{layout}
 use Rattle.dbr_layout.specs.Parts.{Parts, parts_in, severity_in, stamp_in, status_in}
 use Rattle.dbr_layout.specs.View.{Shown, shown}
-use Rattle.dbr_layout.proofs.Converting.{map-unchanged}
+use Rattle.dbr_layout.proofs.Converting.{between_same, map-unchanged}
 use Rattle.dbr_layout.proofs.Elements.{AreSized-from, AreSized-take, length-elements_in}
 use Rattle.dbr_layout.proofs.ReadingBack.{shown-layout}
 
@@ -56,17 +57,16 @@ views_from (Some dbr) there bytes old h =
 -- the payload that was written under the type of the view
 written_from : (dbr : Dbr) (parts : Parts) (count : ℕ) (payload : List ℕ) (found : Option Conversion)
     → (ok_or (option_map (λ how. given_elements dbr.base how (given_count count (length parts.elements)) parts.elements) found) BadType >>= λ elements. if nat_le (payload_size dbr (length elements)) MAX_PAYLOAD then Ok (layout dbr (record parts { elements = elements })) else Err TooLarge) ≡ Ok payload
-    → (how : Conversion) × (layout dbr (record parts { elements = given_elements dbr.base how (given_count count (length parts.elements)) parts.elements }) ≡ payload)
-written_from dbr parts count payload None h = absurd cc
-written_from dbr parts count payload (Some how) h =
-    let elements : List (List ℕ) = given_elements dbr.base how (given_count count (length parts.elements)) parts.elements in
-    (how, (chosen (nat_le (payload_size dbr (length elements)) MAX_PAYLOAD) (layout dbr (record parts { elements = elements })) payload TooLarge h).1)
+    → found ≡ Some Unchanged → layout dbr (record parts { elements = given_elements dbr.base Unchanged (given_count count (length parts.elements)) parts.elements }) ≡ payload
+written_from dbr parts count payload found h same =
+    let elements : List (List ℕ) = given_elements dbr.base Unchanged (given_count count (length parts.elements)) parts.elements in
+    (chosen (nat_le (payload_size dbr (length elements)) MAX_PAYLOAD) (layout dbr (record parts { elements = elements })) payload TooLarge (rw same at h)).1
 
 -- where they are there, the elements that are given are the first
-given_elements-there : (dbr : Dbr) (how : Conversion) (given : ℕ) (elements : List (List ℕ)) → given ≤ length elements → given_elements dbr.base how given elements ≡ take given elements
-given_elements-there dbr how given elements h =
+given_elements-there : (dbr : Dbr) (given : ℕ) (elements : List (List ℕ)) → given ≤ length elements → given_elements dbr.base Unchanged given elements ≡ take given elements
+given_elements-there dbr given elements h =
     let none : given - length elements ≡ 0 = omega (arith, h) in
-    rw (map-unchanged how elements, none) (append-nil (take given elements))
+    rw (map-unchanged elements, none) (append-nil (take given elements))
 
 one_of-le : (b : Bool) (count there : ℕ) → count ≤ there → (if b then there else count) ≤ there
 one_of-le true count there h = omega arith
@@ -138,13 +138,13 @@ written_again number there count bytes payload rest dbr small served fits within
     let parts : Parts = parts_in dbr there bytes in
     let elements : List (List ℕ) = parts.elements in
     let counted : length elements ≡ there = length-elements_in (element_size dbr.base) there (drop (value_offset dbr) bytes) in
-    let way = written_from dbr parts count payload (conversion_between dbr.base dbr.base) (rw served at h) in
+    let laid = written_from dbr parts count payload (conversion_between dbr.base dbr.base) (rw served at h) (between_same dbr.base) in
     let there_too : given_count count (length elements) ≤ length elements = rw counted (given_count-le count there within) in
-    let first : given_elements dbr.base way.0 (given_count count (length elements)) elements ≡ take (given_count count there) elements =
-    given_elements-there dbr way.0 (given_count count (length elements)) elements there_too
+    let first : given_elements dbr.base Unchanged (given_count count (length elements)) elements ≡ take (given_count count there) elements =
+    given_elements-there dbr (given_count count (length elements)) elements there_too
     ∙ ap (λ (n : ℕ). take (given_count count n) elements) counted in
     let whole : layout dbr (record parts { elements = take (given_count count there) elements }) ≡ payload =
-    ap (λ (es : List (List ℕ)). layout dbr (record parts { elements = es })) (sym first) ∙ way.1 in
+    ap (λ (es : List (List ℕ)). layout dbr (record parts { elements = es })) (sym first) ∙ laid in
     subst
     (λ (p : List ℕ). shown number (given_count count there) (p ++ rest) ≡ Ok (record { dbr = dbr; parts = record parts { elements = take (given_count count there) elements } }))
     whole

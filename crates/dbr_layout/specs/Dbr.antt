@@ -1,5 +1,5 @@
 -- The DBR types: their numbers, where their values begin and how large their elements are.
-use Rattle.std.specs.Prelude.{ℕ, ◌+◌, ◌*◌, ◌==◌, List, [], ◌∷◌, Option, find, slice_index}
+use Rattle.std.specs.Prelude.{ℕ, ◌+◌, ◌*◌, ◌==◌, List, [], ◌∷◌, map, flat_map, Option, find, slice_index}
 use Rattle.std.specs.Int.{next_multiple_of}
 use Rattle.dbr_layout.specs.declared.dbr.Base.{Base}
 use Rattle.dbr_layout.specs.declared.dbr.Base.TheVariants as base
@@ -29,9 +29,16 @@ form_number form.Ctrl = 28
 abbrev pub number_of : Dbr → ℕ
 number_of dbr = form_number dbr.form + base_number dbr.base
 
--- the types that are served
+-- by rising numbers
+abbrev pub bases : List Base
+bases = base.String ∷ base.Short ∷ base.Float ∷ base.Enum ∷ base.Char ∷ base.Long ∷ base.Double ∷ []
+
+abbrev pub types_of : Form → List Dbr
+types_of f = map (λ b. record { base = b; form = f }) bases
+
+-- the types that are served: those of three forms
 abbrev pub served : List Dbr
-served = record { base = base.Long; form = form.Plain } ∷ record { base = base.Long; form = form.Time } ∷ []
+served = flat_map types_of (form.Plain ∷ form.Sts ∷ form.Time ∷ [])
 
 -- the served type with this number
 unfoldable pub dbr_of : ℕ → Option Dbr

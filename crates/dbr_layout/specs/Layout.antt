@@ -17,8 +17,7 @@ alarm_bytes parts =
 abbrev pub stamp_bytes : Stamp → List ℕ
 stamp_bytes stamp = to_be_bytes w32 stamp.seconds ++ to_be_bytes w32 stamp.nanoseconds
 
--- the fields of a form. Those of GR and CTRL behind the alarm (units, limits, texts) are not served yet, nor is a type
--- of these forms.
+-- the fields of a form; GR and CTRL, whose types aren't served yet, are laid out without units, limits and texts
 abbrev pub fields : Form → Parts → List ℕ
 fields form.Plain parts = []
 fields form.Time parts = alarm_bytes parts ++ stamp_bytes parts.stamp

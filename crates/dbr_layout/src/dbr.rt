@@ -102,16 +102,17 @@ pub struct Dbr {
 impl Dbr {
     ghost use Rattle.dbr_layout.specs.Dbr.{dbr_of, element_size, number_of, payload_size, value_end, value_offset};
 
-    /// The type with this number, where it is served: so far `LONG` and `TIME_LONG`.
+    /// The type with this number, where it is served: those of all bases in the forms `Plain`, `Sts`
+    /// and `Time`.
     #[tactic(auto, unfolding(crate::specs::Dbr::dbr_of))]
     pub fn of(number: u16) -> Option<Dbr>
         ensures { result ≡ dbr_of number }
     {
         let base = Base::of(number % BASES)?;
         let form = Form::of(number / BASES)?;
-        match (base, form) {
-            (Base::Long, Form::Plain | Form::Time) => Some(Dbr { base, form }),
-            _ => None,
+        match form {
+            Form::Plain | Form::Sts | Form::Time => Some(Dbr { base, form }),
+            Form::Gr | Form::Ctrl => None,
         }
     }
 

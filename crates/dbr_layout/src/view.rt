@@ -1,5 +1,5 @@
 //! Payloads that are read.
-ghost use Rattle.std.specs.Prelude.{◌≡◌, ◌*◌, length, take};
+ghost use Rattle.std.specs.Prelude.{◌≡◌, ◌*◌, ◌<◌, [], length, slice_index_or, take};
 ghost use Rattle.std.specs.List.{concat};
 
 use crate::dbr::Dbr;
@@ -111,5 +111,15 @@ impl<'a> View<'a> {
         ensures sized { AreSized (element_size self.now.dbr.base) self.now.parts.elements }
     {
         &self.bytes[self.dbr.offset() as usize..self.dbr.value_end(self.count.min(count))]
+    }
+
+    /// The bytes of the element at an index.
+    pub(crate) fn element(&self, index: u32) -> &'a [u8]
+        requires { index < length self.now.parts.elements }
+        ensures bytes { result.now ≡ slice_index_or self.now.parts.elements index [] }
+        ensures len { length result.now ≡ element_size self.now.dbr.base }
+    {
+        let start = self.dbr.value_end(index);
+        &self.bytes[start..start + self.dbr.element() as usize]
     }
 }

@@ -1,17 +1,15 @@
 //! What reads are answered.
 ghost use Rattle.std.specs.Prelude.{◌≡◌, Some, IfOk};
-ghost use Rattle.gateway_state.specs.Answer.{is_type_served, converts_to, fits_payload, meant_count, refusal, laid_out, shown_as, cached_as, cached_value, reading, reading_at, reading_on, reading_of, refused_or};
+ghost use Rattle.gateway_state.specs.Answer.{is_type_served, converts_to, fits_payload, meant_count, refusal, cached_as, cached_value, reading, reading_at, reading_on, reading_of, refused_or};
 ghost use Rattle.dbr_layout.specs.Dbr.{dbr_of};
-ghost use Rattle.dbr_layout.specs.Converted.{written};
-ghost use Rattle.dbr_layout.specs.View.{shown};
 
 use crate::rights::may_read;
 use crate::state::Rows;
 use crate::variables::native_in;
 use ca_message::codes::{ECA_BADCOUNT, ECA_BADTYPE, ECA_NORDACCESS, ECA_TOLARGE};
 use channel_table::Channel;
-use dbr_layout::{Converted, Dbr, LayoutFault, View, converts};
-use gateway_state::{Cached, Given, Native, Reading};
+use dbr_layout::{Dbr, converts};
+use gateway_state::{Given, LastMessage, Native, Reading};
 use link_table::Link;
 use std::alloc::{AllocError, Global};
 
@@ -134,33 +132,15 @@ fn cached_as(
     native: u32,
     dtype: u16,
     count: u32,
-    last: &Cached,
+    last: &LastMessage,
 ) -> Result<Option<Given>, AllocError>
     ensures { IfOk result (λ given. given ≡ cached_as native dtype count (Some last.now)) }
 {
-    if meant_count(native, count) > last.asked_with {
+    if !last.held.covers(meant_count(native, count)) {
         return Ok(None);
     }
-    match View::new(last.dtype, last.count, &last.payload) {
-        Ok(view) => laid_out(alloc, &view, dtype, count),
-        Err(_) => Ok(None),
-    }
-}
-
-fn laid_out(
-    alloc: Global,
-    view: &View<'_>,
-    dtype: u16,
-    count: u32,
-) -> Result<Option<Given>, AllocError>
-    ensures { IfOk result (λ given. given ≡ laid_out view.now count (written view.now dtype count)) }
-{
-    match Converted::write(alloc, view, dtype, count) {
-        Ok(payload) => Ok(Some(Given {
-            count: view.given(count),
-            payload,
-        })),
-        Err(LayoutFault::OutOfMemory) => Err(AllocError),
-        Err(LayoutFault::BadType | LayoutFault::Short | LayoutFault::TooLarge) => Ok(None),
+    match last.held.answer(alloc, dtype, count)? {
+        Some((count, payload)) => Ok(Some(Given { count, payload })),
+        None => Ok(None),
     }
 }

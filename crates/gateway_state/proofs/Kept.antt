@@ -11,7 +11,7 @@ use Rattle.link_table.specs.declared.links.LinkState.{LinkState}
 use Rattle.link_table.specs.declared.links.LinkState.TheVariants.{Creating}
 use Rattle.link_table.specs.declared.links.Subscription.{Subscription}
 use Rattle.link_table.specs.declared.servers.Server.{Server}
-use Rattle.gateway_state.specs.declared.cached.Cached.{Cached}
+use Rattle.gateway_state.specs.declared.cached.LastMessage.{LastMessage}
 use Rattle.gateway_state.specs.declared.event.Dest.{Dest}
 use Rattle.gateway_state.specs.declared.event.Dest.TheVariants as dests
 use Rattle.gateway_state.specs.declared.fanout.connections.Connection.{Connection}
@@ -36,7 +36,7 @@ with_sessions rows w = record w { clients = record w.clients { sessions = rows }
 abbrev pub with_servers : List Server → Gateway → Gateway
 with_servers rows w = record w { upstream = record w.upstream { servers = rows } }
 
-abbrev pub with_cache : List Cached → Gateway → Gateway
+abbrev pub with_cache : List LastMessage → Gateway → Gateway
 with_cache rows w = record w { cache = rows }
 
 abbrev pub with_searches : List Search → Gateway → Gateway
@@ -69,7 +69,7 @@ pub record IsKept (P : Gateway → Type 0) : Type 0 where
   pub connections : (rows : List Connection) (w : Gateway) → P w → P (with_connections rows w)
   pub sessions : (rows : List Session) (w : Gateway) → P w → P (with_sessions rows w)
   pub servers : (rows : List Server) (w : Gateway) → P w → P (with_servers rows w)
-  pub cache : (rows : List Cached) (w : Gateway) → P w → P (with_cache rows w)
+  pub cache : (rows : List LastMessage) (w : Gateway) → P w → P (with_cache rows w)
   pub searches : (rows : List Search) (w : Gateway) → P w → P (with_searches rows w)
   pub next_subscription : (next : ℕ) (w : Gateway) → P w → P (with_next_subscription next w)
   pub channel_added : (session cid : ℕ) (name real : List ℕ) (rights : ℕ) (w : Gateway) → P w → P (with_channel session cid name real rights w)

@@ -18,7 +18,8 @@ use Rattle.link_table.specs.declared.links.LinkState.TheVariants.{Creating, Conn
 use Rattle.link_table.specs.declared.links.Subscription.{Subscription}
 use Rattle.link_table.specs.declared.table.TheConstants.{LINK_LIMIT, SERVER_LIMIT}
 use Rattle.link_table.specs.Links.{has_subscription, is_link}
-use Rattle.gateway_state.specs.declared.cached.Cached.{Cached}
+use Rattle.value_cache.specs.Held.{held_after}
+use Rattle.gateway_state.specs.declared.cached.LastMessage.{LastMessage}
 use Rattle.gateway_state.specs.declared.event.Dest.TheVariants.{Upstream}
 use Rattle.gateway_state.specs.Asked.{acts, stands}
 use Rattle.gateway_state.specs.Gateway.{Gateway}
@@ -103,7 +104,7 @@ module _ (P : Gateway → Type 0) (kept : IsKept P) where
 
   kept_updated_link : (link : Link) (state : LinkState) (sub : Option Subscription) (dtype count : ℕ) (payload : List ℕ) (w : Gateway) → P w → P (updated_link link state sub dtype count payload w)
   kept_updated_link link (Connected sid native native_count) (Some sub) dtype count payload w holds =
-      let row : Cached = record { server = link.server; cid = link.cid; dtype = dtype; count = count; payload = payload; asked_with = sub.count } in
+      let row : LastMessage = record { server = link.server; cid = link.cid; held = held_after dtype count payload sub.count } in
       kept_either P (is_value native sub.count dtype count payload) (with_cached row w) w (λ _. kept.cache (with_row row w.cache) w holds) holds
   kept_updated_link link (Connected sid native native_count) None dtype count payload w holds = holds
   kept_updated_link link Creating sub dtype count payload w holds = holds

@@ -13,7 +13,7 @@ use Rattle.link_table.specs.declared.links.LinkState.TheVariants.{Creating, Conn
 use Rattle.link_table.specs.declared.links.Subscription.{Subscription}
 use Rattle.link_table.specs.LinkRows.{LinkRows}
 use Rattle.link_table.specs.Links.{is_link, is_named, is_not_link, with_subscription}
-use Rattle.gateway_state.specs.declared.cached.Cached.{Cached}
+use Rattle.gateway_state.specs.declared.cached.LastMessage.{LastMessage}
 use Rattle.gateway_state.specs.declared.fanout.connections.Connection.{Connection}
 use Rattle.gateway_state.specs.declared.interest.Interest.{Interest}
 use Rattle.gateway_state.specs.declared.notice.LinkNotice.{LinkNotice}
@@ -39,7 +39,7 @@ left_by rows (Subscribed server cid sid dtype interest sent) = record rows {
 left_by rows (Dropped server cid state) = record rows { links = filter (is_not_link server cid) rows.links }
 
 -- a state with other links, and what goes with them
-abbrev with_upstream : Gateway → List Connection → List Cached → LinkRows → Gateway
+abbrev with_upstream : Gateway → List Connection → List LastMessage → LinkRows → Gateway
 with_upstream w connections cache rows = record w { connections = connections; cache = cache; upstream = rows }
 
 abbrev after_notices : Gateway → List LinkNotice → Gateway
@@ -265,7 +265,7 @@ links_left w low high rows (link ∷ links) rising =
 -- ---- what the pass does to a state
 
 -- a state with other links, another next number of subscriptions, and what goes with them
-abbrev pub with_links_left : Gateway → List Connection → List Cached → List Link → ℕ → Gateway
+abbrev pub with_links_left : Gateway → List Connection → List LastMessage → List Link → ℕ → Gateway
 with_links_left w connections cache links next = record w {
   connections = connections;
   cache = cache;
@@ -283,7 +283,7 @@ rows_changed (Dropped server cid state ∷ notices) rows = rows_changed notices 
 -- the pass gives such a state, whose links are those left
 pub record IsPassed (w v : Gateway) : Type 0 where
   pub connections : List Connection
-  pub cache : List Cached
+  pub cache : List LastMessage
   pub links : List Link
   pub next : ℕ
   pub is : v ≡ with_links_left w connections cache links next

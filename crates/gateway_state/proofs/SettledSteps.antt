@@ -7,7 +7,7 @@ use Rattle.channel_table.specs.declared.channels.Channel.{Channel}
 use Rattle.link_table.specs.declared.links.Link.{Link}
 use Rattle.link_table.specs.declared.links.LinkState.{LinkState}
 use Rattle.link_table.specs.declared.links.LinkState.TheVariants.{Creating, Connected, Unusable}
-use Rattle.gateway_state.specs.declared.cached.Cached.{Cached}
+use Rattle.gateway_state.specs.declared.cached.LastMessage.{LastMessage}
 use Rattle.gateway_state.specs.declared.fanout.connections.Connection.{Connection}
 use Rattle.gateway_state.specs.declared.interest.Interest.{Interest}
 use Rattle.gateway_state.specs.declared.notice.ChannelNotice.{ChannelNotice}
@@ -31,7 +31,7 @@ use Rattle.gateway_state.proofs.SettledReads.{reads_keep_channels, reads_keep_li
 
 -- ---- the links that are left mean the same to each channel
 
-module _ (w : Gateway) (connections : List Connection) (cache : List Cached) (links : List Link) (next : ℕ) (left : IsLeft w w.upstream.links links) where
+module _ (w : Gateway) (connections : List Connection) (cache : List LastMessage) (links : List Link) (next : ℕ) (left : IsLeft w w.upstream.links links) where
   abbrev v : Gateway
   v = with_links_left w connections cache links next
 

@@ -1,20 +1,17 @@
 -- What reads are answered.
-use Rattle.std.specs.Prelude.{ℕ, ◌+◌, List, length, Bool, true, false, not, ◌==◌, ◌&&◌, nat_lt, nat_le, is_some, if◌then◌else◌, Option, Some, None, Result, Ok, Err}
+use Rattle.std.specs.Prelude.{ℕ, List, Bool, false, not, ◌==◌, nat_lt, nat_le, is_some, if◌then◌else◌, Option, Some, None}
 use Rattle.std.specs.List.{find}
 use Rattle.ca_message.specs.declared.codes.TheConstants.{ECA_BADTYPE, ECA_BADCOUNT, ECA_TOLARGE, ECA_NORDACCESS}
 use Rattle.channel_table.specs.declared.channels.Channel.{Channel}
-use Rattle.dbr_layout.specs.declared.dbr.Base.{Base}
 use Rattle.dbr_layout.specs.declared.dbr.Dbr.{Dbr}
 use Rattle.dbr_layout.specs.declared.dbr.TheConstants.{MAX_PAYLOAD}
-use Rattle.dbr_layout.specs.declared.fault.LayoutFault.{LayoutFault}
-use Rattle.dbr_layout.specs.Conversion.{conversion_between, given_count}
-use Rattle.dbr_layout.specs.Converted.{written}
+use Rattle.dbr_layout.specs.Conversion.{conversion_between}
 use Rattle.dbr_layout.specs.Dbr.{dbr_of, payload_size}
-use Rattle.dbr_layout.specs.View.{Shown, shown}
 use Rattle.link_table.specs.declared.links.Link.{Link}
 use Rattle.link_table.specs.declared.links.LinkState.{LinkState}
 use Rattle.link_table.specs.declared.links.LinkState.TheVariants.{Creating, Connected, Unusable}
-use Rattle.gateway_state.specs.declared.cached.Cached.{Cached}
+use Rattle.value_cache.specs.Held.{answer, covers}
+use Rattle.gateway_state.specs.declared.cached.LastMessage.{LastMessage}
 use Rattle.gateway_state.specs.declared.reading.Given.{Given}
 use Rattle.gateway_state.specs.declared.reading.Native.{Native}
 use Rattle.gateway_state.specs.declared.reading.Reading.{Reading}
@@ -55,20 +52,15 @@ refusal native rights dtype count =
     else if not (may_read rights) then Some ECA_NORDACCESS
     else None
 
-abbrev pub laid_out : Shown → ℕ → Result (List ℕ) LayoutFault → Option Given
-laid_out view count (Ok payload) =
-    Some (record { count = given_count count (length view.parts.elements); payload = payload })
-laid_out view count (Err fault) = None
+-- what is answered of a last message, as it is given
+abbrev pub given_in : Option (ℕ × List ℕ) → Option Given
+given_in None = None
+given_in (Some (count, payload)) = Some (record { count = count; payload = payload })
 
-abbrev pub shown_as : ℕ → ℕ → Result Shown LayoutFault → Option Given
-shown_as dtype count (Ok view) = laid_out view count (written view dtype count)
-shown_as dtype count (Err fault) = None
-
-abbrev pub cached_as : ℕ → ℕ → ℕ → Option Cached → Option Given
+abbrev pub cached_as : ℕ → ℕ → ℕ → Option LastMessage → Option Given
 cached_as native dtype count None = None
 cached_as native dtype count (Some last) =
-    if nat_le (meant_count native count) last.asked_with then shown_as dtype count (shown last.dtype last.count last.payload)
-    else None
+    if covers (meant_count native count) last.held then given_in (answer dtype count last.held) else None
 
 -- a link's last message, as an asked type and count; nothing where it doesn't cover that count
 abbrev pub cached_value : Gateway → ℕ → ℕ → ℕ → ℕ → Option Given

@@ -1,5 +1,5 @@
 -- What clients' messages do.
-use Rattle.std.specs.Prelude.{ℕ, ◌+◌, List, [], ◌∷◌, ◌++◌, length, filter, max, bit_and, Bool, true, false, not, ◌==◌, ◌||◌, ◌&&◌, nat_lt, nat_le, bytes_eq, is_some, if◌then◌else◌, Option, Some, None, Result, Ok, Err}
+use Rattle.std.specs.Prelude.{ℕ, ◌+◌, List, [], ◌∷◌, ◌++◌, length, filter, max, bit_and, Bool, true, not, ◌==◌, ◌||◌, ◌&&◌, nat_lt, nat_le, is_some, if◌then◌else◌, Option, Some, None, Result, Ok, Err}
 use Rattle.std.specs.List.{find, list_any}
 use Rattle.rows.specs.Rows.{change_first}
 use Rattle.ca_header.specs.declared.header.Header.{Header}
@@ -17,7 +17,7 @@ use Rattle.channel_table.specs.declared.table.TheConstants.{CHANNEL_LIMIT, READ_
 use Rattle.channel_table.specs.Channels.{is_channel, is_not_channel, with_reach_and_rights}
 use Rattle.channel_table.specs.ClientRows.{channel_count, read_count}
 use Rattle.channel_table.specs.Reads.{is_not_read_on}
-use Rattle.channel_table.specs.Sessions.{is_numbered, with_host_and_pause}
+use Rattle.channel_table.specs.Sessions.{is_numbered}
 use Rattle.link_table.specs.declared.links.Link.{Link}
 use Rattle.gateway_state.specs.declared.event.Dest.TheVariants as dests
 use Rattle.gateway_state.specs.declared.limits.TheConstants.{LOWEST_MINOR, SEARCH_LIMIT}

@@ -1,8 +1,8 @@
 -- The gateway state.
-use Rattle.std.specs.Prelude.{ℕ, List, []}
+use Rattle.std.specs.Prelude.{List, []}
 use Rattle.channel_table.specs.ClientRows.{ClientRows}
 use Rattle.link_table.specs.LinkRows.{LinkRows}
-use Rattle.gateway_state.specs.declared.cached.Cached.{Cached}
+use Rattle.gateway_state.specs.declared.cached.LastMessage.{LastMessage}
 use Rattle.gateway_state.specs.declared.config.Config.{Config}
 use Rattle.gateway_state.specs.declared.config.Policy.{Policy}
 use Rattle.gateway_state.specs.declared.fanout.connections.Connection.{Connection}
@@ -15,7 +15,7 @@ pub record Gateway : Type 0 where
   pub connections : List Connection
   pub clients : ClientRows
   pub upstream : LinkRows
-  pub cache : List Cached
+  pub cache : List LastMessage
   pub searches : List Search
 
 -- what it knows before any event: nothing but its configuration, and where its four counters begin

@@ -1,9 +1,7 @@
 -- What the readers of a variable want together.
-use Rattle.std.specs.Prelude.{ℕ, ◌+◌, List, [], ◌∷◌, Bool, true, false, ◌==◌, ◌&&◌, not, nat_lt, nat_le, map, filter, if◌then◌else◌, bit_and, bit_or, max, fold, option_map, Option, Some, None}
+use Rattle.std.specs.Prelude.{ℕ, List, Bool, true, false, ◌==◌, ◌&&◌, nat_lt, nat_le, map, filter, if◌then◌else◌, bit_and, bit_or, max, fold, option_map, Option, Some, None}
 use Rattle.channel_table.specs.declared.channels.Channel.{Channel}
 use Rattle.link_table.specs.declared.links.Link.{Link}
-use Rattle.link_table.specs.declared.links.LinkState.{LinkState}
-use Rattle.link_table.specs.declared.links.LinkState.TheVariants.{Creating, Connected, Unusable}
 use Rattle.link_table.specs.declared.servers.Server.{Server}
 use Rattle.link_table.specs.declared.links.Subscription.{Subscription}
 use Rattle.link_table.specs.Servers.{is_server}

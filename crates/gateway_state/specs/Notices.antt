@@ -1,6 +1,6 @@
 -- What others are owed after an event, in four passes. Each makes its list of notices from the rows
 -- as the pass begins, and then gives them one by one.
-use Rattle.std.specs.Prelude.{ℕ, ◌+◌, List, [], ◌∷◌, ◌++◌, filter, filter_map, flat_map, Bool, true, false, not, ◌==◌, ◌&&◌, if◌then◌else◌, Option, Some, None}
+use Rattle.std.specs.Prelude.{ℕ, ◌+◌, List, [], ◌∷◌, ◌++◌, filter_map, flat_map, not, ◌==◌, if◌then◌else◌, Option, Some, None}
 use Rattle.std.specs.List.{fold}
 use Rattle.rows.specs.Rows.{change_first, remove_first}
 use Rattle.ca_message.specs.declared.codes.TheConstants.{ECA_NORDACCESS}

@@ -1,5 +1,5 @@
 -- What servers' messages do.
-use Rattle.std.specs.Prelude.{ℕ, ◌+◌, List, [], ◌∷◌, ◌++◌, length, filter, Bool, true, false, not, ◌==◌, ◌||◌, ◌&&◌, nat_lt, nat_le, is_some, is_ok, if◌then◌else◌, Option, Some, None, Result, Ok, Err}
+use Rattle.std.specs.Prelude.{ℕ, ◌+◌, List, [], ◌∷◌, ◌++◌, length, filter, Bool, false, ◌==◌, ◌&&◌, nat_lt, nat_le, is_ok, if◌then◌else◌, Option, Some, None, Result, Ok, Err}
 use Rattle.std.specs.List.{find, fold}
 use Rattle.rows.specs.Rows.{change_first, remove_first}
 use Rattle.ca_header.specs.declared.header.Message.{Message}
@@ -17,6 +17,7 @@ use Rattle.dbr_layout.specs.declared.dbr.Dbr.{Dbr}
 use Rattle.dbr_layout.specs.declared.dbr.TheConstants.{MAX_PAYLOAD}
 use Rattle.dbr_layout.specs.Dbr.{dbr_of, payload_size}
 use Rattle.dbr_layout.specs.View.{shown}
+use Rattle.value_cache.specs.Held.{held_after}
 use Rattle.link_table.specs.declared.links.Link.{Link}
 use Rattle.link_table.specs.declared.links.LinkState.{LinkState}
 use Rattle.link_table.specs.declared.links.LinkState.TheVariants.{Creating, Connected, Unusable}
@@ -24,7 +25,7 @@ use Rattle.link_table.specs.declared.links.Subscription.{Subscription}
 use Rattle.link_table.specs.declared.table.TheConstants.{LINK_LIMIT}
 use Rattle.link_table.specs.Links.{is_link, is_not_link, has_subscription, with_state}
 use Rattle.link_table.specs.Servers.{is_server, with_minor}
-use Rattle.gateway_state.specs.declared.cached.Cached.{Cached}
+use Rattle.gateway_state.specs.declared.cached.LastMessage.{LastMessage}
 use Rattle.gateway_state.specs.declared.event.Dest.TheVariants as dests
 use Rattle.gateway_state.specs.declared.interest.TheConstants.{PLAIN_TYPES, TIME_FORM}
 use Rattle.gateway_state.specs.Asked.{acts}
@@ -156,7 +157,7 @@ abbrev pub reads_failed : Gateway → List ℕ → Gateway
 reads_failed w name = fold read_failed w (filter (waits_for w name) w.clients.reads)
 
 -- with a link's last message in place of the one before
-abbrev pub with_cached : Cached → Gateway → Gateway
+abbrev pub with_cached : LastMessage → Gateway → Gateway
 with_cached row w = record w { cache = with_row row w.cache }
 
 -- an update counts as the last message: its type is the native TIME type, it has no more elements than
@@ -168,7 +169,7 @@ is_value native asked_with dtype count payload =
 abbrev pub updated_connected : ℕ → ℕ → ℕ → ℕ → ℕ → ℕ → List ℕ → Gateway → Gateway
 updated_connected server cid native asked_with dtype count payload w =
     if is_value native asked_with dtype count payload
-    then with_cached (record { server = server; cid = cid; dtype = dtype; count = count; payload = payload; asked_with = asked_with }) w
+    then with_cached (record { server = server; cid = cid; held = held_after dtype count payload asked_with }) w
     else w
 
 abbrev pub updated_link : Link → LinkState → Option Subscription → ℕ → ℕ → List ℕ → Gateway → Gateway

@@ -4,37 +4,32 @@ ghost use Rattle.std.specs.List.{find, filter};
 ghost use Rattle.std.specs.Option.{option_copied};
 ghost use Rattle.gateway_state.specs.CachedRows.{is_cached_of, is_cached_elsewhere, is_cached_by_another, with_row};
 
-use bytes::Bytes;
 use std::alloc::{AllocError, Global};
 use std::marker::Model;
+use value_cache::Cached;
 
 /// The last message that a link's subscription brought.
 #[derive(Debug, Drop)]
-pub struct Cached {
+pub struct LastMessage {
     /// The link's server.
     pub server: u32,
     /// The link's CID.
     pub cid: u32,
-    /// The message's type, which is the native TIME type.
-    pub dtype: u16,
-    /// How many elements it has.
-    pub count: u32,
-    pub payload: Bytes,
-    /// How many elements the gateway had asked for.
-    pub asked_with: u32,
+    /// What it says.
+    pub held: Cached,
 }
 
 /// The last messages that are kept, at most one of a link.
 #[derive(Debug, Drop)]
 pub struct Cache {
-    rows: Vec<Cached>,
+    rows: Vec<LastMessage>,
 }
 
 impl Model for Cache {
     ghost use Rattle.std.specs.Prelude.{List};
-    ghost use Rattle.gateway_state.specs.declared.cached.Cached.{Cached};
+    ghost use Rattle.gateway_state.specs.declared.cached.LastMessage.{LastMessage};
 
-    ghost Value = { List Cached };
+    ghost Value = { List LastMessage };
 
     ghost view = { λ c. c.rows.items };
 }
@@ -50,14 +45,14 @@ impl Cache {
     }
 
     /// A link's last message.
-    pub fn get(&self, cid: u32) -> Option<&Cached>
+    pub fn get(&self, cid: u32) -> Option<&LastMessage>
         ensures { option_copied result ≡ find (is_cached_of cid) self.now }
     {
         find(&self.rows, cid)
     }
 
     /// Keeps a message in place of the one that its link had.
-    pub fn put(&mut self, row: Cached) -> Result<(), AllocError>
+    pub fn put(&mut self, row: LastMessage) -> Result<(), AllocError>
         ensures { OnOk result (self.new ≡ with_row row self.old) }
     {
         put(&mut self.rows, row)
@@ -78,13 +73,13 @@ impl Cache {
     }
 }
 
-fn find(rows: &[Cached], cid: u32) -> Option<&Cached>
+fn find(rows: &[LastMessage], cid: u32) -> Option<&LastMessage>
     ensures { option_copied result ≡ find (is_cached_of cid) rows.now }
 {
     rows.iter().find(|row| row.cid == cid)
 }
 
-fn put(rows: &mut Vec<Cached>, row: Cached) -> Result<(), AllocError>
+fn put(rows: &mut Vec<LastMessage>, row: LastMessage) -> Result<(), AllocError>
     ensures { OnOk result (rows.new.items ≡ with_row row rows.old.items) }
 {
     remove(rows, row.cid);
@@ -92,13 +87,13 @@ fn put(rows: &mut Vec<Cached>, row: Cached) -> Result<(), AllocError>
     Ok(())
 }
 
-fn remove(rows: &mut Vec<Cached>, cid: u32)
+fn remove(rows: &mut Vec<LastMessage>, cid: u32)
     ensures { rows.new.items ≡ filter (is_cached_elsewhere cid) rows.old.items }
 {
     rows.retain(|row| row.cid != cid);
 }
 
-fn remove_by(rows: &mut Vec<Cached>, server: u32)
+fn remove_by(rows: &mut Vec<LastMessage>, server: u32)
     ensures { rows.new.items ≡ filter (is_cached_by_another server) rows.old.items }
 {
     rows.retain(|row| row.server != server);

@@ -15,7 +15,7 @@ mod notice;
 mod reading;
 mod search;
 
-pub use cached::{Cache, Cached};
+pub use cached::{Cache, LastMessage};
 pub use config::{Config, LAST_FIRST, Policy};
 pub use event::{Dest, Event};
 pub use interest::{

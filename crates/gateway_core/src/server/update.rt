@@ -9,10 +9,11 @@ use ca_message::ToClient;
 use ca_message::codes::{ECA_GETFAIL, ECA_NORMAL};
 use channel_table::WaitingRead;
 use dbr_layout::View;
-use gateway_state::Cached;
+use gateway_state::LastMessage;
 use link_table::LinkState;
 use pv_name::Name;
 use std::alloc::AllocError;
+use value_cache::Cached;
 
 impl Rows {
     /// Whether a read waits for a variable.
@@ -62,7 +63,7 @@ impl Rows {
     }
 
     /// Keeps a link's last message.
-    fn keep_value(&mut self, row: Cached) -> Result<(), AllocError>
+    fn keep_value(&mut self, row: LastMessage) -> Result<(), AllocError>
         ensures { OnOk result (self.new ≡ with_cached row self.old) }
     {
         self.cache.put(row)
@@ -96,13 +97,12 @@ impl Rows {
         if !is_value(native, subscription.count, dtype, count, &payload) {
             return Ok(());
         }
-        let row = Cached {
+        let mut held = Cached::empty();
+        held.put(dtype, count, payload, subscription.count);
+        let row = LastMessage {
             server: link.server,
             cid: link.cid,
-            dtype,
-            count,
-            payload,
-            asked_with: subscription.count,
+            held,
         };
         self.keep_value(row)
     }

@@ -1,7 +1,12 @@
 -- Elements whose bytes stay are written as they are.
-use Rattle.dbr_layout.proofs.Converting.{map-unchanged}
+use Rattle.dbr_layout.proofs.Converting.{map-unchanged, on_ok, on_ok_items}
+use Rattle.dbr_layout.proofs.Elements.{AreSized-take}
 use Rattle.dbr_layout.proofs.conversion.put_elements.Goals as goal
 
-pub returns-clause-ok : goal.returns-clause-ok
-returns-clause-ok c =
-    rw (map-unchanged c.args.how c.args.view.now.parts.elements, ← c.first-elements.ensures.bytes) c.in_ok-extend_from_slice.ensures.items
+pub returns-in-Unchanged-clause-ok : goal.returns-in-Unchanged-clause-ok
+returns-in-Unchanged-clause-ok c =
+    rw (c.in-Unchanged.is, map-unchanged c.args.view.now.parts.elements, ← c.first.ensures.bytes) (on_ok_items _ _ _ _ c.extend_from_slice.ensures.items)
+
+pub returns-in-Unchanged-clause-sized : goal.returns-in-Unchanged-clause-sized
+returns-in-Unchanged-clause-sized c =
+    rw (c.in-Unchanged.is, map-unchanged c.args.view.now.parts.elements) (on_ok c.extend_from_slice.result _ (AreSized-take _ c.args.count c.args.view.now.parts.elements c.first.ensures.sized))

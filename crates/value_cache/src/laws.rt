@@ -1,0 +1,8 @@
+//! Laws of the definitions that the contracts cite.
+ghost use Rattle.value_cache.specs.Laws.{GivesBack};
+
+/// A message that is held gives itself back under its own type and a count of 0: all of its
+/// elements, with the same alarm and stamp.
+pub fn messages_are_given_back()
+    ensures { GivesBack }
+{}
