@@ -66,19 +66,47 @@ fn play_script<R: Read + Drop, W: Write>(
     let counted = Counted::new(reader, MOST_READS);
     let mut script = BufReader::with_capacity(alloc, PIECE, counted)?;
     let mut player = Player::new(alloc, engine);
+    play_lines(alloc, &mut player, &mut script, writer)
+}
+
+fn play_lines<R: Read + Drop, W: Write>(
+    alloc: Global,
+    player: &mut Player,
+    script: &mut BufReader<Counted<R>>,
+    writer: &mut W,
+) -> Result<(), ReplayFault> {
     let mut line = Vec::new(alloc);
     for number in 1..u64::MAX {
-        line.clear();
-        if script.read_until(b'\n', &mut line)? == 0 {
+        if !next_line(script, &mut line)? {
             return Ok(());
         }
-        match read_line(alloc, line.strip_suffix(b"\n").unwrap_or(&line)) {
-            Ok(command) => player.play(command, writer)?,
-            Err(LineFault::Bad) => return Err(ReplayFault::BadLine(number)),
-            Err(LineFault::OutOfMemory) => return Err(ReplayFault::OutOfMemory),
-        }
+        play_line(alloc, player, number, &line, writer)?;
     }
     Err(ReplayFault::StreamFailed)
+}
+
+/// Reads a script's next line in place of the one before, its end too. False where there is none.
+fn next_line<R: Read + Drop>(
+    script: &mut BufReader<Counted<R>>,
+    line: &mut Vec<u8>,
+) -> Result<bool, ReplayFault> {
+    line.clear();
+    Ok(script.read_until(b'\n', line)? != 0)
+}
+
+/// Performs a line of a script, which has this number. Its end is no part of what it says.
+fn play_line<W: Write>(
+    alloc: Global,
+    player: &mut Player,
+    number: u64,
+    line: &[u8],
+    writer: &mut W,
+) -> Result<(), ReplayFault> {
+    match read_line(alloc, line.strip_suffix(b"\n").unwrap_or(line)) {
+        Ok(command) => player.play(command, writer),
+        Err(LineFault::Bad) => Err(ReplayFault::BadLine(number)),
+        Err(LineFault::OutOfMemory) => Err(ReplayFault::OutOfMemory),
+    }
 }
 
 /// Prints how the script ended, where that is printed, and gives the program's status.

@@ -8,6 +8,7 @@ mod limits;
 mod links;
 mod reads;
 mod servers;
+mod types;
 
 const VERSION: &[u8] = b"s1 000000000000000d0000000000000000\n";
 
@@ -19,121 +20,50 @@ const ECHO_DIGITS: &[u8; 32] = b"00170000000000000000000000000000";
 const COMMAND: usize = 10;
 
 /// A client and a server of version 13 connect.
-const CONNECTED: [(&[u8], &[u8]); 3] = [
-    (
-        b"open s1 10.0.0.5",
-        b"s1 000000000000000d0000000000000000\n",
-    ),
-    (
-        b"open u1",
-        b"u1 000000000000000d0000000000000000\n\
-        u1 001400080000000000000000000000007076676174650000\n\
-        u1 001500080000000000000000000000006777000000000000\n",
-    ),
-    (b"server u1 000000000000000d0000000000000000", b""),
-];
+const CONNECT: &[u8] = b"open s1 10.0.0.5
+> s1 000000000000000d0000000000000000
+open u1
+> u1 000000000000000d0000000000000000
+> u1 001400080000000000000000000000007076676174650000
+> u1 001500080000000000000000000000006777000000000000
+server u1 000000000000000d0000000000000000
+";
 
-/// Then the client wants a channel on T1, which no server has yet.
-const WANTED: [(&[u8], &[u8]); 4] = [
-    (
-        b"open s1 10.0.0.5",
-        b"s1 000000000000000d0000000000000000\n",
-    ),
-    (
-        b"open u1",
-        b"u1 000000000000000d0000000000000000\n\
-        u1 001400080000000000000000000000007076676174650000\n\
-        u1 001500080000000000000000000000006777000000000000\n",
-    ),
-    (b"server u1 000000000000000d0000000000000000", b""),
-    (
-        b"client s1 0012000800000000000000070000000d5431000000000000",
-        b"s1 001a0000000000000000000700000000\n",
-    ),
-];
+/// The client wants a channel on T1, which no server has yet.
+const WANT: &[u8] = b"client s1 0012000800000000000000070000000d5431000000000000
+> s1 001a0000000000000000000700000000
+";
 
-/// Then the server has T1, and is asked for a channel.
-const LINKED: [(&[u8], &[u8]); 5] = [
-    (
-        b"open s1 10.0.0.5",
-        b"s1 000000000000000d0000000000000000\n",
-    ),
-    (
-        b"open u1",
-        b"u1 000000000000000d0000000000000000\n\
-        u1 001400080000000000000000000000007076676174650000\n\
-        u1 001500080000000000000000000000006777000000000000\n",
-    ),
-    (b"server u1 000000000000000d0000000000000000", b""),
-    (
-        b"client s1 0012000800000000000000070000000d5431000000000000",
-        b"s1 001a0000000000000000000700000000\n",
-    ),
-    (
-        b"found T1 u1",
-        b"u1 0012000800000000000000010000000d5431000000000000\n",
-    ),
-];
+/// The server has T1, and is asked for a channel.
+const LINK: &[u8] = b"found T1 u1
+> u1 0012000800000000000000010000000d5431000000000000
+";
 
-/// Then the server makes it, and the client gets its channel.
-const SERVED: [(&[u8], &[u8]); 8] = [
-    (
-        b"open s1 10.0.0.5",
-        b"s1 000000000000000d0000000000000000\n",
-    ),
-    (
-        b"open u1",
-        b"u1 000000000000000d0000000000000000\n\
-        u1 001400080000000000000000000000007076676174650000\n\
-        u1 001500080000000000000000000000006777000000000000\n",
-    ),
-    (b"server u1 000000000000000d0000000000000000", b""),
-    (
-        b"client s1 0012000800000000000000070000000d5431000000000000",
-        b"s1 001a0000000000000000000700000000\n",
-    ),
-    (
-        b"found T1 u1",
-        b"u1 0012000800000000000000010000000d5431000000000000\n",
-    ),
-    (b"server u1 00160000000000000000000100000003", b""),
-    (b"server u1 00120000000500010000000100000065", b""),
-    (
-        b"client s1 0012000800000000000000070000000d5431000000000000",
-        b"s1 00160000000000000000000700000003\n\
-        s1 00120000000500010000000700000001\n",
-    ),
-];
+/// The server makes it, and the client gets its channel.
+const SERVE: &[u8] = b"server u1 00160000000000000000000100000003
+server u1 00120000000500010000000100000065
+client s1 0012000800000000000000070000000d5431000000000000
+> s1 00160000000000000000000700000003
+> s1 00120000000500010000000700000001
+";
 
 /// The same with 20 elements.
-const SERVED20: [(&[u8], &[u8]); 8] = [
-    (
-        b"open s1 10.0.0.5",
-        b"s1 000000000000000d0000000000000000\n",
-    ),
-    (
-        b"open u1",
-        b"u1 000000000000000d0000000000000000\n\
-        u1 001400080000000000000000000000007076676174650000\n\
-        u1 001500080000000000000000000000006777000000000000\n",
-    ),
-    (b"server u1 000000000000000d0000000000000000", b""),
-    (
-        b"client s1 0012000800000000000000070000000d5431000000000000",
-        b"s1 001a0000000000000000000700000000\n",
-    ),
-    (
-        b"found T1 u1",
-        b"u1 0012000800000000000000010000000d5431000000000000\n",
-    ),
-    (b"server u1 00160000000000000000000100000003", b""),
-    (b"server u1 00120000000500140000000100000065", b""),
-    (
-        b"client s1 0012000800000000000000070000000d5431000000000000",
-        b"s1 00160000000000000000000700000003\n\
-        s1 00120000000500140000000700000001\n",
-    ),
-];
+const SERVE20: &[u8] = b"server u1 00160000000000000000000100000003
+server u1 00120000000500140000000100000065
+client s1 0012000800000000000000070000000d5431000000000000
+> s1 00160000000000000000000700000003
+> s1 00120000000500140000000700000001
+";
+
+const CONNECTED: [&[u8]; 1] = [CONNECT];
+
+const WANTED: [&[u8]; 2] = [CONNECT, WANT];
+
+const LINKED: [&[u8]; 3] = [CONNECT, WANT, LINK];
+
+const SERVED: [&[u8]; 4] = [CONNECT, WANT, LINK, SERVE];
+
+const SERVED20: [&[u8]; 4] = [CONNECT, WANT, LINK, SERVE20];
 
 /// The lines, one after another.
 fn joined(alloc: Global, lines: &[&[u8]]) -> Result<Vec<u8>, Fail> {
@@ -163,6 +93,13 @@ fn prints(
     Ok(())
 }
 
+/// Puts a line at the end of the text.
+fn add_line(text: &mut Vec<u8>, line: &[u8]) -> Result<(), Fail> {
+    text.extend_from_slice(line)?;
+    text.push(b'\n')?;
+    Ok(())
+}
+
 /// A script, and what it has to print.
 #[derive(Drop)]
 struct Story {
@@ -171,16 +108,27 @@ struct Story {
 }
 
 impl Story {
-    /// The story of lines, with what each prints.
-    fn of(alloc: Global, steps: &[(&[u8], &[u8])]) -> Result<Story, Fail> {
+    /// The story of texts, one after another.
+    fn of(alloc: Global, texts: &[&[u8]]) -> Result<Story, Fail> {
         let mut story = Story {
             script: Vec::new(alloc),
             output: Vec::new(alloc),
         };
-        for (line, printed) in steps {
-            story.tell(line, printed)?;
+        for text in texts {
+            story.read(text)?;
         }
         Ok(story)
+    }
+
+    /// A text's lines: those of the script as they are, and after each what it prints, behind `> `.
+    fn read(&mut self, text: &[u8]) -> Result<(), Fail> {
+        for line in text.split(|b| *b == b'\n') {
+            match line.strip_prefix(b"> ") {
+                Some(printed) => add_line(&mut self.output, printed)?,
+                None => add_line(&mut self.script, line)?,
+            }
+        }
+        Ok(())
     }
 
     /// One more line, and what it prints.
@@ -199,16 +147,9 @@ impl Story {
 
 /// Asserts that the lines print what stands beside them, and that it makes no difference where the
 /// bytes that connections bring are cut.
-fn tells(
-    rt: &impl Abort,
-    alloc: Global,
-    before: &[(&[u8], &[u8])],
-    steps: &[(&[u8], &[u8])],
-) -> Result<(), Fail> {
+fn tells(rt: &impl Abort, alloc: Global, before: &[&[u8]], text: &[u8]) -> Result<(), Fail> {
     let mut story = Story::of(alloc, before)?;
-    for (line, printed) in steps {
-        story.tell(line, printed)?;
-    }
+    story.read(text)?;
     story.check(rt, alloc)?;
     for place in 1..48 {
         let script = cut(alloc, &story.script, place)?;

@@ -70,6 +70,22 @@ fn answers_a_read_at_once_while_256_wait(rt: HostRuntime) -> Result<(), Fail> {
 }
 
 #[test]
+fn serves_no_more_than_1024_clients(rt: HostRuntime) -> Result<(), Fail> {
+    let alloc = rt.alloc();
+    let mut story = Story::of(alloc, &[])?;
+    for number in 1..1_025u32 {
+        let line = format!(in alloc; "open s{number} h")?;
+        let greeting = format!(in alloc; "s{number} 000000000000000d0000000000000000\n")?;
+        story.tell(line.as_bytes(), greeting.as_bytes())?;
+    }
+    story.tell(b"open s1025 h", b"")?;
+    story.tell(b"client s1025 00170000000000000000000000000000", b"")?;
+    story.tell(b"lost s7", b"")?;
+    story.tell(b"open s1025 h", b"s1025 000000000000000d0000000000000000\n")?;
+    story.check(&rt, alloc)
+}
+
+#[test]
 fn gives_a_client_no_more_than_4096_channels(rt: HostRuntime) -> Result<(), Fail> {
     let alloc = rt.alloc();
     let mut story = Story::of(alloc, &SERVED)?;
@@ -162,12 +178,7 @@ fn ends_a_server_that_never_reads(rt: HostRuntime) -> Result<(), Fail> {
 
 /// Asserts that the lines print what stands beside them on a gateway that has one number of each kind
 /// left, and that it fails then.
-fn fails(
-    rt: &impl Abort,
-    alloc: Global,
-    before: &[(&[u8], &[u8])],
-    steps: &[(&[u8], &[u8])],
-) -> Result<(), Fail> {
+fn fails(rt: &impl Abort, alloc: Global, before: &[&[u8]], rest: &[u8]) -> Result<(), Fail> {
     let config = Config {
         client_name: name(alloc, b"pvgate")?,
         host_name: name(alloc, b"gw")?,
@@ -176,9 +187,7 @@ fn fails(
     };
     let engine = Engine::new(alloc, config, Policy::open_to_all())?;
     let mut story = Story::of(alloc, before)?;
-    for (line, printed) in steps {
-        story.tell(line, printed)?;
-    }
+    story.read(rest)?;
     story.tell(b"asks\nlost s1", b"")?;
     let mut out = Vec::new(alloc);
     let ended = play_script(alloc, engine, story.script.as_slice(), &mut out);
@@ -189,52 +198,35 @@ fn fails(
 
 #[test]
 fn fails_when_its_numbers_are_used_up(rt: HostRuntime) -> Result<(), Fail> {
-    let links: [(&[u8], &[u8]); 3] = [
-        (
-            b"client s1 0012000800000000000000080000000d5432000000000000",
-            b"s1 001a0000000000000000000800000000\n",
-        ),
-        (
-            b"found T1 u1",
-            b"u1 0012000800000000fffffffe0000000d5431000000000000\n",
-        ),
-        (b"found T2 u1", b"failed\n"),
-    ];
-    fails(&rt, rt.alloc(), &WANTED, &links)?;
-    let channels: [(&[u8], &[u8]); 4] = [
-        (
-            b"found T1 u1",
-            b"u1 0012000800000000fffffffe0000000d5431000000000000\n",
-        ),
-        (b"server u1 0012000000050014fffffffe00000065", b""),
-        (
-            b"client s1 0012000800000000000000070000000d5431000000000000",
-            b"s1 00160000000000000000000700000000\n\
-            s1 001200000005001400000007fffffffe\n",
-        ),
-        (
-            b"client s1 0012000800000000000000070000000d5431000000000000",
-            b"failed\n",
-        ),
-    ];
-    fails(&rt, rt.alloc(), &WANTED, &channels)?;
-    let subscriptions: [(&[u8], &[u8]); 6] = [
-        (
-            b"found T1 u1",
-            b"u1 0012000800000000fffffffe0000000d5431000000000000\n",
-        ),
-        (b"server u1 0012000000050014fffffffe00000065", b""),
-        (b"server u1 0016000000000000fffffffe00000001", b""),
-        (
-            b"client s1 0012000800000000000000070000000d5431000000000000",
-            b"s1 00160000000000000000000700000001\n\
-            s1 001200000005001400000007fffffffe\n",
-        ),
-        (
-            b"client s1 000f000000050003fffffffe00000021",
-            b"u1 000100100013000300000065fffffffe00000000000000000000000000050000\n",
-        ),
-        (b"client s1 000f00000005000afffffffe00000022", b"failed\n"),
-    ];
-    fails(&rt, rt.alloc(), &WANTED, &subscriptions)
+    let links = b"client s1 0012000800000000000000080000000d5432000000000000
+> s1 001a0000000000000000000800000000
+found T1 u1
+> u1 0012000800000000fffffffe0000000d5431000000000000
+found T2 u1
+> failed
+";
+    fails(&rt, rt.alloc(), &WANTED, links)?;
+    let channels = b"found T1 u1
+> u1 0012000800000000fffffffe0000000d5431000000000000
+server u1 0012000000050014fffffffe00000065
+client s1 0012000800000000000000070000000d5431000000000000
+> s1 00160000000000000000000700000000
+> s1 001200000005001400000007fffffffe
+client s1 0012000800000000000000070000000d5431000000000000
+> failed
+";
+    fails(&rt, rt.alloc(), &WANTED, channels)?;
+    let subscriptions = b"found T1 u1
+> u1 0012000800000000fffffffe0000000d5431000000000000
+server u1 0012000000050014fffffffe00000065
+server u1 0016000000000000fffffffe00000001
+client s1 0012000800000000000000070000000d5431000000000000
+> s1 00160000000000000000000700000001
+> s1 001200000005001400000007fffffffe
+client s1 000f000000050003fffffffe00000021
+> u1 000100100013000300000065fffffffe00000000000000000000000000050000
+client s1 000f00000005000afffffffe00000022
+> failed
+";
+    fails(&rt, rt.alloc(), &WANTED, subscriptions)
 }
