@@ -7,9 +7,9 @@ use Rattle.ca_message.specs.ErrorText.{text_of}
 use Rattle.ca_message.specs.Padding.{nul_ended}
 use Rattle.ca_message.specs.Wire.{message, IsPayload, IsWholeMessage}
 use Rattle.ca_message.specs.declared.codes.TheConstants.{ECA_NORMAL}
-use Rattle.ca_message.specs.declared.commands.TheConstants.{CA_PROTO_VERSION, CA_PROTO_ERROR, CA_PROTO_CLEAR_CHANNEL, CA_PROTO_READ_NOTIFY, CA_PROTO_CREATE_CHAN, CA_PROTO_ACCESS_RIGHTS, CA_PROTO_CREATE_CH_FAIL, CA_PROTO_SERVER_DISCONN, MINOR_VERSION}
+use Rattle.ca_message.specs.declared.commands.TheConstants.{CA_PROTO_VERSION, CA_PROTO_ERROR, CA_PROTO_EVENT_ADD, CA_PROTO_CLEAR_CHANNEL, CA_PROTO_READ_NOTIFY, CA_PROTO_CREATE_CHAN, CA_PROTO_ACCESS_RIGHTS, CA_PROTO_CREATE_CH_FAIL, CA_PROTO_SERVER_DISCONN, MINOR_VERSION}
 use Rattle.ca_message.specs.declared.to_client.ToClient.{ToClient}
-use Rattle.ca_message.specs.declared.to_client.ToClient.TheVariants.{Version, Echo, Error, ClearChannel, ReadNotify, ReadNotifyRefused, CreateChannel, CreateChannelFail, AccessRights, ServerDisconnect}
+use Rattle.ca_message.specs.declared.to_client.ToClient.TheVariants.{Version, Echo, Error, Update, EventCancelled, ClearChannel, ReadNotify, ReadNotifyRefused, CreateChannel, CreateChannelFail, AccessRights, ServerDisconnect}
 
 -- what an ERROR carries: the header of the refused request, then the text of the code
 abbrev pub error_payload : Header → ℕ → List ℕ
@@ -20,6 +20,8 @@ abbrev pub client_message : ToClient → Message
 client_message Version = message CA_PROTO_VERSION 0 MINOR_VERSION 0 0 []
 client_message (Echo m) = m
 client_message (Error cid code request) = message CA_PROTO_ERROR 0 0 cid code (error_payload request code)
+client_message (Update id dtype count value) = message CA_PROTO_EVENT_ADD dtype count ECA_NORMAL id value
+client_message (EventCancelled sid id dtype count) = message CA_PROTO_EVENT_ADD dtype count sid id []
 client_message (ClearChannel sid cid) = message CA_PROTO_CLEAR_CHANNEL 0 0 sid cid []
 client_message (ReadNotify ioid dtype count value) = message CA_PROTO_READ_NOTIFY dtype count ECA_NORMAL ioid value
 client_message (ReadNotifyRefused ioid dtype count code) = message CA_PROTO_READ_NOTIFY dtype count code ioid []
@@ -37,5 +39,6 @@ client_payload m = (client_message m).payload
 -- the parts that the message is given fit: an echoed message came whole, and a value may be a payload
 abbrev pub HasWholeParts : ToClient → Type 0
 HasWholeParts (Echo m) = IsWholeMessage m
+HasWholeParts (Update id dtype count value) = IsPayload value
 HasWholeParts (ReadNotify ioid dtype count value) = IsPayload value
 HasWholeParts _ = Unit {0}

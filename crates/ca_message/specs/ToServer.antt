@@ -7,12 +7,13 @@ use Rattle.pv_name.specs.Name.{IsName}
 use Rattle.ca_message.specs.Padding.{nul_ended}
 use Rattle.ca_message.specs.Wire.{message}
 use Rattle.ca_message.specs.declared.commands.TheConstants.{CA_PROTO_VERSION, CA_PROTO_EVENT_ADD, CA_PROTO_EVENT_CANCEL, CA_PROTO_CLEAR_CHANNEL, CA_PROTO_CREATE_CHAN, CA_PROTO_CLIENT_NAME, CA_PROTO_HOST_NAME, MINOR_VERSION}
+use Rattle.ca_message.specs.declared.payload.TheConstants.{EVENT_MASK_OFFSET}
 use Rattle.ca_message.specs.declared.to_server.ToServer.{ToServer}
 use Rattle.ca_message.specs.declared.to_server.ToServer.TheVariants.{Version, EventAdd, EventCancel, ClearChannel, CreateChannel, ClientName, HostName}
 
 -- what an EVENT_ADD carries: three obsolete numbers of four bytes each, the mask, and two bytes of padding
 abbrev pub event_payload : ℕ → List ℕ
-event_payload mask = replicate 12 0 ++ to_be_bytes w16 mask ++ replicate 2 0
+event_payload mask = replicate EVENT_MASK_OFFSET 0 ++ to_be_bytes w16 mask ++ replicate 2 0
 
 -- the message on the wire: its command, type, count, p1, p2 and payload
 abbrev pub server_message : ToServer → Message

@@ -15,6 +15,9 @@ pub(crate) const LARGEST_SIZE: u32 = 0xFFFF_FFFF;
 /// How many bytes the payload of an EVENT_ADD request has.
 pub(crate) const EVENT_PAYLOAD_LEN: u32 = 16;
 
+/// Where its mask stands, behind three obsolete numbers of four bytes each.
+pub(crate) const EVENT_MASK_OFFSET: usize = 12;
+
 /// The header of a message without a payload.
 pub(crate) fn header(command: u16, dtype: u16, count: u32, p1: u32, p2: u32) -> Header
     ensures { result ≡ (message command dtype count p1 p2 []).head }

@@ -1,24 +1,46 @@
 //! What a client asks for.
 ghost use Rattle.std.specs.Prelude.{◌≡◌};
-ghost use Rattle.ca_message.specs.ClientRequest.{request_of};
+ghost use Rattle.ca_message.specs.ClientRequest.{event_add_of, request_of};
 
 use crate::commands::{
     CA_PROTO_CLEAR_CHANNEL, CA_PROTO_CLIENT_NAME, CA_PROTO_CREATE_CHAN, CA_PROTO_ECHO,
+    CA_PROTO_EVENT_ADD, CA_PROTO_EVENT_CANCEL, CA_PROTO_EVENTS_OFF, CA_PROTO_EVENTS_ON,
     CA_PROTO_HOST_NAME, CA_PROTO_READ_NOTIFY, CA_PROTO_VERSION,
 };
+use crate::payload::{EVENT_MASK_OFFSET, EVENT_PAYLOAD_LEN};
 use crate::text::{HostText, NameText};
 use ca_header::Header;
 
 /// A message from a client, as it is meant. Its texts are slices of the payload.
 ///
-/// `sid` and `cid` are the server's and the client's ID of a channel, `ioid` is the client's ID of
-/// a request, and `dtype` the number of a DBR type.
+/// `sid` and `cid` are the server's and the client's ID of a channel, `id` is the client's ID of a
+/// subscription, `ioid` its ID of a request, and `dtype` the number of a DBR type.
 #[derive(Debug, PartialEq, Eq, Drop)]
 pub enum ClientRequest<'a> {
     /// The client speaks this minor version of the protocol.
     Version {
         minor: u32,
     },
+    /// The client wants updates of the channel, which it calls `id`: at the events of the mask, in
+    /// this type, of so many elements; 0 stands for all. The mask need not name an event.
+    EventAdd {
+        sid: u32,
+        id: u32,
+        dtype: u16,
+        count: u32,
+        mask: u16,
+    },
+    /// The client gives up its subscription.
+    EventCancel {
+        sid: u32,
+        id: u32,
+        dtype: u16,
+        count: u32,
+    },
+    /// The client wants no updates for now.
+    EventsOff,
+    /// The client wants updates again.
+    EventsOn,
     /// The client gives up its channel.
     ClearChannel {
         sid: u32,
@@ -65,6 +87,15 @@ pub fn read_request<'a>(head: &Header, payload: &'a [u8]) -> Result<ClientReques
 {
     match head.command {
         CA_PROTO_VERSION => Ok(ClientRequest::Version { minor: head.count }),
+        CA_PROTO_EVENT_ADD => read_event_add(head, payload),
+        CA_PROTO_EVENT_CANCEL => Ok(ClientRequest::EventCancel {
+            sid: head.p1,
+            id: head.p2,
+            dtype: head.dtype,
+            count: head.count,
+        }),
+        CA_PROTO_EVENTS_OFF => Ok(ClientRequest::EventsOff),
+        CA_PROTO_EVENTS_ON => Ok(ClientRequest::EventsOn),
         CA_PROTO_CLEAR_CHANNEL => Ok(ClientRequest::ClearChannel {
             sid: head.p1,
             cid: head.p2,
@@ -85,4 +116,20 @@ pub fn read_request<'a>(head: &Header, payload: &'a [u8]) -> Result<ClientReques
         CA_PROTO_ECHO => Ok(ClientRequest::Echo),
         _ => Err(RequestFault::Unknown),
     }
+}
+
+fn read_event_add<'a>(head: &Header, payload: &[u8]) -> Result<ClientRequest<'a>, RequestFault>
+    ensures { result ≡ event_add_of head.now payload.now }
+{
+    if payload.len() < EVENT_PAYLOAD_LEN as usize {
+        return Err(RequestFault::Short);
+    }
+    let mask = [payload[EVENT_MASK_OFFSET], payload[EVENT_MASK_OFFSET + 1]];
+    Ok(ClientRequest::EventAdd {
+        sid: head.p1,
+        id: head.p2,
+        dtype: head.dtype,
+        count: head.count,
+        mask: u16::from_be_bytes(mask),
+    })
 }

@@ -1,13 +1,15 @@
 //! What the gateway says to clients.
 ghost use Rattle.std.specs.Prelude.{◌≡◌, length, IfOk, IsOk};
-ghost use Rattle.ca_message.specs.Wire.{size_field};
+ghost use Rattle.ca_message.specs.Wire.{message, size_field};
+ghost use Rattle.ca_message.specs.declared.codes.TheConstants.{ECA_NORMAL};
 ghost use Rattle.ca_message.specs.ToClient.{client_head, client_payload, error_payload};
 
 use crate::NoMemory;
 use crate::codes::{ECA_NORMAL, error_text};
 use crate::commands::{
     CA_PROTO_ACCESS_RIGHTS, CA_PROTO_CLEAR_CHANNEL, CA_PROTO_CREATE_CH_FAIL, CA_PROTO_CREATE_CHAN,
-    CA_PROTO_ERROR, CA_PROTO_READ_NOTIFY, CA_PROTO_SERVER_DISCONN, CA_PROTO_VERSION, MINOR_VERSION,
+    CA_PROTO_ERROR, CA_PROTO_EVENT_ADD, CA_PROTO_READ_NOTIFY, CA_PROTO_SERVER_DISCONN,
+    CA_PROTO_VERSION, MINOR_VERSION,
 };
 use crate::payload::{header, size_of, size_of_nul_ended, write_nul_ended};
 use bytes::Bytes;
@@ -16,8 +18,8 @@ use std::alloc::Global;
 
 /// A message to a client. Its wire form is its head, written canonically, and then its payload.
 ///
-/// `sid` and `cid` are the gateway's and the client's ID of a channel, `ioid` is the client's ID of
-/// a request, and `dtype` the number of a DBR type.
+/// `sid` and `cid` are the gateway's and the client's ID of a channel, `id` is the client's ID of a
+/// subscription, `ioid` its ID of a request, and `dtype` the number of a DBR type.
 #[derive(Debug, Drop)]
 pub enum ToClient {
     /// The gateway speaks minor version 13 of the protocol.
@@ -30,6 +32,21 @@ pub enum ToClient {
         cid: u32,
         code: u32,
         request: Header,
+    },
+    /// An update of the subscription `id`: a value in this type, of so many elements. Its padding is
+    /// part of it.
+    Update {
+        id: u32,
+        dtype: u16,
+        count: u32,
+        value: Bytes,
+    },
+    /// The client's subscription is given up. Type and count are those that it was asked for with.
+    EventCancelled {
+        sid: u32,
+        id: u32,
+        dtype: u16,
+        count: u32,
     },
     /// The client's channel is given up.
     ClearChannel {
@@ -85,16 +102,26 @@ impl ToClient {
                 size: error_size(request, *code),
                 ..header(CA_PROTO_ERROR, 0, 0, *cid, *code)
             },
+            ToClient::Update {
+                id,
+                dtype,
+                count,
+                value,
+            } => value_header(CA_PROTO_EVENT_ADD, *dtype, *count, *id, value),
+            // An EVENT_CANCEL is answered under the command of an EVENT_ADD.
+            ToClient::EventCancelled {
+                sid,
+                id,
+                dtype,
+                count,
+            } => header(CA_PROTO_EVENT_ADD, *dtype, *count, *sid, *id),
             ToClient::ClearChannel { sid, cid } => header(CA_PROTO_CLEAR_CHANNEL, 0, 0, *sid, *cid),
             ToClient::ReadNotify {
                 ioid,
                 dtype,
                 count,
                 value,
-            } => Header {
-                size: size_of(value),
-                ..header(CA_PROTO_READ_NOTIFY, *dtype, *count, ECA_NORMAL, *ioid)
-            },
+            } => value_header(CA_PROTO_READ_NOTIFY, *dtype, *count, *ioid, value),
             ToClient::ReadNotifyRefused {
                 ioid,
                 dtype,
@@ -116,7 +143,7 @@ impl ToClient {
     }
 
     /// The payload, padded with zero bytes to a multiple of 8. An echo shares the payload of its
-    /// message, and a reply the bytes of its value.
+    /// message, and a reply or an update the bytes of its value.
     pub fn payload(&self, alloc: Global) -> Result<Bytes, NoMemory>
         ensures ok { IfOk result (λ payload. payload ≡ client_payload self.now) }
         // Where there is no payload, no memory is wanted.
@@ -125,8 +152,9 @@ impl ToClient {
         match self {
             ToClient::Echo(message) => message.payload.slice(..),
             ToClient::Error { code, request, .. } => error_payload(alloc, request, *code),
-            ToClient::ReadNotify { value, .. } => value.slice(..),
+            ToClient::Update { value, .. } | ToClient::ReadNotify { value, .. } => value.slice(..),
             ToClient::Version
+            | ToClient::EventCancelled { .. }
             | ToClient::ClearChannel { .. }
             | ToClient::ReadNotifyRefused { .. }
             | ToClient::CreateChannel { .. }
@@ -134,6 +162,16 @@ impl ToClient {
             | ToClient::AccessRights { .. }
             | ToClient::ServerDisconnect { .. } => Ok(Bytes::new()),
         }
+    }
+}
+
+/// The header of a message that brings a value.
+fn value_header(command: u16, dtype: u16, count: u32, id: u32, value: &Bytes) -> Header
+    ensures { result ≡ (message command dtype count ECA_NORMAL id value.now).head }
+{
+    Header {
+        size: size_of(value),
+        ..header(command, dtype, count, ECA_NORMAL, id)
     }
 }
 

@@ -4,14 +4,17 @@ use Rattle.std.specs.List.{list_any, count_by}
 use Rattle.channel_table.specs.declared.channels.Channel.{Channel}
 use Rattle.channel_table.specs.declared.reads.WaitingRead.{WaitingRead}
 use Rattle.channel_table.specs.declared.sessions.Session.{Session}
+use Rattle.channel_table.specs.declared.subs.ClientSub.{ClientSub}
 use Rattle.channel_table.specs.Channels.{is_channel, is_channel_of}
 use Rattle.channel_table.specs.Reads.{is_read_of}
 use Rattle.channel_table.specs.Sessions.{is_numbered}
+use Rattle.channel_table.specs.Subs.{is_sub_of}
 
 -- the rows of clients, each list in the order in which they were added
 pub record ClientRows : Type 0 where
   pub sessions : List Session
   pub channels : List Channel
+  pub subs : List ClientSub
   pub reads : List WaitingRead
 
 -- whether the session stands
@@ -25,6 +28,10 @@ has_channel session sid rows = list_any (is_channel session sid) rows.channels
 -- how many channels of the session stand
 abbrev pub channel_count : ℕ → ClientRows → ℕ
 channel_count session rows = count_by (is_channel_of session) rows.channels
+
+-- how many subscriptions of the session stand
+abbrev pub sub_count : ℕ → ClientRows → ℕ
+sub_count session rows = count_by (is_sub_of session) rows.subs
 
 -- how many reads of the session wait
 abbrev pub read_count : ℕ → ClientRows → ℕ

@@ -2,3 +2,4 @@ pub mod Channels
 pub mod ClientRows
 pub mod Reads
 pub mod Sessions
+pub mod Subs

@@ -4,13 +4,15 @@ ghost use Rattle.std.specs.List.{filter, find};
 ghost use Rattle.std.specs.Option.{option_copied};
 ghost use Rattle.rows.specs.Rows.{change_first, remove_first};
 ghost use Rattle.channel_table.specs.Channels.{is_channel, is_not_channel, is_not_channel_of, with_reach_and_rights};
-ghost use Rattle.channel_table.specs.ClientRows.{has_session, has_channel, channel_count, read_count};
+ghost use Rattle.channel_table.specs.ClientRows.{has_session, has_channel, channel_count, sub_count, read_count};
 ghost use Rattle.channel_table.specs.Reads.{same_read, is_not_read_of, is_not_read_on};
 ghost use Rattle.channel_table.specs.Sessions.{is_numbered, is_not_numbered, with_host_and_pause};
+ghost use Rattle.channel_table.specs.Subs.{is_sub, is_not_sub, is_not_sub_of, is_not_sub_on, with_owed};
 
 use crate::channels::{self, Channel};
 use crate::reads::{self, WaitingRead};
 use crate::sessions::{self, Session};
+use crate::subs::{self, ClientSub};
 use pv_name::Host;
 use std::alloc::{AllocError, Global};
 use std::marker::Model;
@@ -20,6 +22,9 @@ pub const SESSION_LIMIT: usize = 1_024;
 
 /// How many channels of one session stand at most.
 pub const CHANNEL_LIMIT: usize = 4_096;
+
+/// How many subscriptions of one session stand at most.
+pub const SUB_LIMIT: usize = 8_192;
 
 /// How many reads of one session wait at most.
 pub const READ_LIMIT: usize = 256;
@@ -40,6 +45,7 @@ pub enum TableFault {
 pub struct Table {
     sessions: Vec<Session>,
     channels: Vec<Channel>,
+    subs: Vec<ClientSub>,
     reads: Vec<WaitingRead>,
 }
 
@@ -51,6 +57,7 @@ impl Model for Table {
     ghost view = { λ t. record {
       sessions = t.sessions.items;
       channels = t.channels.items;
+      subs = t.subs.items;
       reads = t.reads.items;
     } };
 }
@@ -58,11 +65,12 @@ impl Model for Table {
 impl Table {
     /// No row.
     pub fn new(alloc: Global) -> Table
-        ensures { result ≡ record { sessions = []; channels = []; reads = [] } }
+        ensures { result ≡ record { sessions = []; channels = []; subs = []; reads = [] } }
     {
         Table {
             sessions: Vec::new(alloc),
             channels: Vec::new(alloc),
+            subs: Vec::new(alloc),
             reads: Vec::new(alloc),
         }
     }
@@ -79,6 +87,13 @@ impl Table {
         ensures { result.now ≡ self.now.channels }
     {
         &self.channels
+    }
+
+    /// All subscriptions, in the order in which they were added.
+    pub fn subs(&self) -> &[ClientSub]
+        ensures { result.now ≡ self.now.subs }
+    {
+        &self.subs
     }
 
     /// All waiting reads, in the order in which they were added.
@@ -102,11 +117,25 @@ impl Table {
         channels::find(&self.channels, session, sid)
     }
 
+    /// The session's subscription of this ID.
+    pub fn sub(&self, session: u32, id: u32) -> Option<&ClientSub>
+        ensures { option_copied result ≡ find (is_sub session id) self.now.subs }
+    {
+        subs::find(&self.subs, session, id)
+    }
+
     /// How many channels of the session stand.
     pub fn channel_count(&self, session: u32) -> usize
         ensures { result ≡ channel_count session self.now }
     {
         channels::count(&self.channels, session)
+    }
+
+    /// How many subscriptions of the session stand.
+    pub fn sub_count(&self, session: u32) -> usize
+        ensures { result ≡ sub_count session self.now }
+    {
+        subs::count(&self.subs, session)
     }
 
     /// How many reads of the session wait.
@@ -153,6 +182,31 @@ impl Table {
             return Err(TableFault::Full);
         }
         match self.channels.push(channel) {
+            Ok(()) => Ok(()),
+            Err(_) => Err(TableFault::OutOfMemory),
+        }
+    }
+
+    /// Adds a subscription to the channel that it names. The caller sees to it that none of its ID
+    /// stands in the session.
+    pub fn add_sub(&mut self, sub: ClientSub) -> Result<(), TableFault>
+        ensures ok { OnOk result (self.new ≡ record self.old { subs = self.old.subs ++ sub ∷ [] }) }
+        ensures there { OnOk result (has_channel sub.session sub.sid self.old ≡ true) }
+        ensures room { OnOk result (sub_count sub.session self.old < SUB_LIMIT) }
+        ensures missing { IsErrOf result TableFault.Missing ↔
+            (has_channel sub.session sub.sid self.old ≡ false) }
+        ensures full { IsErrOf result TableFault.Full ↔
+            ((has_channel sub.session sub.sid self.old ≡ true)
+            × (SUB_LIMIT ≤ sub_count sub.session self.old)) }
+        ensures err { OnErr result (self.new ≡ self.old) }
+    {
+        if !channels::stands(&self.channels, sub.session, sub.sid) {
+            return Err(TableFault::Missing);
+        }
+        if subs::count(&self.subs, sub.session) >= SUB_LIMIT {
+            return Err(TableFault::Full);
+        }
+        match self.subs.push(sub) {
             Ok(()) => Ok(()),
             Err(_) => Err(TableFault::OutOfMemory),
         }
@@ -212,28 +266,48 @@ impl Table {
         channels::put(&mut self.channels, session, sid, reach, rights);
     }
 
-    /// Removes a session with its channels and reads.
+    /// Changes a subscription that stands: whether an update is owed.
+    pub fn put_sub(&mut self, session: u32, id: u32, owed: bool)
+        ensures { self.new ≡ record self.old {
+          subs = change_first (is_sub session id) (with_owed owed) self.old.subs;
+        } }
+    {
+        subs::put(&mut self.subs, session, id, owed);
+    }
+
+    /// Removes a session with its channels, subscriptions and reads.
     pub fn remove_session(&mut self, number: u32)
         ensures { self.new ≡ record {
           sessions = filter (is_not_numbered number) self.old.sessions;
           channels = filter (is_not_channel_of number) self.old.channels;
+          subs = filter (is_not_sub_of number) self.old.subs;
           reads = filter (is_not_read_of number) self.old.reads;
         } }
     {
         sessions::remove(&mut self.sessions, number);
         channels::remove_of(&mut self.channels, number);
+        subs::remove_of(&mut self.subs, number);
         reads::remove_of(&mut self.reads, number);
     }
 
-    /// Removes a channel with its reads.
+    /// Removes a channel with its subscriptions and reads.
     pub fn remove_channel(&mut self, session: u32, sid: u32)
         ensures { self.new ≡ record self.old {
           channels = filter (is_not_channel session sid) self.old.channels;
+          subs = filter (is_not_sub_on session sid) self.old.subs;
           reads = filter (is_not_read_on session sid) self.old.reads;
         } }
     {
         channels::remove(&mut self.channels, session, sid);
+        subs::remove_on(&mut self.subs, session, sid);
         reads::remove_on(&mut self.reads, session, sid);
+    }
+
+    /// Removes the session's subscription of this ID.
+    pub fn remove_sub(&mut self, session: u32, id: u32)
+        ensures { self.new ≡ record self.old { subs = filter (is_not_sub session id) self.old.subs } }
+    {
+        subs::remove(&mut self.subs, session, id);
     }
 
     /// Removes a read, the first of those that are equal.

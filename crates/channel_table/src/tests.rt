@@ -1,5 +1,5 @@
 //! Tables that are filled and emptied.
-use crate::{Channel, Session, Table, TableFault, WaitingRead};
+use crate::{Channel, ClientSub, Session, Table, TableFault, WaitingRead};
 use pv_name::{Host, Name, NameFault};
 use std::alloc::Global;
 use std::test::Fail;
@@ -25,6 +25,18 @@ fn channel(alloc: Global, session: u32, sid: u32) -> Result<Channel, NameFault> 
     })
 }
 
+fn sub(session: u32, sid: u32, id: u32) -> ClientSub {
+    ClientSub {
+        session,
+        id,
+        sid,
+        dtype: 20,
+        count: 0,
+        mask: 5,
+        owed: true,
+    }
+}
+
 fn read(session: u32, sid: u32, ioid: u32) -> WaitingRead {
     WaitingRead {
         session,
@@ -35,14 +47,16 @@ fn read(session: u32, sid: u32, ioid: u32) -> WaitingRead {
     }
 }
 
-/// Sessions 1 and 2, of which 1 has channels 11 and 12 and 2 has channel 21, each with a read.
+/// Sessions 1 and 2, of which 1 has channels 11 and 12 and 2 has channel 21, each with a subscription
+/// and a read.
 fn two_clients(alloc: Global) -> Result<Table, Fail> {
     let mut table = Table::new(alloc);
     for number in [1, 2] {
         table.add_session(session(alloc, number)?)?;
     }
-    for (number, sid) in [(1, 11), (1, 12), (2, 21)] {
+    for (number, sid, id) in [(1, 11, 5), (1, 12, 6), (2, 21, 5)] {
         table.add_channel(channel(alloc, number, sid)?)?;
+        table.add_sub(sub(number, sid, id))?;
         table.add_read(read(number, sid, sid))?;
     }
     Ok(table)
@@ -73,6 +87,20 @@ fn a_row_that_is_added_is_found(rt: HostRuntime) -> Result<(), Fail> {
 }
 
 #[test]
+fn a_subscription_that_is_added_is_found(rt: HostRuntime) -> Result<(), Fail> {
+    let table = two_clients(rt.alloc())?;
+    assert_eq!(rt;
+        table.subs(),
+        [sub(1, 11, 5), sub(1, 12, 6), sub(2, 21, 5)].as_slice()
+    );
+    assert_eq!(rt; table.sub(2, 5).map(|row| row.sid), Some(21));
+    assert_eq!(rt; table.sub(2, 6).is_none(), true);
+    assert_eq!(rt; table.sub_count(1), 2);
+    assert_eq!(rt; table.sub_count(3), 0);
+    Ok(())
+}
+
+#[test]
 fn a_row_that_is_put_is_changed(rt: HostRuntime) -> Result<(), Fail> {
     let alloc = rt.alloc();
     let mut table = two_clients(alloc)?;
@@ -96,22 +124,50 @@ fn a_row_that_is_put_is_changed(rt: HostRuntime) -> Result<(), Fail> {
 }
 
 #[test]
-fn a_session_leaves_with_its_channels_and_reads(rt: HostRuntime) -> Result<(), Fail> {
+fn an_update_is_owed_or_not_to_one_subscription(rt: HostRuntime) -> Result<(), Fail> {
+    let mut table = two_clients(rt.alloc())?;
+    table.put_sub(1, 5, false);
+    table.put_sub(1, 6, false);
+    table.put_sub(1, 6, true);
+    table.put_sub(2, 6, false);
+    let mut told = sub(1, 11, 5);
+    told.owed = false;
+    assert_eq!(rt;
+        table.subs(),
+        [told, sub(1, 12, 6), sub(2, 21, 5)].as_slice()
+    );
+    Ok(())
+}
+
+#[test]
+fn a_subscription_leaves_its_session_alone(rt: HostRuntime) -> Result<(), Fail> {
+    let mut table = two_clients(rt.alloc())?;
+    table.remove_sub(1, 5);
+    table.remove_sub(2, 6);
+    assert_eq!(rt; table.subs(), [sub(1, 12, 6), sub(2, 21, 5)].as_slice());
+    assert_eq!(rt; table.reads().len(), 3);
+    Ok(())
+}
+
+#[test]
+fn a_session_leaves_with_all_its_rows(rt: HostRuntime) -> Result<(), Fail> {
     let mut table = two_clients(rt.alloc())?;
     table.remove_session(1);
     assert_eq!(rt; table.session(1).is_none(), true);
     assert_eq!(rt; table.sessions().len(), 1);
     assert_eq!(rt; table.channels().len(), 1);
+    assert_eq!(rt; table.subs(), [sub(2, 21, 5)].as_slice());
     assert_eq!(rt; table.reads(), [read(2, 21, 21)].as_slice());
     Ok(())
 }
 
 #[test]
-fn a_channel_leaves_with_its_reads(rt: HostRuntime) -> Result<(), Fail> {
+fn a_channel_leaves_with_its_subscriptions_and_reads(rt: HostRuntime) -> Result<(), Fail> {
     let mut table = two_clients(rt.alloc())?;
     table.remove_channel(1, 11);
     assert_eq!(rt; table.channel(1, 11).is_none(), true);
     assert_eq!(rt; table.channels().len(), 2);
+    assert_eq!(rt; table.subs(), [sub(1, 12, 6), sub(2, 21, 5)].as_slice());
     assert_eq!(rt;
         table.reads(),
         [read(1, 12, 12), read(2, 21, 21)].as_slice()
@@ -138,6 +194,7 @@ fn a_row_without_its_session_or_channel_is_refused(rt: HostRuntime) -> Result<()
     let mut table = two_clients(alloc)?;
     let refused = table.add_channel(channel(alloc, 3, 31)?);
     assert_eq!(rt; refused, Err(TableFault::Missing));
+    assert_eq!(rt; table.add_sub(sub(2, 11, 1)), Err(TableFault::Missing));
     assert_eq!(rt; table.add_read(read(2, 11, 1)), Err(TableFault::Missing));
     Ok(())
 }
@@ -166,5 +223,17 @@ fn the_row_past_each_limit_is_refused(rt: HostRuntime) -> Result<(), Fail> {
     }
     assert_eq!(rt; table.add_read(read(1, 9, 0)), Err(TableFault::Full));
     assert_eq!(rt; table.add_read(read(2, 4_096, 0)), Ok(()));
+    Ok(())
+}
+
+#[test]
+fn the_subscription_past_the_limit_is_refused(rt: HostRuntime) -> Result<(), Fail> {
+    let mut table = two_clients(rt.alloc())?;
+    for id in 100..8_290 {
+        table.add_sub(sub(1, 11, id))?;
+    }
+    assert_eq!(rt; table.sub_count(1), 8_192);
+    assert_eq!(rt; table.add_sub(sub(1, 12, 7)), Err(TableFault::Full));
+    assert_eq!(rt; table.add_sub(sub(2, 21, 7)), Ok(()));
     Ok(())
 }

@@ -1,6 +1,6 @@
 //! What reads are answered.
 ghost use Rattle.std.specs.Prelude.{◌≡◌, Some, IfOk};
-ghost use Rattle.gateway_state.specs.Answer.{is_type_served, converts_to, fits_payload, meant_count, refusal, cached_as, cached_value, reading, reading_at, reading_on, reading_of, refused_or};
+ghost use Rattle.gateway_state.specs.Answer.{is_type_served, converts_to, fits_payload, meant_count, refusal, value_refusal, cached_as, cached_value, reading, reading_at, reading_on, reading_of, refused_or};
 ghost use Rattle.dbr_layout.specs.Dbr.{dbr_of};
 
 use crate::rights::may_read;
@@ -98,7 +98,8 @@ fn is_type_served(native: Native, dtype: u16) -> bool
     }
 }
 
-fn fits_payload(dtype: u16, count: u32) -> bool
+/// Whether so many elements of a type fit into a payload.
+pub(crate) fn fits_payload(dtype: u16, count: u32) -> bool
     ensures { result ≡ fits_payload (dbr_of dtype) count }
 {
     match Dbr::of(dtype) {
@@ -110,9 +111,9 @@ fn fits_payload(dtype: u16, count: u32) -> bool
     }
 }
 
-/// Why a read of a variable is refused, the first reason that applies.
-pub(crate) fn refusal(native: Native, rights: u32, dtype: u16, count: u32) -> Option<u32>
-    ensures { result ≡ refusal native rights dtype count }
+/// Why a value of a variable can't be had in a type and count, the first reason that applies.
+pub(crate) fn value_refusal(native: Native, dtype: u16, count: u32) -> Option<u32>
+    ensures { result ≡ value_refusal native dtype count }
 {
     if !is_type_served(native, dtype) {
         Some(ECA_BADTYPE)
@@ -120,10 +121,19 @@ pub(crate) fn refusal(native: Native, rights: u32, dtype: u16, count: u32) -> Op
         Some(ECA_BADCOUNT)
     } else if !fits_payload(dtype, meant_count(native.count, count)) {
         Some(ECA_TOLARGE)
-    } else if !may_read(rights) {
-        Some(ECA_NORDACCESS)
     } else {
         None
+    }
+}
+
+/// Why a read of a variable is refused, the first reason that applies.
+pub(crate) fn refusal(native: Native, rights: u32, dtype: u16, count: u32) -> Option<u32>
+    ensures { result ≡ refusal native rights dtype count }
+{
+    match value_refusal(native, dtype, count) {
+        Some(code) => Some(code),
+        None if may_read(rights) => None,
+        None => Some(ECA_NORDACCESS),
     }
 }
 

@@ -14,7 +14,7 @@ ghost use Rattle.gateway_state.specs.Variables.{asks};
 use crate::NoMemory;
 use crate::fault::{Failed, Refusal, StepFault};
 use crate::state::Rows;
-use gateway_state::fanout::Out;
+use fanout::Out;
 use gateway_state::{Config, Dest, Event, Policy, Reading, Sub};
 use pv_name::Name;
 use std::alloc::Global;

@@ -1,13 +1,16 @@
 //! What the readers of a variable want together.
-ghost use Rattle.std.specs.Prelude.{◌≡◌, Some, None, fold};
-ghost use Rattle.gateway_state.specs.Interest.{is_reader, channel_interest, readers, merged_with, asked_for, interest_of, is_for, minor_of, sent_count, subscription_of};
+ghost use Rattle.std.specs.Prelude.{◌≡◌, ◌++◌, Some, map, filter, OnOk, IfOk};
+ghost use Rattle.gateway_state.specs.Interest.{channel_want, interest_of, is_for, is_read_through, is_reader, is_subscriber, minor_of, sent_count, sub_want, subscription_of};
 
+use crate::answer::meant_count;
 use crate::rights::may_read;
 use crate::state::Rows;
-use channel_table::Channel;
-use gateway_state::{ALWAYS_ASKED, Interest, KNOWN_EVENTS, READ_EVENTS, Sub, UPDATE_MINOR};
-use link_table::Subscription;
+use channel_table::{Channel, ClientSub};
+use gateway_state::{READ_EVENTS, Sub, UPDATE_MINOR};
+use link_table::{LinkState, Subscription};
+use mask_merge::{Tally, Want};
 use pv_name::Name;
+use std::alloc::AllocError;
 
 impl Rows {
     fn is_reader(&self, name: &Name, channel: &Channel) -> bool
@@ -16,27 +19,52 @@ impl Rows {
         channel.real == *name && channel.reach > 0 && may_read(self.rights_of(channel))
     }
 
-    /// What the readers want together, before it is put as a server is asked for it.
-    fn merged_readers(&self, name: &Name) -> Option<Interest>
-        ensures { result ≡ fold merged_with None (readers self.now name.now) }
+    fn is_read_through(&self, name: &Name, channel: &Channel) -> bool
+        ensures { result ≡ is_read_through self.now name.now (Some channel.now) }
     {
-        let mut merged = None;
-        for channel in self.clients.channels() {
-            if self.is_reader(name, channel) {
-                merged = Some(merged_with(merged, channel_interest(channel)));
-            }
-        }
-        merged
+        channel.real == *name && may_read(self.rights_of(channel))
     }
 
-    /// What the readers of a variable want together, nothing where there is none.
-    pub(crate) fn interest_of(&self, name: &Name) -> Option<Interest>
-        ensures { result ≡ interest_of self.now name.now }
+    fn is_subscriber(&self, name: &Name, sub: &ClientSub) -> bool
+        ensures { result ≡ is_subscriber self.now name.now sub.now }
     {
-        match self.merged_readers(name) {
-            Some(interest) => Some(asked_for(interest)),
-            None => None,
+        match self.channel_of(sub.session, sub.sid) {
+            Some(channel) => self.is_read_through(name, channel),
+            None => false,
         }
+    }
+
+    fn add_subscribers(&self, tally: &mut Tally, name: &Name, native: u32) -> Result<(), AllocError>
+        ensures { OnOk result (tally.new ≡ tally.old ++ map (sub_want native) (filter (is_subscriber self.now name.now) self.now.clients.subs)) }
+    {
+        for sub in self.clients.subs() {
+            if self.is_subscriber(name, sub) {
+                tally.add(sub.mask, meant_count(native, sub.count))?;
+            }
+        }
+        Ok(())
+    }
+
+    fn add_readers(&self, tally: &mut Tally, name: &Name) -> Result<(), AllocError>
+        ensures { OnOk result (tally.new ≡ tally.old ++ map channel_want (filter (is_reader self.now name.now) self.now.clients.channels)) }
+    {
+        for channel in self.clients.channels() {
+            if self.is_reader(name, channel) {
+                tally.add(READ_EVENTS, channel.reach)?;
+            }
+        }
+        Ok(())
+    }
+
+    /// What the readers of a variable with this native count want together, nothing where there is
+    /// none.
+    pub(crate) fn interest_of(&self, name: &Name, native: u32) -> Result<Option<Want>, AllocError>
+        ensures { IfOk result (λ want. want ≡ interest_of self.now name.now native) }
+    {
+        let mut tally = Tally::new(self.alloc);
+        self.add_subscribers(&mut tally, name, native)?;
+        self.add_readers(&mut tally, name)?;
+        Ok(tally.want())
     }
 
     /// The present subscription of a variable.
@@ -44,6 +72,9 @@ impl Rows {
         ensures { result ≡ subscription_of self.now name.now }
     {
         let link = self.link_of(name)?;
+        let LinkState::Connected { .. } = link.state else {
+            return None;
+        };
         let subscription = link.subscription?;
         Some(Sub {
             id: subscription.id,
@@ -63,43 +94,13 @@ impl Rows {
     }
 }
 
-fn channel_interest(channel: &Channel) -> Interest
-    ensures { result ≡ channel_interest channel.now }
-{
-    Interest {
-        mask: READ_EVENTS,
-        count: channel.reach,
-    }
-}
-
-fn merged_with(so_far: Option<Interest>, one: Interest) -> Interest
-    ensures { Some result ≡ merged_with so_far one }
-{
-    match so_far {
-        None => one,
-        Some(so_far) => Interest {
-            mask: so_far.mask | one.mask,
-            count: so_far.count.max(one.count),
-        },
-    }
-}
-
-fn asked_for(interest: Interest) -> Interest
-    ensures { result ≡ asked_for interest }
-{
-    Interest {
-        mask: interest.mask & KNOWN_EVENTS | ALWAYS_ASKED,
-        count: interest.count,
-    }
-}
-
 /// Whether the subscription is for what is wanted.
-pub(crate) fn is_for(interest: Option<Interest>, subscription: Option<Subscription>) -> bool
-    ensures { result ≡ is_for interest subscription }
+pub(crate) fn is_for(want: Option<Want>, subscription: Option<Subscription>) -> bool
+    ensures { result ≡ is_for want subscription }
 {
-    match (interest, subscription) {
+    match (want, subscription) {
         (None, None) => true,
-        (Some(interest), Some(sub)) => sub.mask == interest.mask && sub.count == interest.count,
+        (Some(want), Some(sub)) => sub.mask == want.mask && sub.count == want.count,
         (None, Some(_)) => false,
         (Some(_), None) => false,
     }

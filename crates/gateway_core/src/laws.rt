@@ -5,11 +5,11 @@ ghost use Rattle.gateway_state.specs.declared.config.Config.{Config};
 ghost use Rattle.gateway_state.specs.declared.config.Policy.{Policy};
 ghost use Rattle.gateway_state.specs.declared.event.Event.{Event};
 ghost use Rattle.gateway_state.specs.Gateway.{Gateway, initial};
-ghost use Rattle.gateway_state.specs.Settled.{AreInOrder, HasLinksApart, IsInUse, IsSettled, IsUpToDate, IsWaiting};
+ghost use Rattle.gateway_state.specs.Settled.{AreInOrder, HasLinksApart, HasSubsApart, IsInUse, IsKeptPosted, IsSettled, IsSubscribedExactly, IsUpToDate, IsWaiting};
 ghost use Rattle.gateway_state.specs.Step.{consequences, run};
 
-/// In every state that a run reaches nobody is owed anything: no pass over channels, links or waiting
-/// reads would tell or change anything.
+/// In every state that a run reaches nobody is owed anything: no pass over channels, links, waiting
+/// reads or subscriptions would tell or change anything.
 pub fn run_is_settled()
     ensures { (config : Config) (policy : Policy) (events : List Event)
         → IsSettled (run (initial config policy) events) }
@@ -39,6 +39,27 @@ pub fn run_leaves_links_in_use()
 pub fn run_leaves_reads_that_wait()
     ensures { (config : Config) (policy : Policy) (events : List Event)
         → let w = run (initial config policy) events in All (IsWaiting w) w.clients.reads }
+{}
+
+/// In every state that a run reaches each variable has a subscription upstream exactly for what its
+/// readers want together, and none where nobody reads it.
+pub fn run_subscribes_exactly()
+    ensures { (config : Config) (policy : Policy) (events : List Event)
+        → IsSubscribedExactly (run (initial config policy) events) }
+{}
+
+/// In every state that a run reaches a client's subscription is owed an update as long as its channel
+/// may not be read; and where one is owed, its session takes none now, the channel may not be read, or
+/// the last message doesn't cover it.
+pub fn run_keeps_clients_posted()
+    ensures { (config : Config) (policy : Policy) (events : List Event)
+        → let w = run (initial config policy) events in All (IsKeptPosted w) w.clients.subs }
+{}
+
+/// In no state that a run reaches has a session two subscriptions under one ID.
+pub fn run_keeps_subscriptions_apart()
+    ensures { (config : Config) (policy : Policy) (events : List Event)
+        → HasSubsApart (run (initial config policy) events) }
 {}
 
 /// In no state that a run reaches has a name two links.

@@ -21,8 +21,8 @@ mod step;
 mod variables;
 
 pub use engine::{AskFault, Engine};
+pub use fanout::Out;
 pub use fault::{Failed, StepFault};
-pub use gateway_state::fanout::Out;
 pub use gateway_state::{Config, Dest, Event, Policy, Reading, Sub};
 
 /// Want of memory, of a call that fails for nothing else.

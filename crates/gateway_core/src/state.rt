@@ -10,8 +10,8 @@ ghost use Rattle.gateway_state.specs.Telling.{outgoing, outgoing_upstream, sent,
 use ca_header::write_head;
 use ca_message::{ToClient, ToServer};
 use channel_table::Table;
-use gateway_state::fanout::{Connections, Out};
-use gateway_state::{Cache, Config, Dest, Policy, Searches};
+use fanout::Out;
+use gateway_state::{Cache, Config, Connections, Dest, Policy, Searches};
 use link_table::Links;
 use std::alloc::{AllocError, Global};
 use std::marker::Model;

@@ -6,7 +6,7 @@ ghost use Rattle.gateway_state.specs.Step.{consequences, step, taken};
 
 use crate::fault::Refusal;
 use crate::state::Rows;
-use gateway_state::fanout::Out;
+use fanout::Out;
 use gateway_state::{Dest, Event};
 
 impl Rows {
@@ -87,14 +87,16 @@ impl Rows {
     }
 
     /// What follows from it for everybody.
-    #[tactic(auto, using(gateway_state::proofs::NumberLemmas::reads_told_past))]
+    #[tactic(auto, using(gateway_state::proofs::NumberLemmas::links_told_past))]
     pub(crate) fn follow(&mut self) -> Result<(), Refusal>
         ensures ok { OnOk result (self.new ≡ consequences self.old) }
         ensures used_up { IsErrOf result Refusal.NumbersUsedUp → is_past_numbers (consequences self.old) ≡ true }
     {
         self.tell_channels()?;
+        self.withhold_updates()?;
         self.tell_links()?;
         self.tell_reads()?;
+        self.tell_updates()?;
         Ok(())
     }
 }

@@ -36,6 +36,9 @@ in_order_kept = record {
     channels = rising_filtered sid_of (is_not_channel_of session) 0 w.upstream.counters.sid w.clients.channels order.channels;
     links = order.links;
   };
+  sub_added = λ sub w free on order. record { channels = order.channels; links = order.links };
+  sub_changed = λ session id owed w order. record { channels = order.channels; links = order.links };
+  sub_removed = λ session id w order. record { channels = order.channels; links = order.links };
   read_added = λ read w there order. record { channels = order.channels; links = order.links };
   read_removed = λ read w order. record { channels = order.channels; links = order.links };
   link_added = λ server name w missing order. record {

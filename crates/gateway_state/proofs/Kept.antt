@@ -1,11 +1,13 @@
 -- What every state of a run has, if each change of rows keeps it.
 use Rattle.std.proofs.Common.{◌≡◌, ℕ, ◌+◌, List, [], ◌∷◌, ◌++◌, Bool, true, false, cond, Option, None, refl}
+use Rattle.std.specs.Prelude.{is_some}
 use Rattle.std.specs.List.{list_any}
 use Rattle.rows.specs.Rows.{change_first}
 use Rattle.ca_message.specs.declared.to_client.ToClient.{ToClient}
 use Rattle.ca_message.specs.declared.to_server.ToServer.{ToServer}
 use Rattle.channel_table.specs.declared.reads.WaitingRead.{WaitingRead}
 use Rattle.channel_table.specs.declared.sessions.Session.{Session}
+use Rattle.channel_table.specs.declared.subs.ClientSub.{ClientSub}
 use Rattle.channel_table.specs.Channels.{is_channel}
 use Rattle.link_table.specs.declared.links.LinkState.{LinkState}
 use Rattle.link_table.specs.declared.links.LinkState.TheVariants.{Creating}
@@ -14,8 +16,8 @@ use Rattle.link_table.specs.declared.servers.Server.{Server}
 use Rattle.gateway_state.specs.declared.cached.LastMessage.{LastMessage}
 use Rattle.gateway_state.specs.declared.event.Dest.{Dest}
 use Rattle.gateway_state.specs.declared.event.Dest.TheVariants as dests
-use Rattle.gateway_state.specs.declared.fanout.connections.Connection.{Connection}
-use Rattle.gateway_state.specs.declared.fanout.outbox.Out.{Out}
+use Rattle.gateway_state.specs.declared.connections.Connection.{Connection}
+use Rattle.fanout.specs.declared.outbox.Out.{Out}
 use Rattle.gateway_state.specs.declared.search.Search.{Search}
 use Rattle.gateway_state.specs.Clients.{with_channel, without_channel}
 use Rattle.gateway_state.specs.Connections.{given, is_to}
@@ -23,7 +25,9 @@ use Rattle.gateway_state.specs.Gateway.{Gateway}
 use Rattle.gateway_state.specs.Notices.{with_reach, with_subscription_of, without_read}
 use Rattle.gateway_state.specs.Servers.{with_link_state, without_link}
 use Rattle.gateway_state.specs.Sessions.{lost, up_lost}
+use Rattle.gateway_state.specs.Subscribing.{sub_of, with_sub, without_sub}
 use Rattle.gateway_state.specs.Telling.{asked, outgoing, outgoing_upstream, sent, told}
+use Rattle.gateway_state.specs.Updates.{owed_to, owed_to_all, with_owed_of}
 use Rattle.gateway_state.specs.Variables.{is_linked}
 
 -- rows that are changed whole
@@ -76,6 +80,10 @@ pub record IsKept (P : Gateway → Type 0) : Type 0 where
   pub channel_changed : (session sid reach rights : ℕ) (w : Gateway) → P w → P (with_reach session sid reach rights w)
   pub channel_removed : (session sid : ℕ) (w : Gateway) → P w → P (without_channel session sid w)
   pub session_removed : (session : ℕ) (w : Gateway) → P w → P (lost w session)
+  pub sub_added : (sub : ClientSub) (w : Gateway) → is_some (sub_of w sub.session sub.id) ≡ false
+      → list_any (is_channel sub.session sub.sid) w.clients.channels ≡ true → P w → P (with_sub sub w)
+  pub sub_changed : (session id : ℕ) (owed : Bool) (w : Gateway) → P w → P (with_owed_of session id owed w)
+  pub sub_removed : (session id : ℕ) (w : Gateway) → P w → P (without_sub session id w)
   pub read_added : (read : WaitingRead) (w : Gateway) → list_any (is_channel read.session read.sid) w.clients.channels ≡ true → P w → P (with_read read w)
   pub read_removed : (read : WaitingRead) (w : Gateway) → P w → P (without_read read w)
   pub link_added : (server : ℕ) (name : List ℕ) (w : Gateway) → is_linked w name ≡ false → P w → P (with_link server name w)
@@ -98,3 +106,7 @@ kept_told P kept number said w holds = kept_sent P kept (dests.Session number) (
 
 pub kept_asked : (P : Gateway → Type 0) → IsKept P → (number : ℕ) (said : ToServer) (w : Gateway) → P w → P (asked number said w)
 kept_asked P kept number said w holds = kept_sent P kept (dests.Upstream number) (outgoing_upstream said) w holds
+
+pub kept_owed_to_all : (P : Gateway → Type 0) → IsKept P → (subs : List ClientSub) (w : Gateway) → P w → P (owed_to_all w subs)
+kept_owed_to_all P kept [] w holds = holds
+kept_owed_to_all P kept (sub ∷ subs) w holds = kept_owed_to_all P kept subs (owed_to w sub) (kept.sub_changed sub.session sub.id true w holds)

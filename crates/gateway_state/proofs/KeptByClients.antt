@@ -1,11 +1,12 @@
 -- What clients say and do keeps what each change of rows keeps.
 use Rattle.std.proofs.Common.{◌≡◌, ℕ, List, [], ◌∷◌, ◌++◌, length, Bool, true, false, cond, eqb, leb, ltb, ◌||◌, Option, Some, None, Ok, Err, Result, refl}
+use Rattle.std.specs.Prelude.{is_some}
 use Rattle.std.specs.List.{find, list_any}
 use Rattle.rows.specs.Rows.{change_first}
 use Rattle.ca_header.specs.declared.header.Header.{Header}
 use Rattle.ca_header.specs.declared.header.Message.{Message}
 use Rattle.ca_message.specs.declared.codes.TheConstants.{ECA_INTERNAL, ECA_BADCHID}
-use Rattle.ca_message.specs.declared.commands.TheConstants.{NO_CHANNEL, CA_PROTO_CREATE_CHAN, CA_PROTO_CLIENT_NAME, CA_PROTO_HOST_NAME}
+use Rattle.ca_message.specs.declared.commands.TheConstants.{NO_CHANNEL, CA_PROTO_CREATE_CHAN, CA_PROTO_CLIENT_NAME, CA_PROTO_EVENT_ADD, CA_PROTO_HOST_NAME}
 use Rattle.ca_message.specs.declared.request.ClientRequest.{ClientRequest}
 use Rattle.ca_message.specs.declared.request.ClientRequest.TheVariants as requests
 use Rattle.ca_message.specs.declared.request.RequestFault.{RequestFault}
@@ -14,6 +15,7 @@ use Rattle.ca_message.specs.ClientRequest.{request_of}
 use Rattle.channel_table.specs.declared.channels.Channel.{Channel}
 use Rattle.channel_table.specs.declared.reads.WaitingRead.{WaitingRead}
 use Rattle.channel_table.specs.declared.sessions.Session.{Session}
+use Rattle.channel_table.specs.declared.subs.ClientSub.{ClientSub}
 use Rattle.channel_table.specs.declared.table.TheConstants.{CHANNEL_LIMIT, SESSION_LIMIT}
 use Rattle.channel_table.specs.Channels.{is_channel}
 use Rattle.channel_table.specs.ClientRows.{channel_count}
@@ -23,17 +25,21 @@ use Rattle.gateway_state.specs.declared.event.Dest.TheVariants.{Session as ToSes
 use Rattle.gateway_state.specs.declared.limits.TheConstants.{LOWEST_MINOR, SEARCH_LIMIT}
 use Rattle.gateway_state.specs.declared.notice.ReadVerdict.{ReadVerdict}
 use Rattle.gateway_state.specs.declared.notice.ReadVerdict.TheVariants.{NoChannel, Ignored, Refused, Accepted}
+use Rattle.gateway_state.specs.declared.notice.SubVerdict.{SubVerdict}
+use Rattle.gateway_state.specs.declared.notice.SubVerdict.TheVariants as SubVerdicts
 use Rattle.gateway_state.specs.declared.reading.Native.{Native}
-use Rattle.gateway_state.specs.Answer.{native_in}
+use Rattle.gateway_state.specs.Answer.{native_in, value_refusal}
 use Rattle.gateway_state.specs.Asked.{stands}
-use Rattle.gateway_state.specs.Clients.{channel_asked, cleared, client_said, created, created_as, created_on, created_on_native, creation_failed, judged, not_connected, read_verdict, remembered, remembered_by, requested, rights_on, unreadable, versioned, with_channel, with_host_fixed, without_channel, verdict_on, fixed, renamed}
+use Rattle.gateway_state.specs.Clients.{channel_asked, cleared, created, created_as, created_on, created_on_native, creation_failed, judged, not_connected, read_verdict, remembered, remembered_by, rights_on, versioned, with_channel, with_host_fixed, without_channel, verdict_on, fixed, renamed}
 use Rattle.gateway_state.specs.Connections.{fresh, is_to, marked_now}
 use Rattle.gateway_state.specs.declared.search.Search.{Search}
 use Rattle.gateway_state.specs.Gateway.{Gateway}
+use Rattle.gateway_state.specs.Requests.{client_said, requested, unreadable}
 use Rattle.gateway_state.specs.Resolution.{resolution}
 use Rattle.gateway_state.specs.Rights.{channel_of, host_of}
 use Rattle.gateway_state.specs.Searches.{same_search}
 use Rattle.gateway_state.specs.Sessions.{opened, with_session}
+use Rattle.gateway_state.specs.Subscribing.{cancelled_on, cid_in, is_on_sid, limit_unless, new_sub, paused_to, sub_judged, sub_of, sub_verdict, sub_verdict_natively, sub_verdict_on, sub_verdict_over, sub_verdict_unless, subscription_limit, subscription_refusal, with_pause, without_sub}
 use Rattle.gateway_state.specs.Telling.{marked, told}
 use Rattle.gateway_state.specs.Variables.{link_of}
 use Rattle.gateway_state.proofs.Kept.{IsKept, kept_either, kept_told, with_connections, with_read, with_searches}
@@ -52,6 +58,35 @@ accepted_on w number sid dtype count reach rights e = by (channel_of w number si
     by : (found : Option Channel) → channel_of w number sid ≡ found → verdict_on w dtype count found ≡ Accepted reach rights → list_any (is_channel number sid) w.clients.channels ≡ true
     by None is e = absurd cc
     by (Some c) is e = found_there (is_channel number sid) w.clients.channels c is
+
+-- a subscription is accepted on a channel that stands, under an ID that is free
+record IsFree (w : Gateway) (sub : ClientSub) : Type 0 where
+  free : is_some (sub_of w sub.session sub.id) ≡ false
+  on : list_any (is_channel sub.session sub.sid) w.clients.channels ≡ true
+
+free_unless : (w : Gateway) (sub : ClientSub) (c : Channel) (native : Native) → sub_verdict_unless c (subscription_refusal w sub native) ≡ SubVerdicts.Accepted → is_some (sub_of w sub.session sub.id) ≡ false
+free_unless w sub c native e = by (is_some (sub_of w sub.session sub.id)) refl e
+  where
+    by : (taken : Bool) → is_some (sub_of w sub.session sub.id) ≡ taken
+        → sub_verdict_unless c (cond taken (Some ECA_INTERNAL) (limit_unless (value_refusal native sub.dtype sub.count) (subscription_limit w sub.session sub.mask))) ≡ SubVerdicts.Accepted
+        → is_some (sub_of w sub.session sub.id) ≡ false
+    by true is e = absurd cc
+    by false is e = is
+
+free_natively : (w : Gateway) (sub : ClientSub) (c : Channel) (native : Option Native) → sub_verdict_natively w sub c native ≡ SubVerdicts.Accepted → is_some (sub_of w sub.session sub.id) ≡ false
+free_natively w sub c None e = absurd cc
+free_natively w sub c (Some native) e = free_unless w sub c native e
+
+free_over : (w : Gateway) (sub : ClientSub) (c : Channel) (link : Option Link) → sub_verdict_over w sub c link ≡ SubVerdicts.Accepted → is_some (sub_of w sub.session sub.id) ≡ false
+free_over w sub c None e = absurd cc
+free_over w sub c (Some link) e = free_natively w sub c (native_in link.state) e
+
+free_on : (w : Gateway) (sub : ClientSub) → sub_verdict w sub ≡ SubVerdicts.Accepted → IsFree w sub
+free_on w sub e = by (channel_of w sub.session sub.sid) refl e
+  where
+    by : (found : Option Channel) → channel_of w sub.session sub.sid ≡ found → sub_verdict_on w sub found ≡ SubVerdicts.Accepted → IsFree w sub
+    by None is e = absurd cc
+    by (Some c) is e = record { free = free_over w sub c (link_of w c.real) e; on = found_there (is_channel sub.session sub.sid) w.clients.channels c is }
 
 module _ (P : Gateway → Type 0) (kept : IsKept P) where
   -- connections that come and go
@@ -126,6 +161,26 @@ module _ (P : Gateway → Type 0) (kept : IsKept P) where
       let read : WaitingRead = record { session = number; sid = sid; dtype = dtype; count = count; ioid = ioid } in
       kept.channel_changed number sid reach rights (with_read read w) (kept.read_added read w (on reach rights refl) holds)
 
+  -- subscriptions
+
+  kept_sub_judged : (sub : ClientSub) (head : Header) (verdict : SubVerdict) (w : Gateway) → (verdict ≡ SubVerdicts.Accepted → IsFree w sub) → P w → P (sub_judged sub head verdict w)
+  kept_sub_judged sub head SubVerdicts.NoChannel w free holds = kept_told P kept sub.session (replies.Error NO_CHANNEL ECA_BADCHID head) w holds
+  kept_sub_judged sub head SubVerdicts.Ignored w free holds = holds
+  kept_sub_judged sub head (SubVerdicts.Refused cid code) w free holds = kept_told P kept sub.session (replies.Error cid code head) w holds
+  kept_sub_judged sub head SubVerdicts.Accepted w free holds = let is = free refl in kept.sub_added sub w is.free is.on holds
+
+  kept_cancelled_on : (number sid id dtype count : ℕ) (head : Header) (found : Option Channel) (w : Gateway) → P w → P (cancelled_on number sid id dtype count head found w)
+  kept_cancelled_on number sid id dtype count head None w holds = kept_told P kept number (replies.Error NO_CHANNEL ECA_BADCHID head) w holds
+  kept_cancelled_on number sid id dtype count head (Some c) w holds =
+      let removed : Gateway = told number (replies.EventCancelled sid id dtype count) (without_sub number id w) in
+      let refused : Gateway = told number (replies.Error c.cid ECA_INTERNAL head) w in
+      kept_either P (is_on_sid sid (sub_of w number id)) removed refused
+      (λ _. kept_told P kept number (replies.EventCancelled sid id dtype count) (without_sub number id w) (kept.sub_removed number id w holds))
+      (kept_told P kept number (replies.Error c.cid ECA_INTERNAL head) w holds)
+
+  kept_paused_to : (number : ℕ) (paused : Bool) (w : Gateway) → P w → P (paused_to number paused w)
+  kept_paused_to number paused w holds = kept.sessions (change_first (is_numbered number) (with_pause paused) w.clients.sessions) w holds
+
   -- what a client says
 
   kept_versioned : (w : Gateway) (number minor : ℕ) → P w → P (versioned w number minor)
@@ -137,13 +192,25 @@ module _ (P : Gateway → Type 0) (kept : IsKept P) where
   kept_unreadable w number head holds =
       let failed : Gateway = creation_failed number head.p1 (with_host_fixed number w) in
       let refused : Gateway = told number (replies.Error NO_CHANNEL ECA_INTERNAL head) w in
+      let cid : ℕ = cid_in (channel_of w number head.p1) in
+      let short : Gateway = told number (replies.Error cid ECA_INTERNAL head) w in
       let ignored : Bool = eqb head.command CA_PROTO_CLIENT_NAME || eqb head.command CA_PROTO_HOST_NAME in
-      kept_either P (eqb head.command CA_PROTO_CREATE_CHAN) failed (cond ignored w refused)
+      let adding : Bool = eqb head.command CA_PROTO_EVENT_ADD in
+      kept_either P (eqb head.command CA_PROTO_CREATE_CHAN) failed (cond ignored w (cond adding short refused))
       (λ _. kept_told P kept number (replies.CreateChannelFail head.p1) (with_host_fixed number w) (kept_with_host_fixed number w holds))
-      (kept_either P ignored w refused (λ _. holds) (kept_told P kept number (replies.Error NO_CHANNEL ECA_INTERNAL head) w holds))
+      (kept_either P ignored w (cond adding short refused) (λ _. holds)
+      (kept_either P adding short refused (λ _. kept_told P kept number (replies.Error cid ECA_INTERNAL head) w holds)
+      (kept_told P kept number (replies.Error NO_CHANNEL ECA_INTERNAL head) w holds)))
 
   kept_requested : (w : Gateway) (number : ℕ) (message : Message) (request : Result ClientRequest RequestFault) → P w → P (requested w number message request)
   kept_requested w number message (Ok (requests.Version minor)) holds = kept_versioned w number minor holds
+  kept_requested w number message (Ok (requests.EventAdd sid id dtype count mask)) holds =
+      let sub : ClientSub = new_sub number sid id dtype count mask in
+      kept_sub_judged sub message.head (sub_verdict w sub) w (free_on w sub) holds
+  kept_requested w number message (Ok (requests.EventCancel sid id dtype count)) holds =
+      kept_cancelled_on number sid id dtype count message.head (channel_of w number sid) w holds
+  kept_requested w number message (Ok requests.EventsOff) holds = kept_paused_to number true w holds
+  kept_requested w number message (Ok requests.EventsOn) holds = kept_paused_to number false w holds
   kept_requested w number message (Ok (requests.ClearChannel sid cid)) holds = kept_cleared number sid cid message.head (channel_of w number sid) w holds
   kept_requested w number message (Ok (requests.ReadNotify sid ioid dtype count)) holds =
       kept_judged number sid ioid dtype count message.head (read_verdict w number sid dtype count) w (accepted_on w number sid dtype count) holds

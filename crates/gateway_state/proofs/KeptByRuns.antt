@@ -1,5 +1,5 @@
 -- What each change of rows keeps, every run keeps.
-use Rattle.std.proofs.Common.{ℕ, ◌+◌, List, [], ◌∷◌, Option, Some, None}
+use Rattle.std.proofs.Common.{ℕ, ◌+◌, List, [], ◌∷◌, Option, Some, None, false}
 use Rattle.std.specs.Prelude.{filter}
 use Rattle.std.specs.List.{fold}
 use Rattle.rows.specs.Rows.{change_first}
@@ -16,16 +16,20 @@ use Rattle.gateway_state.specs.declared.notice.LinkNotice.{LinkNotice}
 use Rattle.gateway_state.specs.declared.notice.LinkNotice.TheVariants.{Cancelled, Unread, Subscribed, Dropped}
 use Rattle.gateway_state.specs.declared.notice.ReadNotice.{ReadNotice}
 use Rattle.gateway_state.specs.declared.notice.ReadNotice.TheVariants.{Refused, Answered}
+use Rattle.gateway_state.specs.declared.notice.UpdateNotice.{UpdateNotice}
 use Rattle.gateway_state.specs.Asked.{acts}
 use Rattle.gateway_state.specs.CachedRows.{is_cached_elsewhere}
-use Rattle.gateway_state.specs.Clients.{client_said, without_channel}
+use Rattle.gateway_state.specs.Clients.{without_channel}
 use Rattle.gateway_state.specs.Connections.{is_to, relieved}
 use Rattle.gateway_state.specs.Direct.{direct_effect}
 use Rattle.gateway_state.specs.Gateway.{Gateway}
-use Rattle.gateway_state.specs.Notices.{channel_notices, channel_told, channels_told, link_notices, link_told, links_told, read_notices, read_told, with_reach, with_subscription_of, without_read}
+use Rattle.gateway_state.specs.Notices.{channel_notices, channel_told, channels_told, link_notices, link_told, links_told, read_notices, read_told, reads_told, with_reach, with_subscription_of, without_read}
+use Rattle.gateway_state.specs.Requests.{client_said}
 use Rattle.gateway_state.specs.Servers.{server_said, without_link}
 use Rattle.gateway_state.specs.Step.{consequences, run, step}
-use Rattle.gateway_state.proofs.Kept.{IsKept, kept_asked, kept_either, kept_told, with_next_subscription}
+use Rattle.gateway_state.specs.Telling.{told}
+use Rattle.gateway_state.specs.Updates.{is_taking, update_notices, update_told, updates_withheld, with_owed_of, withheld}
+use Rattle.gateway_state.proofs.Kept.{IsKept, kept_asked, kept_either, kept_owed_to_all, kept_told, with_next_subscription}
 use Rattle.gateway_state.proofs.KeptByClients.{kept_client_said, kept_opened}
 use Rattle.gateway_state.proofs.KeptByServers.{kept_found, kept_server_said, kept_up_opened}
 
@@ -43,7 +47,7 @@ module _ (P : Gateway → Type 0) (kept : IsKept P) where
   kept_direct_effect w Sweep holds = kept.searches [] w holds
   kept_direct_effect w (Drain dest count) holds = kept.connections (change_first (is_to dest) (relieved count) w.connections) w holds
 
-  -- the three passes
+  -- the passes
 
   kept_channel_told : (w : Gateway) (notice : ChannelNotice) → P w → P (channel_told w notice)
   kept_channel_told w (Disconnected session sid cid) holds =
@@ -62,11 +66,11 @@ module _ (P : Gateway → Type 0) (kept : IsKept P) where
   kept_link_told w (Cancelled server cid sid dtype sub) holds =
       kept_asked P kept server (requests.EventCancel sid sub.id dtype sub.sent) (with_subscription_of server cid None w) (kept.subscription_changed server cid None w holds)
   kept_link_told w (Unread cid) holds = kept.cache (filter (is_cached_elsewhere cid) w.cache) w holds
-  kept_link_told w (Subscribed server cid sid dtype interest sent) holds =
+  kept_link_told w (Subscribed server cid sid dtype want sent) holds =
       let id : ℕ = w.upstream.counters.subscription in
-      let sub : Option Subscription = Some (record { id = id; mask = interest.mask; count = interest.count; sent = sent }) in
+      let sub : Option Subscription = Some (record { id = id; mask = want.mask; count = want.count; sent = sent }) in
       let first : Gateway = with_next_subscription (id + 1) w in
-      kept_asked P kept server (requests.EventAdd sid id dtype sent interest.mask) (with_subscription_of server cid sub first)
+      kept_asked P kept server (requests.EventAdd sid id dtype sent want.mask) (with_subscription_of server cid sub first)
       (kept.subscription_changed server cid sub first (kept.next_subscription (id + 1) w holds))
   kept_link_told w (Dropped server cid Creating) holds = kept.link_removed server cid w holds
   kept_link_told w (Dropped server cid Unusable) holds = kept.link_removed server cid w holds
@@ -76,6 +80,9 @@ module _ (P : Gateway → Type 0) (kept : IsKept P) where
   kept_links : (notices : List LinkNotice) (w : Gateway) → P w → P (fold link_told w notices)
   kept_links [] w holds = holds
   kept_links (notice ∷ notices) w holds = kept_links notices (link_told w notice) (kept_link_told w notice holds)
+
+  pub kept_links_told : (w : Gateway) → P w → P (links_told w)
+  kept_links_told w holds = kept_links (link_notices w) w holds
 
   kept_read_told : (w : Gateway) (notice : ReadNotice) → P w → P (read_told w notice)
   kept_read_told w (Refused read code) holds =
@@ -87,13 +94,30 @@ module _ (P : Gateway → Type 0) (kept : IsKept P) where
   kept_reads [] w holds = holds
   kept_reads (notice ∷ notices) w holds = kept_reads notices (read_told w notice) (kept_read_told w notice holds)
 
+  pub kept_reads_told : (w : Gateway) → P w → P (reads_told w)
+  kept_reads_told w holds = kept_reads (read_notices w) w holds
+
+  pub kept_updates_withheld : (w : Gateway) → P w → P (updates_withheld w)
+  kept_updates_withheld w holds = kept_owed_to_all P kept (withheld w) w holds
+
+  kept_update_told : (w : Gateway) (notice : UpdateNotice) → P w → P (update_told w notice)
+  kept_update_told w notice holds =
+      let served : Gateway = with_owed_of notice.session notice.id false w in
+      kept_either P (is_taking w notice.session) (told notice.session (replies.Update notice.id notice.dtype notice.count notice.payload) served) w
+      (λ _. kept_told P kept notice.session (replies.Update notice.id notice.dtype notice.count notice.payload) served (kept.sub_changed notice.session notice.id false w holds))
+      holds
+
+  kept_updates : (notices : List UpdateNotice) (w : Gateway) → P w → P (fold update_told w notices)
+  kept_updates [] w holds = holds
+  kept_updates (notice ∷ notices) w holds = kept_updates notices (update_told w notice) (kept_update_told w notice holds)
+
   -- steps and runs
 
   kept_consequences : (w : Gateway) → P w → P (consequences w)
   kept_consequences w holds =
-      let first : Gateway = channels_told w in
-      let second : Gateway = links_told first in
-      kept_reads (read_notices second) second (kept_links (link_notices first) first (kept_channels_told w holds))
+      let first : Gateway = updates_withheld (channels_told w) in
+      let second : Gateway = reads_told (links_told first) in
+      kept_updates (update_notices second) second (kept_reads_told (links_told first) (kept_links_told first (kept_updates_withheld (channels_told w) (kept_channels_told w holds))))
 
   pub kept_step : (w : Gateway) (event : Event) → P w → P (step w event)
   unfolding step

@@ -1,5 +1,5 @@
 -- What servers say and do keeps what each change of rows keeps.
-use Rattle.std.proofs.Common.{◌≡◌, ℕ, List, [], ◌∷◌, ◌++◌, length, false, eqb, leb, ltb, not, ◌||◌, ◌&&◌, Option, Some, None, Ok, Err, Result}
+use Rattle.std.proofs.Common.{◌≡◌, ℕ, List, [], ◌∷◌, ◌++◌, length, Bool, false, eqb, leb, ltb, not, ◌||◌, ◌&&◌, Option, Some, None, Ok, Err, Result}
 use Rattle.std.specs.Prelude.{filter}
 use Rattle.std.specs.List.{find, fold}
 use Rattle.rows.specs.Rows.{change_first}
@@ -23,7 +23,7 @@ use Rattle.gateway_state.specs.declared.cached.LastMessage.{LastMessage}
 use Rattle.gateway_state.specs.declared.event.Dest.TheVariants.{Upstream}
 use Rattle.gateway_state.specs.Asked.{acts, stands}
 use Rattle.gateway_state.specs.Gateway.{Gateway}
-use Rattle.gateway_state.specs.Servers.{answered_creating, created_for, failed_for, found, gone_for, is_usable, is_value, linked, read_failed, reads_failed, replied, rights_given, server_said, updated_by, updated_link, waits_for, with_cached, with_link_state, without_link}
+use Rattle.gateway_state.specs.Servers.{answered_creating, concerned_owed, created_for, failed_for, found, gone_for, has_other_alarm, is_usable, is_value, linked, read_failed, reads_failed, replied, rights_given, server_said, updated_by, updated_link, waits_for, with_cached, with_link_state, without_link}
 use Rattle.gateway_state.specs.Sessions.{introduced, up_opened, with_server}
 use Rattle.gateway_state.specs.CachedRows.{with_row}
 use Rattle.gateway_state.specs.Connections.{fresh}
@@ -32,8 +32,9 @@ use Rattle.link_table.specs.declared.servers.Server.{Server}
 use Rattle.link_table.specs.Servers.{is_server, with_minor}
 use Rattle.std.proofs.lemmas.Bool.{and_parts, not-true}
 use Rattle.gateway_state.specs.Telling.{asked}
+use Rattle.gateway_state.specs.Updates.{concerned}
 use Rattle.gateway_state.specs.Variables.{is_creating, is_linked, is_missing, is_wanted}
-use Rattle.gateway_state.proofs.Kept.{IsKept, kept_asked, kept_either, kept_told, with_connections, with_link}
+use Rattle.gateway_state.proofs.Kept.{IsKept, kept_asked, kept_either, kept_owed_to_all, kept_told, with_connections, with_link}
 
 module _ (P : Gateway → Type 0) (kept : IsKept P) where
   -- connections that come and go, and new links
@@ -105,7 +106,10 @@ module _ (P : Gateway → Type 0) (kept : IsKept P) where
   kept_updated_link : (link : Link) (state : LinkState) (sub : Option Subscription) (dtype count : ℕ) (payload : List ℕ) (w : Gateway) → P w → P (updated_link link state sub dtype count payload w)
   kept_updated_link link (Connected sid native native_count) (Some sub) dtype count payload w holds =
       let row : LastMessage = record { server = link.server; cid = link.cid; held = held_after dtype count payload sub.count } in
-      kept_either P (is_value native sub.count dtype count payload) (with_cached row w) w (λ _. kept.cache (with_row row w.cache) w holds) holds
+      let differs : Bool = has_other_alarm w link.cid dtype count payload in
+      let owed : Gateway = concerned_owed link.name differs w in
+      kept_either P (is_value native sub.count dtype count payload) (with_cached row owed) w
+      (λ _. kept.cache (with_row row owed.cache) owed (kept_owed_to_all P kept (concerned w link.name differs) w holds)) holds
   kept_updated_link link (Connected sid native native_count) None dtype count payload w holds = holds
   kept_updated_link link Creating sub dtype count payload w holds = holds
   kept_updated_link link Unusable sub dtype count payload w holds = holds

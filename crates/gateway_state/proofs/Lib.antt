@@ -3,6 +3,7 @@ pub mod Kept
 pub mod KeptByClients
 pub mod KeptByRuns
 pub mod KeptByServers
+pub mod LinkNotices
 pub mod LinksApart
 pub mod NumberLemmas
 pub mod ReadsOnChannels
@@ -13,3 +14,7 @@ pub mod SettledMeaning
 pub mod SettledReads
 pub mod SettledRuns
 pub mod SettledSteps
+pub mod SettledSubs
+pub mod SettledUpdates
+pub mod SettledWithheld
+pub mod SubsApart

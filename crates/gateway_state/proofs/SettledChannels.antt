@@ -6,8 +6,9 @@ use Rattle.std.proofs.lemmas.Bool.{and_from, and_right, ne_eqb, eq-eqb}
 use Rattle.rows.specs.Rows.{change_first}
 use Rattle.channel_table.specs.declared.channels.Channel.{Channel}
 use Rattle.channel_table.specs.declared.reads.WaitingRead.{WaitingRead}
+use Rattle.channel_table.specs.declared.subs.ClientSub.{ClientSub}
 use Rattle.channel_table.specs.Channels.{is_channel, is_not_channel, with_reach_and_rights}
-use Rattle.gateway_state.specs.declared.fanout.connections.Connection.{Connection}
+use Rattle.gateway_state.specs.declared.connections.Connection.{Connection}
 use Rattle.gateway_state.specs.declared.notice.ChannelNotice.{ChannelNotice}
 use Rattle.gateway_state.specs.declared.notice.ChannelNotice.TheVariants.{Disconnected, RightsChanged}
 use Rattle.gateway_state.specs.Gateway.{Gateway}
@@ -23,14 +24,14 @@ left_by rows (Disconnected session sid cid) = filter (is_not_channel session sid
 left_by rows (RightsChanged session sid cid reach rights) = change_first (is_channel session sid) (with_reach_and_rights reach rights) rows
 
 -- a state with other channels, and what goes with them
-abbrev with_channels : Gateway → List Connection → List Channel → List WaitingRead → Gateway
-with_channels w connections channels reads =
-    record w { connections = connections; clients = record w.clients { channels = channels; reads = reads } }
+abbrev with_channels : Gateway → List Connection → List Channel → List ClientSub → List WaitingRead → Gateway
+with_channels w connections channels subs reads =
+    record w { connections = connections; clients = record w.clients { channels = channels; subs = subs; reads = reads } }
 
 -- notices on channels change nothing else
 channels_changed : (notices : List ChannelNotice) (w : Gateway)
     → fold channel_told w notices
-    ≡ with_channels w (fold channel_told w notices).connections (fold left_by w.clients.channels notices) (fold channel_told w notices).clients.reads
+    ≡ with_channels w (fold channel_told w notices).connections (fold left_by w.clients.channels notices) (fold channel_told w notices).clients.subs (fold channel_told w notices).clients.reads
 unfolding sent
 channels_changed [] w = refl
 channels_changed (Disconnected session sid cid ∷ notices) w = channels_changed notices (channel_told w (Disconnected session sid cid))

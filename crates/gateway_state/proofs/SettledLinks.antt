@@ -12,10 +12,10 @@ use Rattle.link_table.specs.declared.links.LinkState.{LinkState}
 use Rattle.link_table.specs.declared.links.LinkState.TheVariants.{Creating, Connected, Unusable}
 use Rattle.link_table.specs.declared.links.Subscription.{Subscription}
 use Rattle.link_table.specs.LinkRows.{LinkRows}
+use Rattle.mask_merge.specs.declared.want.Want.{Want}
 use Rattle.link_table.specs.Links.{is_link, is_named, is_not_link, with_subscription}
 use Rattle.gateway_state.specs.declared.cached.LastMessage.{LastMessage}
-use Rattle.gateway_state.specs.declared.fanout.connections.Connection.{Connection}
-use Rattle.gateway_state.specs.declared.interest.Interest.{Interest}
+use Rattle.gateway_state.specs.declared.connections.Connection.{Connection}
 use Rattle.gateway_state.specs.declared.notice.LinkNotice.{LinkNotice}
 use Rattle.gateway_state.specs.declared.notice.LinkNotice.TheVariants.{Cancelled, Unread, Subscribed, Dropped}
 use Rattle.gateway_state.specs.Gateway.{Gateway}
@@ -32,8 +32,8 @@ abbrev left_by : LinkRows → LinkNotice → LinkRows
 left_by rows (Cancelled server cid sid dtype sub) =
     record rows { links = change_first (is_link server cid) (with_subscription None) rows.links }
 left_by rows (Unread cid) = rows
-left_by rows (Subscribed server cid sid dtype interest sent) = record rows {
-  links = change_first (is_link server cid) (with_subscription (Some (record { id = rows.counters.subscription; mask = interest.mask; count = interest.count; sent = sent }))) rows.links;
+left_by rows (Subscribed server cid sid dtype want sent) = record rows {
+  links = change_first (is_link server cid) (with_subscription (Some (record { id = rows.counters.subscription; mask = want.mask; count = want.count; sent = sent }))) rows.links;
   counters = record rows.counters { subscription = rows.counters.subscription + 1 };
 }
 left_by rows (Dropped server cid state) = record rows { links = filter (is_not_link server cid) rows.links }
@@ -51,8 +51,8 @@ unfolding sent
 links_changed [] w = refl
 links_changed (Cancelled server cid sid dtype sub ∷ notices) w = links_changed notices (link_told w (Cancelled server cid sid dtype sub))
 links_changed (Unread cid ∷ notices) w = links_changed notices (link_told w (Unread cid))
-links_changed (Subscribed server cid sid dtype interest sent ∷ notices) w =
-    links_changed notices (link_told w (Subscribed server cid sid dtype interest sent))
+links_changed (Subscribed server cid sid dtype want sent ∷ notices) w =
+    links_changed notices (link_told w (Subscribed server cid sid dtype want sent))
 links_changed (Dropped server cid Creating ∷ notices) w = links_changed notices (link_told w (Dropped server cid Creating))
 links_changed (Dropped server cid Unusable ∷ notices) w = links_changed notices (link_told w (Dropped server cid Unusable))
 links_changed (Dropped server cid (Connected sid dtype native) ∷ notices) w =
@@ -67,13 +67,13 @@ in_front link rows = record rows { links = link ∷ rows.links }
 abbrev concerns : Link → LinkNotice → Bool
 concerns link (Cancelled server cid sid dtype sub) = is_link server cid link
 concerns link (Unread cid) = false
-concerns link (Subscribed server cid sid dtype interest sent) = is_link server cid link
+concerns link (Subscribed server cid sid dtype want sent) = is_link server cid link
 concerns link (Dropped server cid state) = is_link server cid link
 
 passed_by : (link : Link) (rows : LinkRows) (notice : LinkNotice) → concerns link notice ≡ false → left_by (in_front link rows) notice ≡ in_front link (left_by rows notice)
 passed_by link rows (Cancelled server cid sid dtype sub) other = rw other refl
 passed_by link rows (Unread cid) other = refl
-passed_by link rows (Subscribed server cid sid dtype interest sent) other = rw other refl
+passed_by link rows (Subscribed server cid sid dtype want sent) other = rw other refl
 passed_by link rows (Dropped server cid state) other = rw other refl
 
 -- notices that don't concern the first link leave it as it is
@@ -99,19 +99,19 @@ cancelled-other : (link row : Link) (sid dtype : ℕ) (sub : Option Subscription
 cancelled-other link row sid dtype None other = refl
 cancelled-other link row sid dtype (Some sub) other = rw other refl
 
-subscribed-other : (link row : Link) (minor sid dtype native : ℕ) (interest : Option Interest) → is_link row.server row.cid link ≡ false → list_any (concerns link) (subscribed minor row sid dtype native interest) ≡ false
+subscribed-other : (link row : Link) (minor sid dtype native : ℕ) (want : Option Want) → is_link row.server row.cid link ≡ false → list_any (concerns link) (subscribed minor row sid dtype native want) ≡ false
 subscribed-other link row minor sid dtype native None other = refl
-subscribed-other link row minor sid dtype native (Some interest) other = rw other refl
+subscribed-other link row minor sid dtype native (Some want) other = rw other refl
 
 interest_notices-other : (w : Gateway) (link row : Link) (state : LinkState) → is_link row.server row.cid link ≡ false → list_any (concerns link) (interest_notices w row state) ≡ false
 interest_notices-other w link row Creating other = refl
 interest_notices-other w link row Unusable other = refl
-interest_notices-other w link row (Connected sid dtype native) other = by (is_for (interest_of w row.name) row.subscription)
+interest_notices-other w link row (Connected sid dtype native) other = by (is_for (interest_of w row.name native) row.subscription)
   where
-    by : (met : Bool) → list_any (concerns link) (cond met [] (cancelled row sid dtype row.subscription ++ subscribed (minor_of w row.server) row sid dtype native (interest_of w row.name))) ≡ false
+    by : (met : Bool) → list_any (concerns link) (cond met [] (cancelled row sid dtype row.subscription ++ subscribed (minor_of w row.server) row sid dtype native (interest_of w row.name native))) ≡ false
     by true = refl
     by false =
-        rw (list_any-append, cancelled-other link row sid dtype row.subscription other) (subscribed-other link row (minor_of w row.server) sid dtype native (interest_of w row.name) other)
+        rw (list_any-append, cancelled-other link row sid dtype row.subscription other) (subscribed-other link row (minor_of w row.server) sid dtype native (interest_of w row.name native) other)
 
 link_notices_of-other : (w : Gateway) (link row : Link) → is_link row.server row.cid link ≡ false → list_any (concerns link) (link_notices_of w row) ≡ false
 link_notices_of-other w link row other = by (is_wanted w row.name)
@@ -142,31 +142,31 @@ record IsMet (w : Gateway) (link : Link) (state : LinkState) (rows : LinkRows) (
 interest_met : (w : Gateway) (link : Link) (rows : LinkRows) (state : LinkState) → IsMet w link state rows (interest_notices w link state)
 interest_met w link rows Creating = record { sub = link.subscription; next = rows.counters.subscription; gives = refl; quiet = refl }
 interest_met w link rows Unusable = record { sub = link.subscription; next = rows.counters.subscription; gives = refl; quiet = refl }
-interest_met w link rows (Connected sid dtype native) = by (is_for (interest_of w link.name) link.subscription) refl
+interest_met w link rows (Connected sid dtype native) = by (is_for (interest_of w link.name native) link.subscription) refl
   where
-    anew : (sub : Option Subscription) (interest : Option Interest) → link.subscription ≡ sub → interest_of w link.name ≡ interest → is_for interest sub ≡ false
-        → IsMet w link (Connected sid dtype native) rows (cancelled link sid dtype sub ++ subscribed (minor_of w link.server) link sid dtype native interest)
-    anew None None is_sub is_interest differs = absurd (true≢false differs)
-    anew (Some sub) None is_sub is_interest differs =
-        record { sub = None; next = rows.counters.subscription; gives = rw (itself link) refl; quiet = rw is_interest refl }
-    anew None (Some interest) is_sub is_interest differs = record {
-      sub = Some (record { id = rows.counters.subscription; mask = interest.mask; count = interest.count; sent = sent_count (minor_of w link.server) native interest.count });
+    anew : (sub : Option Subscription) (want : Option Want) → link.subscription ≡ sub → interest_of w link.name native ≡ want → is_for want sub ≡ false
+        → IsMet w link (Connected sid dtype native) rows (cancelled link sid dtype sub ++ subscribed (minor_of w link.server) link sid dtype native want)
+    anew None None is_sub is_want differs = absurd (true≢false differs)
+    anew (Some sub) None is_sub is_want differs =
+        record { sub = None; next = rows.counters.subscription; gives = rw (itself link) refl; quiet = rw is_want refl }
+    anew None (Some want) is_sub is_want differs = record {
+      sub = Some (record { id = rows.counters.subscription; mask = want.mask; count = want.count; sent = sent_count (minor_of w link.server) native want.count });
       next = rows.counters.subscription + 1;
       gives = rw (itself link) refl;
-      quiet = rw (is_interest, eq-eqb interest.mask interest.mask refl, eq-eqb interest.count interest.count refl) refl;
+      quiet = rw (is_want, eq-eqb want.mask want.mask refl, eq-eqb want.count want.count refl) refl;
     }
-    anew (Some sub) (Some interest) is_sub is_interest differs = record {
-      sub = Some (record { id = rows.counters.subscription; mask = interest.mask; count = interest.count; sent = sent_count (minor_of w link.server) native interest.count });
+    anew (Some sub) (Some want) is_sub is_want differs = record {
+      sub = Some (record { id = rows.counters.subscription; mask = want.mask; count = want.count; sent = sent_count (minor_of w link.server) native want.count });
       next = rows.counters.subscription + 1;
       gives = rw (itself link, itself link) refl;
-      quiet = rw (is_interest, eq-eqb interest.mask interest.mask refl, eq-eqb interest.count interest.count refl) refl;
+      quiet = rw (is_want, eq-eqb want.mask want.mask refl, eq-eqb want.count want.count refl) refl;
     }
 
-    by : (met : Bool) → is_for (interest_of w link.name) link.subscription ≡ met
+    by : (met : Bool) → is_for (interest_of w link.name native) link.subscription ≡ met
         → IsMet w link (Connected sid dtype native) rows
-        (cond met [] (cancelled link sid dtype link.subscription ++ subscribed (minor_of w link.server) link sid dtype native (interest_of w link.name)))
+        (cond met [] (cancelled link sid dtype link.subscription ++ subscribed (minor_of w link.server) link sid dtype native (interest_of w link.name native)))
     by true met = record { sub = link.subscription; next = rows.counters.subscription; gives = refl; quiet = rw met refl }
-    by false met = anew link.subscription (interest_of w link.name) refl refl met
+    by false met = anew link.subscription (interest_of w link.name native) refl refl met
 
 -- ---- all links
 
@@ -277,7 +277,7 @@ rows_changed : (notices : List LinkNotice) (rows : LinkRows)
 rows_changed [] rows = refl
 rows_changed (Cancelled server cid sid dtype sub ∷ notices) rows = rows_changed notices (left_by rows (Cancelled server cid sid dtype sub))
 rows_changed (Unread cid ∷ notices) rows = rows_changed notices rows
-rows_changed (Subscribed server cid sid dtype interest sent ∷ notices) rows = rows_changed notices (left_by rows (Subscribed server cid sid dtype interest sent))
+rows_changed (Subscribed server cid sid dtype want sent ∷ notices) rows = rows_changed notices (left_by rows (Subscribed server cid sid dtype want sent))
 rows_changed (Dropped server cid state ∷ notices) rows = rows_changed notices (left_by rows (Dropped server cid state))
 
 -- the pass gives such a state, whose links are those left

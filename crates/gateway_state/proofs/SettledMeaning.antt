@@ -12,7 +12,7 @@ use Rattle.link_table.specs.declared.links.Link.{Link}
 use Rattle.link_table.specs.declared.links.LinkState.{LinkState}
 use Rattle.link_table.specs.declared.links.LinkState.TheVariants.{Creating, Connected, Unusable}
 use Rattle.link_table.specs.declared.links.Subscription.{Subscription}
-use Rattle.gateway_state.specs.declared.interest.Interest.{Interest}
+use Rattle.mask_merge.specs.declared.want.Want.{Want}
 use Rattle.gateway_state.specs.declared.notice.LinkNotice.{LinkNotice}
 use Rattle.gateway_state.specs.declared.notice.LinkNotice.TheVariants.{Dropped}
 use Rattle.gateway_state.specs.declared.notice.ReadNotice.TheVariants.{Refused}
@@ -23,13 +23,13 @@ use Rattle.gateway_state.specs.Gateway.{Gateway}
 use Rattle.gateway_state.specs.Interest.{interest_of, is_for, minor_of}
 use Rattle.gateway_state.specs.Notices.{answered_by, answered_natively, answered_over, cancelled, channel_notice, interest_notices, link_notices_of, notice_on, read_notice, subscribed}
 use Rattle.gateway_state.specs.Rights.{channel_of, is_served, link_connected, may_read, rights_of}
-use Rattle.gateway_state.specs.Settled.{HasReadsOnChannels, IsInUse, IsSettled, IsUpToDate, IsWaiting, interest_in, is_on_channel}
+use Rattle.gateway_state.specs.Settled.{HasReadsOnChannels, IsInUse, IsSettled, IsUpToDate, IsWaiting, want_in, is_on_channel, native_count_in}
 use Rattle.gateway_state.specs.Variables.{is_connected, is_wanted, link_of}
 use Rattle.gateway_state.proofs.SettledChannels.{notice_by}
 
 -- ---- lists of notices that are empty
 
-none_told : {A B : Type 0} (notice : A → Option B) (rows : List A) → filter_map notice rows ≡ [] → All (λ (row : A). notice row ≡ None) rows
+pub none_told : {A B : Type 0} (notice : A → Option B) (rows : List A) → filter_map notice rows ≡ [] → All (λ (row : A). notice row ≡ None) rows
 none_told {A = A} notice [] none = All-nil (λ (row : A). notice row ≡ None)
 none_told {A = A} {B = B} notice (row ∷ rows) none = by (notice row) refl none (λ rest. none_told notice rows rest)
   where
@@ -63,33 +63,33 @@ all_up_to_date w settled =
 
 -- ---- links
 
-is_for-same : (interest : Option Interest) (sub : Option Subscription) → is_for interest sub ≡ true → option_map interest_in sub ≡ interest
+is_for-same : (want : Option Want) (sub : Option Subscription) → is_for want sub ≡ true → option_map want_in sub ≡ want
 is_for-same None None is = refl
 is_for-same None (Some sub) is = absurd (true≢false (sym is))
-is_for-same (Some interest) None is = absurd (true≢false (sym is))
-is_for-same (Some interest) (Some sub) is =
-    let parts = and_parts (eqb sub.mask interest.mask) (eqb sub.count interest.count) is in
-    let masks = eqb-true sub.mask interest.mask parts.0 in
-    let counts = eqb-true sub.count interest.count parts.1 in
+is_for-same (Some want) None is = absurd (true≢false (sym is))
+is_for-same (Some want) (Some sub) is =
+    let parts = and_parts (eqb sub.mask want.mask) (eqb sub.count want.count) is in
+    let masks = eqb-true sub.mask want.mask parts.0 in
+    let counts = eqb-true sub.count want.count parts.1 in
     λ i. Some (record { mask = masks i; count = counts i })
 
 -- where the subscription isn't for what is wanted, something is told
-told_anew : (link : Link) (minor sid dtype native : ℕ) (sub : Option Subscription) (interest : Option Interest)
-    → cancelled link sid dtype sub ++ subscribed minor link sid dtype native interest ≡ [] → ⊥
+told_anew : (link : Link) (minor sid dtype native : ℕ) (sub : Option Subscription) (want : Option Want)
+    → cancelled link sid dtype sub ++ subscribed minor link sid dtype native want ≡ [] → ⊥
 told_anew link minor sid dtype native None None none = cc
-told_anew link minor sid dtype native None (Some interest) none = cc
-told_anew link minor sid dtype native (Some sub) interest none = cc
+told_anew link minor sid dtype native None (Some want) none = cc
+told_anew link minor sid dtype native (Some sub) want none = cc
 
-subscribed_for : (w : Gateway) (link : Link) (state : LinkState) → interest_notices w link state ≡ [] → is_connected state ≡ true → option_map interest_in link.subscription ≡ interest_of w link.name
+subscribed_for : (w : Gateway) (link : Link) (state : LinkState) → interest_notices w link state ≡ [] → is_connected state ≡ true → option_map want_in link.subscription ≡ interest_of w link.name (native_count_in state)
 subscribed_for w link Creating none connected = absurd (true≢false (sym connected))
 subscribed_for w link Unusable none connected = absurd (true≢false (sym connected))
-subscribed_for w link (Connected sid dtype native) none connected = by (is_for (interest_of w link.name) link.subscription) refl none
+subscribed_for w link (Connected sid dtype native) none connected = by (is_for (interest_of w link.name native) link.subscription) refl none
   where
-    by : (met : Bool) → is_for (interest_of w link.name) link.subscription ≡ met
-        → cond met [] (cancelled link sid dtype link.subscription ++ subscribed (minor_of w link.server) link sid dtype native (interest_of w link.name)) ≡ []
-        → option_map interest_in link.subscription ≡ interest_of w link.name
-    by true met none = is_for-same (interest_of w link.name) link.subscription met
-    by false met none = absurd (told_anew link (minor_of w link.server) sid dtype native link.subscription (interest_of w link.name) none)
+    by : (met : Bool) → is_for (interest_of w link.name native) link.subscription ≡ met
+        → cond met [] (cancelled link sid dtype link.subscription ++ subscribed (minor_of w link.server) link sid dtype native (interest_of w link.name native)) ≡ []
+        → option_map want_in link.subscription ≡ interest_of w link.name native
+    by true met none = is_for-same (interest_of w link.name native) link.subscription met
+    by false met none = absurd (told_anew link (minor_of w link.server) sid dtype native link.subscription (interest_of w link.name native) none)
 
 in_use : (w : Gateway) (link : Link) → link_notices_of w link ≡ [] → IsInUse w link
 in_use w link none = by (interest_notices w link link.state) (is_wanted w link.name) refl refl none

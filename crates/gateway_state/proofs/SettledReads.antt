@@ -8,7 +8,7 @@ use Rattle.channel_table.specs.declared.channels.Channel.{Channel}
 use Rattle.channel_table.specs.declared.reads.WaitingRead.{WaitingRead}
 use Rattle.channel_table.specs.Reads.{same_read}
 use Rattle.link_table.specs.declared.links.Link.{Link}
-use Rattle.gateway_state.specs.declared.fanout.connections.Connection.{Connection}
+use Rattle.gateway_state.specs.declared.connections.Connection.{Connection}
 use Rattle.gateway_state.specs.declared.notice.ReadNotice.{ReadNotice}
 use Rattle.gateway_state.specs.declared.notice.ReadNotice.TheVariants.{Refused, Answered}
 use Rattle.gateway_state.specs.declared.reading.Given.{Given}
@@ -18,6 +18,7 @@ use Rattle.gateway_state.specs.Gateway.{Gateway}
 use Rattle.gateway_state.specs.Notices.{answered_by, answered_natively, answered_over, notice_on, read_notice, read_notices, read_told, reads_told, channel_notices, link_notices}
 use Rattle.gateway_state.specs.Rights.{rights_of, may_read, channel_of}
 use Rattle.gateway_state.specs.Telling.{sent}
+use Rattle.gateway_state.specs.Updates.{withheld}
 use Rattle.gateway_state.specs.Variables.{link_of}
 
 -- the read that a notice is on
@@ -134,3 +135,7 @@ reads_keep_channels w = ap channel_notices (reads_changed (read_notices w) w)
 
 pub reads_keep_links : (w : Gateway) → link_notices (reads_told w) ≡ link_notices w
 reads_keep_links w = ap link_notices (reads_changed (read_notices w) w)
+
+-- and no update is withheld otherwise
+pub reads_keep_withheld : (w : Gateway) → withheld (reads_told w) ≡ withheld w
+reads_keep_withheld w = ap withheld (reads_changed (read_notices w) w)

@@ -1,35 +1,51 @@
 -- Each pass keeps settled what the passes before it settled.
-use Rattle.std.proofs.Common.{◌≡◌, ℕ, List, [], ◌∷◌, ◌++◌, Bool, true, false, cond, eqb, ltb, ◌||◌, ◌&&◌, Option, refl, ap, ◌∙◌}
+use Rattle.std.proofs.Common.{◌≡◌, ℕ, List, [], ◌∷◌, ◌++◌, Bool, true, false, cond, eqb, ltb, not, ◌||◌, ◌&&◌, Option, Some, None, refl, ap, ◌∙◌}
 use Rattle.std.specs.Prelude.{filter, filter_map, flat_map, map, bit_and}
-use Rattle.std.specs.List.{fold, list_any, cons_option}
+use Rattle.std.specs.List.{fold, find, list_any, cons_option}
 use Rattle.std.proofs.lemmas.Slice.Eq.{bytes_eq-Decides}
 use Rattle.channel_table.specs.declared.channels.Channel.{Channel}
+use Rattle.channel_table.specs.declared.subs.ClientSub.{ClientSub}
+use Rattle.channel_table.specs.Channels.{is_channel}
 use Rattle.link_table.specs.declared.links.Link.{Link}
-use Rattle.link_table.specs.declared.links.LinkState.{LinkState}
-use Rattle.link_table.specs.declared.links.LinkState.TheVariants.{Creating, Connected, Unusable}
 use Rattle.gateway_state.specs.declared.cached.LastMessage.{LastMessage}
-use Rattle.gateway_state.specs.declared.fanout.connections.Connection.{Connection}
-use Rattle.gateway_state.specs.declared.interest.Interest.{Interest}
+use Rattle.gateway_state.specs.declared.connections.Connection.{Connection}
+use Rattle.mask_merge.specs.Merged.{merged}
 use Rattle.gateway_state.specs.declared.notice.ChannelNotice.{ChannelNotice}
 use Rattle.gateway_state.specs.declared.notice.LinkNotice.{LinkNotice}
 use Rattle.gateway_state.specs.declared.notice.ReadNotice.{ReadNotice}
-use Rattle.gateway_state.specs.declared.notice.LinkNotice.TheVariants.{Dropped}
+use Rattle.gateway_state.specs.declared.notice.UpdateNotice.{UpdateNotice}
 use Rattle.gateway_state.specs.Gateway.{Gateway}
-use Rattle.gateway_state.specs.Interest.{channel_interest, interest_of, is_for, is_reader, merged, minor_of}
-use Rattle.gateway_state.specs.Notices.{cancelled, subscribed, channel_notice, channel_notices, channels_told, interest_notices, link_notices, link_notices_of, links_told, reads_told, channel_told, link_told, read_notices, read_told}
+use Rattle.gateway_state.specs.Interest.{channel_want, interest_of, is_read_through, is_reader, is_subscriber, sub_want}
+use Rattle.gateway_state.specs.Notices.{channel_notice, channel_notices, channels_told, link_notices, links_told, reads_told, channel_told, link_told, read_notices, read_told}
 use Rattle.gateway_state.specs.Resolution.{policy_rights, resolution, is_real}
-use Rattle.gateway_state.specs.Rights.{host_of, is_served, may_read, rights_of}
-use Rattle.gateway_state.specs.Settled.{AreInOrder, IsSettled}
+use Rattle.gateway_state.specs.Rights.{channel_of, host_of, is_served, may_read, rights_of}
+use Rattle.gateway_state.specs.Settled.{AreInOrder, HasSubsApart, IsSettled}
 use Rattle.gateway_state.specs.Step.{consequences}
+use Rattle.gateway_state.specs.Updates.{is_unreadable, is_withheld, owed_to_all, update_notices, update_told, updates_told, updates_withheld, withheld}
 use Rattle.gateway_state.specs.Variables.{is_on, is_wanted}
 use Rattle.gateway_state.specs.Searches.{leads_to}
 use Rattle.gateway_state.proofs.InOrder.{in_order_kept}
-use Rattle.gateway_state.proofs.KeptByRuns.{kept_channels_told}
+use Rattle.gateway_state.proofs.KeptByRuns.{kept_channels_told, kept_links_told, kept_reads_told, kept_updates_withheld}
+use Rattle.gateway_state.proofs.LinkNotices.{link_notices_alike}
 use Rattle.gateway_state.proofs.SettledChannels.{channels_settled, notice_by}
 use Rattle.gateway_state.proofs.SettledLinks.{IsLeft, IsPassed, links_passed, with_links_left}
-use Rattle.gateway_state.proofs.SettledReads.{reads_keep_channels, reads_keep_links, reads_settled}
+use Rattle.gateway_state.proofs.SettledReads.{reads_keep_channels, reads_keep_links, reads_keep_withheld, reads_settled}
+use Rattle.gateway_state.proofs.SettledUpdates.{updates_keep_channels, updates_keep_links, updates_keep_reads, updates_keep_withheld, updates_settled}
+use Rattle.gateway_state.proofs.SettledWithheld.{withheld_keeps_channels, withheld_settled}
+use Rattle.gateway_state.proofs.SubsApart.{subs_apart_kept}
 
 -- ---- the links that are left mean the same to each channel
+
+-- a channel that is found is on its own variable
+found_is_on : (test : Channel → Bool) (rows : List Channel) (c : Channel) → find test rows ≡ Some c → list_any (is_on c.real) rows ≡ true
+found_is_on test [] c e = absurd cc
+found_is_on test (row ∷ rows) c e = by (test row) e (λ rest. found_is_on test rows c rest)
+  where
+    by : (passes : Bool) → cond passes (Some row) (find test rows) ≡ Some c → (find test rows ≡ Some c → list_any (is_on c.real) rows ≡ true) → (is_on c.real row || list_any (is_on c.real) rows) ≡ true
+    by true e rest =
+        let same : row ≡ c = cc in
+        ap (λ (t : Bool). t || list_any (is_on c.real) rows) ((bytes_eq-Decides row.real c.real).1 (ap (λ (x : Channel). x.real) same))
+    by false e rest = elim (is_on c.real row) as (λ t. (t || list_any (is_on c.real) rows) ≡ true) [ true ↦ refl | false ↦ rest e ]
 
 module _ (w : Gateway) (connections : List Connection) (cache : List LastMessage) (links : List Link) (next : ℕ) (left : IsLeft w w.upstream.links links) where
   abbrev v : Gateway
@@ -70,22 +86,49 @@ module _ (w : Gateway) (connections : List Connection) (cache : List LastMessage
   all_wanted : AreWanted w.clients.channels
   all_wanted name there = ap (λ (t : Bool). t || list_any (leads_to w.policy name) w.searches) there
 
-  interest_same : (name : List ℕ) → interest_of v name ≡ interest_of w name
-  interest_same name = ap (λ (channels : List Channel). merged (map channel_interest channels)) (readers_same name w.clients.channels all_wanted)
+  -- the channel of a subscription has the same rights
+  found_rights : (session sid : ℕ) (c : Channel) → channel_of w session sid ≡ Some c → rights_of v c ≡ rights_of w c
+  found_rights session sid c is = rights_same c (all_wanted c.real (found_is_on (is_channel session sid) w.clients.channels c is))
 
-  interest_notices_same : (link : Link) (state : LinkState) → interest_notices v link state ≡ interest_notices w link state
-  interest_notices_same link Creating = refl
-  interest_notices_same link Unusable = refl
-  interest_notices_same link (Connected sid dtype native) =
-      ap (λ (interest : Option Interest). cond (is_for interest link.subscription) [] (cancelled link sid dtype link.subscription ++ subscribed (minor_of w link.server) link sid dtype native interest))
-      (interest_same link.name)
+  subscriber_same : (name : List ℕ) (sub : ClientSub) → is_subscriber v name sub ≡ is_subscriber w name sub
+  subscriber_same name sub = by (channel_of w sub.session sub.sid) refl
+    where
+      by : (found : Option Channel) → channel_of w sub.session sub.sid ≡ found → is_read_through v name found ≡ is_read_through w name found
+      by None is = refl
+      by (Some c) is = ap (λ (rights : ℕ). is_on name c && may_read rights) (found_rights sub.session sub.sid c is)
 
-  link_notices_of_same : (link : Link) → link_notices_of v link ≡ link_notices_of w link
-  link_notices_of_same link =
-      ap (λ (notices : List LinkNotice). notices ++ cond (is_wanted w link.name) [] (Dropped link.server link.cid link.state ∷ [])) (interest_notices_same link link.state)
+  subscribers_same : (name : List ℕ) (subs : List ClientSub) → filter (is_subscriber v name) subs ≡ filter (is_subscriber w name) subs
+  subscribers_same name [] = refl
+  subscribers_same name (sub ∷ subs) =
+      let first = subscriber_same name sub in
+      let rest = subscribers_same name subs in
+      λ i. cond (first i) (sub ∷ rest i) (rest i)
+
+  withheld_same : (sub : ClientSub) → is_withheld v sub ≡ is_withheld w sub
+  withheld_same sub = by (channel_of w sub.session sub.sid) refl
+    where
+      by : (found : Option Channel) → channel_of w sub.session sub.sid ≡ found → (not sub.owed && is_unreadable v found) ≡ (not sub.owed && is_unreadable w found)
+      by None is = refl
+      by (Some c) is = ap (λ (rights : ℕ). not sub.owed && not (may_read rights)) (found_rights sub.session sub.sid c is)
+
+  all_withheld_same : (subs : List ClientSub) → filter (is_withheld v) subs ≡ filter (is_withheld w) subs
+  all_withheld_same [] = refl
+  all_withheld_same (sub ∷ subs) =
+      let first = withheld_same sub in
+      let rest = all_withheld_same subs in
+      λ i. cond (first i) (sub ∷ rest i) (rest i)
+
+  pub left_withheld_same : withheld v ≡ withheld w
+  left_withheld_same = all_withheld_same w.clients.subs
+
+  interest_same : (name : List ℕ) (native : ℕ) → interest_of v name native ≡ interest_of w name native
+  interest_same name native =
+      let subs = subscribers_same name w.clients.subs in
+      let channels = readers_same name w.clients.channels all_wanted in
+      λ i. merged (map (sub_want native) (subs i) ++ map channel_want (channels i))
 
   pub left_links_settled : link_notices v ≡ []
-  left_links_settled = (λ i. flat_map (λ link. link_notices_of_same link i) links) ∙ left.quiet
+  left_links_settled = (λ i. flat_map (λ link. link_notices_alike v w interest_same (λ server. refl) (λ name. refl) link i) links) ∙ left.quiet
 
   pub left_channels_same : channel_notices v ≡ channel_notices w
   left_channels_same = channel_notices_same w.clients.channels all_wanted
@@ -99,16 +142,47 @@ links_keep_channels : (w v : Gateway) → IsPassed w v → channel_notices v ≡
 links_keep_channels w v passed =
     ap channel_notices passed.is ∙ left_channels_same w passed.connections passed.cache passed.links passed.next passed.left
 
--- ---- the three passes
+links_keep_withheld : (w v : Gateway) → IsPassed w v → withheld v ≡ withheld w
+links_keep_withheld w v passed =
+    ap withheld passed.is ∙ left_withheld_same w passed.connections passed.cache passed.links passed.next passed.left
 
-pub consequences_settled : (w : Gateway) → AreInOrder w → IsSettled (consequences w)
-consequences_settled w order =
-    let passed = links_passed (channels_told w) (kept_channels_told AreInOrder in_order_kept w order).links in
-    record {
-      channels = reads_keep_channels (links_told (channels_told w)) ∙ links_keep_channels (channels_told w) (links_told (channels_told w)) passed ∙ channels_settled w order.channels;
-      links = reads_keep_links (links_told (channels_told w)) ∙ links_settled (channels_told w) (links_told (channels_told w)) passed;
-      reads = reads_settled (links_told (channels_told w));
-    }
+-- ---- the passes
+
+module _ (w : Gateway) (order : AreInOrder w) (apart : HasSubsApart w) where
+  abbrev first : Gateway
+  first = channels_told w
+
+  abbrev second : Gateway
+  second = updates_withheld first
+
+  abbrev third : Gateway
+  third = links_told second
+
+  abbrev fourth : Gateway
+  fourth = reads_told third
+
+  first_apart : HasSubsApart first
+  first_apart = kept_channels_told HasSubsApart subs_apart_kept w apart
+
+  fourth_apart : HasSubsApart fourth
+  fourth_apart =
+      kept_reads_told HasSubsApart subs_apart_kept third (kept_links_told HasSubsApart subs_apart_kept second (kept_updates_withheld HasSubsApart subs_apart_kept first first_apart))
+
+  passed : IsPassed second third
+  passed = links_passed second (kept_updates_withheld AreInOrder in_order_kept first (kept_channels_told AreInOrder in_order_kept w order)).links
+
+  -- before updates are given
+  held_back : withheld fourth ≡ []
+  held_back = reads_keep_withheld third ∙ links_keep_withheld second third passed ∙ withheld_settled first first_apart
+
+  pub consequences_settled : IsSettled (consequences w)
+  consequences_settled = record {
+    channels = updates_keep_channels fourth ∙ reads_keep_channels third ∙ links_keep_channels second third passed ∙ withheld_keeps_channels first ∙ channels_settled w order.channels;
+    held_back = updates_keep_withheld fourth fourth_apart held_back;
+    links = updates_keep_links fourth ∙ reads_keep_links third ∙ links_settled second third passed;
+    reads = updates_keep_reads fourth ∙ reads_settled third;
+    updates = updates_settled fourth fourth_apart held_back;
+  }
 
 -- ---- what is settled
 
@@ -122,6 +196,16 @@ links_stay w none = ap (λ (notices : List LinkNotice). fold link_told w notices
 reads_stay : (w : Gateway) → read_notices w ≡ [] → reads_told w ≡ w
 reads_stay w none = ap (λ (notices : List ReadNotice). fold read_told w notices) none
 
+withheld_stay : (w : Gateway) → withheld w ≡ [] → updates_withheld w ≡ w
+withheld_stay w none = ap (λ (subs : List ClientSub). owed_to_all w subs) none
+
+updates_stay : (w : Gateway) → update_notices w ≡ [] → updates_told w ≡ w
+updates_stay w none = ap (λ (notices : List UpdateNotice). fold update_told w notices) none
+
 pub settled_stays : (w : Gateway) → IsSettled w → consequences w ≡ w
 settled_stays w settled =
-    ap (λ (v : Gateway). reads_told (links_told v)) (channels_stay w settled.channels) ∙ ap reads_told (links_stay w settled.links) ∙ reads_stay w settled.reads
+    ap (λ (v : Gateway). updates_told (reads_told (links_told (updates_withheld v)))) (channels_stay w settled.channels)
+    ∙ ap (λ (v : Gateway). updates_told (reads_told (links_told v))) (withheld_stay w settled.held_back)
+    ∙ ap (λ (v : Gateway). updates_told (reads_told v)) (links_stay w settled.links)
+    ∙ ap updates_told (reads_stay w settled.reads)
+    ∙ updates_stay w settled.updates

@@ -43,14 +43,21 @@ abbrev pub fits_payload : Option Dbr → ℕ → Bool
 fits_payload None count = false
 fits_payload (Some dbr) count = nat_le (payload_size dbr count) MAX_PAYLOAD
 
--- why a read of the variable is refused, the first reason that applies
-abbrev pub refusal : Native → ℕ → ℕ → ℕ → Option ℕ
-refusal native rights dtype count =
+-- why a value of the variable can't be had in this type and count, the first reason that applies
+abbrev pub value_refusal : Native → ℕ → ℕ → Option ℕ
+value_refusal native dtype count =
     if not (is_type_served native dtype) then Some ECA_BADTYPE
     else if nat_lt native.count count then Some ECA_BADCOUNT
     else if not (fits_payload (dbr_of dtype) (meant_count native.count count)) then Some ECA_TOLARGE
-    else if not (may_read rights) then Some ECA_NORDACCESS
     else None
+
+abbrev pub refusal_unless : Option ℕ → ℕ → Option ℕ
+refusal_unless (Some code) rights = Some code
+refusal_unless None rights = if may_read rights then None else Some ECA_NORDACCESS
+
+-- why a read of the variable is refused, the first reason that applies
+abbrev pub refusal : Native → ℕ → ℕ → ℕ → Option ℕ
+refusal native rights dtype count = refusal_unless (value_refusal native dtype count) rights
 
 -- what is answered of a last message, as it is given
 abbrev pub given_in : Option (ℕ × List ℕ) → Option Given

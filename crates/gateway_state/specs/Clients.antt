@@ -1,16 +1,11 @@
 -- What clients' messages do.
-use Rattle.std.specs.Prelude.{ℕ, ◌+◌, List, [], ◌∷◌, ◌++◌, length, filter, max, bit_and, Bool, true, not, ◌==◌, ◌||◌, ◌&&◌, nat_lt, nat_le, is_some, if◌then◌else◌, Option, Some, None, Result, Ok, Err}
+use Rattle.std.specs.Prelude.{ℕ, ◌+◌, List, [], ◌∷◌, ◌++◌, length, filter, max, bit_and, Bool, true, not, ◌||◌, ◌&&◌, nat_lt, nat_le, is_some, if◌then◌else◌, Option, Some, None}
 use Rattle.std.specs.List.{find, list_any}
 use Rattle.rows.specs.Rows.{change_first}
 use Rattle.ca_header.specs.declared.header.Header.{Header}
-use Rattle.ca_header.specs.declared.header.Message.{Message}
 use Rattle.ca_message.specs.declared.codes.TheConstants.{ECA_INTERNAL, ECA_BADCHID, ECA_GETFAIL}
-use Rattle.ca_message.specs.declared.commands.TheConstants.{NO_CHANNEL, CA_PROTO_CREATE_CHAN, CA_PROTO_CLIENT_NAME, CA_PROTO_HOST_NAME}
-use Rattle.ca_message.specs.declared.request.ClientRequest.{ClientRequest}
-use Rattle.ca_message.specs.declared.request.ClientRequest.TheVariants as requests
-use Rattle.ca_message.specs.declared.request.RequestFault.{RequestFault}
+use Rattle.ca_message.specs.declared.commands.TheConstants.{NO_CHANNEL}
 use Rattle.ca_message.specs.declared.to_client.ToClient.TheVariants as replies
-use Rattle.ca_message.specs.ClientRequest.{request_of}
 use Rattle.channel_table.specs.declared.channels.Channel.{Channel}
 use Rattle.channel_table.specs.declared.sessions.Session.{Session}
 use Rattle.channel_table.specs.declared.table.TheConstants.{CHANNEL_LIMIT, READ_LIMIT}
@@ -18,6 +13,7 @@ use Rattle.channel_table.specs.Channels.{is_channel, is_not_channel, with_reach_
 use Rattle.channel_table.specs.ClientRows.{channel_count, read_count}
 use Rattle.channel_table.specs.Reads.{is_not_read_on}
 use Rattle.channel_table.specs.Sessions.{is_numbered}
+use Rattle.channel_table.specs.Subs.{is_not_sub_on}
 use Rattle.link_table.specs.declared.links.Link.{Link}
 use Rattle.gateway_state.specs.declared.event.Dest.TheVariants as dests
 use Rattle.gateway_state.specs.declared.limits.TheConstants.{LOWEST_MINOR, SEARCH_LIMIT}
@@ -131,6 +127,7 @@ abbrev pub without_channel : ℕ → ℕ → Gateway → Gateway
 without_channel number sid w = record w {
   clients = record w.clients {
     channels = filter (is_not_channel number sid) w.clients.channels;
+    subs = filter (is_not_sub_on number sid) w.clients.subs;
     reads = filter (is_not_read_on number sid) w.clients.reads;
   };
 }
@@ -204,27 +201,3 @@ renamed host row = if row.host_fixed then row else record row { host = host }
 abbrev pub host_named : ℕ → List ℕ → Gateway → Gateway
 host_named number host w =
     record w { clients = record w.clients { sessions = change_first (is_numbered number) (renamed host) w.clients.sessions } }
-
--- a message that is no request: a CREATE_CHAN without a name fails, texts that can't be read are
--- ignored, and anything else isn't understood
-abbrev pub unreadable : Gateway → ℕ → Header → Gateway
-unreadable w number head =
-    if head.command == CA_PROTO_CREATE_CHAN then creation_failed number head.p1 (with_host_fixed number w)
-    else if head.command == CA_PROTO_CLIENT_NAME || head.command == CA_PROTO_HOST_NAME then w
-    else not_understood w number head
-
--- what a request does, by what it means
-abbrev pub requested : Gateway → ℕ → Message → Result ClientRequest RequestFault → Gateway
-requested w number message (Ok (requests.Version minor)) = versioned w number minor
-requested w number message (Ok (requests.ClearChannel sid cid)) = channel_cleared number sid cid message.head w
-requested w number message (Ok (requests.ReadNotify sid ioid dtype count)) =
-    read_asked number sid ioid dtype count message.head w
-requested w number message (Ok (requests.CreateChannel cid minor name)) = channel_asked number cid name w
-requested w number message (Ok (requests.ClientName name)) = w
-requested w number message (Ok (requests.HostName host)) = host_named number host w
-requested w number message (Ok requests.Echo) = told number (replies.Echo message) w
-requested w number message (Err fault) = unreadable w number message.head
-
--- a client sent a message
-abbrev pub client_said : Gateway → ℕ → Message → Gateway
-client_said w number message = requested w number message (request_of message.head message.payload)

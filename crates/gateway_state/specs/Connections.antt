@@ -3,10 +3,10 @@ use Rattle.std.specs.Prelude.{ℕ, List, [], Bool, true, false, not, ◌==◌, O
 use Rattle.std.specs.List.{find}
 use Rattle.gateway_state.specs.declared.event.Dest.{Dest}
 use Rattle.gateway_state.specs.declared.event.Dest.TheVariants.{Session, Upstream}
-use Rattle.gateway_state.specs.declared.fanout.connections.Connection.{Connection}
-use Rattle.gateway_state.specs.declared.fanout.outbox.Out.{Out}
-use Rattle.gateway_state.specs.Outbox.{appended, without_first}
-use Rattle.gateway_state.specs.Waiting.{Waiting}
+use Rattle.gateway_state.specs.declared.connections.Connection.{Connection}
+use Rattle.fanout.specs.declared.outbox.Out.{Out}
+use Rattle.fanout.specs.Outbox.{appended, without_first}
+use Rattle.fanout.specs.Waiting.{Waiting}
 
 -- the same connection
 abbrev pub same_dest : Dest → Dest → Bool

@@ -6,9 +6,9 @@ use Rattle.gateway_state.specs.declared.event.Dest.TheVariants as dests
 use Rattle.gateway_state.specs.declared.event.Event.{Event}
 use Rattle.gateway_state.specs.declared.event.Event.TheVariants.{Opened, Lost, Client, UpOpened, UpLost, Server, Found, Sweep, Drain}
 use Rattle.gateway_state.specs.Asked.{acts}
-use Rattle.gateway_state.specs.Clients.{client_said}
 use Rattle.gateway_state.specs.Connections.{is_to, relieved}
 use Rattle.gateway_state.specs.Gateway.{Gateway}
+use Rattle.gateway_state.specs.Requests.{client_said}
 use Rattle.gateway_state.specs.Servers.{server_said, found}
 use Rattle.gateway_state.specs.Sessions.{opened, lost, up_opened, up_lost}
 

@@ -5,7 +5,7 @@ use Rattle.link_table.specs.LinkRows.{LinkRows}
 use Rattle.gateway_state.specs.declared.cached.LastMessage.{LastMessage}
 use Rattle.gateway_state.specs.declared.config.Config.{Config}
 use Rattle.gateway_state.specs.declared.config.Policy.{Policy}
-use Rattle.gateway_state.specs.declared.fanout.connections.Connection.{Connection}
+use Rattle.gateway_state.specs.declared.connections.Connection.{Connection}
 use Rattle.gateway_state.specs.declared.search.Search.{Search}
 
 -- all that the gateway knows, as whole lists of rows
@@ -24,7 +24,7 @@ initial config policy = record {
   config = config;
   policy = policy;
   connections = [];
-  clients = record { sessions = []; channels = []; reads = [] };
+  clients = record { sessions = []; channels = []; subs = []; reads = [] };
   upstream = record {
     servers = [];
     links = [];

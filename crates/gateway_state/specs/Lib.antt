@@ -8,7 +8,7 @@ pub mod Gateway
 pub mod Interest
 pub mod Notices
 pub mod Numbers
-pub mod Outbox
+pub mod Requests
 pub mod Resolution
 pub mod Rights
 pub mod Searches
@@ -16,6 +16,7 @@ pub mod Servers
 pub mod Sessions
 pub mod Settled
 pub mod Step
+pub mod Subscribing
 pub mod Telling
+pub mod Updates
 pub mod Variables
-pub mod Waiting

@@ -1,5 +1,5 @@
--- What others are owed after an event, in four passes. Each makes its list of notices from the rows
--- as the pass begins, and then gives them one by one.
+-- What others are owed after an event about channels, links and waiting reads. Each pass makes its list
+-- of notices from the rows as the pass begins, and then gives them one by one.
 use Rattle.std.specs.Prelude.{ℕ, ◌+◌, List, [], ◌∷◌, ◌++◌, filter_map, flat_map, not, ◌==◌, if◌then◌else◌, Option, Some, None}
 use Rattle.std.specs.List.{fold}
 use Rattle.rows.specs.Rows.{change_first, remove_first}
@@ -15,7 +15,7 @@ use Rattle.link_table.specs.declared.links.LinkState.{LinkState}
 use Rattle.link_table.specs.declared.links.LinkState.TheVariants.{Creating, Connected, Unusable}
 use Rattle.link_table.specs.declared.links.Subscription.{Subscription}
 use Rattle.link_table.specs.Links.{is_link, with_subscription}
-use Rattle.gateway_state.specs.declared.interest.Interest.{Interest}
+use Rattle.mask_merge.specs.declared.want.Want.{Want}
 use Rattle.gateway_state.specs.declared.notice.ChannelNotice.{ChannelNotice}
 use Rattle.gateway_state.specs.declared.notice.ChannelNotice.TheVariants.{Disconnected, RightsChanged}
 use Rattle.gateway_state.specs.declared.notice.LinkNotice.{LinkNotice}
@@ -69,18 +69,18 @@ cancelled link sid dtype None = []
 cancelled link sid dtype (Some sub) = Cancelled link.server link.cid sid (time_of dtype) sub ∷ []
 
 -- what is wanted is asked for; with nothing wanted the last message goes
-abbrev pub subscribed : ℕ → Link → ℕ → ℕ → ℕ → Option Interest → List LinkNotice
+abbrev pub subscribed : ℕ → Link → ℕ → ℕ → ℕ → Option Want → List LinkNotice
 subscribed minor link sid dtype native None = Unread link.cid ∷ []
-subscribed minor link sid dtype native (Some interest) =
-    Subscribed link.server link.cid sid (time_of dtype) interest (sent_count minor native interest.count) ∷ []
+subscribed minor link sid dtype native (Some want) =
+    Subscribed link.server link.cid sid (time_of dtype) want (sent_count minor native want.count) ∷ []
 
 abbrev pub interest_notices : Gateway → Link → LinkState → List LinkNotice
 interest_notices w link Creating = []
 interest_notices w link Unusable = []
 interest_notices w link (Connected sid dtype native) =
-    if is_for (interest_of w link.name) link.subscription then []
+    if is_for (interest_of w link.name native) link.subscription then []
     else cancelled link sid dtype link.subscription
-    ++ subscribed (minor_of w link.server) link sid dtype native (interest_of w link.name)
+    ++ subscribed (minor_of w link.server) link sid dtype native (interest_of w link.name native)
 
 abbrev pub link_notices_of : Gateway → Link → List LinkNotice
 link_notices_of w link =
@@ -95,11 +95,11 @@ with_subscription_of server cid sub w =
     record w { upstream = record w.upstream { links = change_first (is_link server cid) (with_subscription sub) w.upstream.links } }
 
 -- a new subscription, under the next ID
-abbrev pub subscribed_to : ℕ → ℕ → ℕ → ℕ → Interest → ℕ → Gateway → Gateway
-subscribed_to server cid sid dtype interest sent w =
+abbrev pub subscribed_to : ℕ → ℕ → ℕ → ℕ → Want → ℕ → Gateway → Gateway
+subscribed_to server cid sid dtype want sent w =
     let id = w.upstream.counters.subscription in
-    asked server (requests.EventAdd sid id dtype sent interest.mask)
-    (with_subscription_of server cid (Some (record { id = id; mask = interest.mask; count = interest.count; sent = sent }))
+    asked server (requests.EventAdd sid id dtype sent want.mask)
+    (with_subscription_of server cid (Some (record { id = id; mask = want.mask; count = want.count; sent = sent }))
     (record w { upstream = record w.upstream { counters = record w.upstream.counters { subscription = id + 1 } } }))
 
 -- a link goes; where it was connected, the server is told
@@ -113,7 +113,7 @@ abbrev pub link_told : Gateway → LinkNotice → Gateway
 link_told w (Cancelled server cid sid dtype sub) =
     asked server (requests.EventCancel sid sub.id dtype sub.sent) (with_subscription_of server cid None w)
 link_told w (Unread cid) = without_cached cid w
-link_told w (Subscribed server cid sid dtype interest sent) = subscribed_to server cid sid dtype interest sent w
+link_told w (Subscribed server cid sid dtype want sent) = subscribed_to server cid sid dtype want sent w
 link_told w (Dropped server cid state) = dropped server cid state w
 
 abbrev pub links_told : Gateway → Gateway

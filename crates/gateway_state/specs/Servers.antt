@@ -1,5 +1,5 @@
 -- What servers' messages do.
-use Rattle.std.specs.Prelude.{ℕ, ◌+◌, List, [], ◌∷◌, ◌++◌, length, filter, Bool, false, ◌==◌, ◌&&◌, nat_lt, nat_le, is_ok, if◌then◌else◌, Option, Some, None, Result, Ok, Err}
+use Rattle.std.specs.Prelude.{ℕ, ◌+◌, List, [], ◌∷◌, ◌++◌, length, filter, Bool, ◌==◌, ◌&&◌, nat_lt, nat_le, is_ok, if◌then◌else◌, Option, Some, None, Result, Ok, Err}
 use Rattle.std.specs.List.{find, fold}
 use Rattle.rows.specs.Rows.{change_first, remove_first}
 use Rattle.ca_header.specs.declared.header.Message.{Message}
@@ -10,12 +10,9 @@ use Rattle.ca_message.specs.declared.reply.ServerReply.TheVariants as says
 use Rattle.ca_message.specs.declared.to_client.ToClient.TheVariants as replies
 use Rattle.ca_message.specs.declared.to_server.ToServer.TheVariants as requests
 use Rattle.ca_message.specs.ServerReply.{reply_of}
-use Rattle.channel_table.specs.declared.channels.Channel.{Channel}
 use Rattle.channel_table.specs.declared.reads.WaitingRead.{WaitingRead}
 use Rattle.channel_table.specs.Reads.{same_read}
-use Rattle.dbr_layout.specs.declared.dbr.Dbr.{Dbr}
-use Rattle.dbr_layout.specs.declared.dbr.TheConstants.{MAX_PAYLOAD}
-use Rattle.dbr_layout.specs.Dbr.{dbr_of, payload_size}
+use Rattle.dbr_layout.specs.Dbr.{dbr_of}
 use Rattle.dbr_layout.specs.View.{shown}
 use Rattle.value_cache.specs.Held.{held_after}
 use Rattle.link_table.specs.declared.links.Link.{Link}
@@ -28,12 +25,14 @@ use Rattle.link_table.specs.Servers.{is_server, with_minor}
 use Rattle.gateway_state.specs.declared.cached.LastMessage.{LastMessage}
 use Rattle.gateway_state.specs.declared.event.Dest.TheVariants as dests
 use Rattle.gateway_state.specs.declared.interest.TheConstants.{PLAIN_TYPES, TIME_FORM}
+use Rattle.gateway_state.specs.Answer.{fits_payload}
 use Rattle.gateway_state.specs.Asked.{acts}
 use Rattle.gateway_state.specs.CachedRows.{with_row}
 use Rattle.gateway_state.specs.Gateway.{Gateway}
 use Rattle.gateway_state.specs.Rights.{channel_of}
 use Rattle.gateway_state.specs.Telling.{told, asked}
-use Rattle.gateway_state.specs.Variables.{is_on, is_missing, is_creating, without_cached}
+use Rattle.gateway_state.specs.Updates.{alarm_differs_in, concerned, held_by, owed_to_all}
+use Rattle.gateway_state.specs.Variables.{is_channel_on, is_missing, is_creating, without_cached}
 
 -- FOUND
 
@@ -78,14 +77,10 @@ with_link_state server cid state rights w =
 abbrev pub time_of : ℕ → ℕ
 time_of dtype = if nat_lt dtype PLAIN_TYPES then dtype + TIME_FORM else dtype
 
-abbrev pub fits_in_time : Option Dbr → ℕ → Bool
-fits_in_time None count = false
-fits_in_time (Some dbr) count = nat_le (payload_size dbr count) MAX_PAYLOAD
-
 -- updates of such a channel can be taken: a plain type that is served, at least one element, and a
 -- TIME payload that may come
 abbrev pub is_usable : ℕ → ℕ → Bool
-is_usable dtype count = nat_lt dtype PLAIN_TYPES && nat_lt 0 count && fits_in_time (dbr_of (time_of dtype)) count
+is_usable dtype count = nat_lt dtype PLAIN_TYPES && nat_lt 0 count && fits_payload (dbr_of (time_of dtype)) count
 
 -- the gateway gives up a channel that it doesn't want
 abbrev pub channel_returned : ℕ → ℕ → ℕ → Gateway → Gateway
@@ -138,10 +133,6 @@ channel_dropped w server cid = gone_for server cid (find (is_link server cid) w.
 
 -- EVENT_ADD: updates
 
-abbrev pub is_channel_on : List ℕ → Option Channel → Bool
-is_channel_on name None = false
-is_channel_on name (Some c) = is_on name c
-
 -- the read waits for this variable
 abbrev pub waits_for : Gateway → List ℕ → WaitingRead → Bool
 waits_for w name read = is_channel_on name (channel_of w read.session read.sid)
@@ -166,15 +157,24 @@ abbrev pub is_value : ℕ → ℕ → ℕ → ℕ → List ℕ → Bool
 is_value native asked_with dtype count payload =
     dtype == time_of native && nat_le count asked_with && is_ok (shown dtype count payload)
 
-abbrev pub updated_connected : ℕ → ℕ → ℕ → ℕ → ℕ → ℕ → List ℕ → Gateway → Gateway
-updated_connected server cid native asked_with dtype count payload w =
+-- the alarm of an update differs from that of the last message, or there is none
+abbrev pub has_other_alarm : Gateway → ℕ → ℕ → ℕ → List ℕ → Bool
+has_other_alarm w cid dtype count payload = alarm_differs_in (shown dtype count payload) (held_by w cid)
+
+-- each subscription that the update concerns is owed one
+abbrev pub concerned_owed : List ℕ → Bool → Gateway → Gateway
+concerned_owed name differs w = owed_to_all w (concerned w name differs)
+
+abbrev pub updated_connected : Link → ℕ → ℕ → ℕ → ℕ → List ℕ → Gateway → Gateway
+updated_connected link native asked_with dtype count payload w =
     if is_value native asked_with dtype count payload
-    then with_cached (record { server = server; cid = cid; held = held_after dtype count payload asked_with }) w
+    then with_cached (record { server = link.server; cid = link.cid; held = held_after dtype count payload asked_with })
+    (concerned_owed link.name (has_other_alarm w link.cid dtype count payload) w)
     else w
 
 abbrev pub updated_link : Link → LinkState → Option Subscription → ℕ → ℕ → List ℕ → Gateway → Gateway
 updated_link link (Connected sid native native_count) (Some sub) dtype count payload w =
-    updated_connected link.server link.cid native sub.count dtype count payload w
+    updated_connected link native sub.count dtype count payload w
 updated_link link (Connected sid native native_count) None dtype count payload w = w
 updated_link link Creating sub dtype count payload w = w
 updated_link link Unusable sub dtype count payload w = w

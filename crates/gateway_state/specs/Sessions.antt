@@ -6,6 +6,7 @@ use Rattle.channel_table.specs.declared.table.TheConstants.{SESSION_LIMIT}
 use Rattle.channel_table.specs.Channels.{is_not_channel_of}
 use Rattle.channel_table.specs.Reads.{is_not_read_of}
 use Rattle.channel_table.specs.Sessions.{is_not_numbered}
+use Rattle.channel_table.specs.Subs.{is_not_sub_of}
 use Rattle.link_table.specs.declared.table.TheConstants.{SERVER_LIMIT}
 use Rattle.link_table.specs.Links.{is_not_of}
 use Rattle.link_table.specs.Servers.{is_not_server}
@@ -38,6 +39,7 @@ lost w number = record w {
   clients = record {
     sessions = filter (is_not_numbered number) w.clients.sessions;
     channels = filter (is_not_channel_of number) w.clients.channels;
+    subs = filter (is_not_sub_of number) w.clients.subs;
     reads = filter (is_not_read_of number) w.clients.reads;
   };
 }

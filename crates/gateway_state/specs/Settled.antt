@@ -1,26 +1,34 @@
 -- What every state that a run reaches has: nobody is owed anything.
-use Rattle.std.specs.Prelude.{◌≡◌, ℕ, ◌+◌, ◌≤◌, List, [], ◌∷◌, length, filter, Bool, true, Some, None, option_map}
-use Rattle.std.specs.List.{list_all}
+use Rattle.std.specs.Prelude.{◌≡◌, ℕ, ◌+◌, ◌≤◌, List, [], ◌∷◌, length, filter, Bool, true, false, Option, Some, None, option_map}
+use Rattle.std.specs.List.{list_all, list_any}
 use Rattle.channel_table.specs.declared.channels.Channel.{Channel}
 use Rattle.channel_table.specs.declared.reads.WaitingRead.{WaitingRead}
+use Rattle.channel_table.specs.declared.subs.ClientSub.{ClientSub}
 use Rattle.channel_table.specs.ClientRows.{has_channel}
+use Rattle.channel_table.specs.Subs.{is_sub}
 use Rattle.link_table.specs.declared.links.Link.{Link}
+use Rattle.link_table.specs.declared.links.LinkState.{LinkState}
+use Rattle.link_table.specs.declared.links.LinkState.TheVariants.{Creating, Connected, Unusable}
 use Rattle.link_table.specs.declared.links.Subscription.{Subscription}
 use Rattle.link_table.specs.Links.{is_named}
-use Rattle.gateway_state.specs.declared.interest.Interest.{Interest}
+use Rattle.mask_merge.specs.declared.want.Want.{Want}
+use Rattle.gateway_state.specs.declared.interest.Sub.{Sub}
 use Rattle.gateway_state.specs.declared.reading.Native.{Native}
 use Rattle.gateway_state.specs.Answer.{cached_value, native_in}
 use Rattle.gateway_state.specs.Gateway.{Gateway}
-use Rattle.gateway_state.specs.Interest.{interest_of}
+use Rattle.gateway_state.specs.Interest.{interest_of, subscription_of}
 use Rattle.gateway_state.specs.Notices.{channel_notices, link_notices, read_notices}
 use Rattle.gateway_state.specs.Rights.{channel_of, is_served, may_read, rights_of}
+use Rattle.gateway_state.specs.Updates.{is_open_to, is_unreadable, update_notices, update_on, withheld}
 use Rattle.gateway_state.specs.Variables.{is_connected, is_wanted, link_of}
 
 -- no pass over the rows has anything to tell
 pub record IsSettled (w : Gateway) : Type 0 where
   pub channels : channel_notices w ≡ []
+  pub held_back : withheld w ≡ []
   pub links : link_notices w ≡ []
   pub reads : read_notices w ≡ []
+  pub updates : update_notices w ≡ []
 
 -- the numbers of rows rise: from this one on, and below that one
 abbrev pub AreRising : {A : Type 0} → (A → ℕ) → ℕ → List A → ℕ → Type 0
@@ -43,6 +51,14 @@ pub record AreInOrder (w : Gateway) : Type 0 where
 abbrev pub HasLinksApart : Gateway → Type 0
 HasLinksApart w = (name : List ℕ) → length (filter (is_named name) w.upstream.links) ≤ 1
 
+-- no session has two subscriptions under one ID
+abbrev pub AreApart : List ClientSub → Type 0
+AreApart [] = Unit {0}
+AreApart (sub ∷ subs) = (list_any (is_sub sub.session sub.id) subs ≡ false) × AreApart subs
+
+abbrev pub HasSubsApart : Gateway → Type 0
+HasSubsApart w = AreApart w.clients.subs
+
 -- the read is on a channel that stands
 abbrev pub is_on_channel : Gateway → WaitingRead → Bool
 is_on_channel w read = has_channel read.session read.sid w.clients
@@ -56,13 +72,43 @@ pub record IsUpToDate (w : Gateway) (c : Channel) : Type 0 where
   pub rights : c.rights ≡ rights_of w c
 
 -- what a subscription is for
-abbrev pub interest_in : Subscription → Interest
-interest_in sub = record { mask = sub.mask; count = sub.count }
+abbrev pub want_in : Subscription → Want
+want_in sub = record { mask = sub.mask; count = sub.count }
+
+abbrev pub native_count_in : LinkState → ℕ
+native_count_in Creating = 0
+native_count_in (Connected sid dtype count) = count
+native_count_in Unusable = 0
+
+-- what a variable's subscription is for
+abbrev pub want_of : Sub → Want
+want_of sub = record { mask = sub.mask; count = sub.count }
+
+abbrev pub native_count_over : Option Link → ℕ
+native_count_over None = 0
+native_count_over (Some link) = native_count_in link.state
+
+-- a variable's native count, 0 where it isn't connected
+abbrev pub native_count_of : Gateway → List ℕ → ℕ
+native_count_of w name = native_count_over (link_of w name)
+
+-- each variable has a subscription upstream exactly for what its readers want together, and none where
+-- nobody reads it
+abbrev pub IsSubscribedExactly : Gateway → Type 0
+IsSubscribedExactly w = (name : List ℕ)
+    → option_map want_of (subscription_of w name) ≡ interest_of w name (native_count_of w name)
 
 -- a link is wanted, and where it is connected it has a subscription exactly for what is read
 pub record IsInUse (w : Gateway) (link : Link) : Type 0 where
   pub wanted : is_wanted w link.name ≡ true
-  pub subscribed : is_connected link.state ≡ true → option_map interest_in link.subscription ≡ interest_of w link.name
+  pub subscribed : is_connected link.state ≡ true
+      → option_map want_in link.subscription ≡ interest_of w link.name (native_count_in link.state)
+
+-- a subscription is owed an update as long as its channel may not be read; and where one is owed, its
+-- session takes none now, its channel may not be read, or the last message doesn't cover it
+pub record IsKeptPosted (w : Gateway) (sub : ClientSub) : Type 0 where
+  pub owed : is_unreadable w (channel_of w sub.session sub.sid) ≡ true → sub.owed ≡ true
+  pub waits : sub.owed ≡ true → is_open_to w sub ≡ true → update_on w sub (channel_of w sub.session sub.sid) ≡ None
 
 -- a read waits for its value: its channel may be read, over a connected link, whose last message
 -- doesn't cover it

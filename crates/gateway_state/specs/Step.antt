@@ -3,17 +3,18 @@ use Rattle.std.specs.Prelude.{List, [], ◌∷◌, ◌++◌, take, Bool, not, �
 use Rattle.gateway_state.specs.declared.event.Dest.{Dest}
 use Rattle.gateway_state.specs.declared.event.Event.{Event}
 use Rattle.gateway_state.specs.declared.event.Event.TheVariants.{Drain}
-use Rattle.gateway_state.specs.declared.fanout.outbox.Out.{Out}
+use Rattle.fanout.specs.declared.outbox.Out.{Out}
 use Rattle.gateway_state.specs.Asked.{stands}
 use Rattle.gateway_state.specs.Connections.{outbox_of, same_dest}
 use Rattle.gateway_state.specs.Direct.{direct_effect}
 use Rattle.gateway_state.specs.Gateway.{Gateway}
 use Rattle.gateway_state.specs.Notices.{channels_told, links_told, reads_told}
+use Rattle.gateway_state.specs.Updates.{updates_told, updates_withheld}
 
--- what follows from an event for everybody: the notices on channels, on links and on waiting reads
--- (updates of subscriptions come behind them)
+-- what follows from an event for everybody: the notices on channels, the updates that are withheld
+-- from now on, the notices on links and on waiting reads, and the updates that are due
 abbrev pub consequences : Gateway → Gateway
-consequences w = reads_told (links_told (channels_told w))
+consequences w = updates_told (reads_told (links_told (updates_withheld (channels_told w))))
 
 -- one event
 unfoldable pub step : Gateway → Event → Gateway

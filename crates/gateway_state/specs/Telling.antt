@@ -8,7 +8,7 @@ use Rattle.ca_message.specs.ToServer.{server_head, server_payload}
 use Rattle.rows.specs.Rows.{change_first}
 use Rattle.gateway_state.specs.declared.event.Dest.{Dest}
 use Rattle.gateway_state.specs.declared.event.Dest.TheVariants.{Session, Upstream}
-use Rattle.gateway_state.specs.declared.fanout.outbox.Out.{Out}
+use Rattle.fanout.specs.declared.outbox.Out.{Out}
 use Rattle.gateway_state.specs.Connections.{is_to, given, marked_now}
 use Rattle.gateway_state.specs.Gateway.{Gateway}
 

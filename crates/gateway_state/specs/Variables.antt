@@ -1,5 +1,5 @@
 -- Links, values and wanted names, by variable.
-use Rattle.std.specs.Prelude.{ℕ, List, [], ◌∷◌, ◌++◌, Bool, true, false, not, ◌&&◌, ◌||◌, map, filter, filter_map, bytes_eq, is_some, fold, if◌then◌else◌, Option}
+use Rattle.std.specs.Prelude.{ℕ, List, [], ◌∷◌, ◌++◌, Bool, true, false, not, ◌&&◌, ◌||◌, map, filter, filter_map, bytes_eq, is_some, fold, if◌then◌else◌, Option, Some, None}
 use Rattle.std.specs.List.{list_any, find}
 use Rattle.std.specs.Ordering.{nat_cmp}
 use Rattle.std.specs.Cmp.Lexicographic.{slice_cmp}
@@ -40,6 +40,10 @@ without_cached cid w = record w { cache = filter (is_cached_elsewhere cid) w.cac
 -- the channel is on this real name
 abbrev pub is_on : List ℕ → Channel → Bool
 is_on name row = bytes_eq row.real name
+
+abbrev pub is_channel_on : List ℕ → Option Channel → Bool
+is_channel_on name None = false
+is_channel_on name (Some c) = is_on name c
 
 -- a channel is open on the real name, or a remembered search leads to it
 abbrev pub is_wanted : Gateway → List ℕ → Bool

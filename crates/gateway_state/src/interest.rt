@@ -1,10 +1,10 @@
 //! What readers want of a variable.
 
-/// The events that a subscription's mask may ask for: VALUE, LOG and ALARM.
-pub const KNOWN_EVENTS: u16 = 7;
+/// The events that each new value is: VALUE and LOG.
+pub const VALUE_EVENTS: u16 = 3;
 
-/// The events that the gateway always asks a server for, VALUE and ALARM.
-pub const ALWAYS_ASKED: u16 = 5;
+/// The event that a new alarm is.
+pub const ALARM_EVENTS: u16 = 4;
 
 /// The events that a channel wants whose reads are answered from the cache, VALUE and ALARM.
 pub const READ_EVENTS: u16 = 5;
@@ -23,14 +23,5 @@ pub struct Sub {
     /// The events.
     pub mask: u16,
     /// The count of elements that updates may have.
-    pub count: u32,
-}
-
-/// What the readers of a variable want together.
-#[derive(Clone, Copy, Debug, PartialEq, Eq)]
-pub struct Interest {
-    /// The events.
-    pub mask: u16,
-    /// The greatest count of elements.
     pub count: u32,
 }

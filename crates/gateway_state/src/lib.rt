@@ -7,8 +7,8 @@
 
 mod cached;
 mod config;
+mod connections;
 mod event;
-pub mod fanout;
 mod interest;
 mod limits;
 mod notice;
@@ -17,11 +17,10 @@ mod search;
 
 pub use cached::{Cache, LastMessage};
 pub use config::{Config, LAST_FIRST, Policy};
+pub use connections::{Connection, Connections};
 pub use event::{Dest, Event};
-pub use interest::{
-    ALWAYS_ASKED, Interest, KNOWN_EVENTS, PLAIN_TYPES, READ_EVENTS, Sub, TIME_FORM,
-};
-pub use limits::{LOWEST_MINOR, SEARCH_LIMIT, UPDATE_MINOR};
-pub use notice::{ChannelNotice, LinkNotice, ReadNotice, ReadVerdict};
+pub use interest::{ALARM_EVENTS, PLAIN_TYPES, READ_EVENTS, Sub, TIME_FORM, VALUE_EVENTS};
+pub use limits::{LOWEST_MINOR, SEARCH_LIMIT, UPDATE_LIMIT, UPDATE_MINOR};
+pub use notice::{ChannelNotice, LinkNotice, ReadNotice, ReadVerdict, SubVerdict, UpdateNotice};
 pub use reading::{Given, Native, Reading};
 pub use search::{Search, Searches};

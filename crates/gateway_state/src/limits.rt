@@ -8,3 +8,6 @@ pub const UPDATE_MINOR: u32 = 13;
 
 /// How many searches are remembered at most.
 pub const SEARCH_LIMIT: usize = 4_096;
+
+/// How many messages an outbox holds at most that takes updates.
+pub const UPDATE_LIMIT: usize = 4_096;

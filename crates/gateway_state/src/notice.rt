@@ -1,8 +1,8 @@
 //! What others are owed after an event.
-use crate::interest::Interest;
 use bytes::Bytes;
 use channel_table::WaitingRead;
 use link_table::{LinkState, Subscription};
+use mask_merge::Want;
 
 /// What becomes of a READ_NOTIFY.
 #[derive(Clone, Copy, Debug, PartialEq, Eq)]
@@ -15,6 +15,19 @@ pub enum ReadVerdict {
     Refused(u32),
     /// It is accepted: the channel's reach and rights from now on.
     Accepted { reach: u32, rights: u32 },
+}
+
+/// What becomes of an EVENT_ADD.
+#[derive(Clone, Copy, Debug, PartialEq, Eq)]
+pub enum SubVerdict {
+    /// The session has no such channel.
+    NoChannel,
+    /// The channel has no connected variable, so nothing is said.
+    Ignored,
+    /// It is refused over its channel, which the client calls `cid`, with this code.
+    Refused { cid: u32, code: u32 },
+    /// The subscription is made.
+    Accepted,
 }
 
 /// What a client is owed about one of its channels.
@@ -57,7 +70,7 @@ pub enum LinkNotice {
         cid: u32,
         sid: u32,
         dtype: u16,
-        interest: Interest,
+        want: Want,
         sent: u32,
     },
     /// The link is no longer wanted.
@@ -75,4 +88,14 @@ pub enum ReadNotice {
     Refused(WaitingRead, u32),
     /// The read is answered by so many elements with this payload.
     Answered(WaitingRead, u32, Bytes),
+}
+
+/// The update that is due to a client's subscription.
+#[derive(Debug, Drop)]
+pub struct UpdateNotice {
+    pub session: u32,
+    pub id: u32,
+    pub dtype: u16,
+    pub count: u32,
+    pub payload: Bytes,
 }

@@ -63,6 +63,74 @@ fn requests(rt: HostRuntime) -> Result<(), Fail> {
 }
 
 #[test]
+fn subscription_requests(rt: HostRuntime) -> Result<(), Fail> {
+    let cases = [
+        (
+            "0001 0010 0005 0001 00000001 00000031 000000000000000000000000 0005 0000",
+            event_add(1, 5),
+        ),
+        // Of the payload only the mask is read, and it need not name an event.
+        (
+            "0001 0010 0005 0001 00000001 00000031 3f8000003f8000003f800000 0000 ffff",
+            event_add(1, 0),
+        ),
+        (
+            "0001 0018 0005 0003 00000001 00000031
+            000000000000000000000000 0102 0000 ffffffffffffffff",
+            event_add(3, 0x0102),
+        ),
+        (
+            "0002 0000 0005 0003 00000001 00000031",
+            ClientRequest::EventCancel {
+                sid: 1,
+                id: 0x31,
+                dtype: 5,
+                count: 3,
+            },
+        ),
+        (
+            "0008 0000 0000 0000 00000000 00000000",
+            ClientRequest::EventsOff,
+        ),
+        (
+            "0009 0000 0000 0000 00000000 00000000",
+            ClientRequest::EventsOn,
+        ),
+    ];
+    for (message, request) in cases {
+        let bytes = from_hex(rt.alloc(), message)?;
+        assert_eq!(rt; request_in(&bytes)?, Ok(request), "{message}");
+    }
+    Ok(())
+}
+
+/// What a client asks for that subscribes to channel 1 and calls the subscription 0x31.
+fn event_add<'a>(count: u32, mask: u16) -> ClientRequest<'a> {
+    ClientRequest::EventAdd {
+        sid: 1,
+        id: 0x31,
+        dtype: 5,
+        count,
+        mask,
+    }
+}
+
+// The mask and the two bytes behind it are owed.
+#[test]
+fn short_subscription_requests(rt: HostRuntime) -> Result<(), Fail> {
+    for message in [
+        "0001 0000 0005 0001 00000001 00000031",
+        "0001 0008 0005 0001 00000001 00000031 0000000000000005",
+        "0001 0010 0005 0001 00000001 00000031 000000000000000000000000 0005",
+        "0001 0010 0005 0001 00000001 00000031 000000000000000000000000 0005 00",
+    ] {
+        let bytes = from_hex(rt.alloc(), message)?;
+        assert_eq!(rt; request_in(&bytes)?, Err(RequestFault::Short), "{message}");
+    }
+    Ok(())
+}
+
+#[test]
 fn refused_requests(rt: HostRuntime) -> Result<(), Fail> {
     let cases = [
         // SEARCH is no request on a circuit, and READ is obsolete.

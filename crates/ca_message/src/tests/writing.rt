@@ -1,5 +1,5 @@
 use super::*;
-use crate::codes::{ECA_BADCHID, ECA_BADCOUNT, ECA_INTERNAL};
+use crate::codes::{ECA_BADCHID, ECA_BADCOUNT, ECA_INTERNAL, ECA_NORMAL};
 use crate::commands::{CA_PROTO_ECHO, NO_CHANNEL};
 use ca_header::Message;
 use pv_name::Name;
@@ -30,6 +30,16 @@ fn echo(size: u32, payload: &'static [u8]) -> ToClient {
     })
 }
 
+/// An update of the subscription 0x31.
+fn update(count: u32, value: &'static [u8]) -> ToClient {
+    ToClient::Update {
+        id: 0x31,
+        dtype: 5,
+        count,
+        value: Bytes::from_static(value),
+    }
+}
+
 fn error(cid: u32, code: u32, request: Header) -> ToClient {
     ToClient::Error { cid, code, request }
 }
@@ -52,6 +62,20 @@ fn to_clients(rt: HostRuntime) -> Result<(), Fail> {
         (
             echo(8, b"the same"),
             "0017 0008 0000 0000 00000000 00000000 7468652073616d65",
+        ),
+        (
+            update(1, &[0, 0, 0, 0x2A, 0, 0, 0, 0]),
+            "0001 0008 0005 0001 00000001 00000031 0000002a 00000000",
+        ),
+        (update(0, &[]), "0001 0000 0005 0000 00000001 00000031"),
+        (
+            ToClient::EventCancelled {
+                sid: 1,
+                id: 0x31,
+                dtype: 5,
+                count: 3,
+            },
+            "0001 0000 0005 0003 00000001 00000031",
         ),
         (
             ToClient::ClearChannel { sid: 1, cid: 7 },
@@ -227,6 +251,40 @@ fn read_back(rt: HostRuntime) -> Result<(), Fail> {
     let payload = message.payload(rt.alloc())?;
     let reply = read_reply(&message.head(), payload.as_slice());
     assert_eq!(rt; reply, Ok(ServerReply::AccessRights { cid: 1, rights: 2 }));
+    Ok(())
+}
+
+#[test]
+fn subscriptions_read_back(rt: HostRuntime) -> Result<(), Fail> {
+    let message = ToServer::EventAdd {
+        sid: 0x65,
+        id: 1,
+        dtype: 19,
+        count: 0,
+        mask: 0x0102,
+    };
+    let payload = message.payload(rt.alloc())?;
+    let request = read_request(&message.head(), payload.as_slice());
+    let asked = ClientRequest::EventAdd {
+        sid: 0x65,
+        id: 1,
+        dtype: 19,
+        count: 0,
+        mask: 0x0102,
+    };
+    assert_eq!(rt; request, Ok(asked));
+
+    let message = update(1, &[0, 0, 0, 0x2A, 0, 0, 0, 0]);
+    let payload = message.payload(rt.alloc())?;
+    let reply = read_reply(&message.head(), payload.as_slice());
+    let said = ServerReply::EventAdd {
+        id: 0x31,
+        status: ECA_NORMAL,
+        dtype: 5,
+        count: 1,
+        value: ValueBytes::from([0, 0, 0, 0x2A, 0, 0, 0, 0].as_slice()),
+    };
+    assert_eq!(rt; reply, Ok(said));
     Ok(())
 }
 

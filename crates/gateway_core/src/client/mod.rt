@@ -1,23 +1,29 @@
 //! What clients ask for.
-ghost use Rattle.std.specs.Prelude.{◌≡◌, true, OnOk, IsErrOf};
+ghost use Rattle.std.specs.Prelude.{◌≡◌, true, Ok, OnOk, IsErrOf};
 ghost use Rattle.gateway_state.specs.Numbers.{is_past_numbers};
-ghost use Rattle.gateway_state.specs.Clients.{client_said, versioned, not_understood, no_channel, unreadable};
+ghost use Rattle.gateway_state.specs.Clients.{versioned, not_understood, no_channel};
+ghost use Rattle.gateway_state.specs.Requests.{client_said, requested, unreadable};
+ghost use Rattle.gateway_state.specs.Telling.{told};
 
 use crate::fault::Refusal;
 use crate::state::Rows;
 use ca_header::{Header, Message};
 use ca_message::codes::{ECA_BADCHID, ECA_INTERNAL};
 use ca_message::commands::{
-    CA_PROTO_CLIENT_NAME, CA_PROTO_CREATE_CHAN, CA_PROTO_HOST_NAME, NO_CHANNEL,
+    CA_PROTO_CLIENT_NAME, CA_PROTO_CREATE_CHAN, CA_PROTO_EVENT_ADD, CA_PROTO_HOST_NAME, NO_CHANNEL,
 };
 use ca_message::{ClientRequest, ToClient, read_request};
 use gateway_state::{Dest, LOWEST_MINOR};
 use std::alloc::AllocError;
+use subscribe::new_sub;
 
 mod clear_channel;
 mod create_channel;
 mod host_name;
+mod pause;
 mod read;
+mod subscribe;
+mod unsubscribe;
 
 impl Rows {
     /// A client sent a message.
@@ -25,46 +31,75 @@ impl Rows {
         ensures ok { OnOk result (self.new ≡ client_said self.old number message) }
         ensures used_up { IsErrOf result Refusal.NumbersUsedUp → is_past_numbers (client_said self.old number message) ≡ true }
     {
-        let head = message.head;
-        match read_request(&head, &message.payload) {
-            Ok(ClientRequest::Version { minor }) => {
+        match read_request(&message.head, &message.payload) {
+            Ok(request) => self.hear_request(number, request, &message),
+            Err(_) => Ok(self.hear_unreadable(number, &message.head)?),
+        }
+    }
+
+    /// A client asked for something.
+    fn hear_request(
+        &mut self,
+        number: u32,
+        request: ClientRequest<'_>,
+        message: &Message,
+    ) -> Result<(), Refusal>
+        ensures ok { OnOk result (self.new ≡ requested self.old number message.now (Ok request.entry)) }
+        ensures used_up { IsErrOf result Refusal.NumbersUsedUp → is_past_numbers (requested self.old number message.now (Ok request.entry)) ≡ true }
+    {
+        let head = &message.head;
+        match request {
+            ClientRequest::Version { minor } => {
                 self.hear_version(number, minor);
                 Ok(())
             }
-            Ok(ClientRequest::ClearChannel { sid, cid }) => {
-                self.clear_channel(number, sid, cid, &head)?;
-                Ok(())
+            ClientRequest::EventAdd {
+                sid,
+                id,
+                dtype,
+                count,
+                mask,
+            } => Ok(self.subscribe_client(new_sub(number, sid, id, dtype, count, mask), head)?),
+            ClientRequest::EventCancel {
+                sid,
+                id,
+                dtype,
+                count,
+            } => Ok(self.cancel_subscription(number, sid, id, dtype, count, head)?),
+            ClientRequest::EventsOff => Ok(self.pause(number, true)?),
+            ClientRequest::EventsOn => Ok(self.pause(number, false)?),
+            ClientRequest::ClearChannel { sid, cid } => {
+                Ok(self.clear_channel(number, sid, cid, head)?)
             }
-            Ok(
-                ClientRequest::ReadNotify {
-                    sid,
-                    ioid,
-                    dtype,
-                    count,
-                },
-            ) => {
-                self.read(number, sid, ioid, dtype, count, &head)?;
-                Ok(())
-            }
-            Ok(ClientRequest::CreateChannel { cid, name, .. }) => {
+            ClientRequest::ReadNotify {
+                sid,
+                ioid,
+                dtype,
+                count,
+            } => Ok(self.read(number, sid, ioid, dtype, count, head)?),
+            ClientRequest::CreateChannel { cid, name, .. } => {
                 let name = name.to_name(self.alloc)?;
                 self.create_channel(number, cid, &name)
             }
-            Ok(ClientRequest::ClientName(_)) => Ok(()),
-            Ok(ClientRequest::HostName(host)) => {
+            ClientRequest::ClientName(_) => Ok(()),
+            ClientRequest::HostName(host) => {
                 let host = host.to_host(self.alloc)?;
-                self.name_host(number, host)?;
-                Ok(())
+                Ok(self.name_host(number, host)?)
             }
-            Ok(ClientRequest::Echo) => {
-                self.tell(number, &ToClient::Echo(message))?;
-                Ok(())
-            }
-            Err(_) => {
-                self.hear_unreadable(number, &head)?;
-                Ok(())
-            }
+            ClientRequest::Echo => Ok(self.echo(number, message)?),
         }
+    }
+
+    /// A client gets its own message back.
+    fn echo(&mut self, number: u32, message: &Message) -> Result<(), AllocError>
+        ensures { OnOk result (self.new ≡ told number (ToClient.Echo message.now) self.old) }
+    {
+        let payload = message.payload.slice(..)?;
+        let said = ToClient::Echo(Message {
+            head: message.head,
+            payload,
+        });
+        self.tell(number, &said)
     }
 
     /// A client said which minor version it speaks.
@@ -76,7 +111,8 @@ impl Rows {
         }
     }
 
-    /// A message that is no request: texts that can't be read are ignored, but a CREATE_CHAN fails.
+    /// A message that is no request: texts that can't be read are ignored, but a CREATE_CHAN fails;
+    /// a short EVENT_ADD is refused over its channel.
     fn hear_unreadable(&mut self, number: u32, head: &Header) -> Result<(), AllocError>
         ensures { OnOk result (self.new ≡ unreadable self.old number head.now) }
     {
@@ -85,6 +121,8 @@ impl Rows {
             self.fail_creation(number, head.p1)
         } else if head.command == CA_PROTO_CLIENT_NAME || head.command == CA_PROTO_HOST_NAME {
             Ok(())
+        } else if head.command == CA_PROTO_EVENT_ADD {
+            self.refuse_short_subscription(number, head)
         } else {
             self.refuse_unknown(number, head)
         }

@@ -8,8 +8,9 @@ use crate::interest::{is_for, sent_count};
 use crate::server::channels::time_of;
 use crate::state::Rows;
 use ca_message::ToServer;
-use gateway_state::{Interest, LinkNotice};
+use gateway_state::LinkNotice;
 use link_table::{Counter, Link, LinkState, Subscription, TableFault};
+use mask_merge::Want;
 use std::alloc::AllocError;
 
 impl Rows {
@@ -24,8 +25,8 @@ impl Rows {
         let LinkState::Connected { sid, dtype, count } = link.state else {
             return Ok(());
         };
-        let interest = self.interest_of(&link.name);
-        if is_for(interest, link.subscription) {
+        let want = self.interest_of(&link.name, count)?;
+        if is_for(want, link.subscription) {
             return Ok(());
         }
         if let Some(subscription) = link.subscription {
@@ -37,15 +38,15 @@ impl Rows {
                 subscription,
             })?;
         }
-        let notice = match interest {
+        let notice = match want {
             None => LinkNotice::Unread { cid: link.cid },
-            Some(interest) => LinkNotice::Subscribed {
+            Some(want) => LinkNotice::Subscribed {
                 server: link.server,
                 cid: link.cid,
                 sid,
                 dtype: time_of(dtype),
-                interest,
-                sent: sent_count(self.minor_of(link.server), count, interest.count),
+                want,
+                sent: sent_count(self.minor_of(link.server), count, want.count),
             },
         };
         notices.push(notice)?;
@@ -101,19 +102,19 @@ impl Rows {
         cid: u32,
         sid: u32,
         dtype: u16,
-        interest: Interest,
+        want: Want,
         sent: u32,
     ) -> Result<(), Refusal>
-        ensures ok { OnOk result (self.new ≡ subscribed_to server cid sid dtype interest sent self.old) }
-        ensures used_up { IsErrOf result Refusal.NumbersUsedUp → is_past_numbers (subscribed_to server cid sid dtype interest sent self.old) ≡ true }
+        ensures ok { OnOk result (self.new ≡ subscribed_to server cid sid dtype want sent self.old) }
+        ensures used_up { IsErrOf result Refusal.NumbersUsedUp → is_past_numbers (subscribed_to server cid sid dtype want sent self.old) ≡ true }
     {
         let Some(id) = self.upstream.give_out(Counter::Subscription) else {
             return Err(Refusal::NumbersUsedUp);
         };
         let subscription = Subscription {
             id,
-            mask: interest.mask,
-            count: interest.count,
+            mask: want.mask,
+            count: want.count,
             sent,
         };
         self.set_subscription(server, cid, Some(subscription))?;
@@ -124,7 +125,7 @@ impl Rows {
                 id,
                 dtype,
                 count: sent,
-                mask: interest.mask,
+                mask: want.mask,
             },
         )?;
         Ok(())
@@ -174,9 +175,9 @@ impl Rows {
                 cid,
                 sid,
                 dtype,
-                interest,
+                want,
                 sent,
-            } => self.subscribe(server, cid, sid, dtype, interest, sent),
+            } => self.subscribe(server, cid, sid, dtype, want, sent),
             LinkNotice::Dropped { server, cid, state } => {
                 self.drop_link(server, cid, state)?;
                 Ok(())

@@ -1,13 +1,13 @@
 //! What servers say of channels.
 ghost use Rattle.std.specs.Prelude.{◌≡◌, OnOk};
-ghost use Rattle.gateway_state.specs.Servers.{is_usable, fits_in_time, time_of, channel_made, answered_creating, channel_returned, rights_said, creation_refused, channel_dropped, without_link, with_link_state};
+ghost use Rattle.gateway_state.specs.Servers.{is_usable, time_of, channel_made, answered_creating, channel_returned, rights_said, creation_refused, channel_dropped, without_link, with_link_state};
 ghost use Rattle.gateway_state.specs.Variables.{without_cached};
 ghost use Rattle.dbr_layout.specs.Dbr.{dbr_of};
 
+use crate::answer::fits_payload;
 use crate::state::Rows;
 use crate::variables::is_creating;
 use ca_message::ToServer;
-use dbr_layout::Dbr;
 use gateway_state::{PLAIN_TYPES, TIME_FORM};
 use link_table::LinkState;
 use std::alloc::AllocError;
@@ -115,21 +115,9 @@ pub(crate) fn time_of(dtype: u16) -> u16
     }
 }
 
-fn fits_in_time(dtype: u16, count: u32) -> bool
-    ensures { result ≡ fits_in_time (dbr_of dtype) count }
-{
-    match Dbr::of(dtype) {
-        Some(dbr) => match dbr.size_of(count) {
-            Some(_) => true,
-            None => false,
-        },
-        None => false,
-    }
-}
-
 /// Whether updates of a channel with this native type and count can be taken.
 fn is_usable(dtype: u16, count: u32) -> bool
     ensures { result ≡ is_usable dtype count }
 {
-    dtype < PLAIN_TYPES && 0 < count && fits_in_time(time_of(dtype), count)
+    dtype < PLAIN_TYPES && 0 < count && fits_payload(time_of(dtype), count)
 }

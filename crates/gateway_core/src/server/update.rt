@@ -1,29 +1,39 @@
 //! Updates.
 ghost use Rattle.std.specs.Prelude.{◌≡◌, filter, fold, OnOk, IfOk};
-ghost use Rattle.gateway_state.specs.Servers.{is_value, read_failed, updated, waits_for, with_cached};
+ghost use Rattle.gateway_state.specs.Servers.{has_other_alarm, is_value, read_failed, updated, waits_for, with_cached};
+ghost use Rattle.gateway_state.specs.Rights.{channel_of};
+ghost use Rattle.gateway_state.specs.Updates.{concerned, is_concerned, is_sub_to};
+ghost use Rattle.gateway_state.specs.Variables.{is_channel_on};
 
 use crate::server::channels::time_of;
 use crate::state::Rows;
 use bytes::Bytes;
 use ca_message::ToClient;
 use ca_message::codes::{ECA_GETFAIL, ECA_NORMAL};
-use channel_table::WaitingRead;
+use channel_table::{ClientSub, WaitingRead};
 use dbr_layout::View;
-use gateway_state::LastMessage;
+use gateway_state::{ALARM_EVENTS, LastMessage, VALUE_EVENTS};
 use link_table::LinkState;
 use pv_name::Name;
 use std::alloc::AllocError;
 use value_cache::Cached;
 
 impl Rows {
+    /// Whether a session's channel stands and is on a variable.
+    fn is_channel_on(&self, name: &Name, session: u32, sid: u32) -> bool
+        ensures { result ≡ is_channel_on name.now (channel_of self.now session sid) }
+    {
+        match self.channel_of(session, sid) {
+            Some(channel) => channel.real == *name,
+            None => false,
+        }
+    }
+
     /// Whether a read waits for a variable.
     fn waits_for(&self, name: &Name, read: WaitingRead) -> bool
         ensures { result ≡ waits_for self.now name.now read }
     {
-        match self.channel_of(read.session, read.sid) {
-            Some(channel) => channel.real == *name,
-            None => false,
-        }
+        self.is_channel_on(name, read.session, read.sid)
     }
 
     /// The reads that wait for a variable, in the order of asking.
@@ -69,6 +79,39 @@ impl Rows {
         self.cache.put(row)
     }
 
+    /// Whether a subscription is on a variable.
+    fn is_sub_to(&self, name: &Name, sub: &ClientSub) -> bool
+        ensures { result ≡ is_sub_to self.now name.now sub.now }
+    {
+        self.is_channel_on(name, sub.session, sub.sid)
+    }
+
+    /// The subscriptions to a variable that an update of it concerns.
+    fn concerned(&self, name: &Name, differs: bool) -> Result<Vec<ClientSub>, AllocError>
+        ensures { IfOk result (λ subs. subs.items ≡ concerned self.now name.now differs) }
+    {
+        let mut subs = Vec::new(self.alloc);
+        for sub in self.clients.subs() {
+            if self.is_sub_to(name, sub) && is_concerned(sub, differs) {
+                subs.push(*sub)?;
+            }
+        }
+        Ok(subs)
+    }
+
+    /// Whether the alarm of an update differs from that of a link's last message, or there is none.
+    fn has_other_alarm(&self, cid: u32, dtype: u16, count: u32, payload: &[u8]) -> bool
+        ensures { result ≡ has_other_alarm self.now cid dtype count payload.now }
+    {
+        let Ok(view) = View::new(dtype, count, payload) else {
+            return false;
+        };
+        match self.cache.get(cid) {
+            Some(last) => last.held.alarm_differs(&view),
+            None => true,
+        }
+    }
+
     /// An update came under a subscription's ID.
     pub(crate) fn update(
         &mut self,
@@ -97,14 +140,13 @@ impl Rows {
         if !is_value(native, subscription.count, dtype, count, &payload) {
             return Ok(());
         }
+        let (server, cid) = (link.server, link.cid);
+        let differs = self.has_other_alarm(cid, dtype, count, &payload);
+        let owed = self.concerned(&link.name, differs)?;
+        self.owe_all(&owed);
         let mut held = Cached::empty();
         held.put(dtype, count, payload, subscription.count);
-        let row = LastMessage {
-            server: link.server,
-            cid: link.cid,
-            held,
-        };
-        self.keep_value(row)
+        self.keep_value(LastMessage { server, cid, held })
     }
 }
 
@@ -113,4 +155,12 @@ fn is_value(native: u16, asked_with: u32, dtype: u16, count: u32, payload: &[u8]
     ensures { result ≡ is_value native asked_with dtype count payload.now }
 {
     dtype == time_of(native) && count <= asked_with && View::new(dtype, count, payload).is_ok()
+}
+
+/// Whether an update concerns a subscription: it asks for values or for the log, or for alarms and
+/// the alarm is another.
+fn is_concerned(sub: &ClientSub, differs: bool) -> bool
+    ensures { result ≡ is_concerned differs sub.now }
+{
+    sub.mask & VALUE_EVENTS > 0 || sub.mask & ALARM_EVENTS > 0 && differs
 }

@@ -8,6 +8,7 @@ mod limits;
 mod links;
 mod reads;
 mod servers;
+mod subscriptions;
 mod types;
 
 const VERSION: &[u8] = b"s1 000000000000000d0000000000000000\n";

@@ -70,6 +70,75 @@ fn answers_a_read_at_once_while_256_wait(rt: HostRuntime) -> Result<(), Fail> {
 }
 
 #[test]
+fn gives_a_client_no_more_than_8192_subscriptions(rt: HostRuntime) -> Result<(), Fail> {
+    let alloc = rt.alloc();
+    let mut story = Story::of(alloc, &SERVED)?;
+    let mut line = Vec::from_slice(alloc, b"client s1 ")?;
+    for number in 0..8_192u32 {
+        write!(
+            line,
+            "00010010000500010000000100{number:06x}00000000000000000000000000010000"
+        )?;
+    }
+    story.tell(
+        &line,
+        b"u1 0001001000130000000000650000000100000000000000000000000000050000\n",
+    )?;
+    story.tell(
+        b"client s1 0001001000050001000000010000200000000000000000000000000000010000",
+        b"s1 000b0020000000000000000700000030000100100005000100000001000020006c696d69742072656163686564000000\n",
+    )?;
+    story.tell(
+        b"client s1 00020000000500010000000100000007",
+        b"s1 00010000000500010000000100000007\n",
+    )?;
+    story.tell(
+        b"client s1 0001001000050001000000010000200000000000000000000000000000010000",
+        b"",
+    )?;
+    story.check(&rt, alloc)
+}
+
+/// An echo, so many times, as a line of the client and as what it is answered.
+fn echoes(alloc: Global, count: usize) -> Result<(Vec<u8>, Vec<u8>), Fail> {
+    let mut line = Vec::from_slice(alloc, b"client s1 ")?;
+    let mut answers = Vec::new(alloc);
+    for _ in 0..count {
+        line.extend_from_slice(ECHO_DIGITS)?;
+        answers.extend_from_slice(ECHO)?;
+    }
+    Ok((line, answers))
+}
+
+#[test]
+fn holds_updates_back_while_4096_messages_wait(rt: HostRuntime) -> Result<(), Fail> {
+    let alloc = rt.alloc();
+    let mut story = Story::of(alloc, &SERVED)?;
+    story.read(
+        b"client s1 0001001000050001000000010000003100000000000000000000000000010000
+> u1 0001001000130000000000650000000100000000000000000000000000050000
+server u1 00010010001300010000000100000001000000003b9aca00000000000000002a
+> s1 000100080005000100000001000000310000002a00000000
+hold s1
+",
+    )?;
+    let (line, mut answers) = echoes(alloc, 4_096)?;
+    story.tell(&line, b"")?;
+    story.read(
+        b"server u1 00010010001300010000000100000001000000003b9aca00000000000000002b
+server u1 00010010001300010000000100000001000000003b9aca00000000000000002c
+server u1 00010010001300010000000100000001000000003b9aca00000000000000002d
+drain s1 1
+> s1 00170000000000000000000000000000
+",
+    )?;
+    answers.truncate(4_095 * ECHO.len());
+    answers.extend_from_slice(b"s1 000100080005000100000001000000310000002d00000000\n")?;
+    story.tell(b"flow s1", &answers)?;
+    story.check(&rt, alloc)
+}
+
+#[test]
 fn serves_no_more_than_1024_clients(rt: HostRuntime) -> Result<(), Fail> {
     let alloc = rt.alloc();
     let mut story = Story::of(alloc, &[])?;

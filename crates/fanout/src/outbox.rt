@@ -1,0 +1,129 @@
+//! The messages that wait for one connection.
+ghost use Rattle.std.specs.Prelude.{◌≡◌, ◌≤◌, [], length, drop, take, false, true, OnOk, OnErr, IfOk, IfErr};
+ghost use Rattle.std.specs.VecDeque.{deque_len};
+ghost use Rattle.fanout.specs.Outbox.{refuses, appended, without_first, front, IsRefusalOf};
+
+use bytes::Bytes;
+use ca_header::HeadBytes;
+use std::alloc::{AllocError, Global};
+use std::collections::VecDeque;
+use std::marker::Model;
+
+/// How many messages an outbox holds at most.
+pub const OUTBOX_LIMIT: usize = 16_384;
+
+/// A message as it goes out: its canonical header, and its payload with the padding.
+#[derive(Debug, Drop)]
+pub struct Out {
+    pub head: HeadBytes,
+    pub payload: Bytes,
+}
+
+/// Why an outbox took no message. The message comes back.
+#[derive(Debug, Drop)]
+pub enum AppendFault {
+    /// Memory was refused, and the outbox is as before.
+    OutOfMemory(Out),
+    /// The outbox is marked: it was, or it was full.
+    Marked(Out),
+}
+
+/// The messages that wait for a connection, oldest first, and the mark that it must end.
+#[derive(Debug, Drop)]
+pub struct Outbox {
+    messages: VecDeque<Out>,
+    marked: bool,
+}
+
+impl Model for Outbox {
+    ghost use Rattle.fanout.specs.Waiting.{Waiting};
+
+    ghost Value = { Waiting };
+
+    ghost view = { λ o. record { messages = o.messages.items; marked = o.marked } };
+}
+
+impl Outbox {
+    /// Nothing waits, and nothing is marked.
+    pub fn new(alloc: Global) -> Outbox
+        ensures { result ≡ record { messages = []; marked = false } }
+    {
+        Outbox {
+            messages: VecDeque::new(alloc),
+            marked: false,
+        }
+    }
+
+    /// How many messages wait.
+    pub fn len(&self) -> usize
+        ensures { result ≡ length self.now.messages }
+    {
+        self.messages.len()
+    }
+
+    /// Whether the connection must end.
+    pub fn marked(&self) -> bool
+        ensures { result ≡ self.now.marked }
+    {
+        self.marked
+    }
+
+    /// Marks the connection to end.
+    pub fn mark(&mut self)
+        ensures { self.new ≡ record self.old { marked = true } }
+    {
+        self.marked = true;
+    }
+
+    /// Puts a message last. A marked outbox takes none, and a full one is marked instead.
+    pub fn append(&mut self, out: Out) -> Result<(), AppendFault>
+        ensures ok { OnOk result (self.new ≡ appended self.old out) }
+        ensures taken { OnOk result (refuses self.old ≡ false) }
+        ensures err { IfErr result (IsRefusalOf self.old out self.new) }
+    {
+        if self.marked || self.messages.len() >= OUTBOX_LIMIT {
+            self.marked = true;
+            return Err(AppendFault::Marked(out));
+        }
+        match self.messages.push_back(out) {
+            Ok(()) => Ok(()),
+            Err(refused) => Err(AppendFault::OutOfMemory(refused.value)),
+        }
+    }
+
+    /// Takes the oldest message.
+    pub fn take_front(&mut self) -> Option<Out>
+        ensures found { result ≡ front self.old }
+        ensures rest { self.new ≡ without_first 1 self.old }
+    {
+        self.messages.pop_front()
+    }
+
+    /// Takes the oldest `count` messages in order, or all where there are fewer.
+    pub fn take(&mut self, alloc: Global, count: usize) -> Result<Vec<Out>, AllocError>
+        ensures ok { OnOk result (self.new ≡ without_first count self.old) }
+        ensures found { IfOk result (λ outs. outs.items ≡ take count self.old.messages) }
+        ensures err { OnErr result (self.new ≡ self.old) }
+    {
+        let count = count.min(self.messages.len());
+        take_first(&mut self.messages, alloc, count)
+    }
+}
+
+fn take_first(
+    messages: &mut VecDeque<Out>,
+    alloc: Global,
+    count: usize,
+) -> Result<Vec<Out>, AllocError>
+    requires { count ≤ deque_len messages.old }
+    ensures ok { OnOk result (messages.new.items ≡ drop count messages.old.items) }
+    ensures found { IfOk result (λ outs. outs.items ≡ take count messages.old.items) }
+    ensures err { OnErr result (messages.new.items ≡ messages.old.items) }
+{
+    let mut outs = Vec::with_capacity(alloc, count)?;
+    for _ in 0..count {
+        let out = messages.pop_front().unwrap();
+        outs.push_reserved(out);
+    }
+    Ok(outs)
+}

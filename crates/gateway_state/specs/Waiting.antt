@@ -1,8 +1,0 @@
--- The value of an outbox.
-use Rattle.std.specs.Prelude.{List, Bool}
-use Rattle.gateway_state.specs.declared.fanout.outbox.Out.{Out}
-
--- what waits for a connection, oldest first, and whether the connection must end
-pub record Waiting : Type 0 where
-  pub messages : List Out
-  pub marked : Bool
