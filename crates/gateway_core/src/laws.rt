@@ -5,7 +5,7 @@ ghost use Rattle.gateway_state.specs.declared.config.Config.{Config};
 ghost use Rattle.gateway_state.specs.declared.config.Policy.{Policy};
 ghost use Rattle.gateway_state.specs.declared.event.Event.{Event};
 ghost use Rattle.gateway_state.specs.Gateway.{Gateway, initial};
-ghost use Rattle.gateway_state.specs.Settled.{AreInOrder, HasLinksApart, HasSubsApart, IsInUse, IsKeptPosted, IsSettled, IsSubscribedExactly, IsUpToDate, IsWaiting};
+ghost use Rattle.gateway_state.specs.Settled.{AreInOrder, HasLinksApart, HasSubsApart, HasSubsOnChannels, IsInUse, IsKeptPosted, IsSettled, IsSubscribedExactly, IsUpToDate, IsWaiting};
 ghost use Rattle.gateway_state.specs.Step.{consequences, run};
 
 /// In every state that a run reaches nobody is owed anything: no pass over channels, links, waiting
@@ -54,6 +54,12 @@ pub fn run_subscribes_exactly()
 pub fn run_keeps_clients_posted()
     ensures { (config : Config) (policy : Policy) (events : List Event)
         → let w = run (initial config policy) events in All (IsKeptPosted w) w.clients.subs }
+{}
+
+/// In every state that a run reaches each subscription of a client is on a channel that stands.
+pub fn run_keeps_subscriptions_on_channels()
+    ensures { (config : Config) (policy : Policy) (events : List Event)
+        → HasSubsOnChannels (run (initial config policy) events) }
 {}
 
 /// In no state that a run reaches has a session two subscriptions under one ID.

@@ -5,6 +5,7 @@ use Rattle.std.specs.List.{list_any}
 use Rattle.rows.specs.Rows.{change_first}
 use Rattle.ca_message.specs.declared.to_client.ToClient.{ToClient}
 use Rattle.ca_message.specs.declared.to_server.ToServer.{ToServer}
+use Rattle.channel_table.specs.declared.channels.Channel.{Channel}
 use Rattle.channel_table.specs.declared.reads.WaitingRead.{WaitingRead}
 use Rattle.channel_table.specs.declared.sessions.Session.{Session}
 use Rattle.channel_table.specs.declared.subs.ClientSub.{ClientSub}
@@ -66,6 +67,18 @@ with_link server name w = record w {
     } ∷ [];
     counters = record w.upstream.counters { cid = w.upstream.counters.cid + 1 };
   };
+}
+
+-- the channel that `with_channel` adds
+abbrev pub new_channel : ℕ → ℕ → List ℕ → List ℕ → ℕ → Gateway → Channel
+new_channel session cid name real rights w = record {
+  session = session;
+  sid = w.upstream.counters.sid;
+  cid = cid;
+  asked = name;
+  real = real;
+  reach = 0;
+  rights = rights;
 }
 
 -- each change of rows that a step is made of keeps it

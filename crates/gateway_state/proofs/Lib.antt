@@ -6,8 +6,10 @@ pub mod KeptByServers
 pub mod LinkNotices
 pub mod LinksApart
 pub mod NumberLemmas
+pub mod OnChannels
 pub mod ReadsOnChannels
 pub mod RisingRows
+pub mod RowTests
 pub mod SettledChannels
 pub mod SettledLinks
 pub mod SettledMeaning
@@ -18,3 +20,4 @@ pub mod SettledSubs
 pub mod SettledUpdates
 pub mod SettledWithheld
 pub mod SubsApart
+pub mod SubsOnChannels

@@ -1,5 +1,5 @@
 -- No session ever has two subscriptions under one ID.
-use Rattle.std.proofs.Common.{◌≡◌, ℕ, List, [], ◌∷◌, ◌++◌, Bool, true, false, cond, eqb, ◌||◌, Some, refl, sym, ap, ◌∙◌}
+use Rattle.std.proofs.Common.{◌≡◌, ℕ, List, [], ◌∷◌, ◌++◌, Bool, true, false, cond, eqb, ◌||◌, Some, refl, sym, ◌∙◌}
 use Rattle.std.specs.Prelude.{filter, is_some}
 use Rattle.std.specs.List.{find, list_any}
 use Rattle.std.proofs.lemmas.Bool.{and_from, and_parts, eqb-true, eq-eqb, true≢false}
@@ -15,6 +15,7 @@ use Rattle.gateway_state.specs.Settled.{AreApart, HasSubsApart}
 use Rattle.gateway_state.specs.Step.{run}
 use Rattle.gateway_state.proofs.Kept.{IsKept}
 use Rattle.gateway_state.proofs.KeptByRuns.{kept_run}
+use Rattle.gateway_state.proofs.RowTests.{any_changed}
 
 -- a subscription under the ID of another one is not the other's
 pub other_key : (a b : ClientSub) → is_sub a.session a.id b ≡ false → is_sub b.session b.id a ≡ false
@@ -43,15 +44,6 @@ none_filtered test other (row ∷ rows) none = by (test row) (other row) refl re
     by false true is is_staying none rest = rw is (rest none)
     by false false is is_staying none rest = rest none
 
-any_owed : (session id : ℕ) (owed : Bool) (test : ClientSub → Bool) (rows : List ClientSub) → ((row : ClientSub) → test (with_owed owed row) ≡ test row)
-    → list_any test (change_first (is_sub session id) (with_owed owed) rows) ≡ list_any test rows
-any_owed session id owed test [] unseen = refl
-any_owed session id owed test (row ∷ rows) unseen =
-    elim (is_sub session id row) as (λ t. list_any test (cond t (with_owed owed row ∷ rows) (row ∷ change_first (is_sub session id) (with_owed owed) rows)) ≡ (test row || list_any test rows)) [
-      | true ↦ ap (λ (t : Bool). t || list_any test rows) (unseen row)
-      | false ↦ ap (λ (t : Bool). test row || t) (any_owed session id owed test rows unseen)
-    ]
-
 apart_filtered : (test : ClientSub → Bool) (rows : List ClientSub) → AreApart rows → AreApart (filter test rows)
 apart_filtered test [] apart = apart
 apart_filtered test (row ∷ rows) apart =
@@ -64,7 +56,7 @@ apart_owed session id owed [] apart = apart
 apart_owed session id owed (row ∷ rows) apart =
     elim (is_sub session id row) as (λ t. AreApart (cond t (with_owed owed row ∷ rows) (row ∷ change_first (is_sub session id) (with_owed owed) rows))) [
       | true ↦ apart
-      | false ↦ (any_owed session id owed (is_sub row.session row.id) rows (λ x. refl) ∙ apart.0, apart_owed session id owed rows apart.1)
+      | false ↦ (any_changed (is_sub row.session row.id) (is_sub session id) (with_owed owed) rows (λ x. refl) ∙ apart.0, apart_owed session id owed rows apart.1)
     ]
 
 -- a subscription under an ID that is free

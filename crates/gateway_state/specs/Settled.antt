@@ -66,6 +66,13 @@ is_on_channel w read = has_channel read.session read.sid w.clients
 abbrev pub HasReadsOnChannels : Gateway → Type 0
 HasReadsOnChannels w = list_all (is_on_channel w) w.clients.reads ≡ true
 
+-- the subscription is on a channel that stands
+abbrev pub is_sub_on_channel : Gateway → ClientSub → Bool
+is_sub_on_channel w sub = has_channel sub.session sub.sid w.clients
+
+abbrev pub HasSubsOnChannels : Gateway → Type 0
+HasSubsOnChannels w = list_all (is_sub_on_channel w) w.clients.subs ≡ true
+
 -- a channel is served, and has the rights that its client was last told
 pub record IsUpToDate (w : Gateway) (c : Channel) : Type 0 where
   pub served : is_served w c ≡ true

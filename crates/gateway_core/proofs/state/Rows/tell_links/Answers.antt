@@ -1,4 +1,4 @@
-use Rattle.std.proofs.Common.{true, arith}
+use Rattle.std.proofs.Common.{arith}
 use Rattle.std.proofs.lemmas.Result.{err_from_is_err_and}
 use Rattle.gateway_state.proofs.NumberLemmas.{notices_told_past_at}
 use Rattle.gateway_core.proofs.state.Rows.tell_links.Goals as goal

@@ -1,0 +1,56 @@
+-- Rows that name a channel, and whether it stands.
+use Rattle.std.proofs.Common.{◌≡◌, ℕ, List, [], ◌∷◌, ◌++◌, Bool, true, false, cond, eqb, ◌&&◌, refl, ap, ◌∙◌}
+use Rattle.std.specs.Prelude.{filter}
+use Rattle.std.specs.List.{list_all, list_any}
+use Rattle.std.proofs.lemmas.Bool.{and_from, and_parts, eqb-true}
+use Rattle.std.proofs.lemmas.List.Folds.{list_any-append}
+use Rattle.rows.specs.Rows.{change_first}
+use Rattle.channel_table.specs.declared.channels.Channel.{Channel}
+use Rattle.channel_table.specs.Channels.{is_channel, is_channel_of, with_reach_and_rights}
+use Rattle.gateway_state.proofs.RowTests.{all_weaker, any_changed, any_filtered}
+
+-- by the session and the SID that a row names
+module _ {A : Type 0} (session_in sid_in : A → ℕ) where
+  abbrev pub stands : List Channel → A → Bool
+  stands channels row = list_any (is_channel (session_in row) (sid_in row)) channels
+
+  -- rows that stay only where their channels do
+  pub on_left : (channels : List Channel) (stays : Channel → Bool) (kept : A → Bool) (rows : List A)
+      → ((row : A) (c : Channel) → kept row ≡ true → is_channel (session_in row) (sid_in row) c ≡ true → stays c ≡ true)
+      → list_all (stands channels) rows ≡ true → list_all (stands (filter stays channels)) (filter kept rows) ≡ true
+  on_left channels stays kept [] both all = refl
+  on_left channels stays kept (row ∷ rows) both all =
+      let parts = and_parts (stands channels row) (list_all (stands channels) rows) all in
+      by (kept row) refl parts.0 (on_left channels stays kept rows both parts.1)
+    where
+      by : (is : Bool) → kept row ≡ is → stands channels row ≡ true → list_all (stands (filter stays channels)) (filter kept rows) ≡ true
+          → list_all (stands (filter stays channels)) (cond is (row ∷ filter kept rows) (filter kept rows)) ≡ true
+      by true e there rest =
+          and_from (stands (filter stays channels) row) (list_all (stands (filter stays channels)) (filter kept rows))
+          (any_filtered (is_channel (session_in row) (sid_in row)) stays channels (λ c is. both row c e is) there) rest
+      by false e there rest = rest
+
+  -- a channel has the session and the SID that a row on it names
+  pub same_channel : (row : A) (c : Channel) (session sid : ℕ) → is_channel (session_in row) (sid_in row) c ≡ true
+      → is_channel session sid c ≡ (eqb (session_in row) session && eqb (sid_in row) sid)
+  same_channel row c session sid is =
+      let parts = and_parts (eqb c.session (session_in row)) (eqb c.sid (sid_in row)) is in
+      let sessions = eqb-true c.session (session_in row) parts.0 in
+      let sids = eqb-true c.sid (sid_in row) parts.1 in
+      λ i. eqb (sessions i) session && eqb (sids i) sid
+
+  pub same_session : (row : A) (c : Channel) (session : ℕ) → is_channel (session_in row) (sid_in row) c ≡ true → is_channel_of session c ≡ eqb (session_in row) session
+  same_session row c session is =
+      let parts = and_parts (eqb c.session (session_in row)) (eqb c.sid (sid_in row)) is in
+      ap (λ (number : ℕ). eqb number session) (eqb-true c.session (session_in row) parts.0)
+
+  pub on_more : (channels : List Channel) (new : Channel) (rows : List A) → list_all (stands channels) rows ≡ true → list_all (stands (channels ++ new ∷ [])) rows ≡ true
+  on_more channels new rows on =
+      all_weaker (stands channels) (stands (channels ++ new ∷ [])) rows
+      (λ row there. list_any-append (is_channel (session_in row) (sid_in row)) channels (new ∷ []) ∙ rw there refl) on
+
+  pub on_changed : (channels : List Channel) (session sid reach rights : ℕ) (rows : List A) → list_all (stands channels) rows ≡ true
+      → list_all (stands (change_first (is_channel session sid) (with_reach_and_rights reach rights) channels)) rows ≡ true
+  on_changed channels session sid reach rights rows on =
+      all_weaker (stands channels) (stands (change_first (is_channel session sid) (with_reach_and_rights reach rights) channels)) rows
+      (λ row there. any_changed (is_channel (session_in row) (sid_in row)) (is_channel session sid) (with_reach_and_rights reach rights) channels (λ c. refl) ∙ there) on

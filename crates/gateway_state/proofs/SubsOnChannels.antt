@@ -1,0 +1,53 @@
+-- Every subscription of a client is on a channel that stands.
+use Rattle.std.proofs.Common.{ℕ, List, [], ◌∷◌, not, refl, ap, ◌∙◌}
+use Rattle.std.proofs.lemmas.List.Folds.{list_all-append}
+use Rattle.channel_table.specs.declared.subs.ClientSub.{ClientSub}
+use Rattle.channel_table.specs.Channels.{is_not_channel, is_not_channel_of}
+use Rattle.channel_table.specs.Subs.{is_not_sub, is_not_sub_of, is_not_sub_on, is_sub, with_owed}
+use Rattle.gateway_state.specs.declared.config.Config.{Config}
+use Rattle.gateway_state.specs.declared.config.Policy.{Policy}
+use Rattle.gateway_state.specs.declared.event.Event.{Event}
+use Rattle.gateway_state.specs.Gateway.{initial}
+use Rattle.gateway_state.specs.Settled.{HasSubsOnChannels, is_sub_on_channel}
+use Rattle.gateway_state.specs.Step.{run}
+use Rattle.gateway_state.proofs.Kept.{IsKept, new_channel}
+use Rattle.gateway_state.proofs.KeptByRuns.{kept_run}
+use Rattle.gateway_state.proofs.OnChannels.{on_changed, on_left, on_more, same_channel, same_session}
+use Rattle.gateway_state.proofs.RowTests.{all_changed, all_filtered}
+
+abbrev session_in : ClientSub → ℕ
+session_in sub = sub.session
+
+abbrev sid_in : ClientSub → ℕ
+sid_in sub = sub.sid
+
+subs_on_channels_kept : IsKept HasSubsOnChannels
+subs_on_channels_kept = record {
+  connections = λ rows w on. on;
+  sessions = λ rows w on. on;
+  servers = λ rows w on. on;
+  cache = λ rows w on. on;
+  searches = λ rows w on. on;
+  next_subscription = λ next w on. on;
+  channel_added = λ session cid name real rights w on. on_more session_in sid_in w.clients.channels (new_channel session cid name real rights w) w.clients.subs on;
+  channel_changed = λ session sid reach rights w on. on_changed session_in sid_in w.clients.channels session sid reach rights w.clients.subs on;
+  channel_removed = λ session sid w on.
+      on_left session_in sid_in w.clients.channels (is_not_channel session sid) (is_not_sub_on session sid) w.clients.subs
+      (λ sub c kept is. ap not (same_channel session_in sid_in sub c session sid is) ∙ kept) on;
+  session_removed = λ session w on.
+      on_left session_in sid_in w.clients.channels (is_not_channel_of session) (is_not_sub_of session) w.clients.subs
+      (λ sub c kept is. ap not (same_session session_in sid_in sub c session is) ∙ kept) on;
+  sub_added = λ sub w free there on. list_all-append (is_sub_on_channel w) w.clients.subs (sub ∷ []) ∙ rw (on, there) refl;
+  sub_changed = λ session id owed w on. all_changed (is_sub_on_channel w) (is_sub session id) (with_owed owed) w.clients.subs (λ sub. refl) ∙ on;
+  sub_removed = λ session id w on. all_filtered (is_sub_on_channel w) (is_not_sub session id) w.clients.subs on;
+  read_added = λ read w there on. on;
+  read_removed = λ read w on. on;
+  link_added = λ server name w missing on. on;
+  link_changed = λ server cid state rights w on. on;
+  subscription_changed = λ server cid sub w on. on;
+  link_removed = λ server cid w on. on;
+  server_removed = λ server w on. on;
+}
+
+pub run_subs_on_channels : (config : Config) (policy : Policy) (events : List Event) → HasSubsOnChannels (run (initial config policy) events)
+run_subs_on_channels config policy events = kept_run HasSubsOnChannels subs_on_channels_kept (initial config policy) events refl
