@@ -1,0 +1,4 @@
+pub mod ReadBack
+pub mod Taking
+pub mod Testing
+pub mod Writing

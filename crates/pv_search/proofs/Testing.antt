@@ -1,0 +1,54 @@
+-- The test is asked for one search after the other.
+use Rattle.std.proofs.Common.{◌≡◌, ℕ, ◌+◌, ◌<◌, Bool, true, false, List, [], ◌∷◌, ◌++◌, length, get_or, drop, refl, sym, ap, subst, ◌∙◌, append_assoc}
+use Rattle.std.proofs.lemmas.List.{append-nil}
+use Rattle.std.specs.List.{AllZip}
+use Rattle.pv_search.specs.declared.search.Search.{Search}
+use Rattle.pv_search.specs.Answer.{IsTested, cids_passed, names}
+use Rattle.pv_search.proofs.Writing.{left-at}
+
+-- the search at the front of those that are left
+front : (searches : List Search) (i : ℕ) (s : Search) → i < length searches → s ≡ get_or searches i s → drop i searches ≡ s ∷ drop (i + 1) searches
+front searches i s within is = left-at searches i s within ∙ ap (λ (x : Search). x ∷ drop (i + 1) searches) (sym is)
+
+-- its name joins those before it
+pub named_on : (searches : List Search) (i : ℕ) (s : Search) (old new : List (List ℕ)) → i < length searches → s ≡ get_or searches i s
+    → new ≡ old ++ s.name ∷ [] → old ++ names (drop i searches) ≡ names searches → new ++ names (drop (i + 1) searches) ≡ names searches
+named_on searches i s old new within is e all =
+    ap (λ (t : List (List ℕ)). t ++ names (drop (i + 1) searches)) e
+    ∙ append_assoc old (s.name ∷ []) (names (drop (i + 1) searches))
+    ∙ sym (ap (λ (t : List Search). old ++ names t) (front searches i s within is))
+    ∙ all
+
+module _ (answers : List ℕ → Bool → Type 0) where
+  abbrev pub Answers : List Search → List Bool → Type 0
+  Answers searches passes = AllZip (λ (s : Search) (b : Bool). answers s.name b) searches passes
+
+  -- the CIDs so far, and those of the searches that are left, are those of all
+  pub record IsTesting (searches left : List Search) (cids : List ℕ) : Type 0 where
+    pub joined : (passes : List Bool) → Answers left passes
+        → (all : List Bool) × Answers searches all × (cids ++ cids_passed left passes ≡ cids_passed searches all)
+
+  pub testing-begins : (searches : List Search) → IsTesting searches searches []
+  testing-begins searches = record { joined = λ passes asked. (passes, asked, refl) }
+
+  pub testing-passed : (searches : List Search) (i : ℕ) (s : Search) (cids : List ℕ) → i < length searches → s ≡ get_or searches i s
+      → answers s.name true → IsTesting searches (drop i searches) cids → IsTesting searches (drop (i + 1) searches) (cids ++ s.cid ∷ [])
+  testing-passed searches i s cids within is answer before =
+      let t : IsTesting searches (s ∷ drop (i + 1) searches) cids = subst (λ (left : List Search). IsTesting searches left cids) (front searches i s within is) before in
+      record {
+        joined = λ passes asked.
+            let on = t.joined (true ∷ passes) (answer, asked) in
+            (on.0, on.1, append_assoc cids (s.cid ∷ []) (cids_passed (drop (i + 1) searches) passes) ∙ on.2);
+      }
+
+  pub testing-refused : (searches : List Search) (i : ℕ) (s : Search) (cids : List ℕ) → i < length searches → s ≡ get_or searches i s
+      → answers s.name false → IsTesting searches (drop i searches) cids → IsTesting searches (drop (i + 1) searches) cids
+  testing-refused searches i s cids within is answer before =
+      let t : IsTesting searches (s ∷ drop (i + 1) searches) cids = subst (λ (left : List Search). IsTesting searches left cids) (front searches i s within is) before in
+      record { joined = λ passes asked. t.joined (false ∷ passes) (answer, asked) }
+
+  pub testing-ends : (searches left : List Search) (cids : List ℕ) → left ≡ [] → IsTesting searches left cids → IsTested answers searches cids
+  testing-ends searches left cids none before =
+      let t : IsTesting searches [] cids = subst (λ (xs : List Search). IsTesting searches xs cids) none before in
+      let on = t.joined [] tt in
+      record { passes = on.0; asked = on.1; passed = sym (append-nil cids) ∙ on.2 }

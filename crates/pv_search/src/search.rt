@@ -1,0 +1,48 @@
+//! What a client's datagram searches for.
+ghost use Rattle.std.specs.Prelude.{◌≡◌, IfOk};
+ghost use Rattle.pv_search.specs.Picked.{IsPicked};
+ghost use Rattle.pv_search.specs.Search.{search_of};
+
+use crate::NoMemory;
+use ca_header::{Frame, Frames, Header};
+use ca_message::NameText;
+use ca_message::commands::CA_PROTO_SEARCH;
+use std::alloc::Global;
+
+/// A client's search for a name, which it calls `cid`. The name is a slice of the datagram.
+#[derive(Debug, Drop)]
+pub(crate) struct Search<'a> {
+    pub(crate) cid: u32,
+    pub(crate) name: NameText<'a>,
+}
+
+/// The search that a message is. Neither its type nor its count is looked at.
+fn search_in<'a>(head: &Header, payload: &'a [u8]) -> Option<Search<'a>>
+    ensures { result ≡ search_of head.now payload.now }
+{
+    if head.command != CA_PROTO_SEARCH {
+        return None;
+    }
+    match NameText::read(payload) {
+        Ok(name) => Some(Search { cid: head.p1, name }),
+        Err(_) => None,
+    }
+}
+
+/// The searches of a datagram, in order. All other messages are passed over, and so is a search
+/// whose name can't be read.
+pub(crate) fn searches_in<'a>(
+    alloc: Global,
+    datagram: &'a [u8],
+) -> Result<Vec<Search<'a>>, NoMemory>
+    ensures { IfOk result (λ searches. IsPicked search_of datagram.now searches.items) }
+{
+    let mut searches = Vec::new(alloc);
+    let mut frames = Frames::new(datagram);
+    while let Frame::Message(head, payload) = frames.next() {
+        if let Some(search) = search_in(&head, payload) {
+            searches.push(search)?;
+        }
+    }
+    Ok(searches)
+}
