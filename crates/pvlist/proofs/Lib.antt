@@ -1,0 +1,3 @@
+pub mod TranslationLemmas
+pub mod WorkedPatterns
+pub mod WordLemmas
