@@ -41,7 +41,7 @@ pub enum ToClient {
         count: u32,
         value: Bytes,
     },
-    /// The client's subscription is given up. Type and count are those that it was asked for with.
+    /// The client's subscription is given up. Type and count are those of the request to do so.
     EventCancelled {
         sid: u32,
         id: u32,

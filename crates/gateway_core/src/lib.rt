@@ -2,7 +2,7 @@
 //!
 //! An `Engine` performs events, each an atomic step. What a step does is stated over the whole rows
 //! of the gateway (`gateway_state`, `specs/`): the event's direct effect, and then the notices that
-//! follow from it on channels, on links and on waiting reads.
+//! follow from it on channels, on links, on waiting reads and on subscriptions.
 #![tactic(auto)]
 
 mod answer;

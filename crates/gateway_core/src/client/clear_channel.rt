@@ -8,7 +8,7 @@ use ca_message::ToClient;
 use std::alloc::AllocError;
 
 impl Rows {
-    /// A channel goes with its reads.
+    /// A channel goes with its subscriptions and reads.
     pub(crate) fn remove_channel(&mut self, number: u32, sid: u32)
         ensures { self.new ≡ without_channel number sid self.old }
     {
