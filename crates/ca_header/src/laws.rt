@@ -3,6 +3,7 @@ ghost use Rattle.std.specs.Prelude.{◌≡◌, ℕ, ◌+◌, ◌≤◌, ◌↔�
 ghost use Rattle.ca_header.specs.declared.frames.Frame.{Frame};
 ghost use Rattle.ca_header.specs.declared.header.Header.{Header};
 ghost use Rattle.ca_header.specs.declared.header.Message.{Message};
+ghost use Rattle.ca_header.specs.declared.header.TheConstants.{ALIGNMENT, EXTENDED_LEN, EXTENDED_MARK, MAX_PAYLOAD, PLAIN_LEN};
 ghost use Rattle.ca_header.specs.declared.reading.FrameFault.{FrameFault};
 ghost use Rattle.ca_header.specs.Frames.{AreNext, ending_in, messages_in};
 ghost use Rattle.ca_header.specs.Framing.{Ending, IsFaulty, IsFramed, IsPartHead, IsPartial};
@@ -12,6 +13,15 @@ ghost use Rattle.ca_header.specs.Reading.{front_at, head_at, refused};
 ghost use Rattle.ca_header.specs.Spelling.{AreSpelled, BeginsWith, IsBytes, IsHeader, IsSpelled, IsWellFormed};
 
 use crate::reading::{Front, Head};
+
+/// The numbers of headers and payloads.
+pub fn numbers_are_these()
+    ensures plain_len { PLAIN_LEN ≡ 16 }
+    ensures extended_len { EXTENDED_LEN ≡ 24 }
+    ensures extended_mark { EXTENDED_MARK ≡ 0xFFFF }
+    ensures alignment { ALIGNMENT ≡ 8 }
+    ensures max_payload { MAX_PAYLOAD ≡ 1_048_576 }
+{}
 
 /// A well-formed header that is written is read as itself, whatever follows it.
 pub fn canonical_header_is_read()

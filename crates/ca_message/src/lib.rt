@@ -1,8 +1,23 @@
-//! What Channel Access messages mean: the requests of clients and the replies of servers, and the
-//! messages to both.
+//! What Channel Access messages mean (Channel Access Protocol Specification 4.13, "Commands"), between
+//! headers with payloads and enums.
 //!
-//! A message's meaning is read from its header and its payload, and borrows texts and values from
-//! the payload. A message to be sent is an enum whose `head` and `payload` are its wire form.
+//! - [`read_request`] and [`read_reply`] read what a client asks for and what a server says, or why a
+//!   message is neither. They take no memory: texts and values are slices of the payload.
+//! - [`ToClient`] and [`ToServer`] are the messages that are sent. Their `head` and `payload` are the
+//!   wire form, with the payload padded and the padding counted.
+//! - [`commands`] and [`codes`] have the numbers of the protocol, [`error_text`] the texts of ERROR.
+//!
+//! Every message that is sent may head a payload and says its size (`laws::messages_to_clients_are_whole`,
+//! `laws::messages_to_servers_are_whole`). What one gateway says to another is read as what was meant
+//! (`laws::requests_are_read_back`, `laws::replies_are_read_back`). The numbers are those of the
+//! standard (`laws::commands_are_these`, `laws::codes_are_these`, `laws::numbers_are_these`).
+//!
+//! ```
+//! let asked = ToServer::ClearChannel { sid: 5, cid: 7 };
+//! let payload = asked.payload(rt.alloc())?;
+//! let read = read_request(&asked.head(), payload.as_slice());
+//! assert_eq!(rt; read, Ok(ClientRequest::ClearChannel { sid: 5, cid: 7 }));
+//! ```
 #![tactic(auto)]
 
 pub use codes::error_text;

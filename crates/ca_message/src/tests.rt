@@ -45,3 +45,13 @@ fn sent(alloc: Global, head: &Header, payload: &Bytes) -> Result<Vec<u8>, NoMemo
     bytes.extend_from_slice(payload.as_slice())?;
     Ok(bytes)
 }
+
+/// The example at the head of the crate.
+#[test]
+fn a_request_is_sent_and_read(rt: HostRuntime) -> Result<(), Fail> {
+    let asked = ToServer::ClearChannel { sid: 5, cid: 7 };
+    let payload = asked.payload(rt.alloc())?;
+    let read = read_request(&asked.head(), payload.as_slice());
+    assert_eq!(rt; read, Ok(ClientRequest::ClearChannel { sid: 5, cid: 7 }));
+    Ok(())
+}

@@ -1,11 +1,37 @@
-//! The rows of clients: their sessions, their channels, their subscriptions, and the reads that
-//! wait for a value.
+//! The rows of clients: their sessions, their channels, their subscriptions, and the reads that wait
+//! for a value. The [`Table`] keeps what it is told to, and decides nothing about it.
 //!
-//! A contract sees a `Table` as four lists of rows, each in the order in which they were added.
-//! The table keeps what it is told to: what the gateway does with the rows is said above it.
+//! - `add_session`, `add_channel`, `add_sub` and `add_read` put a row last. They refuse one whose
+//!   session or channel doesn't stand, and one past its limit ([`TableFault`]).
+//! - `session`, `channel` and `sub` find a row by its IDs; `sessions`, `channels`, `subs` and `reads`
+//!   are all rows in the order of adding, and `channel_count` and the like count those of a session.
+//! - `put_session`, `put_channel` and `put_sub` change a row that stands.
+//! - `remove_session` and `remove_channel` take the rows that name theirs along.
+//!
+//! A contract sees a `Table` as four lists. Each call changes the rows that it names alone, a refused
+//! one none, and a limit refuses exactly where it is reached; limits are in `laws::numbers_are_these`.
+//!
+//! ```
+//! let mut table = Table::new(rt.alloc());
+//! table.add_session(Session {
+//!     number: 1,
+//!     host: Host::read(rt.alloc(), b"10.0.0.5")?,
+//!     host_fixed: false,
+//!     paused: false,
+//! })?;
+//! let waiting = WaitingRead {
+//!     session: 1,
+//!     sid: 11,
+//!     dtype: 5,
+//!     count: 1,
+//!     ioid: 9,
+//! };
+//! assert_eq!(rt; table.add_read(waiting), Err(TableFault::Missing));
+//! ```
 #![tactic(auto)]
 
 mod channels;
+pub mod laws;
 mod reads;
 mod sessions;
 mod subs;

@@ -237,3 +237,24 @@ fn the_subscription_past_the_limit_is_refused(rt: HostRuntime) -> Result<(), Fai
     assert_eq!(rt; table.add_sub(sub(2, 21, 7)), Ok(()));
     Ok(())
 }
+
+/// The example at the head of the crate.
+#[test]
+fn a_read_names_a_channel(rt: HostRuntime) -> Result<(), Fail> {
+    let mut table = Table::new(rt.alloc());
+    table.add_session(Session {
+        number: 1,
+        host: Host::read(rt.alloc(), b"10.0.0.5")?,
+        host_fixed: false,
+        paused: false,
+    })?;
+    let waiting = WaitingRead {
+        session: 1,
+        sid: 11,
+        dtype: 5,
+        count: 1,
+        ioid: 9,
+    };
+    assert_eq!(rt; table.add_read(waiting), Err(TableFault::Missing));
+    Ok(())
+}

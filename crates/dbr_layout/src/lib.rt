@@ -1,4 +1,25 @@
-//! The layouts of DBR types and the conversions between them.
+//! The values of DBR types (Channel Access Protocol Specification 4.13, "Payload Data Types"): how they
+//! are laid out in a payload, and how elements of one type are given as those of another.
+//!
+//! - [`Dbr::of`] is the type with a number: where its elements begin, how many bytes each has, and the
+//!   size of a payload with so many ([`Dbr::offset`], [`Dbr::element`], [`Dbr::size_of`]).
+//! - [`View::new`] looks at a payload and shows its alarm, its time stamp and its elements. It takes
+//!   no memory.
+//! - [`Converted::write`] lays what a view shows out under a type, and [`converts`] tells whether there
+//!   is a conversion: none changes a FLOAT or a DOUBLE.
+//!
+//! The plain, STS and TIME types are served. What is laid out is shown again, whatever bytes follow
+//! (`laws::layouts_read_back`, `laws::views_write_back`). Offsets and element sizes are the tables of
+//! `specs/Dbr.antt`, the conversions those of `specs/Conversion.antt`.
+//!
+//! ```
+//! // A LONG of 42 with its time stamp, as a server sends it, is given as text.
+//! let payload = *b"\0\0\0\0\x3B\x9A\xCA\0\0\0\0\0\0\0\0\x2A";
+//! let view = View::new(19, 1, &payload)?;
+//! let text = Converted::write(rt.alloc(), &view, 0, 1)?;
+//! assert!(rt; text.as_slice().starts_with(b"42\0"));
+//! assert_eq!(rt; text.as_slice().len(), 40);
+//! ```
 #![tactic(auto)]
 
 pub use conversion::converts;

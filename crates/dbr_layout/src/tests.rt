@@ -332,3 +332,15 @@ fn refuses_other_types_and_large_payloads(rt: HostRuntime) -> Result<(), Fail> {
     assert_eq!(rt; texts.len(), 1_048_560);
     Ok(())
 }
+
+/// The example at the head of the crate.
+#[test]
+fn a_long_is_given_as_text(rt: HostRuntime) -> Result<(), Fail> {
+    // A LONG of 42 with its time stamp, as a server sends it, is given as text.
+    let payload = *b"\0\0\0\0\x3B\x9A\xCA\0\0\0\0\0\0\0\0\x2A";
+    let view = View::new(19, 1, &payload)?;
+    let text = Converted::write(rt.alloc(), &view, 0, 1)?;
+    assert!(rt; text.as_slice().starts_with(b"42\0"));
+    assert_eq!(rt; text.as_slice().len(), 40);
+    Ok(())
+}

@@ -88,3 +88,26 @@ fn the_message_that_finds_it_full_marks_it(rt: HostRuntime) -> Result<(), Fail> 
     assert_eq!(rt; outbox.len(), 16_384);
     Ok(())
 }
+
+/// The example at the head of the crate.
+#[test]
+fn an_echo_waits_and_leaves(rt: HostRuntime) -> Result<(), Fail> {
+    let head = write_head(&Header {
+        command: 23,
+        dtype: 0,
+        p1: 0,
+        p2: 0,
+        count: 0,
+        size: 0,
+    });
+    let mut outbox = Outbox::new(rt.alloc());
+    let echo = Out {
+        head,
+        payload: Bytes::new(),
+    };
+    assert!(rt; outbox.append(echo).is_ok());
+    let first = outbox.take_front().ok_or("a message")?;
+    assert_eq!(rt; first.head.as_slice().len(), 16);
+    assert_eq!(rt; outbox.len(), 0);
+    Ok(())
+}

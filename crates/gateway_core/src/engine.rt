@@ -1,5 +1,5 @@
 //! The engine: the rows, until a step is refused.
-ghost use Rattle.std.specs.Prelude.{◌≡◌, ◌≢◌, ◌≤◌, ◌<◌, ◌↔◌, Some, None, IsSome, IsNone, true, false, OnOk, OnErr, IfOk, IsErrOf, IsOk};
+ghost use Rattle.std.specs.Prelude.{◌≡◌, ◌≢◌, ◌≤◌, ◌<◌, ◌↔◌, Some, None, IsSome, IsNone, true, false, OnOk, OnErr, IfOk, IfSome, IsErrOf, IsOk};
 ghost use Rattle.std.specs.Option.{option_map};
 ghost use Rattle.gateway_state.specs.Gateway.{initial};
 ghost use Rattle.gateway_state.specs.declared.config.TheConstants.{LAST_FIRST};
@@ -10,13 +10,17 @@ ghost use Rattle.gateway_state.specs.Asked.{stands, ends, queued};
 ghost use Rattle.gateway_state.specs.Interest.{subscription_of};
 ghost use Rattle.gateway_state.specs.Rights.{rights_asked};
 ghost use Rattle.gateway_state.specs.Variables.{asks};
+ghost use Rattle.gateway_core.specs.Searching.{IsSearched};
 
 use crate::NoMemory;
-use crate::fault::{Failed, Refusal, StepFault};
-use crate::state::Rows;
+use crate::fault::{Failed, StepFault};
+use crate::search::search;
+use crate::step::{drain, step};
 use fanout::Out;
+use gateway_rows::{Refusal, Rows};
 use gateway_state::{Config, Dest, Event, Policy, Reading, Sub};
-use pv_name::Name;
+use pv_name::{Host, Name};
+use pv_search::SearchAnswer;
 use std::alloc::Global;
 use std::collections::VecDeque;
 use std::marker::Model;
@@ -39,10 +43,20 @@ pub struct Engine {
 impl Model for Engine {
     ghost use Rattle.std.specs.Prelude.{Option};
     ghost use Rattle.gateway_state.specs.Gateway.{Gateway};
+    ghost use Rattle.rule_desk.specs.contracts.policy.Policy as the_policy;
+    ghost use Rattle.std.specs.Coded.{codes};
 
     ghost Value = { Option Gateway };
 
+    ghost coded = { Prim.hlevel (codes, the_policy.the_row.coded) };
+
     ghost view = { λ e. e.rows };
+
+    ghost use Rattle.std.specs.Option.{ForSome};
+    ghost use Rattle.gateway_state.specs.Reached.{IsReached};
+
+    // Whatever happened, the rows are those that a run of events reaches.
+    ghost invariant = { λ e. ForSome e.rows IsReached };
 }
 
 impl Engine {
@@ -68,9 +82,9 @@ impl Engine {
         let Some(rows) = &mut self.rows else {
             return Err(StepFault::Failed);
         };
-        match rows.step(event) {
+        match step(rows, event) {
             Ok(()) => Ok(()),
-            Err(refusal) => Err(self.fail(refusal)),
+            Err(refusal) => Err(give_up(&mut self.rows, refusal)),
         }
     }
 
@@ -105,9 +119,9 @@ impl Engine {
         let Some(rows) = &mut self.rows else {
             return Err(StepFault::Failed);
         };
-        match rows.drain(dest, count) {
+        match drain(rows, dest, count) {
             Ok(outs) => Ok(outs),
-            Err(refusal) => Err(self.fail(refusal)),
+            Err(refusal) => Err(give_up(&mut self.rows, refusal)),
         }
     }
 
@@ -165,10 +179,11 @@ impl Engine {
         ensures failed { IsOk result ↔ IsSome self.old }
         ensures same { self.new ≡ self.old }
     {
-        match &self.rows {
-            Some(rows) => Ok(rows.rights_asked(session, sid)),
-            None => Err(Failed),
-        }
+        let Some(rows) = &self.rows else {
+            return Err(Failed);
+        };
+        // Whatever happened, a client was told of the rights that it has.
+        Ok(rows.rights_told(session, sid))
     }
 
     /// What a READ_NOTIFY would be answered now. The limit of reads that wait isn't part of it.
@@ -207,16 +222,33 @@ impl Engine {
         }
     }
 
-    /// Gives up for good: a step was refused, and is half done.
-    fn fail(&mut self, refusal: Refusal) -> StepFault
-        ensures cause { result ≢ StepFault.Failed }
-        ensures used_up { result ≡ StepFault.NumbersUsedUp → refusal ≡ Refusal.NumbersUsedUp }
-        ensures failed { self.new ≡ None }
+    /// What a client's datagram from this host comes to: the names that it searches for, and the datagram
+    /// to send back for those that lead to connected variables.
+    pub fn search(&mut self, host: &Host, datagram: &[u8]) -> Result<SearchAnswer, AskFault>
+        ensures found { IfOk result (λ answer. IfSome self.old (λ w. IsSearched w host.now datagram.now answer)) }
+        ensures failed { IsErrOf result AskFault.Failed ↔ IsNone self.old }
+        ensures same { self.new ≡ self.old }
     {
-        self.rows = None;
-        match refusal {
-            Refusal::OutOfMemory => StepFault::OutOfMemory,
-            Refusal::NumbersUsedUp => StepFault::NumbersUsedUp,
+        match &self.rows {
+            Some(rows) => match search(rows, host, datagram) {
+                Ok(answer) => Ok(answer),
+                Err(_) => Err(AskFault::OutOfMemory),
+            },
+            None => Err(AskFault::Failed),
         }
+    }
+}
+
+/// Gives up for good: a step was refused, and is half done.
+fn give_up(rows: &mut Option<Rows>, refusal: Refusal) -> StepFault
+    ensures cause { result ≢ StepFault.Failed }
+    ensures used_up { result ≡ StepFault.NumbersUsedUp ↔ refusal ≡ Refusal.NumbersUsedUp }
+    ensures out_of_memory { result ≡ StepFault.OutOfMemory ↔ refusal ≡ Refusal.OutOfMemory }
+    ensures failed { rows.new ≡ None }
+{
+    *rows = None;
+    match refusal {
+        Refusal::OutOfMemory => StepFault::OutOfMemory,
+        Refusal::NumbersUsedUp => StepFault::NumbersUsedUp,
     }
 }

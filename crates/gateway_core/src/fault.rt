@@ -1,8 +1,4 @@
 //! Why the engine refuses a call.
-ghost use Rattle.std.specs.Prelude.{◌≡◌};
-ghost use Rattle.gateway_core.specs.declared.fault.Refusal.TheVariants.{OutOfMemory};
-
-use std::alloc::AllocError;
 use std::error::Error;
 use std::fmt;
 
@@ -28,23 +24,6 @@ impl fmt::Display for StepFault {
 }
 
 impl Error for StepFault {}
-
-/// Why a call on the rows was refused. What it leaves is half done.
-#[derive(Clone, Copy, Debug, PartialEq, Eq)]
-pub(crate) enum Refusal {
-    /// Memory was refused.
-    OutOfMemory,
-    /// It would give out a number past the last one.
-    NumbersUsedUp,
-}
-
-impl From<AllocError> for Refusal {
-    ghost from_gives = { λ _ refusal. refusal ≡ OutOfMemory };
-
-    fn from(_refused: AllocError) -> Refusal {
-        Refusal::OutOfMemory
-    }
-}
 
 /// An earlier step was refused, so the engine answers nothing.
 #[derive(Clone, Copy, Debug, PartialEq, Eq)]

@@ -2,10 +2,10 @@
 ghost use Rattle.std.specs.Prelude.{◌≡◌, List};
 ghost use Rattle.std.specs.List.{All};
 ghost use Rattle.gateway_state.specs.declared.config.Config.{Config};
-ghost use Rattle.gateway_state.specs.declared.config.Policy.{Policy};
+ghost use Rattle.rule_desk.specs.declared.policy.Policy.{Policy};
 ghost use Rattle.gateway_state.specs.declared.event.Event.{Event};
 ghost use Rattle.gateway_state.specs.Gateway.{Gateway, initial};
-ghost use Rattle.gateway_state.specs.Settled.{AreInOrder, HasLinksApart, HasSubsApart, HasSubsOnChannels, IsInUse, IsKeptPosted, IsSettled, IsSubscribedExactly, IsUpToDate, IsWaiting};
+ghost use Rattle.gateway_state.specs.Settled.{AreInOrder, HasLinksApart, HasLinksOnServers, HasSubsApart, HasSubsOnChannels, IsInUse, IsKeptPosted, IsSettled, IsSubscribedExactly, IsUpToDate, IsWaiting};
 ghost use Rattle.gateway_state.specs.Step.{consequences, run};
 
 /// In every state that a run reaches nobody is owed anything: no pass over channels, links, waiting
@@ -72,6 +72,12 @@ pub fn run_keeps_subscriptions_apart()
 pub fn run_links_names_once()
     ensures { (config : Config) (policy : Policy) (events : List Event)
         → HasLinksApart (run (initial config policy) events) }
+{}
+
+/// In every state that a run reaches each link belongs to a server that stands.
+pub fn run_keeps_links_on_servers()
+    ensures { (config : Config) (policy : Policy) (events : List Event)
+        → HasLinksOnServers (run (initial config policy) events) }
 {}
 
 /// In every state that a run reaches channels stand in the order of their SIDs, and links in the

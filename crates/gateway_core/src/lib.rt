@@ -2,28 +2,28 @@
 //!
 //! An `Engine` performs events, each an atomic step. What a step does is stated over the whole rows
 //! of the gateway (`gateway_state`, `specs/`): the event's direct effect, and then the notices that
-//! follow from it on channels, on links, on waiting reads and on subscriptions.
+//! follow from it on channels, on links, on waiting reads and on subscriptions. `step`, `run` and
+//! `drain` leave the state that those definitions make of the old one, or fail and leave the engine
+//! failed for good; the questions answer the definition of their name and change nothing; `laws` says
+//! what holds in every state that a run reaches.
+//!
+//! The layers below: the rows and what is asked of them (`gateway_rows`), and on those side by side
+//! what a client's message does (`client_requests`), what a server's does (`server_messages`), and
+//! the notices (`gateway_notices`).
 #![tactic(auto)]
 
-mod answer;
-mod asks;
-mod client;
 mod connections;
 mod engine;
 mod fault;
-mod interest;
 pub mod laws;
-mod notices;
-mod rights;
-mod server;
-mod state;
+mod search;
 mod step;
-mod variables;
 
 pub use engine::{AskFault, Engine};
 pub use fanout::Out;
 pub use fault::{Failed, StepFault};
 pub use gateway_state::{Config, Dest, Event, Policy, Reading, Sub};
+pub use pv_search::SearchAnswer;
 
 /// Want of memory, of a call that fails for nothing else.
 pub type NoMemory = std::alloc::AllocError;

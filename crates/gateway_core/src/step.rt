@@ -1,102 +1,123 @@
 //! One event.
 ghost use Rattle.std.specs.Prelude.{◌≡◌, true, false, OnOk, IfOk, IsErrOf};
 ghost use Rattle.gateway_state.specs.Numbers.{is_past_numbers};
-ghost use Rattle.gateway_state.specs.Direct.{direct_effect};
+ghost use Rattle.gateway_state.specs.Direct.{direct_effect, searched};
 ghost use Rattle.gateway_state.specs.Step.{consequences, step, taken};
 
-use crate::fault::Refusal;
-use crate::state::Rows;
+use crate::connections::{lose_server, lose_session, open_server, open_session};
+use client_requests::hear_client;
 use fanout::Out;
+use gateway_notices::{tell_channels, tell_links, tell_reads, tell_updates, withhold_updates};
+use gateway_rows::{Refusal, Rows};
 use gateway_state::{Dest, Event};
+use pv_name::{Host, Name};
+use server_messages::{find_at, hear_server};
+use std::alloc::AllocError;
 
-impl Rows {
-    /// Performs one event.
-    #[tactic(auto, using(gateway_state::proofs::NumberLemmas::consequences_past), unfolding(gateway_state::specs::Step::step))]
-    pub(crate) fn step(&mut self, event: Event) -> Result<(), Refusal>
-        ensures ok { OnOk result (self.new ≡ step self.old event) }
-        ensures used_up { IsErrOf result Refusal.NumbersUsedUp → is_past_numbers (step self.old event) ≡ true }
-        ensures in_range { OnOk result (is_past_numbers self.new ≡ false) }
-    {
-        self.perform(event)?;
-        self.follow()?;
-        self.numbers_are_in_range();
-        Ok(())
-    }
+/// Performs one event.
+#[tactic(auto, using(gateway_state::proofs::NumberLemmas::consequences_past), unfolding(gateway_state::specs::Step::step))]
+pub(crate) fn step(rows: &mut Rows, event: Event) -> Result<(), Refusal>
+    ensures ok { OnOk result (rows.new ≡ step rows.old event) }
+    ensures used_up { IsErrOf result Refusal.NumbersUsedUp → is_past_numbers (step rows.old event) ≡ true }
+    ensures in_range { OnOk result (is_past_numbers rows.new ≡ false) }
+{
+    perform(rows, event)?;
+    follow(rows)?;
+    rows.numbers_are_in_range();
+    Ok(())
+}
 
-    /// Takes the oldest messages of an outbox, in order. This is an event too.
-    #[tactic(auto, using(gateway_state::proofs::NumberLemmas::consequences_past), unfolding(gateway_state::specs::Step::step))]
-    pub(crate) fn drain(&mut self, dest: Dest, count: usize) -> Result<Vec<Out>, Refusal>
-        ensures ok { OnOk result (self.new ≡ step self.old (Event.Drain dest count)) }
-        ensures found { IfOk result (λ outs. outs.items ≡ taken self.old (Event.Drain dest count) dest) }
-        ensures used_up { IsErrOf result Refusal.NumbersUsedUp → is_past_numbers (step self.old (Event.Drain dest count)) ≡ true }
-        ensures in_range { OnOk result (is_past_numbers self.new ≡ false) }
-    {
-        let outs = self.take(dest, count)?;
-        self.follow()?;
-        self.numbers_are_in_range();
-        Ok(outs)
-    }
+/// Takes the oldest messages of an outbox, in order. This is an event too.
+#[tactic(auto, using(gateway_state::proofs::NumberLemmas::consequences_past), unfolding(gateway_state::specs::Step::step))]
+pub(crate) fn drain(rows: &mut Rows, dest: Dest, count: usize) -> Result<Vec<Out>, Refusal>
+    ensures ok { OnOk result (rows.new ≡ step rows.old (Event.Drain dest count)) }
+    ensures found { IfOk result (λ outs. outs.items ≡ taken rows.old (Event.Drain dest count) dest) }
+    ensures used_up { IsErrOf result Refusal.NumbersUsedUp → is_past_numbers (step rows.old (Event.Drain dest count)) ≡ true }
+    ensures in_range { OnOk result (is_past_numbers rows.new ≡ false) }
+{
+    let outs = rows.take(dest, count)?;
+    follow(rows)?;
+    rows.numbers_are_in_range();
+    Ok(outs)
+}
 
-    /// What the event does by itself.
-    fn perform(&mut self, event: Event) -> Result<(), Refusal>
-        ensures ok { OnOk result (self.new ≡ direct_effect self.old event) }
-        ensures used_up { IsErrOf result Refusal.NumbersUsedUp → is_past_numbers (direct_effect self.old event) ≡ true }
-    {
-        match event {
-            Event::Opened(number, host) => {
-                self.open_session(number, host)?;
-                Ok(())
-            }
-            Event::Lost(number) => {
-                self.lose_session(number);
-                Ok(())
-            }
-            Event::Client(number, message) => {
-                if self.acts(Dest::Session(number)) {
-                    self.hear_client(number, message)
-                } else {
-                    Ok(())
-                }
-            }
-            Event::UpOpened(number) => {
-                self.open_server(number)?;
-                Ok(())
-            }
-            Event::UpLost(number) => {
-                self.lose_server(number);
-                Ok(())
-            }
-            Event::Server(number, message) => {
-                if self.acts(Dest::Upstream(number)) {
-                    self.hear_server(number, message)?;
-                    Ok(())
-                } else {
-                    Ok(())
-                }
-            }
-            Event::Found(name, number) => self.find_at(name, number),
-            Event::Sweep => {
-                self.sweep();
-                Ok(())
-            }
-            Event::Drain(dest, count) => {
-                let _taken = self.take(dest, count)?;
+/// What the event does by itself.
+fn perform(rows: &mut Rows, event: Event) -> Result<(), Refusal>
+    ensures ok { OnOk result (rows.new ≡ direct_effect rows.old event) }
+    ensures used_up { IsErrOf result Refusal.NumbersUsedUp → is_past_numbers (direct_effect rows.old event) ≡ true }
+{
+    match event {
+        Event::Opened(number, host) => {
+            open_session(rows, number, host)?;
+            Ok(())
+        }
+        Event::Lost(number) => {
+            lose_session(rows, number);
+            Ok(())
+        }
+        Event::Client(number, message) => {
+            if rows.acts(Dest::Session(number)) {
+                hear_client(rows, number, message)
+            } else {
                 Ok(())
             }
         }
+        Event::UpOpened(number) => {
+            open_server(rows, number)?;
+            Ok(())
+        }
+        Event::UpLost(number) => {
+            lose_server(rows, number);
+            Ok(())
+        }
+        Event::Server(number, message) => {
+            if rows.acts(Dest::Upstream(number)) {
+                hear_server(rows, number, message)?;
+                Ok(())
+            } else {
+                Ok(())
+            }
+        }
+        Event::Found(name, number) => find_at(rows, name, number),
+        Event::Search(host, name) => {
+            search_for(rows, &host, &name)?;
+            Ok(())
+        }
+        Event::Edit(policy) => {
+            rows.set_policy(policy);
+            Ok(())
+        }
+        Event::Sweep => {
+            rows.sweep();
+            Ok(())
+        }
+        Event::Drain(dest, count) => {
+            let _taken = rows.take(dest, count)?;
+            Ok(())
+        }
     }
+}
 
-    /// What follows from it for everybody.
-    #[tactic(auto, using(gateway_state::proofs::NumberLemmas::links_told_past))]
-    pub(crate) fn follow(&mut self) -> Result<(), Refusal>
-        ensures ok { OnOk result (self.new ≡ consequences self.old) }
-        ensures used_up { IsErrOf result Refusal.NumbersUsedUp → is_past_numbers (consequences self.old) ≡ true }
-    {
-        self.tell_channels()?;
-        self.withhold_updates()?;
-        self.tell_links()?;
-        self.tell_reads()?;
-        self.tell_updates()?;
-        Ok(())
+/// What follows from it for everybody.
+#[tactic(auto, using(gateway_state::proofs::NumberLemmas::links_told_past))]
+pub(crate) fn follow(rows: &mut Rows) -> Result<(), Refusal>
+    ensures ok { OnOk result (rows.new ≡ consequences rows.old) }
+    ensures used_up { IsErrOf result Refusal.NumbersUsedUp → is_past_numbers (consequences rows.old) ≡ true }
+{
+    tell_channels(rows)?;
+    withhold_updates(rows)?;
+    tell_links(rows)?;
+    tell_reads(rows)?;
+    tell_updates(rows)?;
+    Ok(())
+}
+
+/// Somebody at a host looks for a name, which is remembered where it leads somewhere.
+fn search_for(rows: &mut Rows, host: &Host, name: &Name) -> Result<(), AllocError>
+    ensures { OnOk result (rows.new ≡ searched host.now name.now rows.old) }
+{
+    match rows.lead_of(host, name)? {
+        Some(_) => rows.remember(host, name),
+        None => Ok(()),
     }
 }

@@ -4,7 +4,7 @@ use Rattle.channel_table.specs.Channels.{is_channel, is_not_channel, is_not_chan
 use Rattle.link_table.specs.declared.links.LinkState.TheVariants.{Creating}
 use Rattle.link_table.specs.Links.{is_link, is_not_link, is_not_of, with_state, with_subscription}
 use Rattle.gateway_state.specs.declared.config.Config.{Config}
-use Rattle.gateway_state.specs.declared.config.Policy.{Policy}
+use Rattle.rule_desk.specs.declared.policy.Policy.{Policy}
 use Rattle.gateway_state.specs.Gateway.{initial}
 use Rattle.gateway_state.specs.Settled.{AreInOrder, cid_of, sid_of}
 use Rattle.gateway_state.proofs.Kept.{IsKept}
@@ -12,11 +12,13 @@ use Rattle.gateway_state.proofs.RisingRows.{rising_changed, rising_filtered, ris
 
 pub in_order_kept : IsKept AreInOrder
 in_order_kept = record {
-  connections = λ rows w order. record { channels = order.channels; links = order.links };
+  connection_added = λ dest w order. record { channels = order.channels; links = order.links };
+  connection_changed = λ dest change w order. record { channels = order.channels; links = order.links };
   sessions = λ rows w order. record { channels = order.channels; links = order.links };
   servers = λ rows w order. record { channels = order.channels; links = order.links };
   cache = λ rows w order. record { channels = order.channels; links = order.links };
   searches = λ rows w order. record { channels = order.channels; links = order.links };
+  policy = λ policy w order. record { channels = order.channels; links = order.links };
   next_subscription = λ next w order. record { channels = order.channels; links = order.links };
   channel_added = λ session cid name real rights w order. record {
     channels = rising_pushed sid_of 0 w.upstream.counters.sid w.clients.channels
@@ -41,7 +43,7 @@ in_order_kept = record {
   sub_removed = λ session id w order. record { channels = order.channels; links = order.links };
   read_added = λ read w there order. record { channels = order.channels; links = order.links };
   read_removed = λ read w order. record { channels = order.channels; links = order.links };
-  link_added = λ server name w missing order. record {
+  link_added = λ server name w missing standing order. record {
     channels = order.channels;
     links = rising_pushed cid_of 0 w.upstream.counters.cid w.upstream.links
         (record { cid = w.upstream.counters.cid; server = server; name = name; state = Creating; rights = 0; subscription = None })

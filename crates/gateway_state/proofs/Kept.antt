@@ -17,11 +17,15 @@ use Rattle.link_table.specs.declared.servers.Server.{Server}
 use Rattle.gateway_state.specs.declared.cached.LastMessage.{LastMessage}
 use Rattle.gateway_state.specs.declared.event.Dest.{Dest}
 use Rattle.gateway_state.specs.declared.event.Dest.TheVariants as dests
+use Rattle.rule_desk.specs.declared.policy.Policy.{Policy}
 use Rattle.gateway_state.specs.declared.connections.Connection.{Connection}
 use Rattle.fanout.specs.declared.outbox.Out.{Out}
+use Rattle.fanout.specs.Outbox.{appended}
+use Rattle.fanout.specs.Waiting.{Waiting}
 use Rattle.gateway_state.specs.declared.search.Search.{Search}
 use Rattle.gateway_state.specs.Clients.{with_channel, without_channel}
-use Rattle.gateway_state.specs.Connections.{given, is_to}
+use Rattle.gateway_state.specs.Asked.{stands}
+use Rattle.gateway_state.specs.Connections.{fresh, is_to}
 use Rattle.gateway_state.specs.Gateway.{Gateway}
 use Rattle.gateway_state.specs.Notices.{with_reach, with_subscription_of, without_read}
 use Rattle.gateway_state.specs.Servers.{with_link_state, without_link}
@@ -30,6 +34,11 @@ use Rattle.gateway_state.specs.Subscribing.{sub_of, with_sub, without_sub}
 use Rattle.gateway_state.specs.Telling.{asked, outgoing, outgoing_upstream, sent, told}
 use Rattle.gateway_state.specs.Updates.{owed_to, owed_to_all, with_owed_of}
 use Rattle.gateway_state.specs.Variables.{is_linked}
+
+-- the outbox of one connection is changed
+abbrev pub with_outbox : Dest → (Waiting → Waiting) → Gateway → Gateway
+with_outbox dest change w =
+    record w { connections = change_first (is_to dest) (λ (row : Connection). record row { outbox = change row.outbox }) w.connections }
 
 -- rows that are changed whole
 abbrev pub with_connections : List Connection → Gateway → Gateway
@@ -46,6 +55,9 @@ with_cache rows w = record w { cache = rows }
 
 abbrev pub with_searches : List Search → Gateway → Gateway
 with_searches rows w = record w { searches = rows }
+
+abbrev pub with_policy : Policy → Gateway → Gateway
+with_policy policy w = record w { policy = policy }
 
 abbrev pub with_next_subscription : ℕ → Gateway → Gateway
 with_next_subscription next w = record w { upstream = record w.upstream { counters = record w.upstream.counters { subscription = next } } }
@@ -83,11 +95,13 @@ new_channel session cid name real rights w = record {
 
 -- each change of rows that a step is made of keeps it
 pub record IsKept (P : Gateway → Type 0) : Type 0 where
-  pub connections : (rows : List Connection) (w : Gateway) → P w → P (with_connections rows w)
+  pub connection_added : (dest : Dest) (w : Gateway) → P w → P (with_connections (w.connections ++ fresh dest ∷ []) w)
+  pub connection_changed : (dest : Dest) (change : Waiting → Waiting) (w : Gateway) → P w → P (with_outbox dest change w)
   pub sessions : (rows : List Session) (w : Gateway) → P w → P (with_sessions rows w)
   pub servers : (rows : List Server) (w : Gateway) → P w → P (with_servers rows w)
   pub cache : (rows : List LastMessage) (w : Gateway) → P w → P (with_cache rows w)
   pub searches : (rows : List Search) (w : Gateway) → P w → P (with_searches rows w)
+  pub policy : (policy : Policy) (w : Gateway) → P w → P (with_policy policy w)
   pub next_subscription : (next : ℕ) (w : Gateway) → P w → P (with_next_subscription next w)
   pub channel_added : (session cid : ℕ) (name real : List ℕ) (rights : ℕ) (w : Gateway) → P w → P (with_channel session cid name real rights w)
   pub channel_changed : (session sid reach rights : ℕ) (w : Gateway) → P w → P (with_reach session sid reach rights w)
@@ -99,7 +113,7 @@ pub record IsKept (P : Gateway → Type 0) : Type 0 where
   pub sub_removed : (session id : ℕ) (w : Gateway) → P w → P (without_sub session id w)
   pub read_added : (read : WaitingRead) (w : Gateway) → list_any (is_channel read.session read.sid) w.clients.channels ≡ true → P w → P (with_read read w)
   pub read_removed : (read : WaitingRead) (w : Gateway) → P w → P (without_read read w)
-  pub link_added : (server : ℕ) (name : List ℕ) (w : Gateway) → is_linked w name ≡ false → P w → P (with_link server name w)
+  pub link_added : (server : ℕ) (name : List ℕ) (w : Gateway) → is_linked w name ≡ false → stands w (dests.Upstream server) ≡ true → P w → P (with_link server name w)
   pub link_changed : (server cid : ℕ) (state : LinkState) (rights : ℕ) (w : Gateway) → P w → P (with_link_state server cid state rights w)
   pub subscription_changed : (server cid : ℕ) (sub : Option Subscription) (w : Gateway) → P w → P (with_subscription_of server cid sub w)
   pub link_removed : (server cid : ℕ) (w : Gateway) → P w → P (without_link server cid w)
@@ -112,7 +126,7 @@ kept_either P false v w first second = second
 
 pub kept_sent : (P : Gateway → Type 0) → IsKept P → (dest : Dest) (out : Out) (w : Gateway) → P w → P (sent dest out w)
 unfolding sent
-kept_sent P kept dest out w holds = kept.connections (change_first (is_to dest) (given out) w.connections) w holds
+kept_sent P kept dest out w holds = kept.connection_changed dest (λ (waiting : Waiting). appended waiting out) w holds
 
 pub kept_told : (P : Gateway → Type 0) → IsKept P → (number : ℕ) (said : ToClient) (w : Gateway) → P w → P (told number said w)
 kept_told P kept number said w holds = kept_sent P kept (dests.Session number) (outgoing said) w holds

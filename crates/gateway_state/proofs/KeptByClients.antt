@@ -29,14 +29,15 @@ use Rattle.gateway_state.specs.declared.notice.SubVerdict.{SubVerdict}
 use Rattle.gateway_state.specs.declared.notice.SubVerdict.TheVariants as SubVerdicts
 use Rattle.gateway_state.specs.declared.reading.Native.{Native}
 use Rattle.gateway_state.specs.Answer.{native_in, value_refusal}
+use Rattle.pv_alias.specs.declared.lead.Lead.{Lead}
 use Rattle.gateway_state.specs.Asked.{stands}
 use Rattle.gateway_state.specs.Clients.{channel_asked, cleared, created, created_as, created_on, created_on_native, creation_failed, judged, not_connected, read_verdict, remembered, remembered_by, rights_on, versioned, with_channel, with_host_fixed, without_channel, verdict_on, fixed, renamed}
-use Rattle.gateway_state.specs.Connections.{fresh, is_to, marked_now}
+use Rattle.fanout.specs.Waiting.{Waiting}
+use Rattle.gateway_state.specs.Connections.{fresh}
 use Rattle.gateway_state.specs.declared.search.Search.{Search}
 use Rattle.gateway_state.specs.Gateway.{Gateway}
 use Rattle.gateway_state.specs.Requests.{client_said, requested, unreadable}
-use Rattle.gateway_state.specs.Resolution.{resolution}
-use Rattle.gateway_state.specs.Rights.{channel_of, host_of}
+use Rattle.gateway_state.specs.Rights.{channel_of, lead_in}
 use Rattle.gateway_state.specs.Searches.{same_search}
 use Rattle.gateway_state.specs.Sessions.{opened, with_session}
 use Rattle.gateway_state.specs.Subscribing.{cancelled_on, cid_in, is_on_sid, limit_unless, new_sub, paused_to, sub_judged, sub_of, sub_verdict, sub_verdict_natively, sub_verdict_on, sub_verdict_over, sub_verdict_unless, subscription_limit, subscription_refusal, with_pause, without_sub}
@@ -95,20 +96,20 @@ module _ (P : Gateway → Type 0) (kept : IsKept P) where
   kept_opened w number host holds =
       let new : Session = record { number = number; host = host; host_fixed = false; paused = false } in
       let first : Gateway = with_connections (w.connections ++ fresh (ToSession number) ∷ []) w in
-      let second = kept.sessions (w.clients.sessions ++ new ∷ []) first (kept.connections (w.connections ++ fresh (ToSession number) ∷ []) w holds) in
+      let second = kept.sessions (w.clients.sessions ++ new ∷ []) first (kept.connection_added (ToSession number) w holds) in
       kept_either P (stands w (ToSession number) || leb SESSION_LIMIT (length w.clients.sessions)) w (told number replies.Version (with_session w number host))
       (λ _. holds) (kept_told P kept number replies.Version (with_session w number host) second)
 
   -- new channels
 
-  kept_created : (number cid : ℕ) (name real : List ℕ) (link : Link) (native : Native) (w : Gateway) → P w → P (created number cid name real link native w)
-  kept_created number cid name real link native w holds =
-      let rights : ℕ = rights_on w (host_of w number) name link in
-      let first : Gateway = with_channel number cid name real rights w in
+  kept_created : (number cid : ℕ) (name : List ℕ) (lead : Lead) (link : Link) (native : Native) (w : Gateway) → P w → P (created number cid name lead link native w)
+  kept_created number cid name lead link native w holds =
+      let rights : ℕ = rights_on w lead link in
+      let first : Gateway = with_channel number cid name lead.real rights w in
       kept_told P kept number (replies.CreateChannel cid w.upstream.counters.sid native.dtype native.count) (told number (replies.AccessRights cid rights) first)
-      (kept_told P kept number (replies.AccessRights cid rights) first (kept.channel_added number cid name real rights w holds))
+      (kept_told P kept number (replies.AccessRights cid rights) first (kept.channel_added number cid name lead.real rights w holds))
 
-  kept_remembered : (host name : List ℕ) (w : Gateway) → P w → P (remembered host name w)
+  pub kept_remembered : (host name : List ℕ) (w : Gateway) → P w → P (remembered host name w)
   kept_remembered host name w holds =
       let rows : List Search = w.searches ++ record { host = host; name = name } ∷ [] in
       kept_either P (list_any (same_search host name) w.searches || leb SEARCH_LIMIT (length w.searches)) w (with_searches rows w)
@@ -123,26 +124,26 @@ module _ (P : Gateway → Type 0) (kept : IsKept P) where
       let row : Option Session = find (is_numbered number) w.clients.sessions in
       kept_told P kept number (replies.CreateChannelFail cid) (remembered_by row name w) (kept_remembered_by row name w holds)
 
-  kept_created_on_native : (number cid : ℕ) (name real : List ℕ) (link : Link) (native : Option Native) (w : Gateway) → P w → P (created_on_native number cid name real link native w)
-  kept_created_on_native number cid name real link None w holds = kept_not_connected number cid name w holds
-  kept_created_on_native number cid name real link (Some native) w holds = kept_created number cid name real link native w holds
+  kept_created_on_native : (number cid : ℕ) (name : List ℕ) (lead : Lead) (link : Link) (native : Option Native) (w : Gateway) → P w → P (created_on_native number cid name lead link native w)
+  kept_created_on_native number cid name lead link None w holds = kept_not_connected number cid name w holds
+  kept_created_on_native number cid name lead link (Some native) w holds = kept_created number cid name lead link native w holds
 
-  kept_created_on : (number cid : ℕ) (name real : List ℕ) (link : Option Link) (w : Gateway) → P w → P (created_on number cid name real link w)
-  kept_created_on number cid name real None w holds = kept_not_connected number cid name w holds
-  kept_created_on number cid name real (Some link) w holds = kept_created_on_native number cid name real link (native_in link.state) w holds
+  kept_created_on : (number cid : ℕ) (name : List ℕ) (lead : Lead) (link : Option Link) (w : Gateway) → P w → P (created_on number cid name lead link w)
+  kept_created_on number cid name lead None w holds = kept_not_connected number cid name w holds
+  kept_created_on number cid name lead (Some link) w holds = kept_created_on_native number cid name lead link (native_in link.state) w holds
 
-  kept_created_as : (number cid : ℕ) (name : List ℕ) (real : Option (List ℕ)) (w : Gateway) → P w → P (created_as number cid name real w)
+  kept_created_as : (number cid : ℕ) (name : List ℕ) (lead : Option Lead) (w : Gateway) → P w → P (created_as number cid name lead w)
   kept_created_as number cid name None w holds = kept_told P kept number (replies.CreateChannelFail cid) w holds
-  kept_created_as number cid name (Some real) w holds =
-      kept_either P (leb CHANNEL_LIMIT (channel_count number w.clients)) (creation_failed number cid w) (created_on number cid name real (link_of w real) w)
-      (λ _. kept_told P kept number (replies.CreateChannelFail cid) w holds) (kept_created_on number cid name real (link_of w real) w holds)
+  kept_created_as number cid name (Some lead) w holds =
+      kept_either P (leb CHANNEL_LIMIT (channel_count number w.clients)) (creation_failed number cid w) (created_on number cid name lead (link_of w lead.real) w)
+      (λ _. kept_told P kept number (replies.CreateChannelFail cid) w holds) (kept_created_on number cid name lead (link_of w lead.real) w holds)
 
   kept_with_host_fixed : (number : ℕ) (w : Gateway) → P w → P (with_host_fixed number w)
   kept_with_host_fixed number w holds = kept.sessions (change_first (is_numbered number) fixed w.clients.sessions) w holds
 
   kept_channel_asked : (number cid : ℕ) (name : List ℕ) (w : Gateway) → P w → P (channel_asked number cid name w)
   kept_channel_asked number cid name w holds =
-      kept_created_as number cid name (resolution w.policy (host_of w number) name) (with_host_fixed number w) (kept_with_host_fixed number w holds)
+      kept_created_as number cid name (lead_in w number name) (with_host_fixed number w) (kept_with_host_fixed number w holds)
 
   -- channels that go, and reads
 
@@ -186,7 +187,7 @@ module _ (P : Gateway → Type 0) (kept : IsKept P) where
   kept_versioned : (w : Gateway) (number minor : ℕ) → P w → P (versioned w number minor)
   kept_versioned w number minor holds =
       kept_either P (ltb minor LOWEST_MINOR) (marked (ToSession number) w) w
-      (λ _. kept.connections (change_first (is_to (ToSession number)) marked_now w.connections) w holds) holds
+      (λ _. kept.connection_changed (ToSession number) (λ (waiting : Waiting). record waiting { marked = true }) w holds) holds
 
   kept_unreadable : (w : Gateway) (number : ℕ) (head : Header) → P w → P (unreadable w number head)
   kept_unreadable w number head holds =

@@ -1,6 +1,6 @@
 -- What each change of rows keeps, every run keeps.
 use Rattle.std.proofs.Common.{ℕ, ◌+◌, List, [], ◌∷◌, Option, Some, None, false}
-use Rattle.std.specs.Prelude.{filter}
+use Rattle.std.specs.Prelude.{filter, is_some}
 use Rattle.std.specs.List.{fold}
 use Rattle.rows.specs.Rows.{change_first}
 use Rattle.ca_message.specs.declared.to_client.ToClient.TheVariants as replies
@@ -9,7 +9,7 @@ use Rattle.link_table.specs.declared.links.LinkState.TheVariants.{Creating, Conn
 use Rattle.link_table.specs.declared.links.Subscription.{Subscription}
 use Rattle.gateway_state.specs.declared.event.Dest.TheVariants as dests
 use Rattle.gateway_state.specs.declared.event.Event.{Event}
-use Rattle.gateway_state.specs.declared.event.Event.TheVariants.{Opened, Lost, Client, UpOpened, UpLost, Server, Found, Sweep, Drain}
+use Rattle.gateway_state.specs.declared.event.Event.TheVariants.{Opened, Lost, Client, UpOpened, UpLost, Server, Found, Search, Sweep, Edit, Drain}
 use Rattle.gateway_state.specs.declared.notice.ChannelNotice.{ChannelNotice}
 use Rattle.gateway_state.specs.declared.notice.ChannelNotice.TheVariants.{Disconnected, RightsChanged}
 use Rattle.gateway_state.specs.declared.notice.LinkNotice.{LinkNotice}
@@ -19,18 +19,19 @@ use Rattle.gateway_state.specs.declared.notice.ReadNotice.TheVariants.{Refused, 
 use Rattle.gateway_state.specs.declared.notice.UpdateNotice.{UpdateNotice}
 use Rattle.gateway_state.specs.Asked.{acts}
 use Rattle.gateway_state.specs.CachedRows.{is_cached_elsewhere}
-use Rattle.gateway_state.specs.Clients.{without_channel}
-use Rattle.gateway_state.specs.Connections.{is_to, relieved}
+use Rattle.gateway_state.specs.Clients.{remembered, without_channel}
+use Rattle.fanout.specs.Outbox.{without_first}
 use Rattle.gateway_state.specs.Direct.{direct_effect}
 use Rattle.gateway_state.specs.Gateway.{Gateway}
 use Rattle.gateway_state.specs.Notices.{channel_notices, channel_told, channels_told, link_notices, link_told, links_told, read_notices, read_told, reads_told, with_reach, with_subscription_of, without_read}
 use Rattle.gateway_state.specs.Requests.{client_said}
+use Rattle.gateway_state.specs.Resolution.{lead_of}
 use Rattle.gateway_state.specs.Servers.{server_said, without_link}
 use Rattle.gateway_state.specs.Step.{consequences, run, step}
 use Rattle.gateway_state.specs.Telling.{told}
 use Rattle.gateway_state.specs.Updates.{is_taking, update_notices, update_told, updates_withheld, with_owed_of, withheld}
 use Rattle.gateway_state.proofs.Kept.{IsKept, kept_asked, kept_either, kept_owed_to_all, kept_told, with_next_subscription}
-use Rattle.gateway_state.proofs.KeptByClients.{kept_client_said, kept_opened}
+use Rattle.gateway_state.proofs.KeptByClients.{kept_client_said, kept_opened, kept_remembered}
 use Rattle.gateway_state.proofs.KeptByServers.{kept_found, kept_server_said, kept_up_opened}
 
 module _ (P : Gateway → Type 0) (kept : IsKept P) where
@@ -44,8 +45,11 @@ module _ (P : Gateway → Type 0) (kept : IsKept P) where
   kept_direct_effect w (Server number message) holds =
       kept_either P (acts w (dests.Upstream number)) (server_said w number message) w (λ _. kept_server_said P kept w number message holds) holds
   kept_direct_effect w (Found name number) holds = kept_found P kept w name number holds
+  kept_direct_effect w (Search host name) holds =
+      kept_either P (is_some (lead_of w.policy host name)) (remembered host name w) w (λ _. kept_remembered P kept host name w holds) holds
   kept_direct_effect w Sweep holds = kept.searches [] w holds
-  kept_direct_effect w (Drain dest count) holds = kept.connections (change_first (is_to dest) (relieved count) w.connections) w holds
+  kept_direct_effect w (Edit policy) holds = kept.policy policy w holds
+  kept_direct_effect w (Drain dest count) holds = kept.connection_changed dest (without_first count) w holds
 
   -- the passes
 

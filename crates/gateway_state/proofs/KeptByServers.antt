@@ -1,5 +1,5 @@
 -- What servers say and do keeps what each change of rows keeps.
-use Rattle.std.proofs.Common.{◌≡◌, ℕ, List, [], ◌∷◌, ◌++◌, length, Bool, false, eqb, leb, ltb, not, ◌||◌, ◌&&◌, Option, Some, None, Ok, Err, Result}
+use Rattle.std.proofs.Common.{true, ◌≡◌, ℕ, List, [], ◌∷◌, ◌++◌, length, Bool, false, eqb, leb, ltb, not, ◌||◌, ◌&&◌, Option, Some, None, Ok, Err, Result}
 use Rattle.std.specs.Prelude.{filter}
 use Rattle.std.specs.List.{find, fold}
 use Rattle.rows.specs.Rows.{change_first}
@@ -21,7 +21,7 @@ use Rattle.link_table.specs.Links.{has_subscription, is_link}
 use Rattle.value_cache.specs.Held.{held_after}
 use Rattle.gateway_state.specs.declared.cached.LastMessage.{LastMessage}
 use Rattle.gateway_state.specs.declared.event.Dest.TheVariants.{Upstream}
-use Rattle.gateway_state.specs.Asked.{acts, stands}
+use Rattle.gateway_state.specs.Asked.{acts, ends, stands}
 use Rattle.gateway_state.specs.Gateway.{Gateway}
 use Rattle.gateway_state.specs.Servers.{answered_creating, concerned_owed, created_for, failed_for, found, gone_for, has_other_alarm, is_usable, is_value, linked, read_failed, reads_failed, replied, rights_given, server_said, updated_by, updated_link, waits_for, with_cached, with_link_state, without_link}
 use Rattle.gateway_state.specs.Sessions.{introduced, up_opened, with_server}
@@ -50,13 +50,13 @@ module _ (P : Gateway → Type 0) (kept : IsKept P) where
   kept_up_opened w number holds =
       let new : Server = record { number = number; minor = 0 } in
       let first : Gateway = with_connections (w.connections ++ fresh (Upstream number) ∷ []) w in
-      let second = kept.servers (w.upstream.servers ++ new ∷ []) first (kept.connections (w.connections ++ fresh (Upstream number) ∷ []) w holds) in
+      let second = kept.servers (w.upstream.servers ++ new ∷ []) first (kept.connection_added (Upstream number) w holds) in
       kept_either P (stands w (Upstream number) || leb SERVER_LIMIT (length w.upstream.servers)) w (introduced number (with_server w number))
       (λ _. holds) (kept_introduced number (with_server w number) second)
 
-  kept_linked : (w : Gateway) (server : ℕ) (name : List ℕ) → is_linked w name ≡ false → P w → P (linked w server name)
-  kept_linked w server name missing holds =
-      kept_asked P kept server (requests.CreateChannel w.upstream.counters.cid name) (with_link server name w) (kept.link_added server name w missing holds)
+  kept_linked : (w : Gateway) (server : ℕ) (name : List ℕ) → is_linked w name ≡ false → stands w (Upstream server) ≡ true → P w → P (linked w server name)
+  kept_linked w server name missing standing holds =
+      kept_asked P kept server (requests.CreateChannel w.upstream.counters.cid name) (with_link server name w) (kept.link_added server name w missing standing holds)
 
   pub kept_found : (w : Gateway) (name : List ℕ) (server : ℕ) → P w → P (found w name server)
   kept_found w name server holds =
@@ -64,7 +64,8 @@ module _ (P : Gateway → Type 0) (kept : IsKept P) where
       (λ e.
       let tests = and_parts (is_missing w name && acts w (Upstream server)) (ltb (length w.upstream.links) LINK_LIMIT) e in
       let parts = and_parts (is_missing w name) (acts w (Upstream server)) tests.0 in
-      kept_linked w server name (not-true (is_linked w name) (and_parts (is_wanted w name) (not (is_linked w name)) parts.0).1) holds)
+      let standing = and_parts (stands w (Upstream server)) (not (ends w (Upstream server))) parts.1 in
+      kept_linked w server name (not-true (is_linked w name) (and_parts (is_wanted w name) (not (is_linked w name)) parts.0).1) standing.0 holds)
       holds
 
   -- changes of one link

@@ -5,11 +5,14 @@ pub mod KeptByRuns
 pub mod KeptByServers
 pub mod LinkNotices
 pub mod LinksApart
+pub mod LinksOnServers
 pub mod NumberLemmas
 pub mod OnChannels
+pub mod ReachedStates
 pub mod ReadsOnChannels
 pub mod RisingRows
 pub mod RowTests
+pub mod SearchedNames
 pub mod SettledChannels
 pub mod SettledLinks
 pub mod SettledMeaning

@@ -8,7 +8,7 @@ use Rattle.link_table.specs.declared.links.Link.{Link}
 use Rattle.link_table.specs.declared.links.LinkState.TheVariants.{Creating}
 use Rattle.link_table.specs.Links.{is_link, is_named, is_not_link, is_not_of, with_state, with_subscription}
 use Rattle.gateway_state.specs.declared.config.Config.{Config}
-use Rattle.gateway_state.specs.declared.config.Policy.{Policy}
+use Rattle.rule_desk.specs.declared.policy.Policy.{Policy}
 use Rattle.gateway_state.specs.declared.event.Event.{Event}
 use Rattle.gateway_state.specs.Gateway.{initial}
 use Rattle.gateway_state.specs.Settled.{HasLinksApart}
@@ -91,11 +91,13 @@ apart_changed links test change unseen apart name =
 
 links_apart_kept : IsKept HasLinksApart
 links_apart_kept = record {
-  connections = λ rows w apart. apart;
+  connection_added = λ dest w apart. apart;
+  connection_changed = λ dest change w apart. apart;
   sessions = λ rows w apart. apart;
   servers = λ rows w apart. apart;
   cache = λ rows w apart. apart;
   searches = λ rows w apart. apart;
+  policy = λ policy w apart. apart;
   next_subscription = λ next w apart. apart;
   channel_added = λ session cid name real rights w apart. apart;
   channel_changed = λ session sid reach rights w apart. apart;
@@ -106,7 +108,7 @@ links_apart_kept = record {
   sub_removed = λ session id w apart. apart;
   read_added = λ read w there apart. apart;
   read_removed = λ read w apart. apart;
-  link_added = λ server name w missing apart.
+  link_added = λ server name w missing standing apart.
       apart_pushed w.upstream.links (record { cid = w.upstream.counters.cid; server = server; name = name; state = Creating; rights = 0; subscription = None }) missing apart;
   link_changed = λ server cid state rights w apart. apart_changed w.upstream.links (is_link server cid) (with_state state rights) (λ name link. refl) apart;
   subscription_changed = λ server cid sub w apart. apart_changed w.upstream.links (is_link server cid) (with_subscription sub) (λ name link. refl) apart;

@@ -5,7 +5,7 @@ use Rattle.channel_table.specs.declared.reads.WaitingRead.{WaitingRead}
 use Rattle.channel_table.specs.Channels.{is_not_channel, is_not_channel_of}
 use Rattle.channel_table.specs.Reads.{is_not_read_of, is_not_read_on, same_read}
 use Rattle.gateway_state.specs.declared.config.Config.{Config}
-use Rattle.gateway_state.specs.declared.config.Policy.{Policy}
+use Rattle.rule_desk.specs.declared.policy.Policy.{Policy}
 use Rattle.gateway_state.specs.declared.event.Event.{Event}
 use Rattle.gateway_state.specs.Gateway.{initial}
 use Rattle.gateway_state.specs.Settled.{HasReadsOnChannels, is_on_channel}
@@ -23,11 +23,13 @@ sid_in read = read.sid
 
 reads_on_channels_kept : IsKept HasReadsOnChannels
 reads_on_channels_kept = record {
-  connections = λ rows w on. on;
+  connection_added = λ dest w on. on;
+  connection_changed = λ dest change w on. on;
   sessions = λ rows w on. on;
   servers = λ rows w on. on;
   cache = λ rows w on. on;
   searches = λ rows w on. on;
+  policy = λ policy w on. on;
   next_subscription = λ next w on. on;
   channel_added = λ session cid name real rights w on. on_more session_in sid_in w.clients.channels (new_channel session cid name real rights w) w.clients.reads on;
   channel_changed = λ session sid reach rights w on. on_changed session_in sid_in w.clients.channels session sid reach rights w.clients.reads on;
@@ -42,7 +44,7 @@ reads_on_channels_kept = record {
   sub_removed = λ session id w on. on;
   read_added = λ read w there on. list_all-append (is_on_channel w) w.clients.reads (read ∷ []) ∙ rw (on, there) refl;
   read_removed = λ read w on. all_removed (is_on_channel w) (same_read read) w.clients.reads on;
-  link_added = λ server name w missing on. on;
+  link_added = λ server name w missing standing on. on;
   link_changed = λ server cid state rights w on. on;
   subscription_changed = λ server cid sub w on. on;
   link_removed = λ server cid w on. on;

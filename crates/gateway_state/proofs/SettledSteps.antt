@@ -17,8 +17,8 @@ use Rattle.gateway_state.specs.declared.notice.UpdateNotice.{UpdateNotice}
 use Rattle.gateway_state.specs.Gateway.{Gateway}
 use Rattle.gateway_state.specs.Interest.{channel_want, interest_of, is_read_through, is_reader, is_subscriber, sub_want}
 use Rattle.gateway_state.specs.Notices.{channel_notice, channel_notices, channels_told, link_notices, links_told, reads_told, channel_told, link_told, read_notices, read_told}
-use Rattle.gateway_state.specs.Resolution.{policy_rights, resolution, is_real}
-use Rattle.gateway_state.specs.Rights.{channel_of, host_of, is_served, may_read, rights_of}
+use Rattle.gateway_state.specs.Resolution.{is_real, rights_left}
+use Rattle.gateway_state.specs.Rights.{channel_of, is_served, lead_in, may_read, rights_of}
 use Rattle.gateway_state.specs.Settled.{AreInOrder, HasSubsApart, IsSettled}
 use Rattle.gateway_state.specs.Step.{consequences}
 use Rattle.gateway_state.specs.Updates.{is_unreadable, is_withheld, owed_to_all, update_notices, update_told, updates_told, updates_withheld, withheld}
@@ -52,11 +52,11 @@ module _ (w : Gateway) (connections : List Connection) (cache : List LastMessage
   v = with_links_left w connections cache links next
 
   rights_same : (c : Channel) → is_wanted w c.real ≡ true → rights_of v c ≡ rights_of w c
-  rights_same c wanted = ap (λ (rights : ℕ). bit_and rights (policy_rights w.policy (host_of w c.session) c.asked)) (left.rights c.real wanted)
+  rights_same c wanted = ap (λ (rights : ℕ). bit_and rights (rights_left w.policy (lead_in w c.session c.asked))) (left.rights c.real wanted)
 
   served_same : (c : Channel) → is_wanted w c.real ≡ true → is_served v c ≡ is_served w c
   served_same c wanted =
-      ap (λ (connected : Bool). is_real (resolution w.policy (host_of w c.session) c.asked) c.real && connected) (left.connected c.real wanted)
+      ap (λ (connected : Bool). is_real (lead_in w c.session c.asked) c.real && connected) (left.connected c.real wanted)
 
   abbrev AreWanted : List Channel → Type 0
   AreWanted channels = (name : List ℕ) → list_any (is_on name) channels ≡ true → is_wanted w name ≡ true

@@ -8,7 +8,7 @@ use Rattle.rows.specs.Rows.{change_first}
 use Rattle.channel_table.specs.declared.subs.ClientSub.{ClientSub}
 use Rattle.channel_table.specs.Subs.{is_not_sub, is_not_sub_of, is_not_sub_on, is_sub, with_owed}
 use Rattle.gateway_state.specs.declared.config.Config.{Config}
-use Rattle.gateway_state.specs.declared.config.Policy.{Policy}
+use Rattle.rule_desk.specs.declared.policy.Policy.{Policy}
 use Rattle.gateway_state.specs.declared.event.Event.{Event}
 use Rattle.gateway_state.specs.Gateway.{initial}
 use Rattle.gateway_state.specs.Settled.{AreApart, HasSubsApart}
@@ -72,11 +72,13 @@ apart_pushed (row ∷ rows) new free apart = by (is_sub new.session new.id row) 
 
 pub subs_apart_kept : IsKept HasSubsApart
 subs_apart_kept = record {
-  connections = λ rows w apart. apart;
+  connection_added = λ dest w apart. apart;
+  connection_changed = λ dest change w apart. apart;
   sessions = λ rows w apart. apart;
   servers = λ rows w apart. apart;
   cache = λ rows w apart. apart;
   searches = λ rows w apart. apart;
+  policy = λ policy w apart. apart;
   next_subscription = λ next w apart. apart;
   channel_added = λ session cid name real rights w apart. apart;
   channel_changed = λ session sid reach rights w apart. apart;
@@ -87,7 +89,7 @@ subs_apart_kept = record {
   sub_removed = λ session id w apart. apart_filtered (is_not_sub session id) w.clients.subs apart;
   read_added = λ read w there apart. apart;
   read_removed = λ read w apart. apart;
-  link_added = λ server name w missing apart. apart;
+  link_added = λ server name w missing standing apart. apart;
   link_changed = λ server cid state rights w apart. apart;
   subscription_changed = λ server cid sub w apart. apart;
   link_removed = λ server cid w apart. apart;

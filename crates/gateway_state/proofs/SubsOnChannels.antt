@@ -5,7 +5,7 @@ use Rattle.channel_table.specs.declared.subs.ClientSub.{ClientSub}
 use Rattle.channel_table.specs.Channels.{is_not_channel, is_not_channel_of}
 use Rattle.channel_table.specs.Subs.{is_not_sub, is_not_sub_of, is_not_sub_on, is_sub, with_owed}
 use Rattle.gateway_state.specs.declared.config.Config.{Config}
-use Rattle.gateway_state.specs.declared.config.Policy.{Policy}
+use Rattle.rule_desk.specs.declared.policy.Policy.{Policy}
 use Rattle.gateway_state.specs.declared.event.Event.{Event}
 use Rattle.gateway_state.specs.Gateway.{initial}
 use Rattle.gateway_state.specs.Settled.{HasSubsOnChannels, is_sub_on_channel}
@@ -23,11 +23,13 @@ sid_in sub = sub.sid
 
 subs_on_channels_kept : IsKept HasSubsOnChannels
 subs_on_channels_kept = record {
-  connections = λ rows w on. on;
+  connection_added = λ dest w on. on;
+  connection_changed = λ dest change w on. on;
   sessions = λ rows w on. on;
   servers = λ rows w on. on;
   cache = λ rows w on. on;
   searches = λ rows w on. on;
+  policy = λ policy w on. on;
   next_subscription = λ next w on. on;
   channel_added = λ session cid name real rights w on. on_more session_in sid_in w.clients.channels (new_channel session cid name real rights w) w.clients.subs on;
   channel_changed = λ session sid reach rights w on. on_changed session_in sid_in w.clients.channels session sid reach rights w.clients.subs on;
@@ -42,7 +44,7 @@ subs_on_channels_kept = record {
   sub_removed = λ session id w on. all_filtered (is_sub_on_channel w) (is_not_sub session id) w.clients.subs on;
   read_added = λ read w there on. on;
   read_removed = λ read w on. on;
-  link_added = λ server name w missing on. on;
+  link_added = λ server name w missing standing on. on;
   link_changed = λ server cid state rights w on. on;
   subscription_changed = λ server cid sub w on. on;
   link_removed = λ server cid w on. on;

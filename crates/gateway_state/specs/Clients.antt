@@ -15,6 +15,8 @@ use Rattle.channel_table.specs.Reads.{is_not_read_on}
 use Rattle.channel_table.specs.Sessions.{is_numbered}
 use Rattle.channel_table.specs.Subs.{is_not_sub_on}
 use Rattle.link_table.specs.declared.links.Link.{Link}
+use Rattle.pv_alias.specs.declared.lead.Lead.{Lead}
+use Rattle.pv_alias.specs.Rights.{group_rights}
 use Rattle.gateway_state.specs.declared.event.Dest.TheVariants as dests
 use Rattle.gateway_state.specs.declared.limits.TheConstants.{LOWEST_MINOR, SEARCH_LIMIT}
 use Rattle.gateway_state.specs.Answer.{native_in, refusal, meant_count, cached_value}
@@ -23,9 +25,8 @@ use Rattle.gateway_state.specs.declared.notice.ReadVerdict.TheVariants.{NoChanne
 use Rattle.gateway_state.specs.declared.reading.Given.{Given}
 use Rattle.gateway_state.specs.declared.reading.Native.{Native}
 use Rattle.gateway_state.specs.Gateway.{Gateway}
-use Rattle.gateway_state.specs.Resolution.{resolution, policy_rights}
 use Rattle.gateway_state.specs.Searches.{same_search}
-use Rattle.gateway_state.specs.Rights.{host_of, rights_of, channel_of}
+use Rattle.gateway_state.specs.Rights.{channel_of, lead_in, rights_of}
 use Rattle.gateway_state.specs.Telling.{told, marked}
 use Rattle.gateway_state.specs.Variables.{link_of}
 
@@ -74,9 +75,9 @@ with_channel number cid name real rights w = record w {
   upstream = record w.upstream { counters = record w.upstream.counters { sid = w.upstream.counters.sid + 1 } };
 }
 
--- the rights on a link that the rules leave to a host that asked for a name
-abbrev pub rights_on : Gateway → List ℕ → List ℕ → Link → ℕ
-rights_on w host name link = bit_and link.rights (policy_rights w.policy host name)
+-- the rights on a link that the policy leaves to who was led to it
+abbrev pub rights_on : Gateway → Lead → Link → ℕ
+rights_on w lead link = bit_and link.rights (group_rights w.policy.groups lead.group)
 
 -- the client's channel is made, with these rights, and the client is told of both
 abbrev pub created_with : ℕ → ℕ → List ℕ → List ℕ → ℕ → Native → Gateway → Gateway
@@ -85,9 +86,8 @@ created_with number cid name real rights native w =
     (told number (replies.AccessRights cid rights) (with_channel number cid name real rights w))
 
 -- the client's channel on a variable whose native type and count are known
-abbrev pub created : ℕ → ℕ → List ℕ → List ℕ → Link → Native → Gateway → Gateway
-created number cid name real link native w =
-    created_with number cid name real (rights_on w (host_of w number) name link) native w
+abbrev pub created : ℕ → ℕ → List ℕ → Lead → Link → Native → Gateway → Gateway
+created number cid name lead link native w = created_with number cid name lead.real (rights_on w lead link) native w
 
 abbrev pub creation_failed : ℕ → ℕ → Gateway → Gateway
 creation_failed number cid w = told number (replies.CreateChannelFail cid) w
@@ -101,25 +101,23 @@ abbrev pub not_connected : ℕ → ℕ → List ℕ → Gateway → Gateway
 not_connected number cid name w =
     creation_failed number cid (remembered_by (find (is_numbered number) w.clients.sessions) name w)
 
-abbrev pub created_on_native : ℕ → ℕ → List ℕ → List ℕ → Link → Option Native → Gateway → Gateway
-created_on_native number cid name real link None w = not_connected number cid name w
-created_on_native number cid name real link (Some native) w = created number cid name real link native w
+abbrev pub created_on_native : ℕ → ℕ → List ℕ → Lead → Link → Option Native → Gateway → Gateway
+created_on_native number cid name lead link None w = not_connected number cid name w
+created_on_native number cid name lead link (Some native) w = created number cid name lead link native w
 
-abbrev pub created_on : ℕ → ℕ → List ℕ → List ℕ → Option Link → Gateway → Gateway
-created_on number cid name real None w = not_connected number cid name w
-created_on number cid name real (Some link) w = created_on_native number cid name real link (native_in link.state) w
+abbrev pub created_on : ℕ → ℕ → List ℕ → Lead → Option Link → Gateway → Gateway
+created_on number cid name lead None w = not_connected number cid name w
+created_on number cid name lead (Some link) w = created_on_native number cid name lead link (native_in link.state) w
 
-abbrev pub created_as : ℕ → ℕ → List ℕ → Option (List ℕ) → Gateway → Gateway
+abbrev pub created_as : ℕ → ℕ → List ℕ → Option Lead → Gateway → Gateway
 created_as number cid name None w = creation_failed number cid w
-created_as number cid name (Some real) w =
+created_as number cid name (Some lead) w =
     if nat_le CHANNEL_LIMIT (channel_count number w.clients) then creation_failed number cid w
-    else created_on number cid name real (link_of w real) w
+    else created_on number cid name lead (link_of w lead.real) w
 
 -- the client wants a channel on the name
 abbrev pub channel_asked : ℕ → ℕ → List ℕ → Gateway → Gateway
-channel_asked number cid name w =
-    let fixed_w = with_host_fixed number w in
-    created_as number cid name (resolution w.policy (host_of w number) name) fixed_w
+channel_asked number cid name w = created_as number cid name (lead_in w number name) (with_host_fixed number w)
 
 -- CLEAR_CHANNEL
 

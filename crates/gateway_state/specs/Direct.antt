@@ -1,20 +1,31 @@
 -- What an event does by itself, and the direct reply to it.
-use Rattle.std.specs.Prelude.{ℕ, [], if◌then◌else◌}
+use Rattle.std.specs.Prelude.{ℕ, List, [], is_some, if◌then◌else◌}
 use Rattle.rows.specs.Rows.{change_first}
+use Rattle.rule_desk.specs.declared.policy.Policy.{Policy}
 use Rattle.gateway_state.specs.declared.event.Dest.{Dest}
 use Rattle.gateway_state.specs.declared.event.Dest.TheVariants as dests
 use Rattle.gateway_state.specs.declared.event.Event.{Event}
-use Rattle.gateway_state.specs.declared.event.Event.TheVariants.{Opened, Lost, Client, UpOpened, UpLost, Server, Found, Sweep, Drain}
+use Rattle.gateway_state.specs.declared.event.Event.TheVariants.{Opened, Lost, Client, UpOpened, UpLost, Server, Found, Search, Sweep, Edit, Drain}
 use Rattle.gateway_state.specs.Asked.{acts}
+use Rattle.gateway_state.specs.Clients.{remembered}
 use Rattle.gateway_state.specs.Connections.{is_to, relieved}
 use Rattle.gateway_state.specs.Gateway.{Gateway}
 use Rattle.gateway_state.specs.Requests.{client_said}
+use Rattle.gateway_state.specs.Resolution.{lead_of}
 use Rattle.gateway_state.specs.Servers.{server_said, found}
 use Rattle.gateway_state.specs.Sessions.{opened, lost, up_opened, up_lost}
 
 -- all searches are forgotten
 abbrev pub swept : Gateway → Gateway
 swept w = record w { searches = [] }
+
+-- another policy holds from now on
+abbrev pub edited : Policy → Gateway → Gateway
+edited policy w = record w { policy = policy }
+
+-- somebody at a host looks for a name: that is remembered where the name leads somewhere
+abbrev pub searched : List ℕ → List ℕ → Gateway → Gateway
+searched host name w = if is_some (lead_of w.policy host name) then remembered host name w else w
 
 -- the oldest messages of an outbox are taken
 abbrev pub drained : Gateway → Dest → ℕ → Gateway
@@ -30,5 +41,7 @@ direct_effect w (UpOpened number) = up_opened w number
 direct_effect w (UpLost number) = up_lost w number
 direct_effect w (Server number message) = if acts w (dests.Upstream number) then server_said w number message else w
 direct_effect w (Found name number) = found w name number
+direct_effect w (Search host name) = searched host name w
 direct_effect w Sweep = swept w
+direct_effect w (Edit policy) = edited policy w
 direct_effect w (Drain dest count) = drained w dest count

@@ -4,7 +4,7 @@ use Rattle.channel_table.specs.ClientRows.{ClientRows}
 use Rattle.link_table.specs.LinkRows.{LinkRows}
 use Rattle.gateway_state.specs.declared.cached.LastMessage.{LastMessage}
 use Rattle.gateway_state.specs.declared.config.Config.{Config}
-use Rattle.gateway_state.specs.declared.config.Policy.{Policy}
+use Rattle.rule_desk.specs.declared.policy.Policy.{Policy}
 use Rattle.gateway_state.specs.declared.connections.Connection.{Connection}
 use Rattle.gateway_state.specs.declared.search.Search.{Search}
 

@@ -8,6 +8,7 @@ pub mod Gateway
 pub mod Interest
 pub mod Notices
 pub mod Numbers
+pub mod Reached
 pub mod Requests
 pub mod Resolution
 pub mod Rights

@@ -1,18 +1,25 @@
--- What an asked name leads to.
+-- What an asked name leads to under a policy.
 use Rattle.std.specs.Prelude.{ℕ, List, Bool, false, bytes_eq, Option, Some, None}
-use Rattle.ca_message.specs.declared.commands.TheConstants.{READ_AND_WRITE}
-use Rattle.gateway_state.specs.declared.config.Policy.{Policy}
+use Rattle.std.specs.Option.{option_map}
+use Rattle.pv_alias.specs.declared.lead.Lead.{Lead}
+use Rattle.pv_alias.specs.Resolution.{resolution}
+use Rattle.pv_alias.specs.Rights.{group_rights}
+use Rattle.rule_desk.specs.declared.policy.Policy.{Policy}
 
--- the real name that a name leads to, asked by a host; nothing where it is refused. Every name is
--- admitted and leads to itself
-abbrev pub resolution : Policy → List ℕ → List ℕ → Option (List ℕ)
-resolution policy host name = Some name
+-- where the name leads that a host asks for; nothing where it is refused
+abbrev pub lead_of : Policy → List ℕ → List ℕ → Option Lead
+lead_of policy host name = resolution policy.rules host name
 
--- the rights that the rules leave to a host on a name
-abbrev pub policy_rights : Policy → List ℕ → List ℕ → ℕ
-policy_rights policy host name = READ_AND_WRITE
+-- the real name of a lead
+abbrev pub real_in : Option Lead → Option (List ℕ)
+real_in lead = option_map (λ (l : Lead). l.real) lead
 
--- the resolution is this real name
-abbrev pub is_real : Option (List ℕ) → List ℕ → Bool
+-- the name leads to this real name
+abbrev pub is_real : Option Lead → List ℕ → Bool
 is_real None name = false
-is_real (Some real) name = bytes_eq real name
+is_real (Some lead) name = bytes_eq lead.real name
+
+-- the access rights that the policy leaves to who was led so, none to who was refused
+abbrev pub rights_left : Policy → Option Lead → ℕ
+rights_left policy None = 0
+rights_left policy (Some lead) = group_rights policy.groups lead.group

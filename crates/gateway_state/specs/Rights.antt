@@ -7,25 +7,27 @@ use Rattle.channel_table.specs.declared.sessions.Session.{Session}
 use Rattle.channel_table.specs.Channels.{is_channel}
 use Rattle.channel_table.specs.Sessions.{is_numbered}
 use Rattle.link_table.specs.declared.links.Link.{Link}
+use Rattle.pv_alias.specs.declared.lead.Lead.{Lead}
+use Rattle.rule_desk.specs.declared.policy.Policy.{Policy}
 use Rattle.gateway_state.specs.Gateway.{Gateway}
-use Rattle.gateway_state.specs.Resolution.{resolution, policy_rights, is_real}
+use Rattle.gateway_state.specs.Resolution.{is_real, lead_of, rights_left}
 use Rattle.gateway_state.specs.Variables.{link_of, is_connected}
 
-abbrev pub host_in : Option Session → List ℕ
-host_in None = []
-host_in (Some row) = row.host
+abbrev pub lead_for : Policy → List ℕ → Option Session → Option Lead
+lead_for policy name None = None
+lead_for policy name (Some row) = lead_of policy row.host name
 
--- the host of a session
-abbrev pub host_of : Gateway → ℕ → List ℕ
-host_of w number = host_in (find (is_numbered number) w.clients.sessions)
+-- where the name leads that a session asks for, from its host; nothing where it is refused
+abbrev pub lead_in : Gateway → ℕ → List ℕ → Option Lead
+lead_in w number name = lead_for w.policy name (find (is_numbered number) w.clients.sessions)
 
 abbrev pub link_rights : Option Link → ℕ
 link_rights None = 0
 link_rights (Some link) = link.rights
 
--- the rights of a channel: those of its link that the rules leave to its session's host
+-- the rights of a channel: those of its link that the policy leaves to its session
 abbrev pub rights_of : Gateway → Channel → ℕ
-rights_of w c = bit_and (link_rights (link_of w c.real)) (policy_rights w.policy (host_of w c.session) c.asked)
+rights_of w c = bit_and (link_rights (link_of w c.real)) (rights_left w.policy (lead_in w c.session c.asked))
 
 -- the rights let the client read
 abbrev pub may_read : ℕ → Bool
@@ -38,7 +40,7 @@ link_connected (Some link) = is_connected link.state
 -- a channel is served: its name still leads to its real name, whose link is connected
 abbrev pub is_served : Gateway → Channel → Bool
 is_served w c =
-    is_real (resolution w.policy (host_of w c.session) c.asked) c.real && link_connected (link_of w c.real)
+    is_real (lead_in w c.session c.asked) c.real && link_connected (link_of w c.real)
 
 -- a session's channel
 abbrev pub channel_of : Gateway → ℕ → ℕ → Option Channel
@@ -51,3 +53,11 @@ rights_in w (Some c) = Some (rights_of w c)
 -- what a client may do with a channel, nothing where it has no such channel
 abbrev pub rights_asked : Gateway → ℕ → ℕ → Option ℕ
 rights_asked w session sid = rights_in w (channel_of w session sid)
+
+abbrev pub is_connected_over : Gateway → Option Lead → Bool
+is_connected_over w None = false
+is_connected_over w (Some lead) = link_connected (link_of w lead.real)
+
+-- the name that a host searches for leads to a variable whose link is connected
+abbrev pub is_found : Gateway → List ℕ → List ℕ → Bool
+is_found w host name = is_connected_over w (lead_of w.policy host name)

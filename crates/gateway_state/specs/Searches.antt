@@ -1,9 +1,9 @@
 -- The rows of remembered searches.
 use Rattle.std.specs.Prelude.{ℕ, List, Bool, ◌&&◌, bytes_eq}
 use Rattle.pv_name.specs.Host.{same_host}
-use Rattle.gateway_state.specs.declared.config.Policy.{Policy}
+use Rattle.rule_desk.specs.declared.policy.Policy.{Policy}
 use Rattle.gateway_state.specs.declared.search.Search.{Search}
-use Rattle.gateway_state.specs.Resolution.{resolution, is_real}
+use Rattle.gateway_state.specs.Resolution.{is_real, lead_of}
 
 -- a search for this name by this host; hosts are alike but for case
 abbrev pub same_search : List ℕ → List ℕ → Search → Bool
@@ -11,4 +11,4 @@ same_search host name row = same_host row.host host && bytes_eq row.name name
 
 -- the search leads to this real name now
 abbrev pub leads_to : Policy → List ℕ → Search → Bool
-leads_to policy name row = is_real (resolution policy row.host row.name) name
+leads_to policy name row = is_real (lead_of policy row.host row.name) name

@@ -12,9 +12,11 @@ use Rattle.link_table.specs.declared.links.LinkState.TheVariants.{Creating, Conn
 use Rattle.link_table.specs.declared.links.Subscription.{Subscription}
 use Rattle.link_table.specs.Links.{is_named}
 use Rattle.mask_merge.specs.declared.want.Want.{Want}
+use Rattle.gateway_state.specs.declared.event.Dest.TheVariants.{Upstream}
 use Rattle.gateway_state.specs.declared.interest.Sub.{Sub}
 use Rattle.gateway_state.specs.declared.reading.Native.{Native}
 use Rattle.gateway_state.specs.Answer.{cached_value, native_in}
+use Rattle.gateway_state.specs.Asked.{stands}
 use Rattle.gateway_state.specs.Gateway.{Gateway}
 use Rattle.gateway_state.specs.Interest.{interest_of, subscription_of}
 use Rattle.gateway_state.specs.Notices.{channel_notices, link_notices, read_notices}
@@ -50,6 +52,14 @@ pub record AreInOrder (w : Gateway) : Type 0 where
 -- no name has two links
 abbrev pub HasLinksApart : Gateway → Type 0
 HasLinksApart w = (name : List ℕ) → length (filter (is_named name) w.upstream.links) ≤ 1
+
+-- the link's server stands
+abbrev pub is_on_server : Gateway → Link → Bool
+is_on_server w link = stands w (Upstream link.server)
+
+-- each link belongs to a server that stands
+abbrev pub HasLinksOnServers : Gateway → Type 0
+HasLinksOnServers w = list_all (is_on_server w) w.upstream.links ≡ true
 
 -- no session has two subscriptions under one ID
 abbrev pub AreApart : List ClientSub → Type 0

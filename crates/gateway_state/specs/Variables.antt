@@ -9,11 +9,11 @@ use Rattle.link_table.specs.declared.links.Link.{Link}
 use Rattle.link_table.specs.declared.links.LinkState.{LinkState}
 use Rattle.link_table.specs.declared.links.LinkState.TheVariants.{Creating, Connected, Unusable}
 use Rattle.link_table.specs.Links.{is_named}
-use Rattle.gateway_state.specs.declared.config.Policy.{Policy}
+use Rattle.rule_desk.specs.declared.policy.Policy.{Policy}
 use Rattle.gateway_state.specs.declared.search.Search.{Search}
 use Rattle.gateway_state.specs.CachedRows.{is_cached_elsewhere}
 use Rattle.gateway_state.specs.Gateway.{Gateway}
-use Rattle.gateway_state.specs.Resolution.{resolution}
+use Rattle.gateway_state.specs.Resolution.{lead_of, real_in}
 use Rattle.gateway_state.specs.Searches.{leads_to}
 
 -- the link of a real name
@@ -58,11 +58,15 @@ abbrev pub channel_names : List Channel → List (List ℕ)
 channel_names channels = map (λ (c : Channel). c.real) channels
 
 abbrev pub search_name : Policy → Search → Option (List ℕ)
-search_name policy row = resolution policy row.host row.name
+search_name policy row = real_in (lead_of policy row.host row.name)
 
 -- the real names that searches lead to
 abbrev pub search_names : Policy → List Search → List (List ℕ)
 search_names policy searches = filter_map (search_name policy) searches
+
+-- the name is one of these
+abbrev pub is_among : List (List ℕ) → List ℕ → Bool
+is_among names name = list_any (λ n. bytes_eq n name) names
 
 -- the wanted names, as often as they are wanted
 abbrev pub wanted_names : Gateway → List (List ℕ)

@@ -1,5 +1,5 @@
 //! The last messages of variables.
-ghost use Rattle.std.specs.Prelude.{◌≡◌, [], OnOk};
+ghost use Rattle.std.specs.Prelude.{◌≡◌, ◌≤◌, [], vec_len, vec_capacity, OnOk, OnErr};
 ghost use Rattle.std.specs.List.{find, filter};
 ghost use Rattle.std.specs.Option.{option_copied};
 ghost use Rattle.gateway_state.specs.CachedRows.{is_cached_of, is_cached_elsewhere, is_cached_by_another, with_row};
@@ -53,7 +53,8 @@ impl Cache {
 
     /// Keeps a message in place of the one that its link had.
     pub fn put(&mut self, row: LastMessage) -> Result<(), AllocError>
-        ensures { OnOk result (self.new ≡ with_row row self.old) }
+        ensures ok { OnOk result (self.new ≡ with_row row self.old) }
+        ensures err { OnErr result (self.new ≡ self.old) }
     {
         put(&mut self.rows, row)
     }
@@ -80,15 +81,19 @@ fn find(rows: &[LastMessage], cid: u32) -> Option<&LastMessage>
 }
 
 fn put(rows: &mut Vec<LastMessage>, row: LastMessage) -> Result<(), AllocError>
-    ensures { OnOk result (rows.new.items ≡ with_row row rows.old.items) }
+    ensures ok { OnOk result (rows.new.items ≡ with_row row rows.old.items) }
+    ensures err { OnErr result (rows.new.items ≡ rows.old.items) }
 {
+    rows.reserve(1)?;
     remove(rows, row.cid);
-    rows.push(row)?;
+    rows.push_reserved(row);
     Ok(())
 }
 
 fn remove(rows: &mut Vec<LastMessage>, cid: u32)
-    ensures { rows.new.items ≡ filter (is_cached_elsewhere cid) rows.old.items }
+    ensures kept { rows.new.items ≡ filter (is_cached_elsewhere cid) rows.old.items }
+    ensures bound { vec_len rows.new ≤ vec_len rows.old }
+    ensures capacity { vec_capacity rows.new ≡ vec_capacity rows.old }
 {
     rows.retain(|row| row.cid != cid);
 }

@@ -90,7 +90,8 @@ impl Connections {
 
     /// Gives a message to a connection, where it stands and isn't marked.
     pub fn give(&mut self, dest: Dest, out: Out) -> Result<(), AllocError>
-        ensures { OnOk result (self.new ≡ change_first (is_to dest) (given out) self.old) }
+        ensures ok { OnOk result (self.new ≡ change_first (is_to dest) (given out) self.old) }
+        ensures err { OnErr result (self.new ≡ self.old) }
     {
         give(&mut self.rows, dest, out)
     }
@@ -106,6 +107,7 @@ impl Connections {
     pub fn take(&mut self, alloc: Global, dest: Dest, count: usize) -> Result<Vec<Out>, AllocError>
         ensures ok { OnOk result (self.new ≡ change_first (is_to dest) (relieved count) self.old) }
         ensures found { IfOk result (λ outs. outs.items ≡ take count (outbox_of dest self.old).messages) }
+        ensures err { OnErr result (self.new ≡ self.old) }
     {
         take(&mut self.rows, alloc, dest, count)
     }
@@ -137,7 +139,8 @@ fn remove(rows: &mut Vec<Connection>, dest: Dest)
 
 #[tactic(auto, using(rows::proofs::RowLemmas::set_is_change_first, rows::proofs::RowLemmas::change_first_none))]
 fn give(rows: &mut Vec<Connection>, dest: Dest, out: Out) -> Result<(), AllocError>
-    ensures { OnOk result (rows.new.items ≡ change_first (is_to dest) (given out) rows.old.items) }
+    ensures ok { OnOk result (rows.new.items ≡ change_first (is_to dest) (given out) rows.old.items) }
+    ensures err { OnErr result (rows.new.items ≡ rows.old.items) }
 {
     if let Some(place) = place_of(rows, dest) {
         let row = &mut rows[place];
@@ -169,6 +172,7 @@ fn take(
 ) -> Result<Vec<Out>, AllocError>
     ensures ok { OnOk result (rows.new.items ≡ change_first (is_to dest) (relieved count) rows.old.items) }
     ensures found { IfOk result (λ outs. outs.items ≡ take count (outbox_of dest rows.old.items).messages) }
+    ensures err { OnErr result (rows.new.items ≡ rows.old.items) }
 {
     if let Some(place) = place_of(rows, dest) {
         let row = &mut rows[place];

@@ -1,6 +1,7 @@
 //! What can happen to the gateway.
 use ca_header::Message;
 use pv_name::{Host, Name};
+use rule_desk::Policy;
 
 /// A connection, by the number that the caller gave it.
 #[derive(Clone, Copy, Debug, PartialEq, Eq, PartialOrd, Ord)]
@@ -28,8 +29,12 @@ pub enum Event {
     Server(u32, Message),
     /// A server has the variable of this real name.
     Found(Name, u32),
+    /// Somebody at this host looks for a name.
+    Search(Host, Name),
     /// All remembered searches are forgotten.
     Sweep,
+    /// From now on this policy holds.
+    Edit(Policy),
     /// The oldest messages of an outbox are taken: so many, or all where there are fewer.
     Drain(Dest, usize),
 }

@@ -1,10 +1,12 @@
 //! Searches that are remembered.
-ghost use Rattle.std.specs.Prelude.{◌≡◌, [], ◌∷◌, ◌++◌, length, OnOk, OnErr};
+ghost use Rattle.std.specs.Prelude.{◌≡◌, [], ◌∷◌, ◌++◌, length, IfOk, OnOk, OnErr};
 ghost use Rattle.std.specs.List.{list_any};
-ghost use Rattle.gateway_state.specs.Searches.{same_search, leads_to};
+ghost use Rattle.gateway_state.specs.Searches.{same_search};
+ghost use Rattle.gateway_state.specs.Variables.{search_names};
 
-use crate::config::Policy;
+use crate::resolution::lead_of;
 use pv_name::{Host, Name, same_host};
+use rule_desk::Policy;
 use std::alloc::{AllocError, Global};
 use std::marker::Model;
 
@@ -60,11 +62,11 @@ impl Searches {
         contains(&self.rows, host, name)
     }
 
-    /// Whether one of them leads to a real name.
-    pub fn lead_to(&self, policy: &Policy, name: &Name) -> bool
-        ensures { result ≡ list_any (leads_to policy.now name.now) self.now }
+    /// The real names that they lead to under a policy, in order.
+    pub fn names(&self, alloc: Global, policy: &Policy) -> Result<Vec<Name>, AllocError>
+        ensures { IfOk result (λ names. names.items ≡ search_names policy.now self.now) }
     {
-        lead_to(&self.rows, policy, name)
+        names(&self.rows, alloc, policy)
     }
 
     /// Remembers one more.
@@ -91,8 +93,14 @@ fn contains(rows: &[Search], host: &Host, name: &Name) -> bool
         .any(|row| same_host(&row.host, host) && row.name == *name)
 }
 
-fn lead_to(rows: &[Search], policy: &Policy, name: &Name) -> bool
-    ensures { result ≡ list_any (leads_to policy.now name.now) rows.now }
+fn names(rows: &[Search], alloc: Global, policy: &Policy) -> Result<Vec<Name>, AllocError>
+    ensures { IfOk result (λ names. names.items ≡ search_names policy.now rows.now) }
 {
-    rows.iter().any(|row| policy.leads(row.host.text().as_bytes(), &row.name, name))
+    let mut names = Vec::new(alloc);
+    for row in rows {
+        if let Some(lead) = lead_of(alloc, policy, &row.host, &row.name)? {
+            names.push(lead.real)?;
+        }
+    }
+    Ok(names)
 }

@@ -1,11 +1,36 @@
-//! The servers that the gateway is connected to, and its links: each the gateway's own channel on
-//! a server, for one process variable.
+//! The servers that the gateway is connected to, its links (each the gateway's own channel on a server,
+//! for one process variable), and the numbers that it gives out. [`Links`] keeps what it is told to,
+//! and decides nothing about it.
 //!
-//! A contract sees the table as its rows, each list in the order in which the rows were added, and
-//! the numbers that it gives out next. What the gateway does with them is said elsewhere.
+//! - `add_server` and `add_link` put a row last. They refuse a link whose server doesn't stand, and a
+//!   row past its limit ([`TableFault`]).
+//! - `server`, `by_cid`, `by_name` and `by_sub` find a row, `link` and `links` give links in the order
+//!   of adding.
+//! - `put_server`, `put_link` and `set_sub` change a row that stands; `remove_server` takes its links
+//!   along.
+//! - `give_out` gives the next number of a [`Counter`], each one more than the one before.
+//!
+//! A contract sees `Links` as two lists and four counters. Each call changes what it names alone, a
+//! refused one nothing, and a limit refuses exactly where it is reached; limits are in
+//! `laws::numbers_are_these`.
+//!
+//! ```
+//! let mut links = Links::new(rt.alloc(), 1);
+//! let cid = links.give_out(Counter::Cid).ok_or("a number")?;
+//! let link = Link {
+//!     cid,
+//!     server: 1,
+//!     name: Name::read(rt.alloc(), b"T1")?,
+//!     state: LinkState::Creating,
+//!     rights: 0,
+//!     subscription: None,
+//! };
+//! assert_eq!(rt; links.add_link(link), Err(TableFault::Missing));
+//! ```
 #![tactic(auto)]
 
 mod counter;
+pub mod laws;
 mod links;
 mod servers;
 mod table;

@@ -16,9 +16,8 @@ use pv_name::Name;
 use std::alloc::Global;
 use std::marker::Model;
 
-/// How many servers stand at most. One is enough as long as no name is searched for; it becomes 16
-/// with searches.
-pub const SERVER_LIMIT: usize = 1;
+/// How many servers stand at most.
+pub const SERVER_LIMIT: usize = 16;
 
 /// How many links stand at most.
 pub const LINK_LIMIT: usize = 65_536;

@@ -154,3 +154,20 @@ fn numbers_are_used_up_past_the_last(rt: HostRuntime) {
     assert_eq!(rt; links.give_out(Counter::Cid), None);
     assert_eq!(rt; links.give_out(Counter::Write), Some(0xFFFF_FFFE));
 }
+
+/// The example at the head of the crate.
+#[test]
+fn a_link_names_a_server(rt: HostRuntime) -> Result<(), Fail> {
+    let mut links = Links::new(rt.alloc(), 1);
+    let cid = links.give_out(Counter::Cid).ok_or("a number")?;
+    let link = Link {
+        cid,
+        server: 1,
+        name: Name::read(rt.alloc(), b"T1")?,
+        state: LinkState::Creating,
+        rights: 0,
+        subscription: None,
+    };
+    assert_eq!(rt; links.add_link(link), Err(TableFault::Missing));
+    Ok(())
+}

@@ -1,9 +1,16 @@
 //! Laws of what is wanted together. Each is a call that does nothing, and its contract is the law.
-ghost use Rattle.std.specs.Prelude.{◌≡◌, ℕ, List, [], ◌∷◌, ◌++◌, IfSome, All};
+ghost use Rattle.std.specs.Prelude.{◌≡◌, ℕ, ◌+◌, List, [], ◌∷◌, ◌++◌, IfSome, All};
 ghost use Rattle.rows.specs.Rows.{remove_first};
+ghost use Rattle.mask_merge.specs.declared.want.TheConstants.{KNOWN_EVENTS, ALWAYS_ASKED};
 ghost use Rattle.mask_merge.specs.declared.want.Want.{Want};
 ghost use Rattle.mask_merge.specs.Laws.{AsksAlways, HasSame, Meets};
 ghost use Rattle.mask_merge.specs.Merged.{is_want, merged};
+
+/// The masks: VALUE is 1, LOG is 2 and ALARM is 4.
+pub fn numbers_are_these()
+    ensures known_events { KNOWN_EVENTS ≡ 1 + 2 + 4 }
+    ensures always_asked { ALWAYS_ASKED ≡ 1 + 4 }
+{}
 
 /// What is asked for meets the want of each reader: none of its known events is left out, and it
 /// gets as many elements as it wants.

@@ -47,3 +47,15 @@ fn what_a_reader_wanted_leaves_with_it(rt: HostRuntime) -> Result<(), Fail> {
     assert_eq!(rt; tally.want(), None);
     Ok(())
 }
+
+/// The example at the head of the crate.
+#[test]
+fn two_readers_share_a_want(rt: HostRuntime) -> Result<(), Fail> {
+    let mut tally = Tally::new(rt.alloc());
+    tally.add(1, 3)?;
+    tally.add(4, 10)?;
+    assert_eq!(rt; tally.want(), Some(Want { mask: 5, count: 10 }));
+    tally.remove(4, 10);
+    assert_eq!(rt; tally.want(), Some(Want { mask: 5, count: 3 }));
+    Ok(())
+}

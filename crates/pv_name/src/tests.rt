@@ -81,3 +81,13 @@ fn faults_are_put_in_words(rt: HostRuntime) -> Result<(), Fail> {
     }
     Ok(())
 }
+
+/// The example at the head of the crate.
+#[test]
+fn a_name_is_read(rt: HostRuntime) -> Result<(), Fail> {
+    let name = Name::read(rt.alloc(), b"LAB7:T1")?;
+    assert_eq!(rt; name.text(), "LAB7:T1");
+    let with_blank = Name::read(rt.alloc(), b"LAB7 T1");
+    assert_eq!(rt; with_blank.err(), Some(NameFault::BadByte(4)));
+    Ok(())
+}

@@ -1,3 +1,4 @@
+pub mod AnswerLemmas
 pub mod ReadBack
 pub mod Taking
 pub mod Testing

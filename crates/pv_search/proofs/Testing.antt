@@ -2,8 +2,12 @@
 use Rattle.std.proofs.Common.{◌≡◌, ℕ, ◌+◌, ◌<◌, Bool, true, false, List, [], ◌∷◌, ◌++◌, length, get_or, drop, refl, sym, ap, subst, ◌∙◌, append_assoc}
 use Rattle.std.proofs.lemmas.List.{append-nil}
 use Rattle.std.specs.List.{AllZip}
+use Rattle.ca_header.specs.Spelling.{IsBytes}
+use Rattle.pv_search.specs.declared.answering.SearchAnswer.{SearchAnswer}
 use Rattle.pv_search.specs.declared.search.Search.{Search}
-use Rattle.pv_search.specs.Answer.{IsTested, cids_passed, names}
+use Rattle.pv_search.specs.Answer.{HasUnanswered, IsAnswer, IsTested, cids_passed, names}
+use Rattle.pv_search.specs.Search.{search_of}
+use Rattle.pv_search.proofs.ReadBack.{read_in_one_way}
 use Rattle.pv_search.proofs.Writing.{left-at}
 
 -- the search at the front of those that are left
@@ -52,3 +56,21 @@ module _ (answers : List ℕ → Bool → Type 0) where
       let t : IsTesting searches [] cids = subst (λ (xs : List Search). IsTesting searches xs cids) none before in
       let on = t.joined [] tt in
       record { passes = on.0; asked = on.1; passed = sym (append-nil cids) ∙ on.2 }
+
+  -- the search behind these has an answer
+  answered-there : (before : List Search) (s : Search) (after : List Search) (passes : List Bool) → Answers (before ++ s ∷ after) passes
+      → (b : Bool) × answers s.name b
+  answered-there [] s after [] asked = absurd asked
+  answered-there [] s after (b ∷ passes) asked = (b, asked.0)
+  answered-there (x ∷ before) s after [] asked = absurd asked
+  answered-there (x ∷ before) s after (b ∷ passes) asked = answered-there before s after passes asked.1
+
+  -- there is no answer to a datagram where one of its searches has none
+  pub none-unanswered : (datagram : List ℕ) (port : ℕ) (answer : SearchAnswer) → IsBytes datagram → HasUnanswered answers datagram
+      → IsAnswer answers datagram port answer → ⊥
+  none-unanswered datagram port answer fits h a =
+      let all : List Search = h.before ++ h.search ∷ h.after in
+      let same : a.searches ≡ all = read_in_one_way search_of datagram a.searches all fits a.picked h.picked in
+      let asked : Answers all a.tested.passes = subst (λ (xs : List Search). Answers xs a.tested.passes) same a.tested.asked in
+      let found = answered-there h.before h.search h.after a.tested.passes asked in
+      h.none found.0 found.1

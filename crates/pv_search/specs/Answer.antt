@@ -1,5 +1,5 @@
 -- What a client's datagram comes to.
-use Rattle.std.specs.Prelude.{◌≡◌, ℕ, Bool, true, false, List, [], ◌∷◌, map}
+use Rattle.std.specs.Prelude.{◌≡◌, ℕ, Bool, true, false, List, [], ◌∷◌, ◌++◌, map}
 use Rattle.std.specs.List.{AllZip}
 use Rattle.pv_search.specs.declared.answering.SearchAnswer.{SearchAnswer}
 use Rattle.pv_search.specs.declared.search.Search.{Search}
@@ -30,3 +30,11 @@ pub record IsAnswer (answers : List ℕ → Bool → Type 0) (datagram : List �
   pub tested : IsTested answers searches cids
   pub asked : answer.asked ≡ names searches
   pub reply : answer.reply ≡ search_reply port cids
+
+-- among what the datagram searches for is a name for which the test has no answer
+pub record HasUnanswered (answers : List ℕ → Bool → Type 0) (datagram : List ℕ) : Type 0 where
+  pub before : List Search
+  pub search : Search
+  pub after : List Search
+  pub picked : IsPicked search_of datagram (before ++ search ∷ after)
+  pub none : (passes : Bool) → ¬ answers search.name passes

@@ -1,7 +1,7 @@
 //! How a client's datagram is answered.
-ghost use Rattle.std.specs.Prelude.{◌≡◌, IfOk};
+ghost use Rattle.std.specs.Prelude.{◌≡◌, Err, IfOk, alloc_error};
 ghost use Rattle.std.specs.Fn.{FnReturnsAt};
-ghost use Rattle.pv_search.specs.Answer.{IsAnswer, IsTested, names};
+ghost use Rattle.pv_search.specs.Answer.{HasUnanswered, IsAnswer, IsTested, names};
 
 use crate::NoMemory;
 use crate::reply::search_reply;
@@ -66,7 +66,7 @@ pub struct SearchAnswer {
 }
 
 /// The answer to a client's datagram, where the names that pass the test are served at this TCP port.
-/// The test is given each name that is asked for, in order. Where it fails, so does the call.
+/// Where the test can only fail for a name that is asked for, so does the call.
 pub fn answer<F: Fn(&Name) -> Result<bool, NoMemory>>(
     alloc: Global,
     datagram: &[u8],
@@ -74,7 +74,8 @@ pub fn answer<F: Fn(&Name) -> Result<bool, NoMemory>>(
     test: F,
 ) -> Result<SearchAnswer, NoMemory>
     requires { F.IsAlwaysCallable test }
-    ensures { IfOk result (λ answer. IsAnswer (λ name passes. FnReturnsAt F.Fn test name (Ok passes)) datagram.now port answer) }
+    ensures ok { IfOk result (λ answer. IsAnswer (λ name passes. FnReturnsAt F.Fn test name (Ok passes)) datagram.now port answer) }
+    ensures err { HasUnanswered (λ name passes. FnReturnsAt F.Fn test name (Ok passes)) datagram.now → result ≡ Err alloc_error }
 {
     let searches = searches_in(alloc, datagram)?;
     let tested = test_names(alloc, &searches, test)?;

@@ -2,6 +2,8 @@
 ghost use Rattle.std.specs.Prelude.{◌≡◌, ℕ, ◌<◌, ◌^◌, List, [], ◌∷◌};
 ghost use Rattle.ca_header.specs.Spelling.{IsBytes};
 ghost use Rattle.pv_name.specs.Name.{IsName};
+ghost use Rattle.pv_search.specs.declared.asking.TheConstants.{DONT_REPLY};
+ghost use Rattle.pv_search.specs.declared.reply.TheConstants.{SENDER_ADDRESS};
 ghost use Rattle.pv_search.specs.declared.search.Search.{Search};
 ghost use Rattle.pv_search.specs.Ask.{ask_text};
 ghost use Rattle.pv_search.specs.Found.{found_cid};
@@ -9,6 +11,12 @@ ghost use Rattle.pv_search.specs.Laws.{AreCids};
 ghost use Rattle.pv_search.specs.Picked.{IsPicked};
 ghost use Rattle.pv_search.specs.Reply.{search_reply};
 ghost use Rattle.pv_search.specs.Search.{search_of};
+
+/// The numbers of searches.
+pub fn numbers_are_these()
+    ensures dont_reply { DONT_REPLY ≡ 5 }
+    ensures sender_address { SENDER_ADDRESS ≡ 0xFFFF_FFFF }
+{}
 
 /// A datagram is read in one way.
 pub fn datagrams_are_read_in_one_way()

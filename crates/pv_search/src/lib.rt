@@ -1,5 +1,23 @@
-//! Searches for names by datagrams (Channel Access Protocol Specification 4.13, "Searching"): how a
-//! client's datagram is answered, how one is written, and what a server's replies say.
+//! Searches for names by datagrams (Channel Access Protocol Specification 4.13, "Searching").
+//!
+//! - [`answer`] takes a client's datagram, the TCP port at which names are served, and a test of which
+//!   these are. It gives the datagram to send back, which is empty where no name passes, and the names
+//!   that were asked for.
+//! - [`ask_text`] is the datagram that asks servers for a name.
+//! - [`read_found`] gives the CIDs of the replies in a server's datagram.
+//!
+//! A datagram is framed as a stream is; other messages, names that can't be read, and what follows the
+//! last whole message are passed over. It is read in one way (`laws::datagrams_are_read_in_one_way`),
+//! and what is asked for and replied to is read back (`laws::searches_are_read_back`,
+//! `laws::replies_are_read_back`). The calls fail only where memory is refused, or where the test says so.
+//!
+//! ```
+//! let name = Name::read(rt.alloc(), b"T1")?;
+//! let asked = ask_text(rt.alloc(), &name, 17)?;
+//! let answer = answer(rt.alloc(), &asked, 5064, |name| Ok(name.text() == "T1"))?;
+//! let found = read_found(rt.alloc(), answer.reply.as_slice())?;
+//! assert_eq!(rt; found.as_slice(), [17].as_slice());
+//! ```
 #![tactic(auto)]
 
 pub use answering::{Datagram, Names, SearchAnswer, answer};

@@ -1,6 +1,7 @@
 use super::*;
 use pv_name::Name;
 use std::alloc::{AllocError, Global};
+use std::cell::Cell;
 use std::test::Fail;
 
 /// VERSION, searches for T1, D and U, and the beginning of another message.
@@ -161,17 +162,29 @@ fn a_datagram_may_be_cut_anywhere(rt: HostRuntime) -> Result<(), Fail> {
     Ok(())
 }
 
+/// Each name is tested once, in order, and a test that fails but once isn't given the name again.
 #[test]
-fn where_the_test_fails_there_is_no_answer(rt: HostRuntime) -> Result<(), Fail> {
+fn names_are_tested_until_one_test_fails(rt: HostRuntime) -> Result<(), Fail> {
     let bytes = from_hex(rt.alloc(), DATAGRAM)?;
-    let failed = answer(rt.alloc(), &bytes, 5064, |name| {
-        if name.text() == "U" {
-            Err(AllocError)
-        } else {
-            Ok(true)
+    let names = ["T1", "D", "U"];
+    for failing in 0..=names.len() {
+        let calls = Cell::new(0);
+        let answer = answer(rt.alloc(), &bytes, 5064, |name| {
+            let call: usize = calls.get();
+            calls.set(call.wrapping_add(1));
+            if call == failing {
+                return Err(AllocError);
+            }
+            Ok(names.get(call).is_some_and(|text| *text == name.text()))
+        });
+        match answer {
+            Ok(answer) => {
+                assert_eq!(rt; (failing, calls.get()), (3, 3));
+                assert_eq!(rt; answer.reply.as_slice().len(), 16 + 3 * 24, "all pass");
+            }
+            Err(AllocError) => assert_eq!(rt; calls.get(), failing.wrapping_add(1)),
         }
-    });
-    assert!(rt; failed.is_err());
+    }
     // Where nothing is asked for, nothing is tested.
     let none = answer(rt.alloc(), &[], 5064, |_| Err(AllocError))?;
     assert!(rt; none.reply.as_slice().is_empty());
@@ -206,5 +219,16 @@ fn replies_are_read(rt: HostRuntime) -> Result<(), Fail> {
         let cids = read_found(rt.alloc(), &from_hex(rt.alloc(), datagram)?)?;
         assert_eq!(rt; cids.as_slice(), want, "{datagram}");
     }
+    Ok(())
+}
+
+/// The example at the head of the crate.
+#[test]
+fn a_name_is_asked_for_and_found(rt: HostRuntime) -> Result<(), Fail> {
+    let name = Name::read(rt.alloc(), b"T1")?;
+    let asked = ask_text(rt.alloc(), &name, 17)?;
+    let answer = answer(rt.alloc(), &asked, 5064, |name| Ok(name.text() == "T1"))?;
+    let found = read_found(rt.alloc(), answer.reply.as_slice())?;
+    assert_eq!(rt; found.as_slice(), [17].as_slice());
     Ok(())
 }

@@ -1,7 +1,11 @@
 //! The command line.
 
-use clap::{Command, Error};
+use clap::{Arg, ArgAction, ArgMatches, Command, Error};
 use std::alloc::Global;
+
+const VERSION: &str = "0.1.0";
+
+const LOCAL: &str = "localhost";
 
 const ABOUT: &str = "A gateway for EPICS process variables over Channel Access";
 
@@ -21,6 +25,8 @@ Lines of a script (N is a number, D is sN, the connection of a client, or uN, th
   server uN HEX   these bytes come from the server
   lost D          the connection is lost
   found NAME uN   the server has the variable of this name, if the gateway still asks for it
+  search HOST HEX these bytes are a datagram of searches from the host; what is sent back is printed:
+                  reply HEX, or reply - for nothing
   sweep           the gateway forgets which names clients looked for
   hold D          D's messages are kept back from now on
   flow D          they are no longer kept back
@@ -48,24 +54,112 @@ Examples, a client that connects and is greeted, and a server:
   echo 'open u1' | pvgate replay
 More are in the folder examples.";
 
+const CHECK_RULES_ABOUT: &str = "Checks a rule file, and tells what it answers a client";
+
+const CHECK_RULES_LONG_ABOUT: &str = "\
+Checks a rule file and a group file, and tells what they answer a client, with no network.
+
+The first faulty line is printed, that of the rule file before that of the group file. Of good files
+the number of rules and their order are printed, and with --name what the name leads to.";
+
+const CHECK_RULES_AFTER_HELP: &str = "\
+What is printed:
+  ok N rows ORDER              the files are good: N rules, under the order ALLOW, DENY or DENY, ALLOW
+  admitted REAL GROUP RIGHTS   the name is served as REAL, with the rights of GROUP (- for none):
+                               none, read or write
+  refused                      the name is not served to the host
+  line N: CAUSE                line N of the rule file is faulty, and nothing else is printed
+  groups line N: CAUSE         line N of the group file is faulty, and nothing else is printed
+
+Lines of a rule file (# begins a comment):
+  EVALUATION ORDER ALLOW, DENY          a DENY that names no host refuses every name that it matches
+  EVALUATION ORDER DENY, ALLOW          such a DENY has no effect on names that another rule allows
+  PATTERN ALLOW [GROUP [LEVEL]]         names that the pattern matches are served
+  PATTERN ALIAS REAL [GROUP [LEVEL]]    they are served as REAL, where \\1 to \\9 are parts of the name
+  PATTERN DENY                          they are refused
+  PATTERN DENY FROM HOST ..             they are refused to these hosts
+A group file has lines GROUP NONE, GROUP READ and GROUP WRITE.
+
+Exit status: 0 for good files, 1 for a faulty line, 2 for bad arguments, 3 where a file can't be
+read or standard output can't be written, 4 where memory runs out.
+
+Example:
+  pvgate check-rules examples/site.pvlist --groups examples/site.groups --name BEAM:CURRENT";
+
 /// The programs that a command line can name.
-#[derive(Clone, Copy, Debug, PartialEq, Eq)]
-pub enum Program {
+#[derive(Clone, Copy, Debug)]
+pub enum Program<'a> {
     Replay,
+    CheckRules(CheckRules<'a>),
+}
+
+/// What `check-rules` is to check: the paths of the files, and the name and the host that it is
+/// asked of.
+#[derive(Clone, Copy, Debug)]
+pub struct CheckRules<'a> {
+    pub rules: &'a str,
+    pub groups: Option<&'a str>,
+    pub name: Option<&'a str>,
+    pub host: &'a str,
 }
 
 /// Reads a command line, the program's own name first.
-pub fn read<'a>(alloc: Global, words: &'a [String]) -> Result<Program, Error> {
-    let replay = Command::new(alloc, "replay")
-        .about(REPLAY_ABOUT)
-        .long_about(REPLAY_LONG_ABOUT)
-        .after_help(REPLAY_AFTER_HELP);
+pub fn read<'a>(alloc: Global, words: &'a [String]) -> Result<Program<'a>, Error> {
     let command = Command::new(alloc, "pvgate")
+        .version(VERSION)
         .about(ABOUT)
         .arg_required_else_help(true)
         .subcommand_required(true)
-        .subcommand(replay)?;
-    command.try_get_matches_from(words)?;
-    // Its only subcommand was named.
-    Ok(Program::Replay)
+        .subcommand(replay_command(alloc))?
+        .subcommand(check_rules_command(alloc)?)?;
+    let matches = command.try_get_matches_from(words)?;
+    Ok(match matches.subcommand_matches("check-rules") {
+        Some(found) => Program::CheckRules(check_rules_arguments(found)),
+        // The other subcommand was named.
+        None => Program::Replay,
+    })
+}
+
+fn replay_command<'a>(alloc: Global) -> Command<'a> {
+    Command::new(alloc, "replay")
+        .about(REPLAY_ABOUT)
+        .long_about(REPLAY_LONG_ABOUT)
+        .after_help(REPLAY_AFTER_HELP)
+}
+
+fn check_rules_command<'a>(alloc: Global) -> Result<Command<'a>, Error> {
+    let file = Arg::new(alloc, "file")
+        .value_name("FILE")
+        .help("The rule file")
+        .required(true);
+    let groups = option(alloc, "groups", "FILE", "The group file");
+    let name = option(alloc, "name", "NAME", "The name that a client asks for");
+    let host = option(alloc, "host", "HOST", "The host that it asks from").default_value(LOCAL);
+    Ok(
+        Command::new(alloc, "check-rules")
+            .about(CHECK_RULES_ABOUT)
+            .long_about(CHECK_RULES_LONG_ABOUT)
+            .after_help(CHECK_RULES_AFTER_HELP)
+            .arg(file)?
+            .arg(groups)?
+            .arg(name)?
+            .arg(host)?,
+    )
+}
+
+fn option<'a>(alloc: Global, id: &'a str, value: &'a str, help: &'a str) -> Arg<'a> {
+    Arg::new(alloc, id)
+        .long(id)
+        .value_name(value)
+        .help(help)
+        .action(ArgAction::Set)
+}
+
+fn check_rules_arguments<'a>(found: &ArgMatches<'a>) -> CheckRules<'a> {
+    CheckRules {
+        rules: found.get_str("file").unwrap_or(""),
+        groups: found.get_str("groups"),
+        name: found.get_str("name"),
+        host: found.get_str("host").unwrap_or(LOCAL),
+    }
 }

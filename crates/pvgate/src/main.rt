@@ -2,14 +2,13 @@
 #![tactic(auto)]
 
 mod arguments;
-mod output;
-mod replay;
-mod script;
-mod status;
+mod check_rules;
+mod fault;
 
 use arguments::Program;
+use check_rules::check_rules;
 use clap::error::ErrorKind;
-use replay::replay;
+use replay::{replay, status};
 use std::io::BufWriter;
 use std::process::ExitCode;
 use std::{env, io};
@@ -38,10 +37,17 @@ fn run(rt: &HostRuntime) -> io::Result<u8> {
             let mut out = BufWriter::new(alloc, io::writer(rt))?;
             Ok(replay(alloc, rt.reader(), &mut out))
         }
+        Ok(Program::CheckRules(arguments)) => match check_rules(rt, &arguments) {
+            Ok(status) => Ok(status),
+            Err(fault) => {
+                let _ = eprintln!(rt; "pvgate: {fault}");
+                Ok(fault.status())
+            }
+        },
         Err(fault) => {
             fault.print(rt)?;
             Ok(match fault.kind() {
-                ErrorKind::DisplayHelp => status::GOOD,
+                ErrorKind::DisplayHelp | ErrorKind::DisplayVersion => status::GOOD,
                 ErrorKind::OutOfMemory => status::FAILED,
                 _ => status::BAD_INPUT,
             })

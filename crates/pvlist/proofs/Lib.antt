@@ -1,3 +1,5 @@
+pub mod FileLemmas
+pub mod LineLemmas
 pub mod TranslationLemmas
 pub mod WorkedPatterns
 pub mod WordLemmas

@@ -6,6 +6,7 @@ use Rattle.std.proofs.lemmas.Bool.Decides.{nat_tests}
 use Rattle.std.proofs.lemmas.List.{append-nil, length-drop}
 use Rattle.std.specs.List.{position_or_len}
 use Rattle.std.specs.Option.{option_map}
+use Rattle.pvlist.specs.Captures.{groups_outside, groups_opened, groups_within}
 use Rattle.pvlist.specs.Translation.{followed, members, is_closing, outside, opened, within}
 
 followed_append : (front back : List ℕ) (rest : Option (List ℕ)) → followed (front ++ back) rest ≡ followed front (followed back rest)
@@ -77,3 +78,22 @@ opened_put text start (c ∷ more) new place some closed put =
 pub opened_open : (start rest : List ℕ) → 1 ≤ length rest → position is_closing (behind 1 rest) ≡ None → opened start rest ≡ None
 opened_open start [] some none = refl
 opened_open start (c ∷ more) some none = within_open start (c ∷ []) more (rw (drop_all 1 (c ∷ more)) at none)
+
+groups_within_closed : (rest : List ℕ) → position_or_len is_closing rest < length rest → groups_within rest ≡ groups_outside (drop (position_or_len is_closing rest + 1) rest)
+groups_within_closed [] h = absurd (omega arith)
+groups_within_closed (c ∷ rest) h = by (is_closing c) h (groups_within_closed rest)
+  where
+    by : (closing : Bool) → cond (not closing) (1 + position_or_len is_closing rest) 0 < length (c ∷ rest)
+        → (position_or_len is_closing rest < length rest → groups_within rest ≡ groups_outside (drop (position_or_len is_closing rest + 1) rest))
+        → cond closing (groups_outside rest) (groups_within rest) ≡ groups_outside (drop (cond (not closing) (1 + position_or_len is_closing rest) 0 + 1) (c ∷ rest))
+    by true short step = refl
+    by false short step = rw (one-add, add-one) (rw add-one at (step (omega arith)))
+
+-- a bracket has no groups
+pub groups_opened_put : (rest : List ℕ) (place : ℕ) → 1 ≤ length rest → position is_closing (behind 1 rest) ≡ Some place
+    → groups_opened rest ≡ groups_outside (behind (place + 1) (behind 1 rest))
+groups_opened_put [] place some closed = absurd (omega arith)
+groups_opened_put (c ∷ more) place some closed =
+    let tail : behind 1 (c ∷ more) ≡ more = drop_all 1 (c ∷ more) in
+    let at : position is_closing more ≡ Some place = rw tail at closed in
+    rw (tail, drop_all (place + 1) more) (rw (place_is more place at) at (groups_within_closed more (place_short more place at)))

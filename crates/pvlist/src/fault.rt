@@ -1,6 +1,8 @@
-//! Why a pattern is not translated.
+//! Why a pattern or a file is not read.
+ghost use Rattle.std.specs.Prelude.{◌≡◌};
+ghost use Rattle.pvlist.specs.Fault.{fault_at};
 
-use std::alloc::AllocError;
+use std::alloc::{AllocError, AllocFailed};
 use std::error::Error;
 use std::fmt;
 
@@ -33,5 +35,144 @@ impl From<AllocError> for TranslateFault {
 
     fn from(_e: AllocError) -> TranslateFault {
         TranslateFault::OutOfMemory
+    }
+}
+
+/// Why a rule file or a group file is not read.
+#[derive(Clone, Copy, Debug, PartialEq, Eq)]
+pub enum RuleFault {
+    /// The first faulty line, counted from 1, and what is wrong with it.
+    At(usize, RuleCause),
+    /// The allocator had no memory.
+    OutOfMemory,
+}
+
+impl fmt::Display for RuleFault {
+    fn fmt<W: fmt::Write>(&self, f: &mut fmt::Formatter<W>) -> fmt::Result {
+        match self {
+            RuleFault::At(line, cause) => write!(f, "line {line} {cause}"),
+            RuleFault::OutOfMemory => f.write_str("out of memory"),
+        }
+    }
+}
+
+impl Error for RuleFault {}
+
+impl From<AllocError> for RuleFault {
+    ghost use Rattle.std.specs.Prelude.{◌≡◌};
+    ghost use Rattle.pvlist.specs.declared.fault.RuleFault.TheVariants.{OutOfMemory};
+
+    ghost from_gives = { λ _ fault. fault ≡ OutOfMemory };
+
+    fn from(_e: AllocError) -> RuleFault {
+        RuleFault::OutOfMemory
+    }
+}
+
+/// What is wrong with a line, in the order in which a line is tested.
+#[derive(Clone, Copy, Debug, PartialEq, Eq)]
+pub enum RuleCause {
+    /// The line is longer than a line may be.
+    LineTooLong,
+    /// The line begins as an order line, and gives no order.
+    BadOrder,
+    /// The second word is none of ALLOW, ALIAS and DENY.
+    NoVerb,
+    /// There are more rows than a file may have, or lines of groups.
+    TooManyLines,
+    /// After DENY, FROM has no host, or a host is none.
+    BadFrom,
+    /// A group or a level is none, or a word follows them; in a group file, a line is none.
+    BadGroup,
+    /// The pattern is not translated, or is no regular expression then.
+    BadPattern,
+    /// The real name of an alias is missing or is none, or refers to a group that the pattern
+    /// lacks.
+    BadReference,
+}
+
+impl fmt::Display for RuleCause {
+    ghost use Rattle.std.specs.Prelude.{Some};
+    ghost use Rattle.pvlist.specs.Cause.{cause_text};
+
+    ghost output = { λ cause. Some (cause_text cause) };
+
+    fn fmt<W: fmt::Write>(&self, f: &mut fmt::Formatter<W>) -> fmt::Result {
+        f.write_str(match self {
+            RuleCause::LineTooLong => "LineTooLong",
+            RuleCause::BadOrder => "BadOrder",
+            RuleCause::NoVerb => "NoVerb",
+            RuleCause::TooManyLines => "TooManyLines",
+            RuleCause::BadFrom => "BadFrom",
+            RuleCause::BadGroup => "BadGroup",
+            RuleCause::BadPattern => "BadPattern",
+            RuleCause::BadReference => "BadReference",
+        })
+    }
+}
+
+/// Why a line is not read.
+#[derive(Clone, Copy, Debug, PartialEq, Eq)]
+pub(crate) enum LineFault {
+    Cause(RuleCause),
+    OutOfMemory,
+}
+
+impl LineFault {
+    /// The fault of the file whose line of this number, counted from 1, has this one.
+    pub(crate) fn at(self, line: usize) -> RuleFault
+        ensures { result ≡ fault_at line self }
+    {
+        match self {
+            LineFault::Cause(cause) => RuleFault::At(line, cause),
+            LineFault::OutOfMemory => RuleFault::OutOfMemory,
+        }
+    }
+}
+
+impl From<RuleCause> for LineFault {
+    ghost use Rattle.std.specs.Prelude.{◌≡◌};
+    ghost use Rattle.pvlist.specs.declared.fault.LineFault.TheVariants.{Cause};
+
+    ghost from_gives = { λ cause fault. fault ≡ Cause cause };
+
+    fn from(cause: RuleCause) -> LineFault {
+        LineFault::Cause(cause)
+    }
+}
+
+impl From<AllocError> for LineFault {
+    ghost use Rattle.std.specs.Prelude.{◌≡◌};
+    ghost use Rattle.pvlist.specs.declared.fault.LineFault.TheVariants.{OutOfMemory};
+
+    ghost from_gives = { λ _ fault. fault ≡ OutOfMemory };
+
+    fn from(_e: AllocError) -> LineFault {
+        LineFault::OutOfMemory
+    }
+}
+
+impl<T: Drop> From<AllocFailed<T>> for LineFault {
+    ghost use Rattle.std.specs.Prelude.{◌≡◌};
+    ghost use Rattle.pvlist.specs.declared.fault.LineFault.TheVariants.{OutOfMemory};
+
+    ghost from_gives = { λ _ fault. fault ≡ OutOfMemory };
+
+    fn from(_e: AllocFailed<T>) -> LineFault {
+        LineFault::OutOfMemory
+    }
+}
+
+impl From<TranslateFault> for LineFault {
+    ghost use Rattle.std.specs.Prelude.{◌≡◌};
+    ghost use Rattle.pvlist.specs.Fault.{of_translation};
+
+    ghost from_gives = { λ given fault. fault ≡ of_translation given };
+
+    fn from(fault: TranslateFault) -> LineFault {
+        match fault {
+            TranslateFault::BadPattern => LineFault::Cause(RuleCause::BadPattern),
+            TranslateFault::OutOfMemory => LineFault::OutOfMemory,
+        }
     }
 }

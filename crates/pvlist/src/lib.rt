@@ -1,16 +1,45 @@
-//! Rule files of the EPICS PV Gateway (user's guide, PVLIST).
+//! Rule files and group files of the EPICS PV Gateway (user's guide, PVLIST).
 //!
-//! A line of them has words, and the first of a rule is a pattern, which is read as a regular
-//! expression after a translation: `specs/Words.antt` and `specs/Translation.antt` have the rules.
+//! A rule file says which names a client may ask for, what they lead to and by which group. A
+//! group file says what a group may do. Each is read whole, from its text:
+//!
+//! ```text
+//! let rules = Rules::read(alloc, "T.* ALLOW\nS\\(.\\) ALIAS T\\1 ops\nS9 DENY FROM lab7")?;
+//! let groups = Groups::read(alloc, "ops READ")?;
+//! rules.rows()[0].regex.as_str()          // "^(?:T.*)$", a row that allows
+//! groups.rights(&Group::read(alloc, b"ops")?)  // Some(1)
+//! Rules::read(alloc, "T1 PERMIT").err()   // Some(RuleFault::At(1, RuleCause::NoVerb))
+//! ```
+//!
+//! The pattern of a row is read as a regular expression after a translation, and matches whole
+//! names. A fault names the first line that has one and the first cause that applies to it. What
+//! lines say is in `specs/RuleLine.antt` and `specs/GroupFile.antt`, what files say in
+//! `specs/RuleFile.antt`.
 #![tactic(auto)]
 
 mod bracket;
+mod compiled;
 mod fault;
+mod group_line;
+mod group_word;
+mod groups;
+mod host_words;
+mod hosts;
+mod keyword;
+mod line;
+mod real_text;
+mod row;
+mod rules;
 #[cfg(test)]
 mod tests;
 mod translation;
 mod words;
 mod writing;
 
-pub use fault::TranslateFault;
+pub use fault::{RuleCause, RuleFault, TranslateFault};
+pub use groups::{GroupRight, Groups};
+pub use hosts::Hosts;
+pub use real_text::RealText;
+pub use row::{Row, Verb};
+pub use rules::{Order, Rules};
 pub use translation::translate;

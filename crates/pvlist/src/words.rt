@@ -1,6 +1,7 @@
 //! The words of a line.
-ghost use Rattle.std.specs.Prelude.{◌≡◌, ◌∷◌, [], position, Some, IfSome, IfNone, option_map};
-ghost use Rattle.pvlist.specs.Words.{is_blank, parts, uncommented, words};
+ghost use Rattle.std.specs.Prelude.{◌≡◌, ◌∷◌, [], position, drop, Some, IfSome, IfNone, option_map};
+ghost use Rattle.pvlist.specs.Words.{uncommented, words, between_commas, next_word};
+ghost use Rattle.pvlist.specs.Separators.{is_separator, parts};
 
 use std::marker::Model;
 
@@ -8,24 +9,37 @@ use std::marker::Model;
 #[derive(Drop)]
 pub(crate) struct Words<'a> {
     rest: Option<&'a str>,
+    // Whether commas part words, as blanks do.
+    commas: bool,
 }
 
 impl<'a> Model for Words<'a> {
-    ghost use Rattle.std.specs.Prelude.{ℕ, List, option_map, filter};
-    ghost use Rattle.pvlist.specs.Words.{is_word, parts};
+    ghost use Rattle.std.specs.Prelude.{ℕ, List, option_map};
+    ghost use Rattle.pvlist.specs.Separators.{words_left};
 
     ghost Value = { List (List ℕ) };
 
-    ghost view = { λ w. filter is_word (parts (option_map (λ text. text.now) w.rest)) };
+    ghost view = { λ w. words_left w.commas (option_map (λ text. text.now) w.rest) };
 }
 
 impl<'a> Words<'a> {
-    /// All words of the line.
+    /// All words of the line, which blanks part.
     pub(crate) fn new(line: &'a str) -> Self
         ensures { result ≡ words line.now }
     {
         Words {
             rest: Some(without_comment(line)),
+            commas: false,
+        }
+    }
+
+    /// The words that are left, which commas part too.
+    pub(crate) fn between_commas(self) -> Self
+        ensures { result ≡ between_commas self.entry }
+    {
+        Words {
+            rest: self.rest,
+            commas: true,
         }
     }
 
@@ -34,9 +48,11 @@ impl<'a> Words<'a> {
         ensures some { IfSome result (λ word. self.old ≡ word.now ∷ self.new) }
         ensures none { IfNone result (self.old ≡ []) }
         ensures end { IfNone result (self.new ≡ []) }
+        ensures first { option_map (λ word. word.now) result ≡ next_word self.old }
+        ensures rest { self.new ≡ drop 1 self.old }
     {
         while let Some(text) = self.rest {
-            let (part, rest) = split_part(text);
+            let (part, rest) = split_part(text, self.commas);
             self.rest = rest;
             if !part.is_empty() {
                 return Some(part);
@@ -55,18 +71,24 @@ fn without_comment(line: &str) -> &str
     }
 }
 
-// What stands before the first blank, and what follows that.
-fn split_part(text: &str) -> (&str, Option<&str>)
-    ensures { parts (Some text.now) ≡ result.0.now ∷ parts (option_map (λ rest. rest.now) result.1) }
+// What stands before the first separator, and what follows that.
+fn split_part(text: &str, commas: bool) -> (&str, Option<&str>)
+    ensures { parts commas (Some text.now) ≡ result.0.now ∷ parts commas (option_map (λ rest. rest.now) result.1) }
 {
-    match blank_place(text.as_bytes()) {
+    match separator_place(text.as_bytes(), commas) {
         Some(end) => (&text[..end], Some(&text[end + 1..])),
         None => (text, None),
     }
 }
 
-fn blank_place(text: &[u8]) -> Option<usize>
-    ensures { result ≡ position is_blank text.now }
+fn separator_place(text: &[u8], commas: bool) -> Option<usize>
+    ensures { result ≡ position (is_separator commas) text.now }
 {
-    text.iter().position(|b| *b == b' ' || *b == b'\t')
+    text.iter().position(|b| is_separator(*b, commas))
+}
+
+fn is_separator(byte: u8, commas: bool) -> bool
+    ensures { result ≡ is_separator commas byte }
+{
+    byte == b' ' || byte == b'\t' || (commas && byte == b',')
 }

@@ -1,4 +1,26 @@
 //! The last message of a variable, and what reads are answered from it.
+//!
+//! - [`Cached::put`] holds a message as it came, in place of the one before, with the count that was
+//!   asked for when it came; [`Cached::drop_value`] forgets it.
+//! - [`Cached::covers`] tells whether it can answer a read of so many elements, [`Cached::answer`]
+//!   gives the value under another type, and [`Cached::alarm_differs`] tells whether a new message's
+//!   alarm is another.
+//!
+//! Each answer is worked out afresh from what the message shows (`answer` and `given` in
+//! `specs/Held.antt`). A message gives itself back under its own type (`laws::messages_are_given_back`).
+//! Only `answer` takes memory. A contract sees a `Cached` as what its message shows, or as nothing.
+//!
+//! ```
+//! // A LONG of 42 with its time stamp is held, and read as a plain LONG.
+//! let message = b"\0\0\0\0\x3B\x9A\xCA\0\0\0\0\0\0\0\0\x2A";
+//! let payload = Bytes::copy_from_slice(rt.alloc(), message)?;
+//! View::new(19, 1, &payload)?;
+//! let mut cached = Cached::empty();
+//! cached.put(19, 1, payload, 1);
+//! let (count, value) = cached.answer(rt.alloc(), 5, 0)?.ok_or("a value")?;
+//! assert_eq!(rt; count, 1);
+//! assert_eq!(rt; value.as_slice(), b"\0\0\0\x2A\0\0\0\0".as_slice());
+//! ```
 #![tactic(auto)]
 
 pub use cached::Cached;

@@ -104,3 +104,18 @@ fn tells_another_alarm(rt: HostRuntime) -> Result<(), Fail> {
     assert!(rt; cached.alarm_differs(&same));
     Ok(())
 }
+
+/// The example at the head of the crate.
+#[test]
+fn a_long_is_held_and_read(rt: HostRuntime) -> Result<(), Fail> {
+    // A LONG of 42 with its time stamp is held, and read as a plain LONG.
+    let message = b"\0\0\0\0\x3B\x9A\xCA\0\0\0\0\0\0\0\0\x2A";
+    let payload = Bytes::copy_from_slice(rt.alloc(), message)?;
+    View::new(19, 1, &payload)?;
+    let mut cached = Cached::empty();
+    cached.put(19, 1, payload, 1);
+    let (count, value) = cached.answer(rt.alloc(), 5, 0)?.ok_or("a value")?;
+    assert_eq!(rt; count, 1);
+    assert_eq!(rt; value.as_slice(), b"\0\0\0\x2A\0\0\0\0".as_slice());
+    Ok(())
+}

@@ -1,0 +1,125 @@
+//! What clients ask for.
+ghost use Rattle.std.specs.Prelude.{◌≡◌, true, Ok, OnOk, IsErrOf};
+ghost use Rattle.gateway_state.specs.Numbers.{is_past_numbers};
+ghost use Rattle.gateway_state.specs.Clients.{versioned};
+ghost use Rattle.gateway_state.specs.Requests.{client_said, requested, unreadable};
+ghost use Rattle.gateway_state.specs.Telling.{told};
+
+use crate::clear_channel::clear_channel;
+use crate::create_channel::{create_channel, fail_creation};
+use crate::host_name::{fix_host, name_host};
+use crate::pause::pause;
+use crate::read::read;
+use crate::refusals::{refuse_short_subscription, refuse_unknown};
+use crate::subscribe::{new_sub, subscribe_client};
+use crate::unsubscribe::cancel_subscription;
+use ca_header::{Header, Message};
+use ca_message::commands::{
+    CA_PROTO_CLIENT_NAME, CA_PROTO_CREATE_CHAN, CA_PROTO_EVENT_ADD, CA_PROTO_HOST_NAME,
+};
+use ca_message::{ClientRequest, ToClient, read_request};
+use gateway_rows::{Refusal, Rows};
+use gateway_state::{Dest, LOWEST_MINOR};
+use std::alloc::AllocError;
+
+/// A client sent a message.
+pub fn hear_client(rows: &mut Rows, number: u32, message: Message) -> Result<(), Refusal>
+    ensures ok { OnOk result (rows.new ≡ client_said rows.old number message) }
+    ensures used_up { IsErrOf result Refusal.NumbersUsedUp → is_past_numbers (client_said rows.old number message) ≡ true }
+{
+    match read_request(&message.head, &message.payload) {
+        Ok(request) => hear_request(rows, number, request, &message),
+        Err(_) => Ok(hear_unreadable(rows, number, &message.head)?),
+    }
+}
+
+/// A client asked for something.
+fn hear_request(
+    rows: &mut Rows,
+    number: u32,
+    request: ClientRequest<'_>,
+    message: &Message,
+) -> Result<(), Refusal>
+    ensures ok { OnOk result (rows.new ≡ requested rows.old number message.now (Ok request.entry)) }
+    ensures used_up { IsErrOf result Refusal.NumbersUsedUp → is_past_numbers (requested rows.old number message.now (Ok request.entry)) ≡ true }
+{
+    let head = &message.head;
+    match request {
+        ClientRequest::Version { minor } => {
+            hear_version(rows, number, minor);
+            Ok(())
+        }
+        ClientRequest::EventAdd {
+            sid,
+            id,
+            dtype,
+            count,
+            mask,
+        } => Ok(subscribe_client(rows, new_sub(number, sid, id, dtype, count, mask), head)?),
+        ClientRequest::EventCancel {
+            sid,
+            id,
+            dtype,
+            count,
+        } => Ok(cancel_subscription(rows, number, sid, id, dtype, count, head)?),
+        ClientRequest::EventsOff => Ok(pause(rows, number, true)?),
+        ClientRequest::EventsOn => Ok(pause(rows, number, false)?),
+        ClientRequest::ClearChannel { sid, cid } => {
+            Ok(clear_channel(rows, number, sid, cid, head)?)
+        }
+        ClientRequest::ReadNotify {
+            sid,
+            ioid,
+            dtype,
+            count,
+        } => Ok(read(rows, number, sid, ioid, dtype, count, head)?),
+        ClientRequest::CreateChannel { cid, name, .. } => {
+            let name = name.to_name(rows.alloc)?;
+            create_channel(rows, number, cid, &name)
+        }
+        ClientRequest::ClientName(_) => Ok(()),
+        ClientRequest::HostName(host) => {
+            let host = host.to_host(rows.alloc)?;
+            Ok(name_host(rows, number, host)?)
+        }
+        ClientRequest::Echo => Ok(echo(rows, number, message)?),
+    }
+}
+
+/// A client gets its own message back.
+fn echo(rows: &mut Rows, number: u32, message: &Message) -> Result<(), AllocError>
+    ensures { OnOk result (rows.new ≡ told number (ToClient.Echo message.now) rows.old) }
+{
+    let payload = message.payload.slice(..)?;
+    let said = ToClient::Echo(Message {
+        head: message.head,
+        payload,
+    });
+    rows.tell(number, &said)
+}
+
+/// A client said which minor version it speaks.
+fn hear_version(rows: &mut Rows, number: u32, minor: u32)
+    ensures { rows.new ≡ versioned rows.old number minor }
+{
+    if minor < LOWEST_MINOR {
+        rows.mark(Dest::Session(number));
+    }
+}
+
+/// A message that is no request: texts that can't be read are ignored, but a CREATE_CHAN fails;
+/// a short EVENT_ADD is refused over its channel.
+fn hear_unreadable(rows: &mut Rows, number: u32, head: &Header) -> Result<(), AllocError>
+    ensures { OnOk result (rows.new ≡ unreadable rows.old number head.now) }
+{
+    if head.command == CA_PROTO_CREATE_CHAN {
+        fix_host(rows, number)?;
+        fail_creation(rows, number, head.p1)
+    } else if head.command == CA_PROTO_CLIENT_NAME || head.command == CA_PROTO_HOST_NAME {
+        Ok(())
+    } else if head.command == CA_PROTO_EVENT_ADD {
+        refuse_short_subscription(rows, number, head)
+    } else {
+        refuse_unknown(rows, number, head)
+    }
+}

@@ -1,0 +1,140 @@
+//! READ_NOTIFY.
+ghost use Rattle.std.specs.Prelude.{◌≡◌, Some, OnOk, IfOk};
+ghost use Rattle.gateway_state.specs.Answer.{cached_value};
+ghost use Rattle.gateway_state.specs.Clients.{accepted, is_one_too_many, read_asked, read_refused, read_verdict, verdict_natively};
+
+use crate::refusals::refuse_channel;
+use ca_header::Header;
+use ca_message::ToClient;
+use ca_message::codes::ECA_GETFAIL;
+use channel_table::{Channel, READ_LIMIT, WaitingRead};
+use gateway_rows::{Rows, meant_count, native_in, read_refusal};
+use gateway_state::{Native, ReadVerdict};
+use link_table::Link;
+use std::alloc::AllocError;
+
+/// Whether a read isn't covered, and as many reads of the session wait as may.
+fn is_one_too_many(
+    rows: &Rows,
+    channel: &Channel,
+    link: &Link,
+    native: Native,
+    dtype: u16,
+    count: u32,
+) -> Result<bool, AllocError>
+    ensures { IfOk result (λ too_many. too_many ≡ is_one_too_many rows.now channel.now.session (cached_value rows.now link.now.cid native.count dtype count)) }
+{
+    if rows.clients.read_count(channel.session) < READ_LIMIT {
+        return Ok(false);
+    }
+    match rows.cached_value(link.cid, native.count, dtype, count)? {
+        Some(_) => Ok(false),
+        None => Ok(true),
+    }
+}
+
+fn read_verdict_on(
+    rows: &Rows,
+    channel: &Channel,
+    link: &Link,
+    native: Native,
+    dtype: u16,
+    count: u32,
+) -> Result<ReadVerdict, AllocError>
+    ensures { IfOk result (λ verdict. verdict ≡ verdict_natively rows.now channel.now link.now dtype count (Some native)) }
+{
+    let rights = rows.rights_of(channel)?;
+    if let Some(code) = read_refusal(native, rights, dtype, count) {
+        return Ok(ReadVerdict::Refused(code));
+    }
+    if is_one_too_many(rows, channel, link, native, dtype, count)? {
+        return Ok(ReadVerdict::Refused(ECA_GETFAIL));
+    }
+    Ok(ReadVerdict::Accepted {
+        reach: channel.reach.max(meant_count(native.count, count)),
+        rights: channel.rights,
+    })
+}
+
+/// What becomes of a read.
+fn read_verdict(
+    rows: &Rows,
+    number: u32,
+    sid: u32,
+    dtype: u16,
+    count: u32,
+) -> Result<ReadVerdict, AllocError>
+    ensures { IfOk result (λ verdict. verdict ≡ read_verdict rows.now number sid dtype count) }
+{
+    let Some(channel) = rows.channel_of(number, sid) else {
+        return Ok(ReadVerdict::NoChannel);
+    };
+    let Some(link) = rows.link_of(&channel.real) else {
+        return Ok(ReadVerdict::Ignored);
+    };
+    match native_in(link.state) {
+        Some(native) => read_verdict_on(rows, channel, link, native, dtype, count),
+        None => Ok(ReadVerdict::Ignored),
+    }
+}
+
+fn refuse_read(
+    rows: &mut Rows,
+    number: u32,
+    ioid: u32,
+    dtype: u16,
+    count: u32,
+    code: u32,
+) -> Result<(), AllocError>
+    ensures { OnOk result (rows.new ≡ read_refused number ioid dtype count code rows.old) }
+{
+    let said = ToClient::ReadNotifyRefused {
+        ioid,
+        dtype,
+        count,
+        code,
+    };
+    rows.tell(number, &said)
+}
+
+fn accept_read(
+    rows: &mut Rows,
+    read: WaitingRead,
+    reach: u32,
+    rights: u32,
+) -> Result<(), AllocError>
+    ensures { OnOk result (rows.new ≡ accepted read.session read.sid read.ioid read.dtype read.count reach rights rows.old) }
+{
+    rows.clients
+        .put_channel(read.session, read.sid, reach, rights);
+    rows.clients.keep_read(read)
+}
+
+/// A client wants a value.
+pub(crate) fn read(
+    rows: &mut Rows,
+    number: u32,
+    sid: u32,
+    ioid: u32,
+    dtype: u16,
+    count: u32,
+    head: &Header,
+) -> Result<(), AllocError>
+    ensures { OnOk result (rows.new ≡ read_asked number sid ioid dtype count head.now rows.old) }
+{
+    match read_verdict(rows, number, sid, dtype, count)? {
+        ReadVerdict::NoChannel => refuse_channel(rows, number, head),
+        ReadVerdict::Ignored => Ok(()),
+        ReadVerdict::Refused(code) => refuse_read(rows, number, ioid, dtype, count, code),
+        ReadVerdict::Accepted { reach, rights } => {
+            let read = WaitingRead {
+                session: number,
+                sid,
+                dtype,
+                count,
+                ioid,
+            };
+            accept_read(rows, read, reach, rights)
+        }
+    }
+}

@@ -1,0 +1,68 @@
+//! ERROR: requests that are refused.
+ghost use Rattle.std.specs.Prelude.{◌≡◌, OnOk};
+ghost use Rattle.gateway_state.specs.Clients.{not_understood, no_channel};
+ghost use Rattle.gateway_state.specs.Subscribing.{request_refused, short_subscription};
+
+use ca_header::Header;
+use ca_message::ToClient;
+use ca_message::codes::{ECA_BADCHID, ECA_INTERNAL};
+use ca_message::commands::NO_CHANNEL;
+use gateway_rows::Rows;
+use std::alloc::AllocError;
+
+/// A message isn't understood.
+pub(crate) fn refuse_unknown(rows: &mut Rows, number: u32, head: &Header) -> Result<(), AllocError>
+    ensures { OnOk result (rows.new ≡ not_understood rows.old number head.now) }
+{
+    let said = ToClient::Error {
+        cid: NO_CHANNEL,
+        code: ECA_INTERNAL,
+        request: *head,
+    };
+    rows.tell(number, &said)
+}
+
+/// The request names no channel of the session.
+pub(crate) fn refuse_channel(rows: &mut Rows, number: u32, head: &Header) -> Result<(), AllocError>
+    ensures { OnOk result (rows.new ≡ no_channel rows.old number head.now) }
+{
+    let said = ToClient::Error {
+        cid: NO_CHANNEL,
+        code: ECA_BADCHID,
+        request: *head,
+    };
+    rows.tell(number, &said)
+}
+
+/// A client's request about its channel is refused.
+pub(crate) fn refuse_request(
+    rows: &mut Rows,
+    number: u32,
+    cid: u32,
+    code: u32,
+    head: &Header,
+) -> Result<(), AllocError>
+    ensures { OnOk result (rows.new ≡ request_refused number cid code head.now rows.old) }
+{
+    let said = ToClient::Error {
+        cid,
+        code,
+        request: *head,
+    };
+    rows.tell(number, &said)
+}
+
+/// An EVENT_ADD without all of its fields: the ERROR says which channel it names.
+pub(crate) fn refuse_short_subscription(
+    rows: &mut Rows,
+    number: u32,
+    head: &Header,
+) -> Result<(), AllocError>
+    ensures { OnOk result (rows.new ≡ short_subscription rows.old number head.now) }
+{
+    let cid = match rows.channel_of(number, head.p1) {
+        Some(channel) => channel.cid,
+        None => NO_CHANNEL,
+    };
+    refuse_request(rows, number, cid, ECA_INTERNAL, head)
+}

@@ -1,0 +1,113 @@
+//! EVENT_ADD.
+ghost use Rattle.std.specs.Prelude.{◌≡◌, Some, OnOk};
+ghost use Rattle.gateway_state.specs.Subscribing.{new_sub, sub_verdict, sub_verdict_natively, subscription_asked, subscription_limit, subscription_refusal, with_sub};
+
+use crate::refusals::{refuse_channel, refuse_request};
+use ca_header::Header;
+use ca_message::codes::{ECA_ALLOCMEM, ECA_BADMASK, ECA_INTERNAL};
+use channel_table::{Channel, ClientSub, SUB_LIMIT, TableFault};
+use gateway_rows::{Rows, native_in, value_refusal};
+use gateway_state::{Native, SubVerdict};
+use mask_merge::KNOWN_EVENTS;
+use std::alloc::AllocError;
+
+/// A new subscription, which is owed an update.
+pub(crate) fn new_sub(
+    session: u32,
+    sid: u32,
+    id: u32,
+    dtype: u16,
+    count: u32,
+    mask: u16,
+) -> ClientSub
+    ensures { result ≡ new_sub session sid id dtype count mask }
+{
+    ClientSub {
+        session,
+        id,
+        sid,
+        dtype,
+        count,
+        mask,
+        owed: true,
+    }
+}
+
+/// Why a subscription is refused though its updates could be had.
+fn subscription_limit(rows: &Rows, number: u32, mask: u16) -> Option<u32>
+    ensures { result ≡ subscription_limit rows.now number mask }
+{
+    if mask & KNOWN_EVENTS == 0 {
+        Some(ECA_BADMASK)
+    } else if rows.clients.sub_count(number) >= SUB_LIMIT {
+        Some(ECA_ALLOCMEM)
+    } else {
+        None
+    }
+}
+
+/// Why a subscription is refused, the first reason that applies.
+fn subscription_refusal(rows: &Rows, sub: ClientSub, native: Native) -> Option<u32>
+    ensures { result ≡ subscription_refusal rows.now sub native }
+{
+    if rows.clients.sub(sub.session, sub.id).is_some() {
+        return Some(ECA_INTERNAL);
+    }
+    match value_refusal(native, sub.dtype, sub.count) {
+        Some(code) => Some(code),
+        None => subscription_limit(rows, sub.session, sub.mask),
+    }
+}
+
+fn sub_verdict_on(rows: &Rows, sub: ClientSub, channel: &Channel, native: Native) -> SubVerdict
+    ensures { result ≡ sub_verdict_natively rows.now sub channel.now (Some native) }
+{
+    match subscription_refusal(rows, sub, native) {
+        None => SubVerdict::Accepted,
+        Some(code) => SubVerdict::Refused {
+            cid: channel.cid,
+            code,
+        },
+    }
+}
+
+/// What becomes of an EVENT_ADD.
+fn sub_verdict(rows: &Rows, sub: ClientSub) -> SubVerdict
+    ensures { result ≡ sub_verdict rows.now sub }
+{
+    let Some(channel) = rows.channel_of(sub.session, sub.sid) else {
+        return SubVerdict::NoChannel;
+    };
+    let Some(link) = rows.link_of(&channel.real) else {
+        return SubVerdict::Ignored;
+    };
+    match native_in(link.state) {
+        Some(native) => sub_verdict_on(rows, sub, channel, native),
+        None => SubVerdict::Ignored,
+    }
+}
+
+fn add_sub(rows: &mut Rows, sub: ClientSub) -> Result<(), AllocError>
+    ensures { OnOk result (rows.new ≡ with_sub sub rows.old) }
+{
+    match rows.clients.add_sub(sub) {
+        Ok(()) => Ok(()),
+        Err(TableFault::OutOfMemory | TableFault::Missing | TableFault::Full) => Err(AllocError),
+    }
+}
+
+/// A client wants updates.
+pub(crate) fn subscribe_client(
+    rows: &mut Rows,
+    sub: ClientSub,
+    head: &Header,
+) -> Result<(), AllocError>
+    ensures { OnOk result (rows.new ≡ subscription_asked sub head.now rows.old) }
+{
+    match sub_verdict(rows, sub) {
+        SubVerdict::NoChannel => refuse_channel(rows, sub.session, head),
+        SubVerdict::Ignored => Ok(()),
+        SubVerdict::Refused { cid, code } => refuse_request(rows, sub.session, cid, code, head),
+        SubVerdict::Accepted => add_sub(rows, sub),
+    }
+}

@@ -1,8 +1,0 @@
-use Rattle.std.proofs.Common.{◌≡◌, fold, drop}
-use Rattle.gateway_state.specs.Variables.{search_names, with_unlinked}
-use Rattle.gateway_core.proofs.state.Rows.add_search_names.Given as goal
-
--- adding the names that are left leads from here to where adding all leads
-abbrev pub invariant-loop-search : goal.invariant-loop-search
-invariant-loop-search l =
-    fold (with_unlinked l.self) l.names.items (search_names l.self.policy (drop l.search-index l.search-items)) ≡ fold (with_unlinked l.self) l.fn.names.items (search_names l.self.policy l.self.searches)

@@ -1,7 +1,0 @@
-use Rattle.std.proofs.Common.{◌≡◌, fold, drop}
-use Rattle.gateway_state.specs.Servers.{read_failed}
-use Rattle.gateway_core.proofs.state.Rows.fail_reads.Given as goal
-
--- failing the reads that are left leads from here to where failing all leads
-abbrev pub invariant-loop-read : goal.invariant-loop-read
-invariant-loop-read l = fold read_failed l.self (drop l.read-index l.read-items) ≡ fold read_failed l.fn.self l.read-items

@@ -1,7 +1,0 @@
-use Rattle.std.proofs.Common.{◌≡◌, ◌++◌, filter, drop}
-use Rattle.gateway_state.specs.Updates.{is_withheld, withheld}
-use Rattle.gateway_core.proofs.state.Rows.withheld.Given as goal
-
--- those found so far and those among the subscriptions that are left are all
-abbrev pub invariant-loop-sub : goal.invariant-loop-sub
-invariant-loop-sub l = l.subs.items ++ filter (is_withheld l.self) (drop l.sub-index l.sub-items) ≡ withheld l.self

@@ -1,0 +1,203 @@
+//! What servers are owed about links.
+ghost use Rattle.std.specs.Prelude.{◌≡◌, ◌++◌, true, OnOk, IfOk, IsErrOf};
+ghost use Rattle.gateway_state.specs.Numbers.{is_past_numbers};
+ghost use Rattle.gateway_state.specs.Notices.{dropped, interest_notices, link_notices, link_notices_of, link_told, links_told, subscribed_to, with_subscription_of};
+ghost use Rattle.gateway_state.specs.Variables.{search_names};
+
+use ca_message::ToServer;
+use gateway_rows::{Refusal, Rows, is_for, sent_count, time_of};
+use gateway_state::LinkNotice;
+use link_table::{Counter, Link, LinkState, Subscription, TableFault};
+use mask_merge::Want;
+use pv_name::Name;
+use std::alloc::AllocError;
+
+/// What a server is owed because of what the readers of a connected link's variable want.
+fn add_interest_notices(
+    rows: &Rows,
+    notices: &mut Vec<LinkNotice>,
+    link: &Link,
+) -> Result<(), AllocError>
+    ensures { OnOk result (notices.new.items ≡ notices.old.items ++ interest_notices rows.now link.now link.now.state) }
+{
+    let LinkState::Connected { sid, dtype, count } = link.state else {
+        return Ok(());
+    };
+    let want = rows.interest_of(&link.name, count)?;
+    if is_for(want, link.subscription) {
+        return Ok(());
+    }
+    if let Some(subscription) = link.subscription {
+        notices.push(LinkNotice::Cancelled {
+            server: link.server,
+            cid: link.cid,
+            sid,
+            dtype: time_of(dtype),
+            subscription,
+        })?;
+    }
+    let notice = match want {
+        None => LinkNotice::Unread { cid: link.cid },
+        Some(want) => LinkNotice::Subscribed {
+            server: link.server,
+            cid: link.cid,
+            sid,
+            dtype: time_of(dtype),
+            want,
+            sent: sent_count(rows.minor_of(link.server), count, want.count),
+        },
+    };
+    notices.push(notice)?;
+    Ok(())
+}
+
+fn add_link_notices(
+    rows: &Rows,
+    searched: &[Name],
+    notices: &mut Vec<LinkNotice>,
+    link: &Link,
+) -> Result<(), AllocError>
+    requires { searched.now ≡ search_names rows.now.policy rows.now.searches }
+    ensures { OnOk result (notices.new.items ≡ notices.old.items ++ link_notices_of rows.now link.now) }
+{
+    add_interest_notices(rows, notices, link)?;
+    if !rows.is_wanted_by(searched, &link.name) {
+        notices.push(LinkNotice::Dropped {
+            server: link.server,
+            cid: link.cid,
+            state: link.state,
+        })?;
+    }
+    Ok(())
+}
+
+fn link_notices(rows: &Rows) -> Result<Vec<LinkNotice>, AllocError>
+    ensures { IfOk result (λ notices. notices.items ≡ link_notices rows.now) }
+{
+    let searched = rows.searched_names()?;
+    let mut notices = Vec::new(rows.alloc);
+    for link in rows.upstream.links() {
+        add_link_notices(rows, &searched, &mut notices, link)?;
+    }
+    Ok(notices)
+}
+
+/// Keeps a link's present subscription, or that it has none. Where there is no such link there is
+/// nothing to keep.
+#[tactic(auto, using(rows::proofs::RowLemmas::change_first_absent))]
+fn set_subscription(
+    rows: &mut Rows,
+    server: u32,
+    cid: u32,
+    subscription: Option<Subscription>,
+) -> Result<(), AllocError>
+    ensures { OnOk result (rows.new ≡ with_subscription_of server cid subscription rows.old) }
+{
+    match rows.upstream.set_sub(server, cid, subscription) {
+        Ok(()) => Ok(()),
+        Err(TableFault::Missing) => Ok(()),
+        Err(_) => Err(AllocError),
+    }
+}
+
+#[tactic(auto, unfolding(gateway_state::specs::Telling::sent, gateway_state::specs::Numbers::is_past_numbers))]
+fn subscribe(
+    rows: &mut Rows,
+    server: u32,
+    cid: u32,
+    sid: u32,
+    dtype: u16,
+    want: Want,
+    sent: u32,
+) -> Result<(), Refusal>
+    ensures ok { OnOk result (rows.new ≡ subscribed_to server cid sid dtype want sent rows.old) }
+    ensures used_up { IsErrOf result Refusal.NumbersUsedUp → is_past_numbers (subscribed_to server cid sid dtype want sent rows.old) ≡ true }
+{
+    let Some(id) = rows.upstream.give_out(Counter::Subscription) else {
+        return Err(Refusal::NumbersUsedUp);
+    };
+    let subscription = Subscription {
+        id,
+        mask: want.mask,
+        count: want.count,
+        sent,
+    };
+    set_subscription(rows, server, cid, Some(subscription))?;
+    rows.ask(
+        server,
+        &ToServer::EventAdd {
+            sid,
+            id,
+            dtype,
+            count: sent,
+            mask: want.mask,
+        },
+    )?;
+    Ok(())
+}
+
+fn drop_link(rows: &mut Rows, server: u32, cid: u32, state: LinkState) -> Result<(), AllocError>
+    ensures { OnOk result (rows.new ≡ dropped server cid state rows.old) }
+{
+    rows.remove_link(server, cid);
+    match state {
+        LinkState::Creating => Ok(()),
+        LinkState::Unusable => Ok(()),
+        LinkState::Connected { sid, .. } => {
+            rows.ask(server, &ToServer::ClearChannel { sid, cid })
+        }
+    }
+}
+
+fn tell_link(rows: &mut Rows, notice: LinkNotice) -> Result<(), Refusal>
+    ensures ok { OnOk result (rows.new ≡ link_told rows.old notice) }
+    ensures used_up { IsErrOf result Refusal.NumbersUsedUp → is_past_numbers (link_told rows.old notice) ≡ true }
+{
+    match notice {
+        LinkNotice::Cancelled {
+            server,
+            cid,
+            sid,
+            dtype,
+            subscription,
+        } => {
+            set_subscription(rows, server, cid, None)?;
+            let said = ToServer::EventCancel {
+                sid,
+                id: subscription.id,
+                dtype,
+                count: subscription.sent,
+            };
+            rows.ask(server, &said)?;
+            Ok(())
+        }
+        LinkNotice::Unread { cid } => {
+            rows.forget_value(cid);
+            Ok(())
+        }
+        LinkNotice::Subscribed {
+            server,
+            cid,
+            sid,
+            dtype,
+            want,
+            sent,
+        } => subscribe(rows, server, cid, sid, dtype, want, sent),
+        LinkNotice::Dropped { server, cid, state } => {
+            drop_link(rows, server, cid, state)?;
+            Ok(())
+        }
+    }
+}
+
+/// Asks servers for what is wanted of each variable, and drops links that are no longer wanted.
+pub fn tell_links(rows: &mut Rows) -> Result<(), Refusal>
+    ensures ok { OnOk result (rows.new ≡ links_told rows.old) }
+    ensures used_up { IsErrOf result Refusal.NumbersUsedUp → is_past_numbers (links_told rows.old) ≡ true }
+{
+    let notices = link_notices(rows)?;
+    for notice in &notices {
+        tell_link(rows, *notice)?;
+    }
+    Ok(())
+}

@@ -1,0 +1,168 @@
+//! What clients are owed about their subscriptions.
+ghost use Rattle.std.specs.Prelude.{◌≡◌, Some, OnOk, IfOk};
+ghost use Rattle.gateway_state.specs.Rights.{channel_of};
+ghost use Rattle.gateway_state.specs.Updates.{is_open_to, is_paused, is_taking, is_unreadable, is_withheld, update_notice, update_notices, update_on, update_over, update_told, updates_told, updates_withheld, withheld};
+ghost use Rattle.gateway_state.specs.Variables.{link_of};
+
+use ca_message::ToClient;
+use channel_table::{Channel, ClientSub};
+use gateway_rows::{Rows, may_read, native_in};
+use gateway_state::{Dest, UPDATE_LIMIT, UpdateNotice};
+use pv_name::Name;
+use std::alloc::AllocError;
+use std::collections::VecDeque;
+
+/// Whether a channel stands that may not be read.
+fn is_unreadable(rows: &Rows, session: u32, sid: u32) -> Result<bool, AllocError>
+    ensures { IfOk result (λ answer. answer ≡ is_unreadable rows.now (channel_of rows.now session sid)) }
+{
+    match rows.channel_of(session, sid) {
+        Some(channel) => Ok(!may_read(rows.rights_of(channel)?)),
+        None => Ok(false),
+    }
+}
+
+/// Whether a subscription's channel may not be read, and nothing is owed to it yet.
+fn is_withheld(rows: &Rows, sub: &ClientSub) -> Result<bool, AllocError>
+    ensures { IfOk result (λ answer. answer ≡ is_withheld rows.now sub.now) }
+{
+    Ok(!sub.owed && is_unreadable(rows, sub.session, sub.sid)?)
+}
+
+fn withheld(rows: &Rows) -> Result<Vec<ClientSub>, AllocError>
+    ensures { IfOk result (λ subs. subs.items ≡ withheld rows.now) }
+{
+    let mut subs = Vec::new(rows.alloc);
+    for sub in rows.clients.subs() {
+        if is_withheld(rows, sub)? {
+            subs.push(*sub)?;
+        }
+    }
+    Ok(subs)
+}
+
+/// Owes the latest value to subscriptions whose channels may not be read.
+pub fn withhold_updates(rows: &mut Rows) -> Result<(), AllocError>
+    ensures { OnOk result (rows.new ≡ updates_withheld rows.old) }
+{
+    let subs = withheld(rows)?;
+    rows.owe_all(&subs);
+    Ok(())
+}
+
+fn is_paused(rows: &Rows, number: u32) -> bool
+    ensures { result ≡ is_paused rows.now number }
+{
+    match rows.clients.session(number) {
+        Some(session) => session.paused,
+        None => false,
+    }
+}
+
+/// Whether a session's outbox takes updates.
+fn is_taking(rows: &Rows, number: u32) -> bool
+    ensures { result ≡ is_taking rows.now number }
+{
+    let dest = Dest::Session(number);
+    !rows.connections.must_end(dest) && rows.connections.queued(dest) < UPDATE_LIMIT
+}
+
+/// Whether a subscription's session takes updates now.
+fn is_open_to(rows: &Rows, sub: &ClientSub) -> bool
+    ensures { result ≡ is_open_to rows.now sub.now }
+{
+    !is_paused(rows, sub.session) && is_taking(rows, sub.session)
+}
+
+fn update_over(
+    rows: &Rows,
+    sub: &ClientSub,
+    name: &Name,
+) -> Result<Option<UpdateNotice>, AllocError>
+    ensures { IfOk result (λ notice. notice ≡ update_over rows.now sub.now (link_of rows.now name.now)) }
+{
+    let Some(link) = rows.link_of(name) else {
+        return Ok(None);
+    };
+    let Some(native) = native_in(link.state) else {
+        return Ok(None);
+    };
+    match rows.cached_value(link.cid, native.count, sub.dtype, sub.count)? {
+        Some(given) => Ok(Some(UpdateNotice {
+            session: sub.session,
+            id: sub.id,
+            dtype: sub.dtype,
+            count: given.count,
+            payload: given.payload,
+        })),
+        None => Ok(None),
+    }
+}
+
+fn update_on(
+    rows: &Rows,
+    sub: &ClientSub,
+    channel: &Channel,
+) -> Result<Option<UpdateNotice>, AllocError>
+    ensures { IfOk result (λ notice. notice ≡ update_on rows.now sub.now (Some channel.now)) }
+{
+    if may_read(rows.rights_of(channel)?) {
+        update_over(rows, sub, &channel.real)
+    } else {
+        Ok(None)
+    }
+}
+
+/// The update that is due to a subscription.
+#[tactic(auto, unfolding(gateway_state::specs::Updates::update_notice))]
+fn update_notice(rows: &Rows, sub: ClientSub) -> Result<Option<UpdateNotice>, AllocError>
+    ensures { IfOk result (λ notice. notice ≡ update_notice rows.now sub) }
+{
+    if !(sub.owed && is_open_to(rows, &sub)) {
+        return Ok(None);
+    }
+    match rows.channel_of(sub.session, sub.sid) {
+        Some(channel) => update_on(rows, &sub, channel),
+        None => Ok(None),
+    }
+}
+
+fn update_notices(rows: &Rows) -> Result<VecDeque<UpdateNotice>, AllocError>
+    ensures { IfOk result (λ notices. notices.items ≡ update_notices rows.now) }
+{
+    let mut notices = VecDeque::new(rows.alloc);
+    for sub in rows.clients.subs() {
+        if let Some(notice) = update_notice(rows, *sub)? {
+            notices.push_back(notice)?;
+        }
+    }
+    Ok(notices)
+}
+
+/// Gives an update, as long as those given before it leave room for it.
+fn tell_update(rows: &mut Rows, notice: UpdateNotice) -> Result<(), AllocError>
+    ensures { OnOk result (rows.new ≡ update_told rows.old notice) }
+{
+    if !is_taking(rows, notice.session) {
+        return Ok(());
+    }
+    rows.set_owed(notice.session, notice.id, false);
+    let said = ToClient::Update {
+        id: notice.id,
+        dtype: notice.dtype,
+        count: notice.count,
+        value: notice.payload,
+    };
+    rows.tell(notice.session, &said)
+}
+
+/// Gives the updates that are due.
+pub fn tell_updates(rows: &mut Rows) -> Result<(), AllocError>
+    ensures { OnOk result (rows.new ≡ updates_told rows.old) }
+{
+    let mut notices = update_notices(rows)?;
+    while let Some(notice) = notices.pop_front() {
+        tell_update(rows, notice)?;
+    }
+    Ok(())
+}

@@ -1,0 +1,168 @@
+//! What reads are answered.
+ghost use Rattle.std.specs.Prelude.{◌≡◌, Some, IfOk};
+ghost use Rattle.gateway_state.specs.Answer.{is_type_served, converts_to, fits_payload, meant_count, refusal, value_refusal, cached_as, cached_value, reading, reading_at, reading_on, reading_of, refused_or};
+ghost use Rattle.gateway_state.specs.Servers.{time_of};
+ghost use Rattle.dbr_layout.specs.Dbr.{dbr_of};
+
+use crate::rights::may_read;
+use crate::state::Rows;
+use crate::variables::native_in;
+use ca_message::codes::{ECA_BADCOUNT, ECA_BADTYPE, ECA_NORDACCESS, ECA_TOLARGE};
+use channel_table::Channel;
+use dbr_layout::{Dbr, converts};
+use gateway_state::{Given, LastMessage, Native, PLAIN_TYPES, Reading, TIME_FORM};
+use link_table::Link;
+use std::alloc::{AllocError, Global};
+
+impl Rows {
+    /// A link's last message, as an asked type and count; nothing where it doesn't cover that count.
+    pub fn cached_value(
+        &self,
+        cid: u32,
+        native: u32,
+        dtype: u16,
+        count: u32,
+    ) -> Result<Option<Given>, AllocError>
+        ensures { IfOk result (λ given. given ≡ cached_value self.now cid native dtype count) }
+    {
+        match self.cache.get(cid) {
+            Some(last) => cached_as(self.alloc, native, dtype, count, last),
+            None => Ok(None),
+        }
+    }
+
+    fn reading_of(
+        &self,
+        rights: u32,
+        dtype: u16,
+        count: u32,
+        link: &Link,
+        native: Native,
+    ) -> Result<Reading, AllocError>
+        ensures { IfOk result (λ reading. reading ≡ reading_of self.now rights dtype count link.now (Some native)) }
+    {
+        if let Some(code) = read_refusal(native, rights, dtype, count) {
+            return Ok(Reading::Refused(code));
+        }
+        match self.cached_value(link.cid, native.count, dtype, count)? {
+            Some(given) => Ok(Reading::Value(given.count, given.payload)),
+            None => Ok(Reading::Waits),
+        }
+    }
+
+    fn reading_at(&self, channel: &Channel, dtype: u16, count: u32) -> Result<Reading, AllocError>
+        ensures { IfOk result (λ reading. reading ≡ reading_at self.now channel.now dtype count) }
+    {
+        let rights = self.rights_of(channel)?;
+        match self.link_of(&channel.real) {
+            Some(link) => match native_in(link.state) {
+                Some(native) => self.reading_of(rights, dtype, count, link, native),
+                None => Ok(Reading::NoChannel),
+            },
+            None => Ok(Reading::NoChannel),
+        }
+    }
+
+    /// What a session's read would be answered.
+    pub fn reading(
+        &self,
+        session: u32,
+        sid: u32,
+        dtype: u16,
+        count: u32,
+    ) -> Result<Reading, AllocError>
+        ensures { IfOk result (λ answer. answer ≡ reading self.now session sid dtype count) }
+    {
+        match self.channel_of(session, sid) {
+            Some(channel) => self.reading_at(channel, dtype, count),
+            None => Ok(Reading::NoChannel),
+        }
+    }
+}
+
+/// The count that is meant: 0 stands for the native one.
+pub fn meant_count(native: u32, count: u32) -> u32
+    ensures { result ≡ meant_count native count }
+{
+    if count == 0 { native } else { count }
+}
+
+fn is_type_served(native: Native, dtype: u16) -> bool
+    ensures { result ≡ is_type_served native dtype }
+{
+    match Dbr::of(native.dtype) {
+        Some(from) => match Dbr::of(dtype) {
+            Some(to) => converts(from, to),
+            None => false,
+        },
+        None => false,
+    }
+}
+
+/// Whether so many elements of a type fit into a payload.
+pub fn fits_payload(dtype: u16, count: u32) -> bool
+    ensures { result ≡ fits_payload (dbr_of dtype) count }
+{
+    match Dbr::of(dtype) {
+        Some(dbr) => match dbr.size_of(count) {
+            Some(_) => true,
+            None => false,
+        },
+        None => false,
+    }
+}
+
+/// Why a value of a variable can't be had in a type and count, the first reason that applies.
+pub fn value_refusal(native: Native, dtype: u16, count: u32) -> Option<u32>
+    ensures { result ≡ value_refusal native dtype count }
+{
+    if !is_type_served(native, dtype) {
+        Some(ECA_BADTYPE)
+    } else if native.count < count {
+        Some(ECA_BADCOUNT)
+    } else if !fits_payload(dtype, meant_count(native.count, count)) {
+        Some(ECA_TOLARGE)
+    } else {
+        None
+    }
+}
+
+/// Why a read of a variable is refused, the first reason that applies.
+pub fn read_refusal(native: Native, rights: u32, dtype: u16, count: u32) -> Option<u32>
+    ensures { result ≡ refusal native rights dtype count }
+{
+    match value_refusal(native, dtype, count) {
+        Some(code) => Some(code),
+        None if may_read(rights) => None,
+        None => Some(ECA_NORDACCESS),
+    }
+}
+
+fn cached_as(
+    alloc: Global,
+    native: u32,
+    dtype: u16,
+    count: u32,
+    last: &LastMessage,
+) -> Result<Option<Given>, AllocError>
+    ensures { IfOk result (λ given. given ≡ cached_as native dtype count (Some last.now)) }
+{
+    if !last.held.covers(meant_count(native, count)) {
+        return Ok(None);
+    }
+    match last.held.answer(alloc, dtype, count)? {
+        Some((count, payload)) => Ok(Some(Given { count, payload })),
+        None => Ok(None),
+    }
+}
+
+/// The number of a plain type's TIME form; any other number stays.
+pub fn time_of(dtype: u16) -> u16
+    ensures { result ≡ time_of dtype }
+{
+    if dtype < PLAIN_TYPES {
+        dtype + TIME_FORM
+    } else {
+        dtype
+    }
+}

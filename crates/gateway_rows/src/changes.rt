@@ -1,0 +1,93 @@
+//! Small changes of rows.
+ghost use Rattle.std.specs.Prelude.{◌≡◌, OnOk};
+ghost use Rattle.gateway_state.specs.Clients.{remembered, without_channel};
+ghost use Rattle.gateway_state.specs.Direct.{edited, swept};
+ghost use Rattle.gateway_state.specs.Notices.{without_read};
+ghost use Rattle.gateway_state.specs.Servers.{without_link};
+ghost use Rattle.gateway_state.specs.Updates.{owed_to, owed_to_all, with_owed_of};
+ghost use Rattle.gateway_state.specs.Variables.{without_cached};
+
+use crate::state::Rows;
+use channel_table::{ClientSub, WaitingRead};
+use gateway_state::{Policy, SEARCH_LIMIT, Search};
+use pv_name::{Host, Name};
+use std::alloc::AllocError;
+
+impl Rows {
+    /// A channel goes with its subscriptions and reads.
+    pub fn remove_channel(&mut self, number: u32, sid: u32)
+        ensures { self.new ≡ without_channel number sid self.old }
+    {
+        self.clients.remove_channel(number, sid);
+    }
+
+    /// A read waits no longer.
+    pub fn remove_read(&mut self, read: &WaitingRead)
+        ensures { self.new ≡ without_read read.now self.old }
+    {
+        self.clients.remove_read(read);
+    }
+
+    /// Notes that a subscription is owed an update, or no longer.
+    pub fn set_owed(&mut self, session: u32, id: u32, owed: bool)
+        ensures { self.new ≡ with_owed_of session id owed self.old }
+    {
+        self.clients.put_sub(session, id, owed);
+    }
+
+    fn owe(&mut self, sub: &ClientSub)
+        ensures { self.new ≡ owed_to self.old sub.now }
+    {
+        self.set_owed(sub.session, sub.id, true);
+    }
+
+    /// Notes that each of these is owed an update.
+    pub fn owe_all(&mut self, subs: &[ClientSub])
+        ensures { self.new ≡ owed_to_all self.old subs.now }
+    {
+        for sub in subs {
+            self.owe(sub);
+        }
+    }
+
+    /// Forgets a link's last message.
+    pub fn forget_value(&mut self, cid: u32)
+        ensures { self.new ≡ without_cached cid self.old }
+    {
+        self.cache.remove(cid);
+    }
+
+    /// Removes a link and its last message.
+    pub fn remove_link(&mut self, server: u32, cid: u32)
+        ensures { self.new ≡ without_link server cid self.old }
+    {
+        self.forget_value(cid);
+        self.upstream.remove_link(server, cid);
+    }
+
+    /// Somebody at a host looks for a name: that is remembered, once, where there is room.
+    pub fn remember(&mut self, host: &Host, name: &Name) -> Result<(), AllocError>
+        ensures { OnOk result (self.new ≡ remembered host.now name.now self.old) }
+    {
+        if self.searches.contains(host, name) || self.searches.len() >= SEARCH_LIMIT {
+            return Ok(());
+        }
+        let host = host.copy()?;
+        let name = name.copy()?;
+        self.searches.add(Search { host, name })
+    }
+
+    /// From now on another policy holds.
+    pub fn set_policy(&mut self, policy: Policy)
+        ensures { self.new ≡ edited policy self.old }
+    {
+        self.policy = policy;
+    }
+
+    /// Forgets all searches.
+    pub fn sweep(&mut self)
+        ensures { self.new ≡ swept self.old }
+    {
+        self.searches.clear();
+    }
+}

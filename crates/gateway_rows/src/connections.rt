@@ -1,0 +1,56 @@
+//! Connections: whether they stand, and what waits for them.
+ghost use Rattle.std.specs.Prelude.{◌≡◌, take, OnOk, IfOk};
+ghost use Rattle.gateway_state.specs.Asked.{stands, ends, queued, acts};
+ghost use Rattle.gateway_state.specs.Connections.{outbox_of};
+ghost use Rattle.gateway_state.specs.Direct.{drained};
+ghost use Rattle.gateway_state.specs.Telling.{marked};
+
+use crate::state::Rows;
+use fanout::Out;
+use gateway_state::Dest;
+use std::alloc::AllocError;
+
+impl Rows {
+    /// Whether a connection stands.
+    pub fn stands(&self, dest: Dest) -> bool
+        ensures { result ≡ stands self.now dest }
+    {
+        self.connections.stands(dest)
+    }
+
+    /// Whether a connection stands and must end.
+    pub fn ends(&self, dest: Dest) -> bool
+        ensures { result ≡ ends self.now dest }
+    {
+        self.connections.must_end(dest)
+    }
+
+    /// How many messages wait for a connection, 0 where it doesn't stand.
+    pub fn queued(&self, dest: Dest) -> usize
+        ensures { result ≡ queued self.now dest }
+    {
+        self.connections.queued(dest)
+    }
+
+    /// Whether a message from the connection has an effect.
+    pub fn acts(&self, dest: Dest) -> bool
+        ensures { result ≡ acts self.now dest }
+    {
+        self.stands(dest) && !self.ends(dest)
+    }
+
+    /// Marks a connection to end.
+    pub fn mark(&mut self, dest: Dest)
+        ensures { self.new ≡ marked dest self.old }
+    {
+        self.connections.mark(dest);
+    }
+
+    /// Takes the oldest messages of an outbox, in order.
+    pub fn take(&mut self, dest: Dest, count: usize) -> Result<Vec<Out>, AllocError>
+        ensures ok { OnOk result (self.new ≡ drained self.old dest count) }
+        ensures found { IfOk result (λ outs. outs.items ≡ take count (outbox_of dest self.old.connections).messages) }
+    {
+        self.connections.take(self.alloc, dest, count)
+    }
+}

@@ -1,0 +1,30 @@
+//! The rows of the gateway together: what is asked of them, and the small changes that several
+//! layers make.
+//!
+//! `Rows` is everything that the gateway knows, and a contract sees it as the gateway state of
+//! `gateway_state`. Its questions (`link_of`, `rights_of`, `is_served`, `is_wanted`, `reading`,
+//! `interest_of`, `asks` ..) leave it as it is, and each answers the definition of its name over that
+//! state; those that ask the rules take memory, and may be refused it. Its changes (`tell`, `ask`,
+//! `mark`, `remove_channel`, `remove_link`, `owe_all` ..) make the state that the definition which
+//! their contract names makes of the old one. Nothing is promised of the rows after an error: a
+//! `Refusal` says only whether memory or numbers ran out.
+#![tactic(auto)]
+
+mod answer;
+mod asks;
+mod changes;
+mod connections;
+mod fault;
+mod interest;
+mod policy;
+mod rights;
+mod state;
+mod telling;
+mod variables;
+
+pub use answer::{fits_payload, meant_count, read_refusal, time_of, value_refusal};
+pub use fault::Refusal;
+pub use interest::{is_for, sent_count};
+pub use rights::may_read;
+pub use state::Rows;
+pub use variables::{is_connected, is_creating, native_in};

@@ -1,0 +1,94 @@
+//! What clients may do with their channels.
+ghost use Rattle.std.specs.Prelude.{◌≡◌, ◌&&◌, bit_and, IfOk};
+ghost use Rattle.std.specs.Option.{option_copied};
+ghost use Rattle.gateway_state.specs.Variables.{link_of};
+ghost use Rattle.gateway_state.specs.Reached.{rights_told};
+ghost use Rattle.gateway_state.specs.Resolution.{is_real, rights_left};
+ghost use Rattle.gateway_state.specs.Rights.{is_found, rights_of, may_read, link_rights, link_connected, channel_of};
+
+use crate::state::Rows;
+use crate::variables::is_connected;
+use ca_message::commands::CA_PROTO_ACCESS_RIGHT_READ;
+use channel_table::Channel;
+use gateway_state::{is_real, rights_left};
+use pv_alias::Lead;
+use pv_name::{Host, Name};
+use std::alloc::AllocError;
+
+impl Rows {
+    fn link_rights(&self, name: &Name) -> u32
+        ensures { result ≡ link_rights (link_of self.now name.now) }
+    {
+        match self.link_of(name) {
+            Some(link) => link.rights,
+            None => 0,
+        }
+    }
+
+    /// The rights of a channel whose name leads so: those of its link that the policy leaves to its
+    /// session.
+    pub fn rights_by(&self, channel: &Channel, lead: Option<&Lead>) -> u32
+        ensures { result ≡ bit_and (link_rights (link_of self.now channel.now.real)) (rights_left self.now.policy (option_copied lead.entry)) }
+    {
+        self.link_rights(&channel.real) & rights_left(&self.policy, lead)
+    }
+
+    /// The rights of a channel.
+    pub fn rights_of(&self, channel: &Channel) -> Result<u32, AllocError>
+        ensures { IfOk result (λ rights. rights ≡ rights_of self.now channel.now) }
+    {
+        let lead = self.lead_in(channel.session, &channel.asked)?;
+        Ok(self.rights_by(channel, lead.as_ref()))
+    }
+
+    fn is_link_connected(&self, name: &Name) -> bool
+        ensures { result ≡ link_connected (link_of self.now name.now) }
+    {
+        match self.link_of(name) {
+            Some(link) => is_connected(link.state),
+            None => false,
+        }
+    }
+
+    /// Whether a channel is served whose name leads so: to its real name still, whose link is connected.
+    pub fn is_served_by(&self, channel: &Channel, lead: Option<&Lead>) -> bool
+        ensures { result ≡ (is_real (option_copied lead.entry) channel.now.real && link_connected (link_of self.now channel.now.real)) }
+    {
+        is_real(lead, &channel.real) && self.is_link_connected(&channel.real)
+    }
+
+    /// Whether the name that a host searches for leads to a variable whose link is connected.
+    pub fn is_found(&self, host: &Host, name: &Name) -> Result<bool, AllocError>
+        ensures { IfOk result (λ answer. answer ≡ is_found self.now host.now name.now) }
+    {
+        match self.lead_of(host, name)? {
+            Some(lead) => Ok(self.is_link_connected(&lead.real)),
+            None => Ok(false),
+        }
+    }
+
+    /// A session's channel.
+    pub fn channel_of(&self, session: u32, sid: u32) -> Option<&Channel>
+        ensures { option_copied result ≡ channel_of self.now session sid }
+    {
+        self.clients.channel(session, sid)
+    }
+
+    /// What a client was last told that it may do with a channel, nothing where it has no such channel. It
+    /// takes no memory.
+    pub fn rights_told(&self, session: u32, sid: u32) -> Option<u32>
+        ensures { result ≡ rights_told self.now session sid }
+    {
+        match self.channel_of(session, sid) {
+            Some(channel) => Some(channel.rights),
+            None => None,
+        }
+    }
+}
+
+/// Whether the rights let a client read.
+pub fn may_read(rights: u32) -> bool
+    ensures { result ≡ may_read rights }
+{
+    rights & CA_PROTO_ACCESS_RIGHT_READ == CA_PROTO_ACCESS_RIGHT_READ
+}

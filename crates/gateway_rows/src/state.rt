@@ -1,0 +1,68 @@
+//! All rows of the gateway.
+ghost use Rattle.std.specs.Prelude.{◌≡◌, false};
+ghost use Rattle.gateway_state.specs.Gateway.{initial};
+ghost use Rattle.gateway_state.specs.Numbers.{is_past_numbers};
+
+use channel_table::Table;
+use gateway_state::{Cache, Config, Connections, Policy, Searches};
+use link_table::Links;
+use std::alloc::Global;
+use std::marker::Model;
+
+/// What the gateway knows. A call that fails may leave the work half done.
+#[derive(Drop)]
+pub struct Rows {
+    pub alloc: Global,
+    pub config: Config,
+    /// The rules and the rights of groups.
+    pub policy: Policy,
+    /// The connections that stand, with their outboxes.
+    pub connections: Connections,
+    /// Clients' sessions, channels, reads that wait, and subscriptions.
+    pub clients: Table,
+    /// Servers, links, and the numbers that are given out.
+    pub upstream: Links,
+    /// The last message of each link.
+    pub cache: Cache,
+    /// The searches that are remembered.
+    pub searches: Searches,
+}
+
+impl Model for Rows {
+    ghost use Rattle.gateway_state.specs.Gateway.{Gateway};
+    ghost use Rattle.rule_desk.specs.contracts.policy.Policy as the_policy;
+    ghost use Rattle.std.specs.Coded.{codes};
+
+    ghost Value = { Gateway };
+
+    ghost coded = { Prim.hlevel (codes, the_policy.the_row.coded) };
+
+    ghost view = { λ r. record { config = r.config; policy = r.policy; connections = r.connections; clients = r.clients; upstream = r.upstream; cache = r.cache; searches = r.searches } };
+}
+
+impl Rows {
+    /// What is known before any event.
+    pub fn new(alloc: Global, config: Config, policy: Policy) -> Rows
+        ensures { result ≡ initial config policy }
+    {
+        let first = config.first;
+        Rows {
+            alloc,
+            config,
+            policy,
+            connections: Connections::new(alloc),
+            clients: Table::new(alloc),
+            upstream: Links::new(alloc, first),
+            cache: Cache::new(alloc),
+            searches: Searches::new(alloc),
+        }
+    }
+
+    /// No number past the last one was given out, whatever was done: this call does nothing.
+    #[tactic(auto, unfolding(gateway_state::specs::Numbers::is_past_numbers))]
+    pub fn numbers_are_in_range(&self)
+        ensures { is_past_numbers self.now ≡ false }
+    {
+        self.upstream.numbers_are_in_range();
+    }
+}

@@ -1,0 +1,55 @@
+//! Messages to clients and to servers.
+ghost use Rattle.std.specs.Prelude.{◌≡◌, OnOk, IfOk};
+ghost use Rattle.gateway_state.specs.Telling.{outgoing, outgoing_upstream, sent, told, asked};
+
+use crate::state::Rows;
+use ca_header::write_head;
+use ca_message::{ToClient, ToServer};
+use fanout::Out;
+use gateway_state::Dest;
+use std::alloc::{AllocError, Global};
+
+impl Rows {
+    #[tactic(auto, unfolding(gateway_state::specs::Telling::sent))]
+    fn send(&mut self, dest: Dest, out: Out) -> Result<(), AllocError>
+        ensures { OnOk result (self.new ≡ sent dest out self.old) }
+    {
+        self.connections.give(dest, out)
+    }
+
+    /// Tells a client something.
+    pub fn tell(&mut self, number: u32, said: &ToClient) -> Result<(), AllocError>
+        ensures { OnOk result (self.new ≡ told number said.now self.old) }
+    {
+        let out = outgoing(self.alloc, said)?;
+        self.send(Dest::Session(number), out)
+    }
+
+    /// Asks a server for something.
+    pub fn ask(&mut self, number: u32, said: &ToServer<'_>) -> Result<(), AllocError>
+        ensures { OnOk result (self.new ≡ asked number said.now self.old) }
+    {
+        let out = outgoing_upstream(self.alloc, said)?;
+        self.send(Dest::Upstream(number), out)
+    }
+}
+
+/// A message to a client as it goes out.
+#[tactic(auto, unfolding(gateway_state::specs::Telling::outgoing))]
+fn outgoing(alloc: Global, said: &ToClient) -> Result<Out, AllocError>
+    ensures { IfOk result (λ out. out ≡ outgoing said.now) }
+{
+    let payload = said.payload(alloc)?;
+    let head = write_head(&said.head());
+    Ok(Out { head, payload })
+}
+
+/// A message to a server as it goes out.
+#[tactic(auto, unfolding(gateway_state::specs::Telling::outgoing_upstream))]
+fn outgoing_upstream(alloc: Global, said: &ToServer<'_>) -> Result<Out, AllocError>
+    ensures { IfOk result (λ out. out ≡ outgoing_upstream said.now) }
+{
+    let payload = said.payload(alloc)?;
+    let head = write_head(&said.head());
+    Ok(Out { head, payload })
+}

@@ -1,0 +1,3 @@
+pub mod RealNameLemmas
+pub mod RowLemmas
+pub mod WorkedRules

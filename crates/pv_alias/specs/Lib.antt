@@ -1,0 +1,3 @@
+pub mod RealName
+pub mod Resolution
+pub mod Rights

@@ -1,0 +1,30 @@
+//! What the name that a client asks for leads to, under the rules of a rule file.
+//!
+//! ```text
+//! let rules = Rules::read(alloc, "\\(.*\\):SET ALIAS \\1:SP ops\n")?;
+//! let groups = Groups::read(alloc, "ops READ\n")?;
+//! if let Some(lead) = resolve(alloc, &rules, &host, &name)? { // A:SET leads to A:SP, in ops
+//!     rights = group_rights(&groups, lead.group.as_ref());     // 1: to read
+//! }
+//! ```
+//!
+//! `resolve` promises the lead that the whole list of rows gives (`resolution`): a DENY row that
+//! matches may refuse the name to the host, and else the last ALLOW or ALIAS row that matches
+//! decides; `None` is a refusal. It compiles no pattern, and its only error is want of memory.
+//! `group_rights` promises the rights of the group's last line (`specs/Rights.antt`), and takes no
+//! memory.
+#![tactic(auto)]
+
+mod lead;
+mod real_name;
+mod resolving;
+mod rights;
+#[cfg(test)]
+mod tests;
+
+pub use lead::Lead;
+pub use resolving::resolve;
+pub use rights::group_rights;
+
+/// The error of a call that fails only where memory runs out.
+pub type NoMemory = std::alloc::AllocError;

@@ -1,2 +1,0 @@
-mod OutputLemmas
-mod WordsLemmas

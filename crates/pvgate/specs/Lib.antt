@@ -1,4 +1,0 @@
-pub mod Words
-pub mod Values
-pub mod Output
-pub mod Replay

@@ -1,0 +1,50 @@
+//! The program `check-rules`.
+
+use crate::arguments::CheckRules;
+use crate::fault::Fault;
+use pv_name::{Host, Name};
+use rule_check::{Asked, check, status};
+use std::alloc::Global;
+use std::io::BufWriter;
+use std::{fs, io};
+
+/// Checks the files that the command line names, and prints what is wrong or what they answer.
+/// Returns the status that the program ends with.
+pub fn check_rules(rt: &HostRuntime, arguments: &CheckRules<'_>) -> Result<u8, Fault> {
+    let alloc = rt.alloc();
+    let asked = read_asked(alloc, arguments)?;
+    let rules = read_file(rt, arguments.rules)?;
+    let groups = match arguments.groups {
+        Some(path) => Some(read_file(rt, path)?),
+        None => None,
+    };
+    let mut out = BufWriter::new(alloc, io::writer(rt))?;
+    let groups = groups.as_ref().map(|text| text.as_str());
+    let ended = check(alloc, rules.as_str(), groups, asked.as_ref(), &mut out);
+    if ended == status::STREAM_FAILED {
+        return Err(Fault::Output);
+    }
+    if ended == status::FAILED {
+        return Err(Fault::OutOfMemory);
+    }
+    Ok(ended)
+}
+
+/// The host is tested even where no name is asked for.
+fn read_asked(alloc: Global, arguments: &CheckRules<'_>) -> Result<Option<Asked>, Fault> {
+    let host = Host::read(alloc, arguments.host.as_bytes()).map_err(Fault::host)?;
+    match arguments.name {
+        Some(text) => {
+            let name = Name::read(alloc, text.as_bytes()).map_err(Fault::name)?;
+            Ok(Some(Asked { name, host }))
+        }
+        None => Ok(None),
+    }
+}
+
+fn read_file(rt: &HostRuntime, path: &str) -> Result<String, Fault> {
+    match fs::read_to_string(rt, path) {
+        Ok(text) => Ok(text),
+        Err(fault) => Err(Fault::file(rt.alloc(), path, fault)),
+    }
+}

@@ -1,0 +1,68 @@
+//! Why a program ends before it does its work.
+
+use pv_name::NameFault;
+use replay::status;
+use std::alloc::Global;
+use std::io;
+use thiserror::Error;
+
+/// Why a program ends before it does its work.
+#[derive(Debug, Drop, Error)]
+pub enum Fault {
+    #[error("the name is bad: {0}")]
+    BadName(NameFault),
+    #[error("the host is bad: {0}")]
+    BadHost(NameFault),
+    /// The path of a file that can't be read.
+    #[error("{0}: {1}")]
+    File(String, io::Error),
+    #[error("standard output can't be written")]
+    Output,
+    #[error("out of memory")]
+    OutOfMemory,
+}
+
+impl Fault {
+    /// The status that the program ends with.
+    pub fn status(&self) -> u8 {
+        match self {
+            Fault::BadName(_) | Fault::BadHost(_) => status::BAD_INPUT,
+            Fault::File(_, _) | Fault::Output => status::STREAM_FAILED,
+            Fault::OutOfMemory => status::FAILED,
+        }
+    }
+
+    pub fn name(fault: NameFault) -> Fault {
+        match fault {
+            NameFault::OutOfMemory => Fault::OutOfMemory,
+            fault => Fault::BadName(fault),
+        }
+    }
+
+    pub fn host(fault: NameFault) -> Fault {
+        match fault {
+            NameFault::OutOfMemory => Fault::OutOfMemory,
+            fault => Fault::BadHost(fault),
+        }
+    }
+
+    /// A file at the path can't be read.
+    pub fn file(alloc: Global, path: &str, fault: io::Error) -> Fault {
+        if fault.kind() == io::ErrorKind::OutOfMemory {
+            return Fault::OutOfMemory;
+        }
+        match String::from_str(alloc, path) {
+            Ok(path) => Fault::File(path, fault),
+            Err(_) => Fault::OutOfMemory,
+        }
+    }
+}
+
+impl From<io::Error> for Fault {
+    fn from(fault: io::Error) -> Fault {
+        match fault.kind() {
+            io::ErrorKind::OutOfMemory => Fault::OutOfMemory,
+            _ => Fault::Output,
+        }
+    }
+}

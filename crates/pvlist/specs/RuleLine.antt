@@ -1,0 +1,151 @@
+-- What a line of a rule file is (user's guide, PVLIST).
+use Rattle.std.specs.Prelude.{◌≡◌, ℕ, Bool, true, false, ◌||◌, ◌&&◌, nat_lt, if◌then◌else◌, List, [], ◌∷◌, length, drop, bytes_eq, codes, IsTrue, Option, Some, None, Result, Ok, Err}
+use Rattle.std.specs.List.{list_all}
+use Rattle.std.specs.Option.{option_map}
+use Rattle.pv_name.specs.Group.{is_group}
+use Rattle.pv_name.specs.Host.{is_host}
+use Rattle.pvlist.specs.declared.fault.RuleCause.{RuleCause}
+use Rattle.pvlist.specs.declared.fault.RuleCause.TheVariants.{LineTooLong, BadOrder, NoVerb, TooManyLines, BadFrom, BadGroup, BadPattern, BadReference}
+use Rattle.pvlist.specs.declared.fault.LineFault.{LineFault}
+use Rattle.pvlist.specs.declared.fault.LineFault.TheVariants.{Cause, OutOfMemory}
+use Rattle.pvlist.specs.declared.keyword.Keyword.{Keyword}
+use Rattle.pvlist.specs.declared.keyword.Keyword.TheVariants as keyword
+use Rattle.pvlist.specs.declared.line.Item.{Item}
+use Rattle.pvlist.specs.declared.line.Item.TheVariants as item
+use Rattle.pvlist.specs.declared.row.Row.{Row}
+use Rattle.pvlist.specs.declared.row.Verb.{Verb}
+use Rattle.pvlist.specs.declared.row.Verb.TheVariants as verb
+use Rattle.pvlist.specs.declared.rules.Order.{Order}
+use Rattle.pvlist.specs.Captures.{group_count}
+use Rattle.pvlist.specs.Compiled.{IsCompiled, IsAccepted, IsRefused}
+use Rattle.pvlist.specs.Keywords.{is_keyword, is_order_line, keyword_of, order_of}
+use Rattle.pvlist.specs.RealText.{real_text_of}
+use Rattle.pvlist.specs.Words.{words, between_commas, first_word, next_word}
+
+-- what a line says, but for its pattern
+pub data Entry : Type 0 where
+  -- nothing
+  Blank : Entry
+  -- the order
+  Ordering : Order → Entry
+  -- a row, whose verb is none where it is an alias without a real name
+  Drafted : Option Verb → Entry
+
+-- a level is read and has no use
+abbrev pub is_level : List ℕ → Bool
+is_level word = bytes_eq word (codes "0") || bytes_eq word (codes "1")
+
+-- after a group at most a level stands
+abbrev pub is_group_end : List (List ℕ) → Bool
+is_group_end [] = true
+is_group_end (level ∷ []) = is_level level
+is_group_end _ = false
+
+-- the group, where the word is one
+abbrev pub group_word : List ℕ → Option (List ℕ)
+group_word word = if is_group word then Some word else None
+
+-- the group at the end of a row; none where these words are no such end
+abbrev pub group_of : List (List ℕ) → Option (Option (List ℕ))
+group_of [] = Some None
+group_of (word ∷ rest) = if is_group_end rest then option_map Some (group_word word) else None
+
+-- the host, where the word is one
+abbrev pub host_word : List ℕ → Option (List ℕ)
+host_word word = if is_host word then Some word else None
+
+-- the hosts, where there is one and each word is a host
+abbrev pub hosts_among : List (List ℕ) → Option (List (List ℕ))
+hosts_among [] = None
+hosts_among (word ∷ rest) = if is_host word && list_all is_host rest then Some (word ∷ rest) else None
+
+-- the hosts of a row that denies, by its words between blanks and commas; FROM is a keyword in front of them alone
+abbrev pub hosts_of : List (List ℕ) → Option (List (List ℕ))
+hosts_of [] = Some []
+hosts_of (word ∷ rest) = if is_keyword word (codes "FROM") then hosts_among rest else hosts_among (word ∷ rest)
+
+abbrev pub allow_entry : Option (Option (List ℕ)) → Result Entry RuleCause
+allow_entry None = Err BadGroup
+allow_entry (Some group) = Ok (Drafted (Some (verb.Allow group)))
+
+abbrev pub alias_entry : Option (Option (List ℕ)) → Option (List ℕ) → Result Entry RuleCause
+alias_entry None real = Err BadGroup
+alias_entry (Some group) None = Ok (Drafted None)
+alias_entry (Some group) (Some real) = Ok (Drafted (Some (verb.Alias real group)))
+
+abbrev pub deny_entry : Option (List (List ℕ)) → Result Entry RuleCause
+deny_entry None = Err BadFrom
+deny_entry (Some hosts) = Ok (Drafted (Some (verb.Deny hosts)))
+
+-- a row, by its pattern, its keyword and the words after that
+abbrev pub row_entry : List ℕ → Keyword → List (List ℕ) → Result Entry RuleCause
+row_entry pattern keyword.Allow rest = allow_entry (group_of rest)
+row_entry pattern keyword.Alias rest = alias_entry (group_of (drop 1 rest)) (real_text_of (group_count pattern) (next_word rest))
+row_entry pattern keyword.Deny rest = deny_entry (hosts_of (between_commas rest))
+
+-- a line that is no order line; one that is full takes no row
+abbrev pub keyword_entry : Bool → List ℕ → Option Keyword → List (List ℕ) → Result Entry RuleCause
+keyword_entry full pattern None rest = Err NoVerb
+keyword_entry full pattern (Some keyword) rest = if full then Err TooManyLines else row_entry pattern keyword rest
+
+abbrev pub order_entry : Option Order → Result Entry RuleCause
+order_entry None = Err BadOrder
+order_entry (Some order) = Ok (Ordering order)
+
+-- a line by its words
+abbrev pub words_entry : Bool → List (List ℕ) → Result Entry RuleCause
+words_entry full [] = Ok Blank
+words_entry full (first ∷ []) = Err NoVerb
+words_entry full (first ∷ second ∷ rest) =
+    if is_order_line first second then order_entry (order_of (between_commas rest))
+    else keyword_entry full first (keyword_of second) rest
+
+-- what a line says, or the first cause that it is faulty, but for its pattern and for the real name of an alias; where the
+-- file is full, it takes no further row
+abbrev pub entry : Bool → List ℕ → Result Entry RuleCause
+entry full line = if nat_lt 1024 (length line) then Err LineTooLong else words_entry full (words line)
+
+-- the row that a draft becomes, with this pattern
+pub record IsRow (pattern : List ℕ) (drawn : Result Entry RuleCause) (row : Row) : Type 0 where
+  pub verb : drawn ≡ Ok (Drafted (Some row.verb))
+  pub compiled : IsCompiled pattern row.regex
+
+-- the item of an entry, with this pattern
+abbrev pub IsItemOf : List ℕ → Result Entry RuleCause → Item → Type 0
+IsItemOf pattern drawn item.Nothing = drawn ≡ Ok Blank
+IsItemOf pattern drawn (item.Order order) = drawn ≡ Ok (Ordering order)
+IsItemOf pattern drawn (item.Row row) = IsRow pattern drawn row
+
+-- the line is without fault, and is this item
+abbrev pub IsItem : List ℕ → Item → Type 0
+IsItem line item = IsItemOf (first_word (words line)) (entry false line) item
+
+-- the line has a pattern, and no cause before those of the pattern
+abbrev pub is_draft : Result Entry RuleCause → Bool
+is_draft (Ok (Drafted _)) = true
+is_draft _ = false
+
+-- the first cause that an entry is faulty, with this pattern
+abbrev pub IsCauseOf : List ℕ → Result Entry RuleCause → RuleCause → Type 0
+IsCauseOf pattern drawn BadPattern = IsTrue (is_draft drawn) × IsRefused pattern
+IsCauseOf pattern drawn BadReference = (drawn ≡ Ok (Drafted None)) × IsAccepted pattern
+IsCauseOf pattern drawn cause = drawn ≡ Err cause
+
+-- the pattern has no regular expression, or memory ran out
+abbrev pub IsPatternFault : List ℕ → LineFault → Type 0
+IsPatternFault pattern (Cause cause) = (cause ≡ BadPattern) × IsRefused pattern
+IsPatternFault pattern OutOfMemory = Unit {0}
+
+-- the file may take what the line is
+abbrev pub HasRoom : Bool → Item → Type 0
+HasRoom full (item.Row row) = full ≡ false
+HasRoom full _ = Unit {0}
+
+-- the cause of an entry, or memory ran out
+abbrev pub IsFaultOf : List ℕ → Result Entry RuleCause → LineFault → Type 0
+IsFaultOf pattern drawn (Cause cause) = IsCauseOf pattern drawn cause
+IsFaultOf pattern drawn OutOfMemory = Unit {0}
+
+-- this is the first cause that the line is faulty
+abbrev pub IsCause : Bool → List ℕ → RuleCause → Type 0
+IsCause full line cause = IsCauseOf (first_word (words line)) (entry full line) cause

@@ -1,0 +1,37 @@
+//! The regular expressions of patterns.
+ghost use Rattle.std.specs.Prelude.{◌≡◌, IfOk, IfErr};
+ghost use Rattle.pvlist.specs.Captures.{group_count};
+ghost use Rattle.pvlist.specs.Compiled.{IsCompiled};
+ghost use Rattle.pvlist.specs.RuleLine.{IsPatternFault};
+
+use crate::fault::{LineFault, RuleCause};
+use crate::translation::translate_counted;
+use regex::Regex;
+use std::alloc::Global;
+
+/// A pattern as a regular expression.
+#[derive(Debug, Drop)]
+pub(crate) struct Compiled {
+    /// It matches whole names.
+    pub(crate) regex: Regex,
+    /// How many groups the pattern has.
+    pub(crate) groups: usize,
+}
+
+impl Compiled {
+    pub(crate) fn new(alloc: Global, pattern: &str) -> Result<Compiled, LineFault>
+        ensures ok { IfOk result (λ compiled. IsCompiled pattern.now compiled.regex) }
+        ensures groups { IfOk result (λ compiled. compiled.groups ≡ group_count pattern.now) }
+        ensures err { IfErr result (IsPatternFault pattern.now) }
+    {
+        let translated = translate_counted(alloc, pattern)?;
+        match Regex::new(alloc, translated.text.as_str()) {
+            Ok(regex) => Ok(Compiled {
+                regex,
+                groups: translated.groups,
+            }),
+            Err(regex::Error::OutOfMemory) => Err(LineFault::OutOfMemory),
+            Err(_) => Err(LineFault::Cause(RuleCause::BadPattern)),
+        }
+    }
+}

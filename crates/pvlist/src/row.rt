@@ -1,0 +1,92 @@
+//! Rows of rules.
+ghost use Rattle.std.specs.Prelude.{IfOk, IfErr};
+ghost use Rattle.pvlist.specs.declared.keyword.Keyword.TheVariants.{Allow, Alias, Deny};
+ghost use Rattle.pvlist.specs.RuleLine.{row_entry, IsRow, IsFaultOf};
+
+use crate::compiled::Compiled;
+use crate::fault::LineFault;
+use crate::group_word::read_group;
+use crate::host_words::read_hosts;
+use crate::hosts::Hosts;
+use crate::keyword::Keyword;
+use crate::real_text::{RealText, read_real_text};
+use crate::words::Words;
+use pv_name::Group;
+use regex::Regex;
+use std::alloc::Global;
+
+/// A row of the rules: which names it speaks of, and what it does with them.
+#[derive(Debug, Drop)]
+pub struct Row {
+    /// It matches whole names.
+    pub regex: Regex,
+    pub verb: Verb,
+}
+
+/// What a row does with a name that it matches.
+#[derive(Debug, Drop)]
+pub enum Verb {
+    /// The name leads to itself, with the rights of the group.
+    Allow(Option<Group>),
+    /// The name leads to another, with the rights of the group.
+    Alias(RealText, Option<Group>),
+    /// The name is refused.
+    Deny(Hosts),
+}
+
+impl Row {
+    /// Reads a row from its pattern, its keyword and the words that follow.
+    pub(crate) fn read(
+        alloc: Global,
+        pattern: &str,
+        keyword: Keyword,
+        words: Words,
+    ) -> Result<Row, LineFault>
+        ensures ok { IfOk result (IsRow pattern.now (row_entry pattern.now keyword words.entry)) }
+        ensures err { IfErr result (IsFaultOf pattern.now (row_entry pattern.now keyword words.entry)) }
+    {
+        match keyword {
+            Keyword::Allow => Row::read_allow(alloc, pattern, words),
+            Keyword::Alias => Row::read_alias(alloc, pattern, words),
+            Keyword::Deny => Row::read_deny(alloc, pattern, words),
+        }
+    }
+
+    fn read_allow(alloc: Global, pattern: &str, words: Words) -> Result<Row, LineFault>
+        ensures ok { IfOk result (IsRow pattern.now (row_entry pattern.now Allow words.entry)) }
+        ensures err { IfErr result (IsFaultOf pattern.now (row_entry pattern.now Allow words.entry)) }
+    {
+        let group = read_group(alloc, words)?;
+        let compiled = Compiled::new(alloc, pattern)?;
+        Ok(Row {
+            regex: compiled.regex,
+            verb: Verb::Allow(group),
+        })
+    }
+
+    fn read_alias(alloc: Global, pattern: &str, mut words: Words) -> Result<Row, LineFault>
+        ensures ok { IfOk result (IsRow pattern.now (row_entry pattern.now Alias words.entry)) }
+        ensures err { IfErr result (IsFaultOf pattern.now (row_entry pattern.now Alias words.entry)) }
+    {
+        let real = words.next();
+        let group = read_group(alloc, words)?;
+        let compiled = Compiled::new(alloc, pattern)?;
+        let real = read_real_text(alloc, compiled.groups, real)?;
+        Ok(Row {
+            regex: compiled.regex,
+            verb: Verb::Alias(real, group),
+        })
+    }
+
+    fn read_deny(alloc: Global, pattern: &str, words: Words) -> Result<Row, LineFault>
+        ensures ok { IfOk result (IsRow pattern.now (row_entry pattern.now Deny words.entry)) }
+        ensures err { IfErr result (IsFaultOf pattern.now (row_entry pattern.now Deny words.entry)) }
+    {
+        let hosts = read_hosts(alloc, words.between_commas())?;
+        let compiled = Compiled::new(alloc, pattern)?;
+        Ok(Row {
+            regex: compiled.regex,
+            verb: Verb::Deny(hosts),
+        })
+    }
+}

@@ -1,0 +1,36 @@
+//! Worked runs of scripts, as stories that are told to `replay`. There is no code here but tests.
+//!
+//! A story is a text. Its lines are those of a script, and behind `> ` what a line prints. All that
+//! is printed has to be this, and the status at the end has to be 0. Beside these there are
+//!
+//! - `@served`: the lines of a beginning that stories share (`beginnings`);
+//! - `[256 from 1:TEXT]`: `TEXT` 256 times, with a number in it that rises from 1: `{d}` is its
+//!   decimal digits, `{d4}` four of them, `{x6}` and `{x8}` so many hexadecimal ones, and `{t4}` the
+//!   bytes of `{d4}` as hexadecimal digits;
+//! - `! status 2`: another status at the end;
+//! - `! uncut`: without it the script is performed again with the bytes of each line cut after 1 to
+//!   47 of them.
+#![tactic(auto)]
+
+#[cfg(test)]
+mod beginnings;
+#[cfg(test)]
+mod channels;
+#[cfg(test)]
+mod clients;
+#[cfg(test)]
+mod limits;
+#[cfg(test)]
+mod links;
+#[cfg(test)]
+mod reads;
+#[cfg(test)]
+mod searches;
+#[cfg(test)]
+mod servers;
+#[cfg(test)]
+mod subscriptions;
+#[cfg(test)]
+mod tell;
+#[cfg(test)]
+mod types;

@@ -1,0 +1,3 @@
+mod OutputLemmas
+mod WordsLemmas
+mod ValuesLemmas

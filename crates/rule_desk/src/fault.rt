@@ -1,0 +1,28 @@
+//! Why an edit is refused.
+
+use pvlist::RuleCause;
+use std::error::Error;
+use std::fmt;
+
+/// Why an edit is refused. The desk is as before.
+#[derive(Clone, Copy, Debug, PartialEq, Eq)]
+pub enum DeskFault {
+    /// The first faulty line of the rule file, counted from 1, and what is wrong with it.
+    Rules(usize, RuleCause),
+    /// The same of the group file, where the rule file has no fault.
+    Groups(usize, RuleCause),
+    /// The allocator had no memory.
+    OutOfMemory,
+}
+
+impl fmt::Display for DeskFault {
+    fn fmt<W: fmt::Write>(&self, f: &mut fmt::Formatter<W>) -> fmt::Result {
+        match self {
+            DeskFault::Rules(line, cause) => write!(f, "line {line}: {cause}"),
+            DeskFault::Groups(line, cause) => write!(f, "groups line {line}: {cause}"),
+            DeskFault::OutOfMemory => f.write_str("out of memory"),
+        }
+    }
+}
+
+impl Error for DeskFault {}

@@ -1,0 +1,93 @@
+//! What servers say of channels.
+ghost use Rattle.std.specs.Prelude.{◌≡◌, OnOk};
+ghost use Rattle.gateway_state.specs.Servers.{is_usable, channel_made, answered_creating, channel_returned, rights_said, creation_refused, channel_dropped, with_link_state};
+ghost use Rattle.dbr_layout.specs.Dbr.{dbr_of};
+
+use ca_message::ToServer;
+use gateway_rows::{Rows, fits_payload, is_creating, time_of};
+use gateway_state::PLAIN_TYPES;
+use link_table::LinkState;
+use std::alloc::AllocError;
+
+fn put_link(rows: &mut Rows, server: u32, cid: u32, state: LinkState, rights: u32)
+    ensures { rows.new ≡ with_link_state server cid state rights rows.old }
+{
+    rows.upstream.put_link(server, cid, state, rights);
+}
+
+/// The gateway gives up a channel that it doesn't want.
+fn return_channel(rows: &mut Rows, server: u32, sid: u32, cid: u32) -> Result<(), AllocError>
+    ensures { OnOk result (rows.new ≡ channel_returned server sid cid rows.old) }
+{
+    rows.ask(server, &ToServer::ClearChannel { sid, cid })
+}
+
+/// A server made a channel.
+pub(crate) fn make_channel(
+    rows: &mut Rows,
+    server: u32,
+    cid: u32,
+    sid: u32,
+    dtype: u16,
+    count: u32,
+) -> Result<(), AllocError>
+    ensures { OnOk result (rows.new ≡ channel_made rows.old server cid sid dtype count) }
+{
+    let Some(link) = rows.upstream.by_cid(server, cid) else {
+        return return_channel(rows, server, sid, cid);
+    };
+    if !is_creating(link.state) {
+        return Ok(());
+    }
+    let rights = link.rights;
+    if is_usable(dtype, count) {
+        put_link(
+            rows,
+            server,
+            cid,
+            LinkState::Connected { sid, dtype, count },
+            rights,
+        );
+        Ok(())
+    } else {
+        put_link(rows, server, cid, LinkState::Unusable, rights);
+        return_channel(rows, server, sid, cid)
+    }
+}
+
+/// A server said what may be done with a channel.
+pub(crate) fn hear_rights(rows: &mut Rows, server: u32, cid: u32, rights: u32)
+    ensures { rows.new ≡ rights_said rows.old server cid rights }
+{
+    if let Some(link) = rows.upstream.by_cid(server, cid) {
+        let state = link.state;
+        put_link(rows, server, cid, state, rights);
+    }
+}
+
+/// A server didn't make a channel.
+pub(crate) fn hear_refusal(rows: &mut Rows, server: u32, cid: u32)
+    ensures { rows.new ≡ creation_refused rows.old server cid }
+{
+    if let Some(link) = rows.upstream.by_cid(server, cid) {
+        if is_creating(link.state) {
+            rows.remove_link(server, cid);
+        }
+    }
+}
+
+/// A server dropped a channel.
+pub(crate) fn hear_disconnect(rows: &mut Rows, server: u32, cid: u32)
+    ensures { rows.new ≡ channel_dropped rows.old server cid }
+{
+    if let Some(_) = rows.upstream.by_cid(server, cid) {
+        rows.remove_link(server, cid);
+    }
+}
+
+/// Whether updates of a channel with this native type and count can be taken.
+fn is_usable(dtype: u16, count: u32) -> bool
+    ensures { result ≡ is_usable dtype count }
+{
+    dtype < PLAIN_TYPES && 0 < count && fits_payload(time_of(dtype), count)
+}

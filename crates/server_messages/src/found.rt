@@ -1,0 +1,56 @@
+//! Variables that servers have.
+ghost use Rattle.std.specs.Prelude.{◌≡◌, true, OnOk, IsErrOf};
+ghost use Rattle.gateway_state.specs.Numbers.{is_past_numbers};
+ghost use Rattle.gateway_state.specs.Servers.{found, linked};
+
+use ca_message::{NameText, ToServer};
+use gateway_rows::{Refusal, Rows};
+use gateway_state::Dest;
+use link_table::{Counter, LINK_LIMIT, Link, LinkState};
+use pv_name::Name;
+
+/// A server has a variable.
+pub fn find_at(rows: &mut Rows, name: Name, server: u32) -> Result<(), Refusal>
+    ensures ok { OnOk result (rows.new ≡ found rows.old name server) }
+    ensures used_up { IsErrOf result Refusal.NumbersUsedUp → is_past_numbers (found rows.old name server) ≡ true }
+{
+    if rows.is_missing(&name)?
+        && rows.acts(Dest::Upstream(server))
+        && rows.upstream.link_count() < LINK_LIMIT
+    {
+        make_link(rows, server, name)
+    } else {
+        Ok(())
+    }
+}
+
+/// Makes a link, and asks the server for a channel.
+#[tactic(auto, unfolding(gateway_state::specs::Telling::sent, gateway_state::specs::Numbers::is_past_numbers))]
+fn make_link(rows: &mut Rows, server: u32, name: Name) -> Result<(), Refusal>
+    ensures ok { OnOk result (rows.new ≡ linked rows.old server name) }
+    ensures used_up { IsErrOf result Refusal.NumbersUsedUp → is_past_numbers (linked rows.old server name) ≡ true }
+{
+    let Some(cid) = rows.upstream.give_out(Counter::Cid) else {
+        return Err(Refusal::NumbersUsedUp);
+    };
+    let asked = name.copy()?;
+    let link = Link {
+        cid,
+        server,
+        name,
+        state: LinkState::Creating,
+        rights: 0,
+        subscription: None,
+    };
+    if rows.upstream.add_link(link).is_err() {
+        return Err(Refusal::OutOfMemory);
+    }
+    rows.ask(
+        server,
+        &ToServer::CreateChannel {
+            cid,
+            name: NameText::from(&asked),
+        },
+    )?;
+    Ok(())
+}

@@ -1,0 +1,163 @@
+//! Updates.
+ghost use Rattle.std.specs.Prelude.{◌≡◌, filter, fold, OnOk, IfOk};
+ghost use Rattle.gateway_state.specs.Servers.{has_other_alarm, is_value, read_failed, updated, waits_for, with_cached};
+ghost use Rattle.gateway_state.specs.Rights.{channel_of};
+ghost use Rattle.gateway_state.specs.Updates.{concerned, is_concerned, is_sub_to};
+ghost use Rattle.gateway_state.specs.Variables.{is_channel_on};
+
+use bytes::Bytes;
+use ca_message::ToClient;
+use ca_message::codes::{ECA_GETFAIL, ECA_NORMAL};
+use channel_table::{ClientSub, WaitingRead};
+use dbr_layout::View;
+use gateway_rows::{Rows, time_of};
+use gateway_state::{ALARM_EVENTS, LastMessage, VALUE_EVENTS};
+use link_table::LinkState;
+use pv_name::Name;
+use std::alloc::AllocError;
+use value_cache::Cached;
+
+/// Whether a session's channel stands and is on a variable.
+fn is_channel_on(rows: &Rows, name: &Name, session: u32, sid: u32) -> bool
+    ensures { result ≡ is_channel_on name.now (channel_of rows.now session sid) }
+{
+    match rows.channel_of(session, sid) {
+        Some(channel) => channel.real == *name,
+        None => false,
+    }
+}
+
+/// Whether a read waits for a variable.
+fn waits_for(rows: &Rows, name: &Name, read: WaitingRead) -> bool
+    ensures { result ≡ waits_for rows.now name.now read }
+{
+    is_channel_on(rows, name, read.session, read.sid)
+}
+
+/// The reads that wait for a variable, in the order of asking.
+fn reads_for(rows: &Rows, name: &Name) -> Result<Vec<WaitingRead>, AllocError>
+    ensures { IfOk result (λ reads. reads.items ≡ filter (waits_for rows.now name.now) rows.now.clients.reads) }
+{
+    let mut reads = Vec::new(rows.alloc);
+    for read in rows.clients.reads() {
+        if waits_for(rows, name, *read) {
+            reads.push(*read)?;
+        }
+    }
+    Ok(reads)
+}
+
+/// A read can't be had.
+fn fail_read(rows: &mut Rows, read: WaitingRead) -> Result<(), AllocError>
+    ensures { OnOk result (rows.new ≡ read_failed rows.old read) }
+{
+    rows.clients.remove_read(&read);
+    let said = ToClient::ReadNotifyRefused {
+        ioid: read.ioid,
+        dtype: read.dtype,
+        count: read.count,
+        code: ECA_GETFAIL,
+    };
+    rows.tell(read.session, &said)
+}
+
+fn fail_reads(rows: &mut Rows, reads: Vec<WaitingRead>) -> Result<(), AllocError>
+    ensures { OnOk result (rows.new ≡ fold read_failed rows.old reads.items) }
+{
+    for read in &reads {
+        fail_read(rows, *read)?;
+    }
+    Ok(())
+}
+
+/// Keeps a link's last message.
+fn keep_value(rows: &mut Rows, row: LastMessage) -> Result<(), AllocError>
+    ensures { OnOk result (rows.new ≡ with_cached row rows.old) }
+{
+    rows.cache.put(row)
+}
+
+/// Whether a subscription is on a variable.
+fn is_sub_to(rows: &Rows, name: &Name, sub: &ClientSub) -> bool
+    ensures { result ≡ is_sub_to rows.now name.now sub.now }
+{
+    is_channel_on(rows, name, sub.session, sub.sid)
+}
+
+/// The subscriptions to a variable that an update of it concerns.
+fn concerned(rows: &Rows, name: &Name, differs: bool) -> Result<Vec<ClientSub>, AllocError>
+    ensures { IfOk result (λ subs. subs.items ≡ concerned rows.now name.now differs) }
+{
+    let mut subs = Vec::new(rows.alloc);
+    for sub in rows.clients.subs() {
+        if is_sub_to(rows, name, sub) && is_concerned(sub, differs) {
+            subs.push(*sub)?;
+        }
+    }
+    Ok(subs)
+}
+
+/// Whether the alarm of an update differs from that of a link's last message, or there is none.
+fn has_other_alarm(rows: &Rows, cid: u32, dtype: u16, count: u32, payload: &[u8]) -> bool
+    ensures { result ≡ has_other_alarm rows.now cid dtype count payload.now }
+{
+    let Ok(view) = View::new(dtype, count, payload) else {
+        return false;
+    };
+    match rows.cache.get(cid) {
+        Some(last) => last.held.alarm_differs(&view),
+        None => true,
+    }
+}
+
+/// An update came under a subscription's ID.
+pub(crate) fn update(
+    rows: &mut Rows,
+    server: u32,
+    id: u32,
+    status: u32,
+    dtype: u16,
+    count: u32,
+    payload: Bytes,
+) -> Result<(), AllocError>
+    ensures { OnOk result (rows.new ≡ updated rows.old server id status dtype count payload) }
+{
+    let Some(link) = rows.upstream.by_sub(server, id) else {
+        return Ok(());
+    };
+    if status != ECA_NORMAL {
+        let reads = reads_for(rows, &link.name)?;
+        return fail_reads(rows, reads);
+    }
+    let LinkState::Connected { dtype: native, .. } = link.state else {
+        return Ok(());
+    };
+    let Some(subscription) = link.subscription else {
+        return Ok(());
+    };
+    if !is_value(native, subscription.count, dtype, count, &payload) {
+        return Ok(());
+    }
+    let (server, cid) = (link.server, link.cid);
+    let differs = has_other_alarm(rows, cid, dtype, count, &payload);
+    let owed = concerned(rows, &link.name, differs)?;
+    rows.owe_all(&owed);
+    let mut held = Cached::empty();
+    held.put(dtype, count, payload, subscription.count);
+    keep_value(rows, LastMessage { server, cid, held })
+}
+
+/// Whether an update counts as the last message.
+fn is_value(native: u16, asked_with: u32, dtype: u16, count: u32, payload: &[u8]) -> bool
+    ensures { result ≡ is_value native asked_with dtype count payload.now }
+{
+    dtype == time_of(native) && count <= asked_with && View::new(dtype, count, payload).is_ok()
+}
+
+/// Whether an update concerns a subscription: it asks for values or for the log, or for alarms and
+/// the alarm is another.
+fn is_concerned(sub: &ClientSub, differs: bool) -> bool
+    ensures { result ≡ is_concerned differs sub.now }
+{
+    sub.mask & VALUE_EVENTS > 0 || sub.mask & ALARM_EVENTS > 0 && differs
+}
