@@ -118,11 +118,14 @@ fn a_server_goes_with_its_links(rt: HostRuntime) -> Result<(), Fail> {
 #[test]
 fn no_row_is_added_past_its_limit(rt: HostRuntime) -> Result<(), Fail> {
     let mut links = two_links(rt.alloc())?;
-    let server = Server {
-        number: 2,
+    for number in 2..17 {
+        links.add_server(Server { number, minor: 0 })?;
+    }
+    let seventeenth = Server {
+        number: 17,
         minor: 0,
     };
-    assert_eq!(rt; links.add_server(server), Err(TableFault::Full));
+    assert_eq!(rt; links.add_server(seventeenth), Err(TableFault::Full));
     for cid in 3..65_537 {
         let name = format!(in rt.alloc(); "T{cid}")?;
         links.add_link(link(rt.alloc(), cid, name.as_str())?)?;
