@@ -48,7 +48,7 @@ fn made(alloc: Global) -> Result<Tried, Fail> {
         port: 5064,
         first: 0xFFFF_FFFE,
     };
-    let engine = Engine::new(alloc, config, Policy::open_to_all())?;
+    let engine = Engine::new(alloc, config, Policy::open_to_all(alloc))?;
     Ok(Tried { engine })
 }
 
