@@ -42,6 +42,4 @@ mod header;
 mod intake;
 pub mod laws;
 mod reading;
-#[cfg(test)]
-mod tests;
 mod writing;

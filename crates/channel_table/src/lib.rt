@@ -36,8 +36,6 @@ mod reads;
 mod sessions;
 mod subs;
 mod table;
-#[cfg(test)]
-mod tests;
 
 pub use channels::Channel;
 pub use reads::WaitingRead;

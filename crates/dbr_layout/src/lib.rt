@@ -34,6 +34,4 @@ mod dbr;
 mod fault;
 mod fields;
 pub mod laws;
-#[cfg(test)]
-mod tests;
 mod view;

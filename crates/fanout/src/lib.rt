@@ -31,7 +31,5 @@
 
 pub mod laws;
 mod outbox;
-#[cfg(test)]
-mod tests;
 
 pub use outbox::{AppendFault, OUTBOX_LIMIT, Out, Outbox};

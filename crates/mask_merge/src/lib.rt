@@ -22,8 +22,6 @@
 
 mod laws;
 mod tally;
-#[cfg(test)]
-mod tests;
 mod want;
 
 pub use laws::{

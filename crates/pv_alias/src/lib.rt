@@ -19,8 +19,6 @@ mod lead;
 mod real_name;
 mod resolving;
 mod rights;
-#[cfg(test)]
-mod tests;
 
 pub use lead::Lead;
 pub use resolving::resolve;

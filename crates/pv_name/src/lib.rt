@@ -24,8 +24,6 @@ mod group;
 mod host;
 pub mod laws;
 mod name;
-#[cfg(test)]
-mod tests;
 mod word;
 
 pub use fault::NameFault;

@@ -30,8 +30,6 @@ mod line;
 mod real_text;
 mod row;
 mod rules;
-#[cfg(test)]
-mod tests;
 mod translation;
 mod words;
 mod writing;

@@ -30,8 +30,6 @@ ghost use Rattle.rule_check.specs.Check.{IsStatus, IsGood, IsGoodOf, IsRefused, 
 mod answer;
 mod output;
 pub mod status;
-#[cfg(test)]
-mod tests;
 
 pub use answer::Asked;
 use answer::answer_if_asked;

@@ -18,8 +18,6 @@
 mod desk;
 mod fault;
 mod policy;
-#[cfg(test)]
-mod tests;
 
 pub use desk::Desk;
 pub use fault::DeskFault;

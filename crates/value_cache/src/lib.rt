@@ -27,5 +27,3 @@ pub use cached::Cached;
 
 mod cached;
 pub mod laws;
-#[cfg(test)]
-mod tests;

@@ -1,14 +1,16 @@
-use super::*;
+//! What `check` writes of files, and its status.
 use pv_name::{Host, Name};
+use rule_check::{Asked, check, status};
+use std::alloc::Global;
+use std::io;
+use std::io::Write;
 use std::process::Abort;
 use std::test::Fail;
-
-mod site;
 
 const THREE_ROWS: &str = "\\(.*\\):SET ALIAS \\1:SP ops\n.*:SET DENY FROM lab7\nX.* DENY\n";
 
 /// Checks the texts, asked for the name and the host, and compares what is written and the status.
-fn tells(
+pub(crate) fn tells(
     rt: &impl Abort,
     alloc: Global,
     rules: &str,

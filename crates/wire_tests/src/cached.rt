@@ -1,10 +1,10 @@
 //! A message of three elements, and what is told and answered from it.
-use crate::Cached;
 use bytes::Bytes;
 use dbr_layout::View;
 use std::alloc::Global;
 use std::process::Abort;
 use std::test::Fail;
+use value_cache::Cached;
 
 const LONG: u16 = 5;
 

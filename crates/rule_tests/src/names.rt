@@ -1,4 +1,5 @@
-use super::*;
+//! What is a name, a host and a group.
+use pv_name::{Group, Host, Name, NameFault, is_host, is_name, same_host};
 use std::test::Fail;
 
 #[test]

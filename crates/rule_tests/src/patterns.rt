@@ -1,9 +1,6 @@
-mod group_files;
-mod rule_files;
-
-use super::*;
-use crate::words::Words;
+//! What a caller of `pvlist` sees: patterns, words of its faults, hosts.
 use pv_name::{Group, Host};
+use pvlist::{Groups, Hosts, Order, RuleCause, RuleFault, Rules, TranslateFault, translate};
 use std::test::Fail;
 
 #[test]
@@ -62,28 +59,6 @@ fn bad_patterns_are_refused(rt: HostRuntime) {
     for pattern in cases {
         let fault = translate(rt.alloc(), pattern).err();
         assert_eq!(rt; fault, Some(TranslateFault::BadPattern), "{pattern}");
-    }
-}
-
-#[test]
-fn words_stand_between_blanks_before_a_comment(rt: HostRuntime) {
-    let cases = [
-        ("", [None, None, None]),
-        (" \t ", [None, None, None]),
-        ("# A B", [None, None, None]),
-        ("A", [Some("A"), None, None]),
-        ("  A.* ALLOW\tg", [Some("A.*"), Some("ALLOW"), Some("g")]),
-        ("A\t \tB ", [Some("A"), Some("B"), None]),
-        ("A#B C", [Some("A"), None, None]),
-        ("A B # C", [Some("A"), Some("B"), None]),
-        ("[é]\té\r", [Some("[é]"), Some("é\r"), None]),
-    ];
-    for (line, want) in cases {
-        let mut words = Words::new(line);
-        for word in want {
-            assert_eq!(rt; words.next(), word, "{line}");
-        }
-        assert_eq!(rt; words.next(), None, "{line}");
     }
 }
 

@@ -1,4 +1,5 @@
-use super::*;
+//! Where names lead, and the rights of groups.
+use pv_alias::{group_rights, resolve};
 use pv_name::{Group, Host, Name};
 use pvlist::{Groups, Rules};
 use std::alloc::Global;

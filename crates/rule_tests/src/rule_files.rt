@@ -1,5 +1,5 @@
 //! Rule files, good and faulty.
-use crate::{Order, Row, RuleCause, RuleFault, Rules, Verb};
+use pvlist::{Order, Row, RuleCause, RuleFault, Rules, Verb};
 use std::alloc::Global;
 use std::test::Fail;
 
@@ -82,6 +82,28 @@ fn good_lines_are_not_refused(rt: HostRuntime) {
         let fault = Rules::read(rt.alloc(), text).err();
         assert_eq!(rt; fault, None, "{text}");
     }
+}
+
+#[test]
+fn words_stand_between_blanks_before_a_comment(rt: HostRuntime) -> Result<(), Fail> {
+    let cases = [
+        ("  A.* ALLOW\tg", "allow g"),
+        ("A\t \tALLOW ", "allow -"),
+        ("A ALLOW#g", "allow -"),
+        ("A ALLOW # g", "allow -"),
+        ("[é]\tALIAS B#g", "alias B -"),
+    ];
+    for (line, verb) in cases {
+        let rules = Rules::read(rt.alloc(), line)?;
+        assert_eq!(rt; rules.rows().len(), 1, "{line}");
+        for row in rules.rows() {
+            assert_eq!(rt; verb_text(rt.alloc(), row)?.as_str(), verb, "{line}");
+        }
+    }
+    for line in ["", " \t ", "# A ALLOW"] {
+        assert_eq!(rt; Rules::read(rt.alloc(), line)?.rows().len(), 0, "{line}");
+    }
+    Ok(())
 }
 
 #[test]

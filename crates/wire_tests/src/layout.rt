@@ -1,5 +1,5 @@
 //! The table of types, payloads from outside and worked out by hand, and the sizes at the limit.
-use crate::{Base, Converted, Dbr, Form, LayoutFault, Stamp, View, converts};
+use dbr_layout::{Base, Converted, Dbr, Form, LayoutFault, Stamp, View, converts};
 use std::test::Fail;
 
 const STRING: u16 = 0;

@@ -1,6 +1,6 @@
 //! Group files, good and faulty.
-use crate::{GroupRight, Groups, RuleCause, RuleFault};
 use pv_name::Group;
+use pvlist::{GroupRight, Groups, RuleCause, RuleFault};
 use std::test::Fail;
 
 #[test]

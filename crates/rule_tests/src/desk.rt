@@ -1,7 +1,8 @@
-use super::*;
+//! Policies from the texts of files.
 use pv_alias::{group_rights, resolve};
 use pv_name::{Group, Host, Name};
 use pvlist::RuleCause;
+use rule_desk::{Desk, DeskFault, Policy};
 use std::test::Fail;
 
 #[test]

@@ -1,5 +1,6 @@
 //! The rule file and the group file of a site. They are those of the folder `examples`.
-use super::*;
+use crate::checking::tells;
+use std::test::Fail;
 
 const RULES: &str = "\
 # Which process variables the gateway serves, to whom and by which names.

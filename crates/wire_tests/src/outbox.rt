@@ -1,7 +1,7 @@
 //! Outboxes that are filled and emptied.
-use crate::{AppendFault, OUTBOX_LIMIT, Out, Outbox};
 use bytes::Bytes;
 use ca_header::{Header, write_head};
+use fanout::{AppendFault, OUTBOX_LIMIT, Out, Outbox};
 use std::alloc::Global;
 use std::test::Fail;
 

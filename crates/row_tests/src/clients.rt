@@ -1,0 +1,215 @@
+//! Tables of clients' rows that are filled and emptied.
+use crate::client_rows::tells;
+use std::test::Fail;
+
+// Sessions 1 and 2, of which 1 has channels 11 and 12 and 2 has channel 21, each with a subscription
+// and a read.
+const TWO_CLIENTS: &str = "\
+session 1-2
+channel 1 11-12
+channel 2 21
+sub 1 11 5
+sub 1 12 6
+sub 2 21 5
+read 1 11 11
+read 1 12 12
+read 2 21 21
+";
+
+#[test]
+fn a_row_that_is_added_is_found(rt: HostRuntime) -> Result<(), Fail> {
+    tells(
+        &rt,
+        rt.alloc(),
+        TWO_CLIENTS,
+        "\
+find session 2
+> session 2 10.0.0.5
+find session 3
+> none
+find channel 1 12
+> channel 1 12 A:SP reach 0 rights 3
+find channel 2 12
+> none
+find sub 2 5
+> sub 2 21 5 owed
+find sub 2 6
+> none
+count 1
+> 2 2 2
+count 2
+> 1 1 1
+count 3
+> 0 0 0
+show
+> session 1 10.0.0.5
+> session 2 10.0.0.5
+> channel 1 11 A:SP reach 0 rights 3
+> channel 1 12 A:SP reach 0 rights 3
+> channel 2 21 A:SP reach 0 rights 3
+> sub 1 11 5 owed
+> sub 1 12 6 owed
+> sub 2 21 5 owed
+> read 1 11 11
+> read 1 12 12
+> read 2 21 21
+",
+    )
+}
+
+#[test]
+fn a_row_that_is_put_is_changed(rt: HostRuntime) -> Result<(), Fail> {
+    tells(
+        &rt,
+        rt.alloc(),
+        TWO_CLIENTS,
+        "\
+put session 2 desk1
+put session 3 desk2
+put channel 1 12 20 1
+put channel 2 12 30 1
+put sub 1 5
+put sub 2 6
+show
+> session 1 10.0.0.5
+> session 2 desk1 fixed paused
+> channel 1 11 A:SP reach 0 rights 3
+> channel 1 12 A:SP reach 20 rights 1
+> channel 2 21 A:SP reach 0 rights 3
+> sub 1 11 5
+> sub 1 12 6 owed
+> sub 2 21 5 owed
+> read 1 11 11
+> read 1 12 12
+> read 2 21 21
+",
+    )
+}
+
+#[test]
+fn a_subscription_leaves_its_session_alone(rt: HostRuntime) -> Result<(), Fail> {
+    tells(
+        &rt,
+        rt.alloc(),
+        TWO_CLIENTS,
+        "\
+remove sub 1 5
+remove sub 2 6
+find sub 2 5
+> sub 2 21 5 owed
+count 1
+> 2 1 2
+count 2
+> 1 1 1
+",
+    )
+}
+
+#[test]
+fn a_session_leaves_with_all_its_rows(rt: HostRuntime) -> Result<(), Fail> {
+    tells(
+        &rt,
+        rt.alloc(),
+        TWO_CLIENTS,
+        "\
+remove session 1
+show
+> session 2 10.0.0.5
+> channel 2 21 A:SP reach 0 rights 3
+> sub 2 21 5 owed
+> read 2 21 21
+",
+    )
+}
+
+#[test]
+fn a_channel_leaves_with_its_subscriptions_and_reads(rt: HostRuntime) -> Result<(), Fail> {
+    tells(
+        &rt,
+        rt.alloc(),
+        TWO_CLIENTS,
+        "\
+remove channel 1 11
+show
+> session 1 10.0.0.5
+> session 2 10.0.0.5
+> channel 1 12 A:SP reach 0 rights 3
+> channel 2 21 A:SP reach 0 rights 3
+> sub 1 12 6 owed
+> sub 2 21 5 owed
+> read 1 12 12
+> read 2 21 21
+",
+    )
+}
+
+#[test]
+fn the_first_of_equal_reads_leaves(rt: HostRuntime) -> Result<(), Fail> {
+    tells(
+        &rt,
+        rt.alloc(),
+        "session 1\nchannel 1 11",
+        "\
+read 1 11 11-12
+read 1 11 11
+remove read 1 11 11
+remove read 1 11 99
+show
+> session 1 10.0.0.5
+> channel 1 11 A:SP reach 0 rights 3
+> read 1 11 12
+> read 1 11 11
+",
+    )
+}
+
+#[test]
+fn a_row_without_its_session_or_channel_is_refused(rt: HostRuntime) -> Result<(), Fail> {
+    tells(
+        &rt,
+        rt.alloc(),
+        TWO_CLIENTS,
+        "\
+channel 3 31
+> missing
+sub 2 11 1
+> missing
+read 2 11 1
+> missing
+",
+    )
+}
+
+#[test]
+fn the_row_past_each_limit_is_refused(rt: HostRuntime) -> Result<(), Fail> {
+    tells(
+        &rt,
+        rt.alloc(),
+        "session 0-1023\nchannel 1 0-4095",
+        "\
+session 1024
+> full
+channel 1 4096
+> full
+channel 2 4096
+read 1 9 0-255
+read 1 9 256
+> full
+read 2 4096 0
+sub 1 11 0-8191
+sub 1 12 8192
+> full
+sub 2 4096 7
+count 1
+> 4096 8192 256
+count 2
+> 1 1 1
+",
+    )
+}
+
+/// The example at the head of the crate.
+#[test]
+fn a_read_names_a_channel(rt: HostRuntime) -> Result<(), Fail> {
+    tells(&rt, rt.alloc(), "session 1", "read 1 11 9\n> missing")
+}

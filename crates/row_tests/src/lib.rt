@@ -1,0 +1,10 @@
+//! Tests of the rows of clients, of servers and links, and of what readers want together. They stand
+//! apart so that each crate they test is proved once, and not a second time with its tests.
+#![tactic(auto)]
+
+#[cfg(test)]
+mod client_rows;
+#[cfg(test)]
+mod clients;
+#[cfg(test)]
+mod wants;
