@@ -1,2 +1,4 @@
+pub mod Filled
 pub mod NulEnded
 pub mod ReadBack
+pub mod WrittenBack

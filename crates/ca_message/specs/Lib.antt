@@ -7,3 +7,4 @@ pub mod Text
 pub mod ToClient
 pub mod ToServer
 pub mod Wire
+pub mod Written

@@ -7,9 +7,9 @@ use Rattle.ca_message.specs.ErrorText.{text_of}
 use Rattle.ca_message.specs.Padding.{nul_ended}
 use Rattle.ca_message.specs.Wire.{message, IsPayload, IsWholeMessage}
 use Rattle.ca_message.specs.declared.codes.TheConstants.{ECA_NORMAL}
-use Rattle.ca_message.specs.declared.commands.TheConstants.{CA_PROTO_VERSION, CA_PROTO_ERROR, CA_PROTO_EVENT_ADD, CA_PROTO_CLEAR_CHANNEL, CA_PROTO_READ_NOTIFY, CA_PROTO_CREATE_CHAN, CA_PROTO_ACCESS_RIGHTS, CA_PROTO_CREATE_CH_FAIL, CA_PROTO_SERVER_DISCONN, MINOR_VERSION}
+use Rattle.ca_message.specs.declared.commands.TheConstants.{CA_PROTO_VERSION, CA_PROTO_ERROR, CA_PROTO_EVENT_ADD, CA_PROTO_CLEAR_CHANNEL, CA_PROTO_READ_NOTIFY, CA_PROTO_CREATE_CHAN, CA_PROTO_ACCESS_RIGHTS, CA_PROTO_CREATE_CH_FAIL, CA_PROTO_SERVER_DISCONN, CA_PROTO_WRITE_NOTIFY, MINOR_VERSION}
 use Rattle.ca_message.specs.declared.to_client.ToClient.{ToClient}
-use Rattle.ca_message.specs.declared.to_client.ToClient.TheVariants.{Version, Echo, Error, Update, EventCancelled, ClearChannel, ReadNotify, ReadNotifyRefused, CreateChannel, CreateChannelFail, AccessRights, ServerDisconnect}
+use Rattle.ca_message.specs.declared.to_client.ToClient.TheVariants.{Version, Echo, Error, Update, EventCancelled, ClearChannel, ReadNotify, ReadNotifyRefused, CreateChannel, CreateChannelFail, WriteNotify, AccessRights, ServerDisconnect}
 
 -- what an ERROR carries: the header of the refused request, then the text of the code
 abbrev pub error_payload : Header → ℕ → List ℕ
@@ -27,6 +27,7 @@ client_message (ReadNotify ioid dtype count value) = message CA_PROTO_READ_NOTIF
 client_message (ReadNotifyRefused ioid dtype count code) = message CA_PROTO_READ_NOTIFY dtype count code ioid []
 client_message (CreateChannel cid sid dtype count) = message CA_PROTO_CREATE_CHAN dtype count cid sid []
 client_message (CreateChannelFail cid) = message CA_PROTO_CREATE_CH_FAIL 0 0 cid 0 []
+client_message (WriteNotify ioid dtype count status) = message CA_PROTO_WRITE_NOTIFY dtype count status ioid []
 client_message (AccessRights cid rights) = message CA_PROTO_ACCESS_RIGHTS 0 0 cid rights []
 client_message (ServerDisconnect cid) = message CA_PROTO_SERVER_DISCONN 0 0 cid 0 []
 

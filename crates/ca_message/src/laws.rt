@@ -1,5 +1,5 @@
 //! Laws of the wire forms. Each is a call that does nothing, and its contract is the law.
-ghost use Rattle.std.specs.Prelude.{◌≡◌, ℕ, ◌^◌, ◌<◌, ◌≤◌, List};
+ghost use Rattle.std.specs.Prelude.{◌≡◌, ℕ, ◌*◌, ◌^◌, ◌<◌, ◌≤◌, List, length, Some, Ok};
 ghost use Rattle.pv_name.specs.Name.{IsName};
 ghost use Rattle.pv_name.specs.Host.{IsHost};
 ghost use Rattle.ca_message.specs.declared.codes.TheConstants.{ECA_NORMAL, ECA_ALLOCMEM, ECA_TOLARGE, ECA_BADTYPE, ECA_INTERNAL, ECA_GETFAIL, ECA_PUTFAIL, ECA_BADCOUNT, ECA_BADMASK, ECA_NORDACCESS, ECA_NOWTACCESS, ECA_BADCHID, ERROR_TEXT_LIMIT};
@@ -15,7 +15,12 @@ ghost use Rattle.ca_message.specs.declared.to_server.ToServer.{ToServer};
 ghost use Rattle.ca_message.specs.declared.to_server.ToServer.TheVariants as server;
 ghost use Rattle.ca_message.specs.Wire.{IsWholeMessage};
 ghost use Rattle.ca_message.specs.ToClient.{client_message, HasWholeParts};
-ghost use Rattle.ca_message.specs.ToServer.{server_message, HasNames};
+ghost use Rattle.ca_message.specs.ToServer.{server_message, HasFittingParts};
+ghost use Rattle.ca_message.specs.Padding.{padded};
+ghost use Rattle.ca_message.specs.Written.{Written, plain_type, written};
+ghost use Rattle.ca_header.specs.declared.header.TheConstants.{MAX_PAYLOAD};
+ghost use Rattle.dbr_layout.specs.declared.dbr.Dbr.{Dbr};
+ghost use Rattle.dbr_layout.specs.Dbr.{element_size};
 ghost use Rattle.ca_message.specs.Laws.{asks, says};
 
 /// The numbers of commands (Channel Access Protocol Specification, "Commands").
@@ -78,7 +83,7 @@ pub fn messages_to_clients_are_whole()
 
 /// The same of each message to a server.
 pub fn messages_to_servers_are_whole()
-    ensures { (m : ToServer) → HasNames m → IsWholeMessage (server_message m) }
+    ensures { (m : ToServer) → HasFittingParts m → IsWholeMessage (server_message m) }
 {}
 
 /// A gateway reads what another one says to it as a server.
@@ -91,6 +96,10 @@ pub fn requests_are_read_back()
     ensures clear { (sid cid : ℕ) → asks (server.ClearChannel sid cid) (requests.ClearChannel sid cid) }
     ensures channel { (cid : ℕ) (name : List ℕ) → IsName name
         → asks (server.CreateChannel cid name) (requests.CreateChannel cid MINOR_VERSION name) }
+    ensures write { (sid : ℕ) (value : Written) → asks
+        (server.Write sid value) (requests.Write sid value.dtype value.count (padded value.bytes)) }
+    ensures write_notify { (sid ioid : ℕ) (value : Written) → asks
+        (server.WriteNotify sid ioid value) (requests.WriteNotify sid ioid value.dtype value.count (padded value.bytes)) }
     ensures client { (name : List ℕ) → IsName name
         → asks (server.ClientName name) (requests.ClientName name) }
     ensures host { (name : List ℕ) → IsHost name
@@ -105,8 +114,24 @@ pub fn replies_are_read_back()
     ensures channel { (cid sid dtype count : ℕ) → says
         (client.CreateChannel cid sid dtype count) (replies.CreateChannel cid sid dtype count) }
     ensures fail { (cid : ℕ) → says (client.CreateChannelFail cid) (replies.CreateChannelFail cid) }
+    ensures written { (ioid dtype count status : ℕ)
+        → says (client.WriteNotify ioid dtype count status) (replies.WriteNotify ioid status) }
     ensures rights { (cid rights : ℕ) → rights ≤ READ_AND_WRITE
         → says (client.AccessRights cid rights) (replies.AccessRights cid rights) }
     ensures disconnect { (cid : ℕ)
         → says (client.ServerDisconnect cid) (replies.ServerDisconnect cid) }
+{}
+
+/// A value that may be written has exactly the bytes of its elements, and fits in a payload where it
+/// came in one. What is handed on is read as the same value.
+pub fn written_values_are_exact()
+    ensures sized { (dtype count native : ℕ) (payload : List ℕ) (value : Written) (dbr : Dbr)
+        → written dtype count native payload ≡ Ok value → plain_type dtype ≡ Some dbr
+        → length value.bytes ≡ count * element_size dbr.base }
+    ensures fits { (dtype count native : ℕ) (payload : List ℕ) (value : Written)
+        → written dtype count native payload ≡ Ok value → length payload ≤ MAX_PAYLOAD
+        → length value.bytes ≤ MAX_PAYLOAD }
+    ensures read_back { (dtype count native : ℕ) (payload : List ℕ) (value : Written)
+        → written dtype count native payload ≡ Ok value
+        → written dtype count native (padded value.bytes) ≡ Ok value }
 {}

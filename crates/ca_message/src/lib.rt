@@ -5,6 +5,7 @@
 //!   message is neither. They take no memory: texts and values are slices of the payload.
 //! - [`ToClient`] and [`ToServer`] are the messages that are sent. Their `head` and `payload` are the
 //!   wire form, with the payload padded and the padding counted.
+//! - [`WrittenValue`] is the value of a write, as it is handed on: exactly its elements.
 //! - [`commands`] and [`codes`] have the numbers of the protocol, [`error_text`] the texts of ERROR.
 //!
 //! Every message that is sent may head a payload and says its size (`laws::messages_to_clients_are_whole`,
@@ -21,11 +22,13 @@
 #![tactic(auto)]
 
 pub use codes::error_text;
-pub use reply::{ReplyFault, ServerReply, ValueBytes, read_reply};
+pub use reply::{ReplyFault, ServerReply, read_reply};
 pub use request::{ClientRequest, RequestFault, read_request};
 pub use text::{HostText, NUL, NameText};
 pub use to_client::ToClient;
 pub use to_server::ToServer;
+pub use value::ValueBytes;
+pub use written::{WriteFault, WrittenValue};
 
 pub mod codes;
 pub mod commands;
@@ -38,6 +41,8 @@ mod tests;
 mod text;
 mod to_client;
 mod to_server;
+mod value;
+mod written;
 
 /// Want of memory, of a call that fails for nothing else.
 pub type NoMemory = std::alloc::AllocError;

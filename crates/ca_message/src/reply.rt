@@ -1,64 +1,18 @@
 //! What a server says.
-ghost use Rattle.std.specs.Prelude.{◌≡◌, bytes_eq};
-ghost use Rattle.std.specs.Cmp.{partial_equiv_from_equiv};
-ghost use Rattle.std.specs.Cmp.Lexicographic.{nat_list_eq_equiv};
+ghost use Rattle.std.specs.Prelude.{◌≡◌};
 ghost use Rattle.ca_message.specs.ServerReply.{reply_of};
 
 use crate::commands::{
     CA_PROTO_ACCESS_RIGHTS, CA_PROTO_CREATE_CH_FAIL, CA_PROTO_CREATE_CHAN, CA_PROTO_EVENT_ADD,
-    CA_PROTO_SERVER_DISCONN, CA_PROTO_VERSION, READ_AND_WRITE,
+    CA_PROTO_SERVER_DISCONN, CA_PROTO_VERSION, CA_PROTO_WRITE_NOTIFY, READ_AND_WRITE,
 };
+use crate::value::ValueBytes;
 use ca_header::Header;
-use std::marker::Model;
-
-/// The bytes of a value, borrowed from the payload in which it came.
-#[derive(Debug, Drop)]
-pub struct ValueBytes<'a> {
-    bytes: &'a [u8],
-}
-
-impl<'a> Model for ValueBytes<'a> {
-    ghost use Rattle.std.specs.Prelude.{ℕ, List};
-
-    ghost Value = { List ℕ };
-
-    ghost view = { λ v. v.bytes.now };
-}
-
-impl<'a> ValueBytes<'a> {
-    pub fn as_slice(&self) -> &'a [u8]
-        ensures { result.now ≡ self.now }
-    {
-        self.bytes
-    }
-}
-
-impl<'a> From<&'a [u8]> for ValueBytes<'a> {
-    ghost from_gives = { λ bytes value. value ≡ bytes.now };
-
-    fn from(bytes: &'a [u8]) -> ValueBytes<'a> {
-        ValueBytes { bytes }
-    }
-}
-
-impl<'a> PartialEq for ValueBytes<'a> {
-    ghost eq = { bytes_eq };
-
-    ghost laws = { partial_equiv_from_equiv nat_list_eq_equiv };
-
-    fn eq(&self, other: &ValueBytes<'a>) -> bool {
-        self.bytes == other.bytes
-    }
-}
-
-impl<'a> Eq for ValueBytes<'a> {
-    ghost laws = { nat_list_eq_equiv };
-}
 
 /// A message from a server, as it is meant. A value is a slice of the payload.
 ///
 /// `sid` and `cid` are the server's and the gateway's ID of a channel, `id` is the gateway's ID of
-/// a subscription, and `dtype` the number of a DBR type.
+/// a subscription, `ioid` its ID of a write, and `dtype` the number of a DBR type.
 #[derive(Debug, PartialEq, Eq, Drop)]
 pub enum ServerReply<'a> {
     /// The server speaks this minor version of the protocol.
@@ -80,6 +34,12 @@ pub enum ServerReply<'a> {
         sid: u32,
         dtype: u16,
         count: u32,
+    },
+    /// The write that was asked for as `ioid` is over: the value is written where `status` is
+    /// `ECA_NORMAL`.
+    WriteNotify {
+        ioid: u32,
+        status: u32,
     },
     /// What may be done with the channel: `CA_PROTO_ACCESS_RIGHT_READ` and
     /// `CA_PROTO_ACCESS_RIGHT_WRITE`, added up.
@@ -123,6 +83,10 @@ pub fn read_reply<'a>(head: &Header, payload: &'a [u8]) -> Result<ServerReply<'a
             dtype: head.dtype,
             count: head.count,
         }),
+        CA_PROTO_WRITE_NOTIFY => {
+            let (status, ioid) = (head.p1, head.p2);
+            Ok(ServerReply::WriteNotify { ioid, status })
+        }
         CA_PROTO_ACCESS_RIGHTS => Ok(ServerReply::AccessRights {
             cid: head.p1,
             rights: head.p2 & READ_AND_WRITE,

@@ -5,13 +5,15 @@ ghost use Rattle.ca_message.specs.ClientRequest.{event_add_of, request_of};
 use crate::commands::{
     CA_PROTO_CLEAR_CHANNEL, CA_PROTO_CLIENT_NAME, CA_PROTO_CREATE_CHAN, CA_PROTO_ECHO,
     CA_PROTO_EVENT_ADD, CA_PROTO_EVENT_CANCEL, CA_PROTO_EVENTS_OFF, CA_PROTO_EVENTS_ON,
-    CA_PROTO_HOST_NAME, CA_PROTO_READ_NOTIFY, CA_PROTO_VERSION,
+    CA_PROTO_HOST_NAME, CA_PROTO_READ_NOTIFY, CA_PROTO_VERSION, CA_PROTO_WRITE,
+    CA_PROTO_WRITE_NOTIFY,
 };
 use crate::payload::{EVENT_MASK_OFFSET, EVENT_PAYLOAD_LEN};
 use crate::text::{HostText, NameText};
+use crate::value::ValueBytes;
 use ca_header::Header;
 
-/// A message from a client, as it is meant. Its texts are slices of the payload.
+/// A message from a client, as it is meant. Its texts and values are slices of the payload.
 ///
 /// `sid` and `cid` are the server's and the client's ID of a channel, `id` is the client's ID of a
 /// subscription, `ioid` its ID of a request, and `dtype` the number of a DBR type.
@@ -37,6 +39,14 @@ pub enum ClientRequest<'a> {
         dtype: u16,
         count: u32,
     },
+    /// The client writes a value of this type, of so many elements, and wants no reply. The value is
+    /// the payload as it came; `WrittenValue::read` tells whether it may be handed on.
+    Write {
+        sid: u32,
+        dtype: u16,
+        count: u32,
+        value: ValueBytes<'a>,
+    },
     /// The client wants no updates for now.
     EventsOff,
     /// The client wants updates again.
@@ -58,6 +68,14 @@ pub enum ClientRequest<'a> {
         cid: u32,
         minor: u32,
         name: NameText<'a>,
+    },
+    /// The same as `Write`, but the client wants to be told of it under `ioid`.
+    WriteNotify {
+        sid: u32,
+        ioid: u32,
+        dtype: u16,
+        count: u32,
+        value: ValueBytes<'a>,
     },
     /// The client's user is called so.
     ClientName(NameText<'a>),
@@ -94,6 +112,12 @@ pub fn read_request<'a>(head: &Header, payload: &'a [u8]) -> Result<ClientReques
             dtype: head.dtype,
             count: head.count,
         }),
+        CA_PROTO_WRITE => Ok(ClientRequest::Write {
+            sid: head.p1,
+            dtype: head.dtype,
+            count: head.count,
+            value: ValueBytes::from(payload),
+        }),
         CA_PROTO_EVENTS_OFF => Ok(ClientRequest::EventsOff),
         CA_PROTO_EVENTS_ON => Ok(ClientRequest::EventsOn),
         CA_PROTO_CLEAR_CHANNEL => Ok(ClientRequest::ClearChannel {
@@ -110,6 +134,13 @@ pub fn read_request<'a>(head: &Header, payload: &'a [u8]) -> Result<ClientReques
             cid: head.p1,
             minor: head.p2,
             name: NameText::read(payload)?,
+        }),
+        CA_PROTO_WRITE_NOTIFY => Ok(ClientRequest::WriteNotify {
+            sid: head.p1,
+            ioid: head.p2,
+            dtype: head.dtype,
+            count: head.count,
+            value: ValueBytes::from(payload),
         }),
         CA_PROTO_CLIENT_NAME => Ok(ClientRequest::ClientName(NameText::read(payload)?)),
         CA_PROTO_HOST_NAME => Ok(ClientRequest::HostName(HostText::read(payload)?)),

@@ -6,6 +6,7 @@ use std::test::Fail;
 
 mod reading;
 mod writing;
+mod written;
 
 /// The bytes that hexadecimal digits in lower case stand for; blanks part them for reading.
 fn from_hex(alloc: Global, text: &str) -> Result<Vec<u8>, NoMemory> {

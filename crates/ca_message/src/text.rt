@@ -160,7 +160,8 @@ fn text_in(payload: &[u8]) -> Result<&[u8], RequestFault>
     }
 }
 
-fn nul_place(bytes: &[u8]) -> Option<usize>
+/// Where the first NUL stands.
+pub(crate) fn nul_place(bytes: &[u8]) -> Option<usize>
     ensures place { result ≡ position is_nul bytes.now }
     ensures within { IfSome result (λ place. place < length bytes.now) }
 {

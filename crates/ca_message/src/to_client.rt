@@ -9,7 +9,7 @@ use crate::codes::{ECA_NORMAL, error_text};
 use crate::commands::{
     CA_PROTO_ACCESS_RIGHTS, CA_PROTO_CLEAR_CHANNEL, CA_PROTO_CREATE_CH_FAIL, CA_PROTO_CREATE_CHAN,
     CA_PROTO_ERROR, CA_PROTO_EVENT_ADD, CA_PROTO_READ_NOTIFY, CA_PROTO_SERVER_DISCONN,
-    CA_PROTO_VERSION, MINOR_VERSION,
+    CA_PROTO_VERSION, CA_PROTO_WRITE_NOTIFY, MINOR_VERSION,
 };
 use crate::payload::{header, size_of, size_of_nul_ended, write_nul_ended};
 use bytes::Bytes;
@@ -78,6 +78,15 @@ pub enum ToClient {
     CreateChannelFail {
         cid: u32,
     },
+    /// The write that was asked for is over: the value is written where `status` is `ECA_NORMAL`;
+    /// else it is the server's status, or the code of the gateway's own refusal. Type and count are
+    /// those of the request.
+    WriteNotify {
+        ioid: u32,
+        dtype: u16,
+        count: u32,
+        status: u32,
+    },
     /// What may be done with the channel: `CA_PROTO_ACCESS_RIGHT_READ` and
     /// `CA_PROTO_ACCESS_RIGHT_WRITE`, added up.
     AccessRights {
@@ -135,6 +144,12 @@ impl ToClient {
                 count,
             } => header(CA_PROTO_CREATE_CHAN, *dtype, *count, *cid, *sid),
             ToClient::CreateChannelFail { cid } => header(CA_PROTO_CREATE_CH_FAIL, 0, 0, *cid, 0),
+            ToClient::WriteNotify {
+                ioid,
+                dtype,
+                count,
+                status,
+            } => header(CA_PROTO_WRITE_NOTIFY, *dtype, *count, *status, *ioid),
             ToClient::AccessRights { cid, rights } => {
                 header(CA_PROTO_ACCESS_RIGHTS, 0, 0, *cid, *rights)
             }
@@ -159,6 +174,7 @@ impl ToClient {
             | ToClient::ReadNotifyRefused { .. }
             | ToClient::CreateChannel { .. }
             | ToClient::CreateChannelFail { .. }
+            | ToClient::WriteNotify { .. }
             | ToClient::AccessRights { .. }
             | ToClient::ServerDisconnect { .. } => Ok(Bytes::new()),
         }

@@ -7,10 +7,12 @@ ghost use Rattle.ca_message.specs.ToServer.{server_head, server_payload, event_p
 use crate::NoMemory;
 use crate::commands::{
     CA_PROTO_CLEAR_CHANNEL, CA_PROTO_CLIENT_NAME, CA_PROTO_CREATE_CHAN, CA_PROTO_EVENT_ADD,
-    CA_PROTO_EVENT_CANCEL, CA_PROTO_HOST_NAME, CA_PROTO_VERSION, MINOR_VERSION,
+    CA_PROTO_EVENT_CANCEL, CA_PROTO_HOST_NAME, CA_PROTO_VERSION, CA_PROTO_WRITE,
+    CA_PROTO_WRITE_NOTIFY, MINOR_VERSION,
 };
 use crate::payload::{EVENT_PAYLOAD_LEN, header, size_of_nul_ended, write_nul_ended};
 use crate::text::NameText;
+use crate::written::WrittenValue;
 use bytes::Bytes;
 use ca_header::Header;
 use std::alloc::Global;
@@ -18,7 +20,7 @@ use std::alloc::Global;
 /// A message to a server. Its wire form is its head, written canonically, and then its payload.
 ///
 /// `sid` and `cid` are the server's and the gateway's ID of a channel, `id` is the gateway's ID of
-/// a subscription, and `dtype` the number of a DBR type.
+/// a subscription, `ioid` its ID of a write, and `dtype` the number of a DBR type.
 #[derive(Debug, Drop)]
 pub enum ToServer<'a> {
     /// The gateway speaks minor version 13 of the protocol.
@@ -47,6 +49,17 @@ pub enum ToServer<'a> {
         id: u32,
         dtype: u16,
         count: u32,
+    },
+    /// The gateway writes the value, and wants no reply.
+    Write {
+        sid: u32,
+        value: WrittenValue<'a>,
+    },
+    /// The gateway writes the value, and wants to be told of it under `ioid`.
+    WriteNotify {
+        sid: u32,
+        ioid: u32,
+        value: WrittenValue<'a>,
     },
     /// The gateway gives up the channel.
     ClearChannel {
@@ -90,6 +103,10 @@ impl<'a> ToServer<'a> {
                 dtype,
                 count,
             } => header(CA_PROTO_EVENT_CANCEL, *dtype, *count, *sid, *id),
+            ToServer::Write { sid, value } => value.head(CA_PROTO_WRITE, *sid, 0),
+            ToServer::WriteNotify { sid, ioid, value } => {
+                value.head(CA_PROTO_WRITE_NOTIFY, *sid, *ioid)
+            }
             ToServer::ClearChannel { sid, cid } => header(CA_PROTO_CLEAR_CHANNEL, 0, 0, *sid, *cid),
         }
     }
@@ -104,6 +121,9 @@ impl<'a> ToServer<'a> {
             ToServer::ClientName(name)
             | ToServer::HostName(name)
             | ToServer::CreateChannel { name, .. } => write_nul_ended(alloc, &[], name.as_slice()),
+            ToServer::Write { value, .. } | ToServer::WriteNotify { value, .. } => {
+                value.payload(alloc)
+            }
             ToServer::EventAdd { mask, .. } => event_payload(alloc, *mask),
             ToServer::Version | ToServer::EventCancel { .. } | ToServer::ClearChannel { .. } => {
                 Ok(Bytes::new())

@@ -42,6 +42,26 @@ fn requests(rt: HostRuntime) -> Result<(), Fail> {
                 name: NameText::read(b"T1\0")?,
             },
         ),
+        // A value comes with its padding, whatever that holds, and may be too short for its count.
+        (
+            "0004 0008 0000 0001 00000001 00000042 31320000000000ff",
+            ClientRequest::Write {
+                sid: 1,
+                dtype: 0,
+                count: 1,
+                value: ValueBytes::from(b"12\0\0\0\0\0\xFF".as_slice()),
+            },
+        ),
+        (
+            "0013 0000 0005 0002 00000001 00000043",
+            ClientRequest::WriteNotify {
+                sid: 1,
+                ioid: 0x43,
+                dtype: 5,
+                count: 2,
+                value: ValueBytes::from([].as_slice()),
+            },
+        ),
         (
             "0014 0008 0000 0000 00000000 00000000 7076676174650000",
             ClientRequest::ClientName(NameText::read(b"pvgate\0")?),
@@ -217,6 +237,13 @@ fn replies(rt: HostRuntime) -> Result<(), Fail> {
                 sid: 0x65,
                 dtype: 7,
                 count: 1,
+            },
+        ),
+        (
+            "0013 0000 0005 0001 00000001 00000043",
+            ServerReply::WriteNotify {
+                ioid: 0x43,
+                status: 1,
             },
         ),
         (

@@ -1,5 +1,5 @@
 use super::*;
-use crate::codes::{ECA_BADCHID, ECA_BADCOUNT, ECA_INTERNAL, ECA_NORMAL};
+use crate::codes::{ECA_BADCHID, ECA_BADCOUNT, ECA_INTERNAL, ECA_NORMAL, ECA_PUTFAIL};
 use crate::commands::{CA_PROTO_ECHO, NO_CHANNEL};
 use ca_header::Message;
 use pv_name::Name;
@@ -49,7 +49,7 @@ fn says(alloc: Global, message: &ToClient, text: &str) -> Result<bool, Fail> {
     Ok(bytes.as_slice() == from_hex(alloc, text)?.as_slice())
 }
 
-fn asks(alloc: Global, message: &ToServer<'_>, text: &str) -> Result<bool, Fail> {
+pub fn asks(alloc: Global, message: &ToServer<'_>, text: &str) -> Result<bool, Fail> {
     let bytes = sent(alloc, &message.head(), &message.payload(alloc)?)?;
     Ok(bytes.as_slice() == from_hex(alloc, text)?.as_slice())
 }
@@ -107,6 +107,15 @@ fn to_clients(rt: HostRuntime) -> Result<(), Fail> {
                 count: 1,
             },
             "0012 0000 0005 0001 00000007 00000001",
+        ),
+        (
+            ToClient::WriteNotify {
+                ioid: 0x44,
+                dtype: 5,
+                count: 1,
+                status: ECA_PUTFAIL,
+            },
+            "0013 0000 0005 0001 000000a0 00000044",
         ),
         (
             ToClient::CreateChannelFail { cid: 7 },
@@ -219,6 +228,14 @@ fn to_servers(rt: HostRuntime) -> Result<(), Fail> {
                 count: 0,
             },
             "0002 0000 0013 0000 00000065 00000001",
+        ),
+        (
+            ToServer::Write {
+                sid: 0x65,
+                value: WrittenValue::read(0, 1, 1, b"12\0\0\0\0\0\0")?,
+            },
+            "0004 0028 0000 0001 00000065 00000000 3132000000000000 0000000000000000
+            0000000000000000 0000000000000000 0000000000000000",
         ),
         (
             ToServer::ClearChannel { sid: 0x65, cid: 1 },
