@@ -153,11 +153,16 @@ fn a_datagram_may_be_cut_anywhere(rt: HostRuntime) -> Result<(), Fail> {
     let bytes = from_hex(rt.alloc(), DATAGRAM)?;
     assert_eq!(rt; bytes.len(), 94);
     for len in 0..=bytes.len() {
+        let (names, reply) = match len {
+            0..=39 => ("", ""),
+            40..=63 => ("T1 ", REPLY),
+            64..=87 => ("T1 D ", REPLY),
+            _ => ("T1 D U ", REPLY),
+        };
         let answer = t1_alone(rt.alloc(), &bytes[..len])?;
-        let whole = [40, 64, 88].iter().filter(|end| **end <= len).count();
-        assert_eq!(rt; answer.asked.as_slice().len(), whole, "{len} bytes");
-        let reply = if whole == 0 { 0 } else { 40 };
-        assert_eq!(rt; answer.reply.as_slice().len(), reply, "{len} bytes");
+        assert_eq!(rt; asked(rt.alloc(), &answer)?.as_str(), names, "{len} bytes");
+        let reply = from_hex(rt.alloc(), reply)?;
+        assert_eq!(rt; answer.reply.as_slice(), reply.as_slice(), "{len} bytes");
     }
     Ok(())
 }
