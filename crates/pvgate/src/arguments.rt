@@ -28,6 +28,9 @@ Lines of a script (N is a number, D is sN, the connection of a client, or uN, th
   search HOST HEX these bytes are a datagram of searches from the host; what is sent back is printed:
                   reply HEX, or reply - for nothing
   sweep           the gateway forgets which names clients looked for
+  edit R G        the R lines that follow are the rule file from now on, and the G lines after those
+                  the group file (0: no such file); a fault in them is printed, and changes nothing:
+                  refused line N: CAUSE, or refused groups line N: CAUSE
   hold D          D's messages are kept back from now on
   flow D          they are no longer kept back
   drain D K       the first K messages that wait for D are printed
@@ -43,7 +46,8 @@ Lines that change nothing, and what they print:
 Also printed:
   shut D misaligned, shut D toolarge    the bytes that came are no messages, so D is cut off
   end D                                 D is cut off for another reason
-  line N: bad                           line N is none of the above, and the replay ends
+  line N: bad                           line N is none of the above, or an edit whose lines are missing
+                                        or are no UTF-8, and the replay ends
   failed                                the gateway ran out of memory or numbers, and the replay ends
 
 Exit status: 0 at the end of the script, 2 after a bad line, 3 where a standard stream can't be read

@@ -1,3 +1,5 @@
 mod ScriptLemmas
+mod EntryLemmas
+mod ReadingLemmas
 mod ReplayLemmas
 mod PlayedLemmas

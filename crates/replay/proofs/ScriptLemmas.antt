@@ -1,11 +1,11 @@
--- Facts on the lines of a script, and on reading it line by line.
-use Rattle.std.proofs.Common.{◌≡◌, ℕ, suc, ◌+◌, ◌-◌, Bool, true, false, List, [], ◌∷◌, length, take, Option, Some, None, refl, sym, ap, ◌∙◌, arith}
-use Rattle.std.specs.Prelude.{◌==◌, if◌then◌else◌, is_some, slice_index}
+-- Facts on the lines of a script.
+use Rattle.std.proofs.Common.{◌≡◌, ℕ, zero, suc, ◌+◌, ◌-◌, Bool, true, false, List, [], ◌∷◌, length, take, drop, Option, Some, None, refl, sym, ap, ◌∙◌, add-one, arith}
+use Rattle.std.specs.Prelude.{◌==◌, if◌then◌else◌, slice_index, option_map}
 use Rattle.std.specs.Io.BufRead.{strip_last, take_through, drop_through}
 use Rattle.std.proofs.lemmas.Bool.{lt-ltb}
-use Rattle.replay_text.specs.declared.line.Line.{Line}
 use Rattle.replay_text.specs.Lines.{line_of}
-use Rattle.replay.specs.Script.{IsBadAt, IsGood, LeadsOn, TakesLine, bad_at, first_bad, first_bad_line, lines_of, longer}
+use Rattle.replay.specs.Reading.{TakesBytes, TakesLine}
+use Rattle.replay.specs.Script.{first_bad, lines_of, longer}
 
 if-cons : (t : Bool) (b : ℕ) (xs ys : List ℕ) → (if t then b ∷ xs else b ∷ ys) ≡ b ∷ (if t then xs else ys)
 if-cons true b xs ys = refl
@@ -39,53 +39,31 @@ lines_of-at b (c ∷ bytes) false is =
     rw is (ap (longer b) (lines_of-at c bytes _ refl) ∙ ap (λ (line : List ℕ). line ∷ lines_of (drop_through 10 (c ∷ bytes))) (sym (strip_last-longer b c bytes)))
 
 -- the first line of a text that isn't empty, and those after it
-lines_of-first : (b : ℕ) (bytes : List ℕ)
+pub lines_of-first : (b : ℕ) (bytes : List ℕ)
     → lines_of (b ∷ bytes) ≡ strip_last 10 (take_through 10 (b ∷ bytes)) ∷ lines_of (drop_through 10 (b ∷ bytes))
 lines_of-first b bytes = lines_of-at b bytes _ refl
 
-bad_at-good : (n : ℕ) (line : Option Line) (later : Option ℕ) → is_some line ≡ true → bad_at n line later ≡ later
-bad_at-good n (Some line) later is = refl
-bad_at-good n None later is = cc
+-- a line whose end is dropped is the first of the lines
+pub TakesLine-bytes : (old new : Option (List ℕ)) (whole line : List ℕ) → TakesBytes old new whole true → line ≡ strip_last 10 whole
+    → TakesLine (option_map lines_of old) (option_map lines_of new) line true
+unfolding lines_of
+TakesLine-bytes None new whole line takes is = tt
+TakesLine-bytes (Some []) new whole line takes is = absurd (cc)
+TakesLine-bytes (Some (b ∷ left)) new whole line takes is =
+    rw (lines_of-first b left) (refl, is ∙ ap (strip_last 10) takes.1, ap (option_map lines_of) takes.2)
 
-bad_at-bad : (n : ℕ) (line : Option Line) (later : Option ℕ) → is_some line ≡ false → bad_at n line later ≡ Some n
-bad_at-bad n (Some line) later is = cc
-bad_at-bad n None later is = refl
+-- no bytes, no lines
+pub TakesLine-end : (old new : Option (List ℕ)) (whole line : List ℕ) → TakesBytes old new whole false
+    → TakesLine (option_map lines_of old) (option_map lines_of new) line false
+unfolding lines_of
+TakesLine-end None new whole line takes = tt
+TakesLine-end (Some []) new whole line takes = takes
+TakesLine-end (Some (b ∷ left)) new whole line takes = absurd (cc)
 
-first_bad-first : (n b : ℕ) (left : List ℕ) → first_bad n (lines_of (b ∷ left))
-    ≡ bad_at n (line_of (strip_last 10 (take_through 10 (b ∷ left)))) (first_bad (n + 1) (lines_of (drop_through 10 (b ∷ left))))
+-- lines that are an edit's own are passed over, and have numbers
+pub first_bad-pending : (number pending : ℕ) (lines : List (List ℕ)) → first_bad number pending lines ≡ first_bad (number + pending) 0 (drop pending lines)
 unfolding first_bad
-first_bad-first n b left = ap (first_bad n) (lines_of-first b left)
-
--- nothing was read
-pub LeadsOn-start : (script : Option (List ℕ)) → LeadsOn script 1 script
-LeadsOn-start None = tt
-LeadsOn-start (Some script) = refl
-
--- a good line is read
-pub LeadsOn-next : (script : Option (List ℕ)) (n : ℕ) (old new : Option (List ℕ)) (line : List ℕ)
-    → TakesLine old new line true → is_some (line_of (strip_last 10 line)) ≡ true → LeadsOn script n old → LeadsOn script (n + 1) new
-LeadsOn-next None n old new line takes good so = tt
-LeadsOn-next (Some script) n None new line takes good so = absurd so
-LeadsOn-next (Some script) n (Some []) new line takes good so = absurd (cc)
-LeadsOn-next (Some script) n (Some (b ∷ left)) new line takes good so =
-    let said = rw takes.1 at good in
-    rw takes.2 (so ∙ first_bad-first n b left ∙ bad_at-good n _ _ said)
-
--- a bad line is read
-pub LeadsOn-bad : (script : Option (List ℕ)) (n : ℕ) (old new : Option (List ℕ)) (line : List ℕ)
-    → TakesLine old new line true → is_some (line_of (strip_last 10 line)) ≡ false → LeadsOn script n old → IsBadAt script n
-LeadsOn-bad None n old new line takes bad so = tt
-LeadsOn-bad (Some script) n None new line takes bad so = absurd so
-LeadsOn-bad (Some script) n (Some []) new line takes bad so = absurd (cc)
-LeadsOn-bad (Some script) n (Some (b ∷ left)) new line takes bad so =
-    let said = rw takes.1 at bad in
-    so ∙ first_bad-first n b left ∙ bad_at-bad n _ _ said
-
--- no line is left
-pub LeadsOn-end : (script : Option (List ℕ)) (n : ℕ) (old new : Option (List ℕ)) (line : List ℕ)
-    → TakesLine old new line false → LeadsOn script n old → IsGood script
-unfolding first_bad lines_of
-LeadsOn-end None n old new line takes so = tt
-LeadsOn-end (Some script) n None new line takes so = absurd so
-LeadsOn-end (Some script) n (Some []) new line takes so = so
-LeadsOn-end (Some script) n (Some (b ∷ left)) new line takes so = absurd (cc)
+first_bad-pending number zero lines = let e : number ≡ number + 0 = omega arith in ap (λ (n : ℕ). first_bad n 0 lines) e
+first_bad-pending number (suc pending) [] = refl
+first_bad-pending number (suc pending) (line ∷ lines) =
+    first_bad-pending (number + 1) pending lines ∙ ap (λ (n : ℕ). first_bad n 0 (drop pending lines)) (omega arith)

@@ -1,3 +1,5 @@
-pub mod Replay
 pub mod Script
+pub mod Reading
+pub mod Replay
 pub mod Played
+pub mod Editing

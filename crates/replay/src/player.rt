@@ -4,16 +4,19 @@ ghost use Rattle.std.specs.BTreeMap.{get};
 ghost use Rattle.std.specs.BTreeSet.{contains};
 ghost use Rattle.std.specs.Io.KnownBytes.{Appends, Keeps};
 ghost use Rattle.gateway_state.specs.Step.{step, taken};
+ghost use Rattle.replay.specs.Editing.{IfEdit, IsEdited, IsPrinted, refusal};
 ghost use Rattle.replay.specs.Played.{loss, out_line, said};
 
+use crate::entry::{Entry, Files};
 use crate::fault::Fault;
 use ca_header::{FrameFault, Intake, IntakeFault, Message};
 use gateway_core::{Dest, Engine, Event, Out};
 use pv_name::Host;
 use replay_text::{
-    Line, write_asks, write_end, write_message, write_reading, write_reply, write_rights,
-    write_shut, write_subscription,
+    Line, write_asks, write_end, write_message, write_reading, write_refused, write_refused_groups,
+    write_reply, write_rights, write_shut, write_subscription,
 };
+use rule_desk::{Desk, DeskFault};
 use std::alloc::Global;
 use std::collections::{BTreeMap, BTreeSet};
 use std::io;
@@ -27,6 +30,7 @@ const PIECE: usize = 1_024;
 pub struct Player {
     alloc: Global,
     engine: Engine,
+    desk: Desk,
     /// The connections that stand, with the bytes that came from each and are no whole message yet.
     intakes: BTreeMap<Dest, Intake>,
     /// The connections whose messages are kept back, whether they stand or not.
@@ -46,15 +50,17 @@ impl Player {
         Player {
             alloc,
             engine,
+            desk: Desk::new(alloc),
             intakes: BTreeMap::new(alloc),
             held: BTreeSet::new(alloc),
         }
     }
 
-    /// Performs a line, and what follows from it: messages that wait are printed, and connections
+    /// Performs an entry, and what follows from it: messages that wait are printed, and connections
     /// that must end are ended.
-    pub fn play<W: Write>(&mut self, line: Line, out: &mut W) -> Result<(), Fault> {
-        let misframed = self.perform(line, out)?;
+    pub fn play<W: Write>(&mut self, entry: Entry, out: &mut W) -> Result<(), Fault> {
+        let Entry { line, files } = entry;
+        let misframed = self.perform(line, &files, out)?;
         self.print_waiting(out)?;
         if let Some(Misframed { dest, fault }) = misframed {
             write_shut(out, dest, fault)?;
@@ -64,7 +70,14 @@ impl Player {
         self.end_marked(out)
     }
 
-    fn perform<W: Write>(&mut self, line: Line, out: &mut W) -> Result<Option<Misframed>, Fault> {
+    fn perform<W: Write>(
+        &mut self,
+        line: Line,
+        files: &Files,
+        out: &mut W,
+    ) -> Result<Option<Misframed>, Fault>
+        ensures edit { IfEdit line (OnOk result (IsEdited files.now self.old.engine self.new.engine (W.contents out.old) (W.contents out.new))) }
+    {
         match line {
             Line::Skipped => {}
             Line::OpenSession(number, host) => {
@@ -85,6 +98,7 @@ impl Player {
             Line::Found(name, number) => self.engine.step(Event::Found(name, number))?,
             Line::Search(host, datagram) => self.search(&host, datagram.as_slice(), out)?,
             Line::Sweep => self.engine.step(Event::Sweep)?,
+            Line::Edit { .. } => self.edit(files, out)?,
             Line::Asks => write_asks(out, &self.engine.asks()?)?,
             Line::Read {
                 session,
@@ -120,6 +134,16 @@ impl Player {
             self.engine.step(event)?;
         }
         Ok(())
+    }
+
+    /// Edits the policy, or prints why not: the first fault of the files, the rule file's first.
+    fn edit<W: Write>(&mut self, files: &Files, out: &mut W) -> Result<(), Fault>
+        ensures { OnOk result (IsEdited files.now self.old.engine self.new.engine (W.contents out.old) (W.contents out.new)) }
+    {
+        match self.desk.edit(files.rules.text(), files.groups.text()) {
+            Ok(policy) => Ok(self.engine.step(Event::Edit(policy))?),
+            Err(fault) => print_refusal(out, fault),
+        }
     }
 
     fn open(&mut self, dest: Dest, event: Event) -> Result<(), Fault> {
@@ -195,6 +219,17 @@ impl Player {
             }
         }
         Ok(None)
+    }
+}
+
+/// Prints why an edit is refused.
+fn print_refusal<W: Write>(out: &mut W, fault: DeskFault) -> Result<(), Fault>
+    ensures { OnOk result (IsPrinted (refusal fault) (W.contents out.old) (W.contents out.new)) }
+{
+    match fault {
+        DeskFault::Rules(line, cause) => Ok(write_refused(out, line, cause)?),
+        DeskFault::Groups(line, cause) => Ok(write_refused_groups(out, line, cause)?),
+        DeskFault::OutOfMemory => Err(Fault::OutOfMemory),
     }
 }
 

@@ -1,6 +1,7 @@
 //! What stories can't tell: streams that fail, and numbers that are used up. The crate
 //! `replay_stories` has the stories.
 use super::*;
+use crate::counted::Counted;
 use std::process::Abort;
 use std::test::Fail;
 
@@ -114,8 +115,8 @@ fn fails(rt: &impl Abort, alloc: Global, story: &[u8]) -> Result<(), Fail> {
     }
     let mut out = Vec::new(alloc);
     let mut player = Player::new(alloc, engine);
-    let mut lines = buffered(alloc, script.as_slice())?;
-    let ended = play_lines(alloc, &mut player, &mut lines, &mut out);
+    let mut entries = Script::new(alloc, script.as_slice())?;
+    let ended = play_entries(&mut player, &mut entries, &mut out);
     assert_eq!(rt; report(ended, &mut out)?, 4);
     assert_eq!(rt; out.as_slice(), output.as_slice());
     Ok(())

@@ -28,6 +28,7 @@ command_named word =
     else if bytes_eq word (codes "server") then Some commands.Server
     else if bytes_eq word (codes "found") then Some commands.Found
     else if bytes_eq word (codes "sweep") then Some commands.Sweep
+    else if bytes_eq word (codes "edit") then Some commands.Edit
     else if bytes_eq word (codes "asks") then Some commands.Asks
     else if bytes_eq word (codes "read") then Some commands.Read
     else if bytes_eq word (codes "sub") then Some commands.Sub
@@ -82,6 +83,10 @@ sweep_line words = option_map (λ _. lines.Sweep) (no_word words)
 abbrev pub asks_line : List (List ℕ) → Option Line
 asks_line words = option_map (λ _. lines.Asks) (no_word words)
 
+-- an edit of the policy: how many lines of a rule file follow, and then of a group file
+abbrev pub edit_line : List (List ℕ) → Option Line
+edit_line words = option_and_then (λ two. both lines.Edit (number_of 64 two.0) (number_of 64 two.1)) (two_words words)
+
 -- a session and its channel; a type and a count
 abbrev pub channel_of : List ℕ × List ℕ → Option (ℕ × ℕ)
 channel_of two = both (λ session sid. (session, sid)) (session_of two.0) (number_of 32 two.1)
@@ -113,6 +118,7 @@ command_line commands.Server = server_line
 command_line commands.Found = found_line
 command_line commands.Search = search_line
 command_line commands.Sweep = sweep_line
+command_line commands.Edit = edit_line
 command_line commands.Asks = asks_line
 command_line commands.Read = read_line
 command_line commands.Sub = sub_line

@@ -2,6 +2,8 @@
 use Rattle.std.specs.Prelude.{ℕ, List, [], ◌∷◌, ◌++◌, codes, flat_map, Option, Some, None}
 use Rattle.std.specs.Fmt.{decimal}
 use Rattle.hex.specs.Hex.{encode_lower}
+use Rattle.pvlist.specs.Cause.{cause_text}
+use Rattle.pvlist.specs.declared.fault.RuleCause.{RuleCause}
 use Rattle.ca_header.specs.declared.reading.FrameFault.{FrameFault}
 use Rattle.ca_header.specs.declared.reading.FrameFault.TheVariants.{Misaligned, TooLarge}
 use Rattle.gateway_state.specs.declared.event.Dest.{Dest}
@@ -30,6 +32,18 @@ shut_line dest fault = codes "shut " ++ dest_text dest ++ 32 ∷ fault_text faul
 -- the line of a connection that is cut off as it must end
 abbrev pub end_line : Dest → List ℕ
 end_line dest = codes "end " ++ dest_text dest ++ 10 ∷ []
+
+-- a line of a file that is refused: its number, and what is wrong with it
+abbrev pub cause_line : ℕ → RuleCause → List ℕ
+cause_line line cause = codes "line " ++ decimal line ++ codes ": " ++ cause_text cause ++ 10 ∷ []
+
+-- the line of an edit that is refused for a line of its rule file
+abbrev pub refused_line : ℕ → RuleCause → List ℕ
+refused_line line cause = codes "refused " ++ cause_line line cause
+
+-- the same for one of its group file
+abbrev pub refused_groups_line : ℕ → RuleCause → List ℕ
+refused_groups_line line cause = codes "refused groups " ++ cause_line line cause
 
 -- a name in a list of names
 abbrev pub after_blank : List ℕ → List ℕ

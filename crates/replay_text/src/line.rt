@@ -1,7 +1,7 @@
 //! What a line of a script asks for.
 ghost use Rattle.std.specs.Prelude.{◌≡◌, true, IsTrue, ◌↔◌};
 ghost use Rattle.std.specs.List.{slice_split};
-ghost use Rattle.replay_text.specs.Lines.{IsRead, line_of, words_line, command_line, is_skipped, open_line, opening, dest_line, lost_line, hold_line, flow_line, client_line, server_line, found_line, search_line, sweep_line, asks_line, channel_of, read_line as reading_line, sub_line, rights_line, drain_line};
+ghost use Rattle.replay_text.specs.Lines.{IsRead, line_of, words_line, command_line, is_skipped, open_line, opening, dest_line, lost_line, hold_line, flow_line, client_line, server_line, found_line, search_line, sweep_line, edit_line, asks_line, channel_of, read_line as reading_line, sub_line, rights_line, drain_line};
 ghost use Rattle.replay_text.specs.Words.{is_blank};
 
 use crate::command::Command;
@@ -38,6 +38,12 @@ pub enum Line {
     Search(Host, Piece),
     /// All remembered searches are forgotten.
     Sweep,
+    /// The policy is edited. So many lines that follow are its rule file, and so many after those its
+    /// group file; where there are none, there is no such file.
+    Edit {
+        rules: usize,
+        groups: usize,
+    },
     /// Which names are asked for?
     Asks,
     /// What would a read be answered?
@@ -103,6 +109,7 @@ fn read_command(alloc: Global, command: Command, words: Words) -> Result<Line, L
         Command::Found => found(alloc, words),
         Command::Search => search(alloc, words),
         Command::Sweep => sweep(words).ok_or(LineFault::Bad),
+        Command::Edit => edit(words).ok_or(LineFault::Bad),
         Command::Asks => asks(words).ok_or(LineFault::Bad),
         Command::Read => read(words).ok_or(LineFault::Bad),
         Command::Sub => subscription(alloc, words),
@@ -199,6 +206,16 @@ fn sweep(words: Words) -> Option<Line>
 {
     words.none()?;
     Some(Line::Sweep)
+}
+
+fn edit(words: Words) -> Option<Line>
+    ensures { result ≡ edit_line words.entry }
+{
+    let (rules, groups) = words.two()?;
+    Some(Line::Edit {
+        rules: count(rules)?,
+        groups: count(groups)?,
+    })
 }
 
 fn asks(words: Words) -> Option<Line>

@@ -3,11 +3,12 @@ ghost use Rattle.std.specs.Prelude.{◌++◌, OnOk, flat_map};
 ghost use Rattle.std.specs.Io.KnownBytes.{Appends};
 ghost use Rattle.std.specs.Option.{option_map};
 ghost use Rattle.hex.specs.Hex.{encode_lower};
-ghost use Rattle.replay_text.specs.Output.{dest_text, message_line, shut_line, end_line, asks_line, after_blank, reading_line, value_line, bytes_text, subscription_line, subscription_text, rights_line, reply_line};
+ghost use Rattle.replay_text.specs.Output.{dest_text, message_line, shut_line, end_line, asks_line, after_blank, reading_line, value_line, bytes_text, subscription_line, subscription_text, rights_line, reply_line, cause_line, refused_line, refused_groups_line};
 
 use ca_header::FrameFault;
 use gateway_state::{Dest, Reading, Sub};
 use pv_name::Name;
+use pvlist::RuleCause;
 use std::io;
 use std::io::Write;
 
@@ -53,6 +54,23 @@ pub fn write_end<W: Write>(out: &mut W, dest: Dest) -> io::Result<()>
     out.write_all(b"end ")?;
     write_dest(out, dest)?;
     out.write_all(b"\n")
+}
+
+/// Writes the line of an edit that is refused for a line of its rule file: that line's number,
+/// counted from 1 in the file, and what is wrong with it.
+pub fn write_refused<W: Write>(out: &mut W, line: usize, cause: RuleCause) -> io::Result<()>
+    ensures ok { OnOk result (Appends (W.contents out.old) (W.contents out.new) (refused_line line cause)) }
+{
+    out.write_all(b"refused ")?;
+    write_cause(out, line, cause)
+}
+
+/// Writes the same for a line of its group file.
+pub fn write_refused_groups<W: Write>(out: &mut W, line: usize, cause: RuleCause) -> io::Result<()>
+    ensures ok { OnOk result (Appends (W.contents out.old) (W.contents out.new) (refused_groups_line line cause)) }
+{
+    out.write_all(b"refused groups ")?;
+    write_cause(out, line, cause)
 }
 
 /// Writes the line of the names that are asked for, each after a blank.
@@ -105,6 +123,12 @@ pub fn write_reply<W: Write>(out: &mut W, datagram: &[u8]) -> io::Result<()>
     out.write_all(b"reply ")?;
     write_bytes(out, datagram)?;
     out.write_all(b"\n")
+}
+
+fn write_cause<W: Write>(out: &mut W, line: usize, cause: RuleCause) -> io::Result<()>
+    ensures ok { OnOk result (Appends (W.contents out.old) (W.contents out.new) (cause_line line cause)) }
+{
+    writeln!(out, "line {line}: {cause}")
 }
 
 fn write_names<W: Write>(out: &mut W, names: &[Name]) -> io::Result<()>

@@ -94,7 +94,7 @@ pub fn type_number(word: &[u8]) -> Option<u16>
     u16::try_from(long_number(word)?).ok()
 }
 
-/// The number of messages that a word writes.
+/// The number of messages or of lines that a word writes.
 pub fn count(word: &[u8]) -> Option<usize>
     ensures { result ≡ number_of 64 word.now }
 {

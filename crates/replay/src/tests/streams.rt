@@ -49,15 +49,17 @@ impl<'a> Write for Printer<'a> {
 #[test]
 fn prints_before_it_waits(rt: HostRuntime) {
     let out = Cell::new(0);
-    let lines: [(usize, &[u8]); 8] = [
+    let lines: [(usize, &[u8]); 10] = [
         (0, b"open s1 h\n"),
         (1, b"client s1 00170000000000000000000000000000\n"),
         (2, b"client s1 00170000000000000000000000000000\nopen "),
         (3, b"s2 h"),
         (3, b"\n"),
         (4, b"asks\nasks\nas"),
-        (6, b"ks"),
-        (6, b""),
+        (6, b"ks\nedit 1 1\n"),
+        (7, b".* ALLOW\nops RE"),
+        (7, b"AD\nasks"),
+        (7, b""),
     ];
     let typist = Typist {
         lines: &lines,
@@ -69,7 +71,7 @@ fn prints_before_it_waits(rt: HostRuntime) {
         out: &out,
     };
     assert_eq!(rt; replay(rt.alloc(), typist, &mut printer), 0);
-    assert_eq!(rt; out.get(), 7);
+    assert_eq!(rt; out.get(), 8);
 }
 
 /// Takes all bytes, and can't be flushed.

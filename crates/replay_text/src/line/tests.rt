@@ -59,6 +59,8 @@ server u0 0017fFFf => Ok(Server(0, Piece { bytes: [0, 23, 255, 255] }))
 found T1 u1 => Ok(Found(Name { text: \"T1\" }, 1))
 found ~!# u4294967295 => Ok(Found(Name { text: \"~!#\" }, 4294967295))
 sweep => Ok(Sweep)
+edit 0 0 => Ok(Edit { rules: 0, groups: 0 })
+edit 18446744073709551615 007 => Ok(Edit { rules: 18446744073709551615, groups: 7 })
 asks => Ok(Asks)
 read s1 2 5 3 => Ok(Read { session: 1, sid: 2, dtype: 5, count: 3 })
 read s0 4294967295 65535 4294967295 => Ok(Read { session: 0, sid: 4294967295, dtype: 65535, count: 4294967295 })
@@ -84,7 +86,7 @@ lost\ts1
 \xff
 close s1
 search h 00 00
-edit 0 0
+edit0 0
 Sweep
 ask",
     );
@@ -133,6 +135,11 @@ found T1 u1\x20
 found T1 u1 u2
 sweep\x20
 sweep s1
+edit
+edit 1
+edit 1\x20
+edit 1  1
+edit 1 1 1
 asks\x20
 asks T1
 read s1 2 5
@@ -171,6 +178,10 @@ found T1 s1
 found T1 1
 found T1 u1\r
 sweep\r
+edit 0 0\r
+edit -1 0
+edit 0 +1
+edit 0 18446744073709551616
 asks\r
 read u1 2 5 3
 read s1 4294967296 5 3

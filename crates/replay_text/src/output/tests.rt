@@ -70,6 +70,16 @@ fn a_subscription_and_rights_are_lines(rt: HostRuntime) -> Result<(), Fail> {
     Ok(())
 }
 
+#[test]
+fn a_refused_edit_is_a_line(rt: HostRuntime) -> Result<(), Fail> {
+    let mut out = Vec::new(rt.alloc());
+    write_refused(&mut out, 3, RuleCause::NoVerb)?;
+    write_refused_groups(&mut out, 18446744073709551615, RuleCause::BadGroup)?;
+    let want = b"refused line 3: NoVerb\nrefused groups line 18446744073709551615: BadGroup\n";
+    assert_eq!(rt; out.as_slice(), want.as_slice());
+    Ok(())
+}
+
 /// Takes so many bytes, and then fails.
 #[derive(Drop)]
 struct Short(usize);
