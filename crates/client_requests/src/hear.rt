@@ -62,6 +62,9 @@ fn hear_request(
             dtype,
             count,
         } => Ok(cancel_subscription(rows, number, sid, id, dtype, count, head)?),
+        ClientRequest::Write { .. } | ClientRequest::WriteNotify { .. } => {
+            Ok(refuse_unknown(rows, number, &message.head)?)
+        }
         ClientRequest::EventsOff => Ok(pause(rows, number, true)?),
         ClientRequest::EventsOn => Ok(pause(rows, number, false)?),
         ClientRequest::ClearChannel { sid, cid } => {

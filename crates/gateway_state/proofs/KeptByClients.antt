@@ -210,12 +210,16 @@ module _ (P : Gateway → Type 0) (kept : IsKept P) where
       kept_sub_judged sub message.head (sub_verdict w sub) w (free_on w sub) holds
   kept_requested w number message (Ok (requests.EventCancel sid id dtype count)) holds =
       kept_cancelled_on number sid id dtype count message.head (channel_of w number sid) w holds
+  kept_requested w number message (Ok (requests.Write sid dtype count value)) holds =
+      kept_told P kept number (replies.Error NO_CHANNEL ECA_INTERNAL message.head) w holds
   kept_requested w number message (Ok requests.EventsOff) holds = kept_paused_to number true w holds
   kept_requested w number message (Ok requests.EventsOn) holds = kept_paused_to number false w holds
   kept_requested w number message (Ok (requests.ClearChannel sid cid)) holds = kept_cleared number sid cid message.head (channel_of w number sid) w holds
   kept_requested w number message (Ok (requests.ReadNotify sid ioid dtype count)) holds =
       kept_judged number sid ioid dtype count message.head (read_verdict w number sid dtype count) w (accepted_on w number sid dtype count) holds
   kept_requested w number message (Ok (requests.CreateChannel cid minor name)) holds = kept_channel_asked number cid name w holds
+  kept_requested w number message (Ok (requests.WriteNotify sid ioid dtype count value)) holds =
+      kept_told P kept number (replies.Error NO_CHANNEL ECA_INTERNAL message.head) w holds
   kept_requested w number message (Ok (requests.ClientName name)) holds = holds
   kept_requested w number message (Ok (requests.HostName host)) holds = kept.sessions (change_first (is_numbered number) (renamed host) w.clients.sessions) w holds
   kept_requested w number message (Ok requests.Echo) holds = kept_told P kept number (replies.Echo message) w holds

@@ -130,6 +130,7 @@ module _ (P : Gateway → Type 0) (kept : IsKept P) where
       kept_updated_by status dtype count value (find (has_subscription server id) w.upstream.links) w holds
   kept_replied w server (Ok (says.CreateChannel cid sid dtype count)) holds =
       kept_created_for server cid sid dtype count (find (is_link server cid) w.upstream.links) w holds
+  kept_replied w server (Ok (says.WriteNotify ioid status)) holds = holds
   kept_replied w server (Ok (says.AccessRights cid rights)) holds = kept_rights_given server cid rights (find (is_link server cid) w.upstream.links) w holds
   kept_replied w server (Ok (says.CreateChannelFail cid)) holds = kept_failed_for server cid (find (is_link server cid) w.upstream.links) w holds
   kept_replied w server (Ok (says.ServerDisconnect cid)) holds = kept_gone_for server cid (find (is_link server cid) w.upstream.links) w holds

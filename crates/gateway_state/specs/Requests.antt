@@ -22,19 +22,21 @@ unreadable w number head =
     else if head.command == CA_PROTO_EVENT_ADD then short_subscription w number head
     else not_understood w number head
 
--- what a request does, by what it means
+-- what a request does, by what it means; writes aren't served yet
 abbrev pub requested : Gateway → ℕ → Message → Result ClientRequest RequestFault → Gateway
 requested w number message (Ok (requests.Version minor)) = versioned w number minor
 requested w number message (Ok (requests.EventAdd sid id dtype count mask)) =
     subscription_asked (new_sub number sid id dtype count mask) message.head w
 requested w number message (Ok (requests.EventCancel sid id dtype count)) =
     subscription_cancelled number sid id dtype count message.head w
+requested w number message (Ok (requests.Write sid dtype count value)) = not_understood w number message.head
 requested w number message (Ok requests.EventsOff) = paused_to number true w
 requested w number message (Ok requests.EventsOn) = paused_to number false w
 requested w number message (Ok (requests.ClearChannel sid cid)) = channel_cleared number sid cid message.head w
 requested w number message (Ok (requests.ReadNotify sid ioid dtype count)) =
     read_asked number sid ioid dtype count message.head w
 requested w number message (Ok (requests.CreateChannel cid minor name)) = channel_asked number cid name w
+requested w number message (Ok (requests.WriteNotify sid ioid dtype count value)) = not_understood w number message.head
 requested w number message (Ok (requests.ClientName name)) = w
 requested w number message (Ok (requests.HostName host)) = host_named number host w
 requested w number message (Ok requests.Echo) = told number (replies.Echo message) w

@@ -50,7 +50,7 @@ pub fn hear_server(rows: &mut Rows, server: u32, message: Message) -> Result<(),
             hear_disconnect(rows, server, cid);
             Ok(())
         }
-        Err(_) => Ok(()),
+        Ok(ServerReply::WriteNotify { .. }) | Err(_) => Ok(()),
     }
 }
 

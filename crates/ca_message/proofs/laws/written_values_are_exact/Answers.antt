@@ -1,6 +1,4 @@
-use Rattle.std.proofs.Common.{◌≡◌, ◌*◌, length, Ok}
-use Rattle.dbr_layout.specs.Dbr.{element_size}
-use Rattle.ca_message.specs.Written.{counted_value, plain_type}
+use Rattle.ca_message.specs.Written.{plain_type}
 use Rattle.ca_message.proofs.WrittenBack.{counted_value-fits, counted_value-padded, counted_value-sized}
 use Rattle.ca_message.proofs.laws.written_values_are_exact.Goals as goal
 
