@@ -1,100 +1,109 @@
 //! The rule file and the group file of a site. They are those of the folder `examples`.
-use crate::checking::tells;
+use crate::tell::tells;
 use std::test::Fail;
-
-const RULES: &str = "\
-# Which process variables the gateway serves, to whom and by which names.
-#
-# To see what a client is answered that asks from the host desk1:
-#   pvgate check-rules site.pvlist --groups site.groups --name S01:MAG:Q1:SET --host desk1
-#
-# A rule is a line: a pattern, which must match the whole name, then ALLOW, ALIAS or DENY. In a
-# pattern .* is any text, [12] one of the characters, \\( and \\) enclose a part, and \\| stands
-# between two choices. What may be done with the variables of a group is said in site.groups.
-
-# A name that a DENY rule without hosts matches is refused, whatever else matches it. With the
-# order DENY, ALLOW such a rule would have no effect on names that another rule allows.
-EVALUATION ORDER ALLOW, DENY
-
-# Of the ALLOW and ALIAS rules that match a name the last one decides. So this one, which matches
-# every name, stands first.
-.*                        ALLOW everyone
-
-# The control room sets magnets and opens valves.
-S0[12]:MAG:.*             ALLOW operators
-S0[12]:VAC:.*:OPEN        ALLOW vacuum
-
-# Pictures are served, but may be neither read nor written through this gateway. The logbook has
-# no line in site.groups, so its variables may be read and written.
-.*:CAM:.*                 ALLOW cameras
-LOG:.*                    ALLOW logbook
-
-# Displays of the year before last use these names. \\1 is what the first \\( \\) took.
-\\(.*\\):SET                ALIAS \\1:SP operators
-\\(S0[12]\\):\\(H\\|V\\)POS    ALIAS \\1:BPM:\\2:POS everyone 1
-BEAM:CURRENT              ALIAS S01:DCCT:CURRENT everyone
-
-# Nobody outside sees the interlocks.
-.*:ILK:.*                 DENY
-
-# The hosts of the teaching laboratory may not move what the beam depends on.
-S01:MAG:.*                DENY FROM lab7, lab8
-.*:SET                    DENY FROM lab7 lab8 guest
-";
-
-const GROUPS: &str = "\
-# What may be done with the variables of a group of site.pvlist: NONE, READ or WRITE, where who
-# writes may read too. Of two lines for a group the last holds.
-everyone   READ
-cameras    NONE
-operators  WRITE
-vacuum     WRITE
-";
 
 #[test]
 fn a_site_is_answered(rt: HostRuntime) -> Result<(), Fail> {
-    let cases = [
-        (
-            "S01:DCCT:CURRENT",
-            "desk1",
-            "admitted S01:DCCT:CURRENT everyone read",
-        ),
-        (
-            "BEAM:CURRENT",
-            "desk1",
-            "admitted S01:DCCT:CURRENT everyone read",
-        ),
-        ("S01:MAG:Q1", "desk1", "admitted S01:MAG:Q1 operators write"),
-        ("S01:MAG:Q1", "LAB7", "refused"),
-        ("S02:MAG:Q1", "lab7", "admitted S02:MAG:Q1 operators write"),
-        (
-            "S02:MAG:Q1:SET",
-            "desk1",
-            "admitted S02:MAG:Q1:SP operators write",
-        ),
-        ("S02:MAG:Q1:SET", "guest", "refused"),
-        ("S02:HPOS", "desk1", "admitted S02:BPM:H:POS everyone read"),
-        ("S03:HPOS", "desk1", "admitted S03:HPOS everyone read"),
-        (
-            "S01:VAC:V3:OPEN",
-            "desk1",
-            "admitted S01:VAC:V3:OPEN vacuum write",
-        ),
-        ("S01:CAM:3", "desk1", "admitted S01:CAM:3 cameras none"),
-        ("LOG:LAST", "desk1", "admitted LOG:LAST logbook write"),
-        ("S01:ILK:DOOR", "desk1", "refused"),
-    ];
-    for (name, host, want) in cases {
-        let want = format!(in rt.alloc(); "ok 11 rows ALLOW, DENY\n{want}\n")?;
-        tells(
-            &rt,
-            rt.alloc(),
-            RULES,
-            Some(GROUPS),
-            Some((name, host)),
-            want.as_str(),
-            0,
-        )?;
-    }
-    Ok(())
+    tells(
+        &rt,
+        rt.alloc(),
+        r"| # Which process variables the gateway serves, to whom and by which names.
+| #
+| # To see what a client is answered that asks from the host desk1:
+| #   pvgate check-rules site.pvlist --groups site.groups --name S01:MAG:Q1:SET --host desk1
+| #
+| # A rule is a line: a pattern, which must match the whole name, then ALLOW, ALIAS or DENY. In a
+| # pattern .* is any text, [12] one of the characters, \( and \) enclose a part, and \| stands
+| # between two choices. What may be done with the variables of a group is said in site.groups.
+|
+| # A name that a DENY rule without hosts matches is refused, whatever else matches it. With the
+| # order DENY, ALLOW such a rule would have no effect on names that another rule allows.
+| EVALUATION ORDER ALLOW, DENY
+|
+| # Of the ALLOW and ALIAS rules that match a name the last one decides. So this one, which matches
+| # every name, stands first.
+| .*                        ALLOW everyone
+|
+| # The control room sets magnets and opens valves.
+| S0[12]:MAG:.*             ALLOW operators
+| S0[12]:VAC:.*:OPEN        ALLOW vacuum
+|
+| # Pictures are served, but may be neither read nor written through this gateway. The logbook has
+| # no line in site.groups, so its variables may be read and written.
+| .*:CAM:.*                 ALLOW cameras
+| LOG:.*                    ALLOW logbook
+|
+| # Displays of the year before last use these names. \1 is what the first \( \) took.
+| \(.*\):SET                ALIAS \1:SP operators
+| \(S0[12]\):\(H\|V\)POS    ALIAS \1:BPM:\2:POS everyone 1
+| BEAM:CURRENT              ALIAS S01:DCCT:CURRENT everyone
+|
+| # Nobody outside sees the interlocks.
+| .*:ILK:.*                 DENY
+|
+| # The hosts of the teaching laboratory may not move what the beam depends on.
+| S01:MAG:.*                DENY FROM lab7, lab8
+| .*:SET                    DENY FROM lab7 lab8 guest
+rules
+| # What may be done with the variables of a group of site.pvlist: NONE, READ or WRITE, where who
+| # writes may read too. Of two lines for a group the last holds.
+| everyone   READ
+| cameras    NONE
+| operators  WRITE
+| vacuum     WRITE
+groups
+check desk1 S01:DCCT:CURRENT
+> ok 11 rows ALLOW, DENY
+> admitted S01:DCCT:CURRENT everyone read
+> status 0
+check desk1 BEAM:CURRENT
+> ok 11 rows ALLOW, DENY
+> admitted S01:DCCT:CURRENT everyone read
+> status 0
+check desk1 S01:MAG:Q1
+> ok 11 rows ALLOW, DENY
+> admitted S01:MAG:Q1 operators write
+> status 0
+check LAB7 S01:MAG:Q1
+> ok 11 rows ALLOW, DENY
+> refused
+> status 0
+check lab7 S02:MAG:Q1
+> ok 11 rows ALLOW, DENY
+> admitted S02:MAG:Q1 operators write
+> status 0
+check desk1 S02:MAG:Q1:SET
+> ok 11 rows ALLOW, DENY
+> admitted S02:MAG:Q1:SP operators write
+> status 0
+check guest S02:MAG:Q1:SET
+> ok 11 rows ALLOW, DENY
+> refused
+> status 0
+check desk1 S02:HPOS
+> ok 11 rows ALLOW, DENY
+> admitted S02:BPM:H:POS everyone read
+> status 0
+check desk1 S03:HPOS
+> ok 11 rows ALLOW, DENY
+> admitted S03:HPOS everyone read
+> status 0
+check desk1 S01:VAC:V3:OPEN
+> ok 11 rows ALLOW, DENY
+> admitted S01:VAC:V3:OPEN vacuum write
+> status 0
+check desk1 S01:CAM:3
+> ok 11 rows ALLOW, DENY
+> admitted S01:CAM:3 cameras none
+> status 0
+check desk1 LOG:LAST
+> ok 11 rows ALLOW, DENY
+> admitted LOG:LAST logbook write
+> status 0
+check desk1 S01:ILK:DOOR
+> ok 11 rows ALLOW, DENY
+> refused
+> status 0
+",
+    )
 }

@@ -1,0 +1,153 @@
+//! Calls on the texts of a rule file and a group file, and on the desk and the check that read them.
+//!
+//! - `rules TEXT`, `groups TEXT`: the text of a file; `no-texts`: there are none;
+//! - `edit`: the desk reads the texts, and their policy holds from then on; answered only by a fault;
+//! - `shown`: whether the policy is open, its rows, its order, and how many edits the desk counts;
+//! - `check`, `check HOST NAME`: what the check writes of the texts, and its status;
+//! - `rooms FIRST LAST`, `rooms FIRST LAST HOST NAME`: the status for each writer that takes so many
+//!   bytes and then fails;
+//! - `refusals`: what is told where memory is refused, of a name, a pattern, a file and an edit.
+use crate::words::two_words;
+use pv_name::{Host, Name, NameFault};
+use pvlist::{RuleFault, Rules, TranslateFault};
+use rule_check::{Asked, check};
+use rule_desk::{Desk, DeskFault, Policy};
+use std::alloc::Global;
+use std::fmt::Write;
+use std::test::Fail;
+use std::{io, str};
+
+/// The texts of a rule file and of a group file, where there are any.
+#[derive(Drop)]
+pub(crate) struct Texts {
+    rules: Option<String>,
+    groups: Option<String>,
+}
+
+impl Texts {
+    pub(crate) fn none() -> Texts {
+        Texts {
+            rules: None,
+            groups: None,
+        }
+    }
+
+    fn rules(&self) -> Option<&str> {
+        match &self.rules {
+            Some(text) => Some(text.as_str()),
+            None => None,
+        }
+    }
+
+    fn groups(&self) -> Option<&str> {
+        match &self.groups {
+            Some(text) => Some(text.as_str()),
+            None => None,
+        }
+    }
+}
+
+pub(crate) fn call(
+    alloc: Global,
+    texts: &mut Texts,
+    verb: &str,
+    text: &str,
+    told: &mut String,
+) -> Result<(), Fail> {
+    match verb {
+        "rules" => texts.rules = Some(String::from_str(alloc, text)?),
+        "groups" => texts.groups = Some(String::from_str(alloc, text)?),
+        "no-texts" => *texts = Texts::none(),
+        "check" => check_texts(alloc, texts, text, told)?,
+        "rooms" => rooms(alloc, texts, text, told)?,
+        _ => refusals(told)?,
+    }
+    Ok(())
+}
+
+pub(crate) fn edit(
+    desk: &mut Desk,
+    policy: &mut Policy,
+    texts: &Texts,
+    told: &mut String,
+) -> Result<(), Fail> {
+    match desk.edit(texts.rules(), texts.groups()) {
+        Ok(edited) => *policy = edited,
+        Err(fault) => writeln!(told, "{fault}")?,
+    }
+    Ok(())
+}
+
+pub(crate) fn show(desk: &Desk, rules: &Rules, told: &mut String) -> Result<(), Fail> {
+    let open = if rules.is_open() { "open" } else { "closed" };
+    let (rows, order) = (rules.rows().len(), rules.order());
+    writeln!(told, "{open}, {rows} rows, {order}, {} edits", desk.edits())?;
+    Ok(())
+}
+
+fn asked(alloc: Global, text: &str) -> Result<Option<Asked>, Fail> {
+    let Some((host, name)) = text.split_once(' ') else {
+        return Ok(None);
+    };
+    let host = Host::read(alloc, host.as_bytes())?;
+    let name = Name::read(alloc, name.as_bytes())?;
+    Ok(Some(Asked { name, host }))
+}
+
+fn check_texts(alloc: Global, texts: &Texts, text: &str, told: &mut String) -> Result<(), Fail> {
+    let asked = asked(alloc, text)?;
+    let rules = texts.rules().ok_or("a rule file")?;
+    let mut out = Vec::new(alloc);
+    let status = check(alloc, rules, texts.groups(), asked.as_ref(), &mut out);
+    writeln!(told, "{}status {status}", str::from_utf8(&out)?)?;
+    Ok(())
+}
+
+fn rooms(alloc: Global, texts: &Texts, text: &str, told: &mut String) -> Result<(), Fail> {
+    let (first, text) = two_words(text)?;
+    let (last, text) = text.split_once(' ').unwrap_or((text, ""));
+    let asked = asked(alloc, text)?;
+    let rules = texts.rules().ok_or("a rule file")?;
+    for room in first.parse()?..=last.parse()? {
+        let status = check(
+            alloc,
+            rules,
+            texts.groups(),
+            asked.as_ref(),
+            &mut Narrow(room),
+        );
+        write!(told, "{status}")?;
+    }
+    writeln!(told)?;
+    Ok(())
+}
+
+/// Takes so many bytes, and then fails; at last the flush.
+#[derive(Drop)]
+struct Narrow(usize);
+
+impl io::Write for Narrow {
+    fn write(&mut self, buf: &[u8]) -> io::Result<usize> {
+        if self.0 == 0 {
+            return Err(io::Error::from(io::ErrorKind::BrokenPipe));
+        }
+        let taken = self.0.min(buf.len());
+        self.0 -= taken;
+        Ok(taken)
+    }
+
+    fn flush(&mut self) -> io::Result<()> {
+        if self.0 == 0 {
+            return Err(io::Error::from(io::ErrorKind::BrokenPipe));
+        }
+        Ok(())
+    }
+}
+
+fn refusals(told: &mut String) -> Result<(), Fail> {
+    writeln!(told, "{}", NameFault::OutOfMemory)?;
+    writeln!(told, "{}", TranslateFault::OutOfMemory)?;
+    writeln!(told, "{}", RuleFault::OutOfMemory)?;
+    writeln!(told, "{}", DeskFault::OutOfMemory)?;
+    Ok(())
+}
