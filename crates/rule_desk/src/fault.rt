@@ -16,6 +16,11 @@ pub enum DeskFault {
 }
 
 impl fmt::Display for DeskFault {
+    ghost use Rattle.std.specs.Prelude.{Some};
+    ghost use Rattle.rule_desk.specs.Fault.{fault_text};
+
+    ghost output = { λ fault. Some (fault_text fault) };
+
     fn fmt<W: fmt::Write>(&self, f: &mut fmt::Formatter<W>) -> fmt::Result {
         match self {
             DeskFault::Rules(line, cause) => write!(f, "line {line}: {cause}"),
