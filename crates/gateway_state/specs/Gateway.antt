@@ -28,6 +28,7 @@ initial config policy = record {
   upstream = record {
     servers = [];
     links = [];
+    writes = [];
     counters = record { sid = config.first; cid = config.first; subscription = config.first; write = config.first };
   };
   cache = [];

@@ -10,6 +10,7 @@ use Rattle.channel_table.specs.Subs.{is_not_sub_of}
 use Rattle.link_table.specs.declared.table.TheConstants.{SERVER_LIMIT}
 use Rattle.link_table.specs.Links.{is_not_of}
 use Rattle.link_table.specs.Servers.{is_not_server}
+use Rattle.link_table.specs.Writes.{is_not_write_to}
 use Rattle.gateway_state.specs.declared.event.Dest.TheVariants.{Session, Upstream}
 use Rattle.gateway_state.specs.Asked.{stands}
 use Rattle.gateway_state.specs.CachedRows.{is_cached_by_another}
@@ -63,13 +64,14 @@ up_opened w number =
     if stands w (Upstream number) || nat_le SERVER_LIMIT (length w.upstream.servers) then w
     else introduced number (with_server w number)
 
--- a server's connection is gone, and with it its links and their last messages
+-- a server's connection is gone, and with it its links, their last messages and the writes to it
 abbrev pub up_lost : Gateway → ℕ → Gateway
 up_lost w number = record w {
   connections = filter (is_not_to (Upstream number)) w.connections;
   upstream = record w.upstream {
     servers = filter (is_not_server number) w.upstream.servers;
     links = filter (is_not_of number) w.upstream.links;
+    writes = filter (is_not_write_to number) w.upstream.writes;
   };
   cache = filter (is_cached_by_another number) w.cache;
 }

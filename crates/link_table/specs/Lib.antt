@@ -2,3 +2,4 @@ pub mod Counters
 pub mod LinkRows
 pub mod Links
 pub mod Servers
+pub mod Writes

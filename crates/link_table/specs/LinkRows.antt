@@ -1,10 +1,12 @@
 -- The value of the table of servers and links.
 use Rattle.std.specs.Prelude.{ℕ, List, Bool}
-use Rattle.std.specs.List.{list_any}
+use Rattle.std.specs.List.{list_any, count_by}
 use Rattle.link_table.specs.declared.links.Link.{Link}
 use Rattle.link_table.specs.declared.servers.Server.{Server}
+use Rattle.link_table.specs.declared.writes.WaitingWrite.{WaitingWrite}
 use Rattle.link_table.specs.Links.{is_link}
 use Rattle.link_table.specs.Servers.{is_server}
+use Rattle.link_table.specs.Writes.{is_write_of}
 
 -- the next number of each counter
 pub record Counters : Type 0 where
@@ -17,6 +19,7 @@ pub record Counters : Type 0 where
 pub record LinkRows : Type 0 where
   pub servers : List Server
   pub links : List Link
+  pub writes : List WaitingWrite
   pub counters : Counters
 
 -- whether the server stands
@@ -26,3 +29,7 @@ has_server number rows = list_any (is_server number) rows.servers
 -- whether the link of this server with this ID stands
 abbrev pub has_link : ℕ → ℕ → LinkRows → Bool
 has_link server cid rows = list_any (is_link server cid) rows.links
+
+-- how many writes of the session wait
+abbrev pub write_count : ℕ → LinkRows → ℕ
+write_count session rows = count_by (is_write_of session) rows.writes

@@ -1,16 +1,16 @@
 //! The servers that the gateway is connected to, its links (each the gateway's own channel on a server,
-//! for one process variable), and the numbers that it gives out. [`Links`] keeps what it is told to,
-//! and decides nothing about it.
+//! for one process variable), the writes of clients that a server hasn't acknowledged, and the numbers
+//! that the gateway gives out. [`Links`] keeps what it is told to, and decides nothing about it.
 //!
-//! - `add_server` and `add_link` put a row last. They refuse a link whose server doesn't stand, and a
-//!   row past its limit ([`TableFault`]).
-//! - `server`, `by_cid`, `by_name` and `by_sub` find a row, `link` and `links` give links in the order
-//!   of adding.
-//! - `put_server`, `put_link` and `set_sub` change a row that stands; `remove_server` takes its links
-//!   along.
+//! - `add_server`, `add_link` and `add_write` put a row last. They refuse a link or a write whose server
+//!   doesn't stand, and a row past its limit ([`TableFault`]).
+//! - `server`, `by_cid`, `by_name`, `by_sub` and `write` find a row, `link` and `links` give links in the
+//!   order of adding, `writes` says how many writes of a session wait.
+//! - `put_server`, `put_link` and `set_sub` change a row that stands; `remove_server` takes its links and
+//!   the writes to it along, `remove_writes` those on a channel of a client.
 //! - `give_out` gives the next number of a [`Counter`], each one more than the one before.
 //!
-//! A contract sees `Links` as two lists and four counters. Each call changes what it names alone, a
+//! A contract sees `Links` as three lists and four counters. Each call changes what it names alone, a
 //! refused one nothing, and a limit refuses exactly where it is reached; limits are in
 //! `laws::numbers_are_these`.
 //!
@@ -36,8 +36,10 @@ mod servers;
 mod table;
 #[cfg(test)]
 mod tests;
+mod writes;
 
 pub use counter::{Counter, LAST_NUMBER};
 pub use links::{Link, LinkState, Subscription};
 pub use servers::Server;
-pub use table::{LINK_LIMIT, Links, SERVER_LIMIT, TableFault};
+pub use table::{LINK_LIMIT, Links, SERVER_LIMIT, TableFault, WRITE_LIMIT};
+pub use writes::WaitingWrite;

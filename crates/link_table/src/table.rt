@@ -1,17 +1,19 @@
-//! The table of servers and links.
+//! The table of servers, links and waiting writes.
 ghost use Rattle.std.specs.Prelude.{◌≡◌, ◌≢◌, ◌≤◌, ◌<◌, ◌↔◌, [], ◌∷◌, ◌++◌, length, true, false, Err, slice_get, OnOk, OnErr, OnSome, IsErrOf, IsNone, IfSome, IfNone};
 ghost use Rattle.std.specs.List.{filter, find};
 ghost use Rattle.std.specs.Option.{option_copied};
 ghost use Rattle.rows.specs.Rows.{change_first};
 ghost use Rattle.link_table.specs.declared.counter.TheConstants.{LAST_NUMBER};
-ghost use Rattle.link_table.specs.LinkRows.{has_server, has_link};
+ghost use Rattle.link_table.specs.LinkRows.{has_server, has_link, write_count};
 ghost use Rattle.link_table.specs.Servers.{is_server, is_not_server, with_minor};
 ghost use Rattle.link_table.specs.Links.{is_link, is_not_link, is_not_of, is_named, has_subscription, with_state, with_subscription};
+ghost use Rattle.link_table.specs.Writes.{is_write, is_not_write, is_not_write_on, is_not_write_to};
 ghost use Rattle.link_table.specs.Counters.{all_at, are_over, counter_of, raised};
 
 use crate::counter::{Counter, NextNumbers};
 use crate::links::{self, Link, LinkState, Subscription};
 use crate::servers::{self, Server};
+use crate::writes::{self, WaitingWrite};
 use pv_name::Name;
 use std::alloc::Global;
 use std::marker::Model;
@@ -21,6 +23,9 @@ pub const SERVER_LIMIT: usize = 16;
 
 /// How many links stand at most.
 pub const LINK_LIMIT: usize = 65_536;
+
+/// How many writes of one session wait at most.
+pub const WRITE_LIMIT: usize = 256;
 
 /// Why a row was not added or changed. The table is as before.
 #[derive(Clone, Copy, Debug, PartialEq, Eq)]
@@ -33,11 +38,13 @@ pub enum TableFault {
     Full,
 }
 
-/// Servers and links, each list in the order in which they were added, and the next numbers.
+/// Servers, links and waiting writes, each list in the order in which they were added, and the next
+/// numbers.
 #[derive(Debug, Drop)]
 pub struct Links {
     servers: Vec<Server>,
     links: Vec<Link>,
+    writes: Vec<WaitingWrite>,
     next: NextNumbers,
 }
 
@@ -49,6 +56,7 @@ impl Model for Links {
     ghost view = { λ l. record {
       servers = l.servers.items;
       links = l.links.items;
+      writes = l.writes.items;
       counters = l.next;
     } };
 }
@@ -56,11 +64,12 @@ impl Model for Links {
 impl Links {
     /// No row, and each number given out from `first` on.
     pub fn new(alloc: Global, first: u32) -> Links
-        ensures { result ≡ record { servers = []; links = []; counters = all_at first } }
+        ensures { result ≡ record { servers = []; links = []; writes = []; counters = all_at first } }
     {
         Links {
             servers: Vec::new(alloc),
             links: Vec::new(alloc),
+            writes: Vec::new(alloc),
             next: NextNumbers::new(first),
         }
     }
@@ -114,6 +123,20 @@ impl Links {
         self.links.len()
     }
 
+    /// The write to this server with this ID.
+    pub fn write(&self, server: u32, id: u32) -> Option<&WaitingWrite>
+        ensures { option_copied result ≡ find (is_write server id) self.now.writes }
+    {
+        writes::find(&self.writes, server, id)
+    }
+
+    /// How many writes of the session wait.
+    pub fn writes(&self, session: u32) -> usize
+        ensures { result ≡ write_count session self.now }
+    {
+        writes::count(&self.writes, session)
+    }
+
     /// Adds a server. The caller sees to it that none of its number stands.
     pub fn add_server(&mut self, server: Server) -> Result<(), TableFault>
         ensures ok { OnOk result (self.new ≡ record self.old { servers = self.old.servers ++ server ∷ [] }) }
@@ -148,6 +171,29 @@ impl Links {
             return Err(TableFault::Full);
         }
         match self.links.push(link) {
+            Ok(()) => Ok(()),
+            Err(_) => Err(TableFault::OutOfMemory),
+        }
+    }
+
+    /// Adds a write to the server that it names. The caller sees to it that none of its ID waits there.
+    pub fn add_write(&mut self, write: WaitingWrite) -> Result<(), TableFault>
+        ensures ok { OnOk result (self.new ≡ record self.old { writes = self.old.writes ++ write ∷ [] }) }
+        ensures there { OnOk result (has_server write.server self.old ≡ true) }
+        ensures room { OnOk result (write_count write.session self.old < WRITE_LIMIT) }
+        ensures missing { IsErrOf result TableFault.Missing ↔ (has_server write.server self.old ≡ false) }
+        ensures full { IsErrOf result TableFault.Full ↔
+            ((has_server write.server self.old ≡ true)
+            × (WRITE_LIMIT ≤ write_count write.session self.old)) }
+        ensures err { OnErr result (self.new ≡ self.old) }
+    {
+        if !servers::stands(&self.servers, write.server) {
+            return Err(TableFault::Missing);
+        }
+        if writes::count(&self.writes, write.session) >= WRITE_LIMIT {
+            return Err(TableFault::Full);
+        }
+        match self.writes.push(write) {
             Ok(()) => Ok(()),
             Err(_) => Err(TableFault::OutOfMemory),
         }
@@ -191,15 +237,17 @@ impl Links {
         Ok(())
     }
 
-    /// Removes a server with its links.
+    /// Removes a server with its links and the writes to it.
     pub fn remove_server(&mut self, number: u32)
         ensures { self.new ≡ record self.old {
           servers = filter (is_not_server number) self.old.servers;
           links = filter (is_not_of number) self.old.links;
+          writes = filter (is_not_write_to number) self.old.writes;
         } }
     {
         servers::remove(&mut self.servers, number);
         links::remove_of(&mut self.links, number);
+        writes::remove_to(&mut self.writes, number);
     }
 
     /// Removes a link.
@@ -207,6 +255,20 @@ impl Links {
         ensures { self.new ≡ record self.old { links = filter (is_not_link server cid) self.old.links } }
     {
         links::remove(&mut self.links, server, cid);
+    }
+
+    /// Removes the write to this server with this ID.
+    pub fn remove_write(&mut self, server: u32, id: u32)
+        ensures { self.new ≡ record self.old { writes = filter (is_not_write server id) self.old.writes } }
+    {
+        writes::remove(&mut self.writes, server, id);
+    }
+
+    /// Removes all writes on the session's channel of this ID.
+    pub fn remove_writes(&mut self, session: u32, sid: u32)
+        ensures { self.new ≡ record self.old { writes = filter (is_not_write_on session sid) self.old.writes } }
+    {
+        writes::remove_on(&mut self.writes, session, sid);
     }
 
     /// No number past the last one was given out, whatever was done: this call does nothing.

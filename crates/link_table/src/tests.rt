@@ -138,6 +138,68 @@ fn no_row_is_added_past_its_limit(rt: HostRuntime) -> Result<(), Fail> {
     Ok(())
 }
 
+/// A write of session 1 on its channel 2, to server 1.
+fn write(id: u32) -> WaitingWrite {
+    WaitingWrite {
+        server: 1,
+        id,
+        session: 1,
+        sid: 2,
+        dtype: 5,
+        count: 1,
+        ioid: 43,
+    }
+}
+
+#[test]
+fn a_write_waits_until_it_is_removed(rt: HostRuntime) -> Result<(), Fail> {
+    let mut links = two_links(rt.alloc())?;
+    let other = WaitingWrite { sid: 3, ..write(2) };
+    links.add_write(write(1))?;
+    links.add_write(other)?;
+    links.add_write(write(3))?;
+    assert_eq!(rt; links.writes(1), 3);
+    assert_eq!(rt; links.writes(2), 0);
+    assert_eq!(rt; links.write(1, 2).copied(), Some(other));
+    assert_eq!(rt; links.write(2, 2), None);
+    assert_eq!(rt; links.write(1, 43), None);
+    links.remove_write(1, 1);
+    links.remove_write(2, 3);
+    assert_eq!(rt; links.write(1, 1), None);
+    links.remove_writes(1, 2);
+    links.remove_writes(2, 3);
+    assert_eq!(rt; links.write(1, 3), None);
+    assert_eq!(rt; links.writes(1), 1);
+    links.remove_server(2);
+    assert_eq!(rt; links.writes(1), 1);
+    links.remove_server(1);
+    assert_eq!(rt; links.writes(1), 0);
+    Ok(())
+}
+
+#[test]
+fn no_more_than_256_writes_of_a_session_wait(rt: HostRuntime) -> Result<(), Fail> {
+    let mut links = two_links(rt.alloc())?;
+    for id in 1..257 {
+        links.add_write(write(id))?;
+    }
+    assert_eq!(rt; links.add_write(write(257)), Err(TableFault::Full));
+    let elsewhere = WaitingWrite {
+        server: 2,
+        ..write(257)
+    };
+    assert_eq!(rt; links.add_write(elsewhere), Err(TableFault::Missing));
+    let of_another = WaitingWrite {
+        session: 2,
+        ..write(257)
+    };
+    assert_eq!(rt; links.add_write(of_another), Ok(()));
+    assert_eq!(rt; links.writes(1), 256);
+    links.remove_write(1, 1);
+    assert_eq!(rt; links.add_write(write(258)), Ok(()));
+    Ok(())
+}
+
 #[test]
 fn each_counter_gives_its_own_numbers(rt: HostRuntime) {
     let mut links = Links::new(rt.alloc(), 1);
