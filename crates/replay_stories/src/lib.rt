@@ -19,6 +19,8 @@ mod channels;
 #[cfg(test)]
 mod clients;
 #[cfg(test)]
+mod edits;
+#[cfg(test)]
 mod limits;
 #[cfg(test)]
 mod links;
