@@ -1,0 +1,72 @@
+//! A message of three elements, and what is told and answered from it.
+use crate::tell::tells;
+use std::test::Fail;
+
+// The message is three LONGs, 1, -2 and 3, with status 7 and severity 1. The next one is a LONG of 42,
+// later and without an alarm.
+#[test]
+fn the_last_message_answers(rt: HostRuntime) -> Result<(), Fail> {
+    tells(
+        &rt,
+        rt.alloc(),
+        "\
+# The example at the head of the crate.
+hold 19 1 1: 00000000 3b9aca00 00000000 0000002a
+ask 5 0
+> 1 in 0000002a 00000000
+# Reads are answered from what is held.
+ask 5 1
+> none
+hold 19 3 3: 00070001 3b9aca00 00000005 00000001 fffffffe 00000003
+ask 5 0
+> 3 in 00000001 fffffffe 00000003 00000000
+ask 5 1
+> 1 in 00000001 00000000
+ask 5 3
+> 3 in 00000001 fffffffe 00000003 00000000
+ask 5 5
+> 5 in 00000001 fffffffe 00000003 00*12
+ask 19 0
+> 3 in 00070001 3b9aca00 00000005 00000001 fffffffe 00000003
+ask 26 1
+> none
+ask 5 262145
+> none
+hold 19 1 1: 00000000 3b9aca01 00000000 0000002a
+ask 19 0
+> 1 in 00000000 3b9aca01 00000000 0000002a
+forget
+ask 19 0
+> none
+# As many are covered as were asked for.
+covers 0
+> false
+hold 19 3 10: 00070001 3b9aca00 00000005 00000001 fffffffe 00000003
+covers 10
+> true
+covers 11
+> false
+hold 19 1 5: 00000000 3b9aca01 00000000 0000002a
+covers 5
+> true
+covers 6
+> false
+forget
+covers 1
+> false
+# Another alarm has another status or another severity.
+alarm 19 2: 00070001 3b9aca00 00000005 00000001 fffffffe 00000003
+> true
+hold 19 3 3: 00070001 3b9aca00 00000005 00000001 fffffffe 00000003
+alarm 19 2: 00070001 3b9aca00 00000005 00000001 fffffffe 00000003
+> false
+alarm 19 0: 00060001 00000000 00000000
+> true
+alarm 19 0: 00070002 00000000 00000000
+> true
+hold 19 1 3: 00000000 3b9aca01 00000000 0000002a
+alarm 19 2: 00070001 3b9aca00 00000005 00000001 fffffffe 00000003
+> true
+",
+    )
+}

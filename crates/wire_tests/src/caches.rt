@@ -1,0 +1,49 @@
+//! Calls on the last message of a variable.
+//!
+//! - `hold TYPE COUNT ASKED: BYTES`: a message of so many elements, which came when `ASKED` were asked
+//!   for; answered only if it is refused;
+//! - `ask TYPE COUNT`: how many elements are given, and their payload; or `none`;
+//! - `covers COUNT`: whether so many are;
+//! - `alarm TYPE COUNT: BYTES`: whether the alarm of this message is another;
+//! - `forget`.
+use crate::words::{Call, Told};
+use bytes::Bytes;
+use dbr_layout::View;
+use value_cache::Cached;
+
+pub(crate) fn call(cached: &mut Cached, verb: &str, call: &Call, told: &mut Told) {
+    match verb {
+        "hold" => hold(cached, call, told),
+        "ask" => ask(cached, call, told),
+        "covers" => told.line(&cached.covers(call.number(0))),
+        "alarm" => match View::new(call.short(0), call.number(1), &call.bytes) {
+            Ok(view) => told.line(&cached.alarm_differs(&view)),
+            Err(fault) => told.line(&fault),
+        },
+        _ => cached.drop_value(),
+    }
+}
+
+fn hold(cached: &mut Cached, call: &Call, told: &mut Told) {
+    let (dtype, count, asked_with) = (call.short(0), call.number(1), call.number(2));
+    match Bytes::copy_from_slice(call.alloc, &call.bytes) {
+        Ok(payload) => if View::new(dtype, count, &payload).is_ok() {
+            cached.put(dtype, count, payload, asked_with);
+        } else {
+            told.line(&"no view");
+        },
+        Err(_) => told.line(&"out of memory"),
+    }
+}
+
+fn ask(cached: &Cached, call: &Call, told: &mut Told) {
+    match cached.answer(call.alloc, call.short(0), call.number(1)) {
+        Ok(Some((count, payload))) => {
+            told.word(&count);
+            told.word(&"in");
+            told.bytes(payload.as_slice());
+        }
+        Ok(None) => told.line(&"none"),
+        Err(_) => told.line(&"out of memory"),
+    }
+}
