@@ -11,13 +11,13 @@ fn the_last_message_answers(rt: HostRuntime) -> Result<(), Fail> {
         rt.alloc(),
         "\
 # The example at the head of the crate.
-hold 19 1 1 00000000 3b9aca00 00000000 0000002a
+hold 19 1 1: 00000000 3b9aca00 00000000 0000002a
 ask 5 0
 > 1 in 0000002a 00000000
 # Reads are answered from what is held.
 ask 5 1
 > none
-hold 19 3 3 00070001 3b9aca00 00000005 00000001 fffffffe 00000003
+hold 19 3 3: 00070001 3b9aca00 00000005 00000001 fffffffe 00000003
 ask 5 0
 > 3 in 00000001 fffffffe 00000003 00000000
 ask 5 1
@@ -32,7 +32,7 @@ ask 26 1
 > none
 ask 5 262145
 > none
-hold 19 1 1 00000000 3b9aca01 00000000 0000002a
+hold 19 1 1: 00000000 3b9aca01 00000000 0000002a
 ask 19 0
 > 1 in 00000000 3b9aca01 00000000 0000002a
 forget
@@ -40,33 +40,33 @@ ask 19 0
 > none
 # As many are covered as were asked for.
 covers 0
-> no
-hold 19 3 10 00070001 3b9aca00 00000005 00000001 fffffffe 00000003
+> false
+hold 19 3 10: 00070001 3b9aca00 00000005 00000001 fffffffe 00000003
 covers 10
-> yes
+> true
 covers 11
-> no
-hold 19 1 5 00000000 3b9aca01 00000000 0000002a
+> false
+hold 19 1 5: 00000000 3b9aca01 00000000 0000002a
 covers 5
-> yes
+> true
 covers 6
-> no
+> false
 forget
 covers 1
-> no
+> false
 # Another alarm has another status or another severity.
-alarm 19 2 00070001 3b9aca00 00000005 00000001 fffffffe 00000003
-> yes
-hold 19 3 3 00070001 3b9aca00 00000005 00000001 fffffffe 00000003
-alarm 19 2 00070001 3b9aca00 00000005 00000001 fffffffe 00000003
-> no
-alarm 19 0 00060001 00000000 00000000
-> yes
-alarm 19 0 00070002 00000000 00000000
-> yes
-hold 19 1 3 00000000 3b9aca01 00000000 0000002a
-alarm 19 2 00070001 3b9aca00 00000005 00000001 fffffffe 00000003
-> yes
+alarm 19 2: 00070001 3b9aca00 00000005 00000001 fffffffe 00000003
+> true
+hold 19 3 3: 00070001 3b9aca00 00000005 00000001 fffffffe 00000003
+alarm 19 2: 00070001 3b9aca00 00000005 00000001 fffffffe 00000003
+> false
+alarm 19 0: 00060001 00000000 00000000
+> true
+alarm 19 0: 00070002 00000000 00000000
+> true
+hold 19 1 3: 00000000 3b9aca01 00000000 0000002a
+alarm 19 2: 00070001 3b9aca00 00000005 00000001 fffffffe 00000003
+> true
 ",
     )
 }

@@ -3,98 +3,82 @@
 //!
 //! - `pad N`: the size with its padding;
 //! - `write HEADER`: the bytes of the header;
-//! - `read BYTES`: the header that the bytes begin with, and how long it is;
+//! - `read: BYTES`: the header that the bytes begin with, and how long it is;
 //! - `reread HEADER`: what is read from the bytes that are written;
-//! - `frames BYTES`: the messages of the bytes, and twice what comes behind them.
-use crate::words::{bytes, number, short, word, write_bytes};
+//! - `frames: BYTES`: the messages of the bytes, and twice what comes behind them.
+use crate::words::{Call, Told};
 use ca_header::{Frame, Frames, Head, Header, MAX_PAYLOAD, pad8, read_head, write_head};
-use std::alloc::Global;
-use std::fmt::Write;
-use std::test::Fail;
 
-pub(crate) fn call(alloc: Global, line: &str, told: &mut String) -> Result<(), Fail> {
-    match word(line, 0)? {
-        "pad" => pad(number(line, 1)?, told),
-        "write" => {
-            told.push_str("bytes")?;
-            write_bytes(told, write_head(&header(line, 1)?).as_slice())
-        }
-        "read" => read(&bytes(alloc, line, 1)?, told),
-        "reread" => read(write_head(&header(line, 1)?).as_slice(), told),
-        _ => frames(&bytes(alloc, line, 1)?, told),
+pub(crate) fn call(verb: &str, call: &Call, told: &mut Told) {
+    match verb {
+        "pad" => told.line(&pad8(call.number(0).min(MAX_PAYLOAD))),
+        "write" => told.bytes(write_head(&header(call, 0)).as_slice()),
+        "read" => read(&call.bytes, told),
+        "reread" => read(write_head(&header(call, 0)).as_slice(), told),
+        _ => frames(&call.bytes, told),
     }
 }
 
-/// The header that a line has from a word on.
-pub(crate) fn header(line: &str, place: usize) -> Result<Header, Fail> {
-    let mut words = line.split(' ').skip(place);
-    let mut next = || words.next().ok_or("a field of a header");
-    Ok(Header {
-        command: next()?.parse()?,
-        dtype: next()?.parse()?,
-        p1: next()?.parse()?,
-        p2: next()?.parse()?,
-        count: next()?.parse()?,
-        size: next()?.parse()?,
-    })
-}
-
-pub(crate) fn write_header(told: &mut String, head: &Header) -> Result<(), Fail> {
-    let (command, dtype, p1, p2) = (head.command, head.dtype, head.p1, head.p2);
-    write!(
-        told,
-        "{command} {dtype} {p1} {p2} {} {}",
-        head.count, head.size
-    )?;
-    Ok(())
-}
-
-fn pad(len: u32, told: &mut String) -> Result<(), Fail> {
-    if len > MAX_PAYLOAD {
-        return Err("a payload is no longer than that".into());
+/// The header that the numbers of a call are, from one of them on.
+pub(crate) fn header(call: &Call, first: usize) -> Header {
+    let number = |place: usize| call.number(first.saturating_add(place));
+    Header {
+        command: number(0).min(65_535) as u16,
+        dtype: number(1).min(65_535) as u16,
+        p1: number(2),
+        p2: number(3),
+        count: number(4),
+        size: number(5),
     }
-    writeln!(told, "{}", pad8(len))?;
-    Ok(())
 }
 
-fn read(bytes: &[u8], told: &mut String) -> Result<(), Fail> {
+pub(crate) fn tell_header(told: &mut Told, head: &Header) {
+    told.word(&head.command);
+    told.word(&head.dtype);
+    for number in [head.p1, head.p2, head.count, head.size] {
+        told.word(&number);
+    }
+}
+
+fn read(bytes: &[u8], told: &mut Told) {
     match read_head(bytes) {
-        Head::Need => writeln!(told, "need more")?,
+        Head::Need => told.line(&"need more"),
         Head::Got(head, len) => {
-            write_header(told, &head)?;
-            writeln!(told, " in {len} bytes")?;
+            tell_header(told, &head);
+            told.line(&len);
         }
-        Head::Misaligned => writeln!(told, "misaligned")?,
-        Head::TooLarge => writeln!(told, "too large")?,
+        Head::Misaligned => told.line(&"misaligned"),
+        Head::TooLarge => told.line(&"too large"),
     }
-    Ok(())
 }
 
-fn frames(bytes: &[u8], told: &mut String) -> Result<(), Fail> {
+fn frames(bytes: &[u8], told: &mut Told) {
     let mut frames = Frames::new(bytes);
     for _ in 0..=bytes.len() {
-        if !frame(&frames.next(), told)? {
+        if !frame(&frames.next(), told) {
             break;
         }
     }
-    frame(&frames.next(), told)?;
-    Ok(())
+    frame(&frames.next(), told);
 }
 
 /// Tells what comes next, and says whether it is a message.
-fn frame(frame: &Frame, told: &mut String) -> Result<bool, Fail> {
+fn frame(frame: &Frame, told: &mut Told) -> bool {
     match frame {
         Frame::Message(head, payload) => {
-            write_header(told, head)?;
-            told.push_str(" with")?;
-            write_bytes(told, payload)?;
-            return Ok(true);
+            tell_header(told, head);
+            told.word(&"with");
+            told.bytes(payload);
+            true
         }
         Frame::Rest(rest) => {
-            told.push_str("rest")?;
-            write_bytes(told, rest)?;
+            told.word(&"rest");
+            told.bytes(rest);
+            false
         }
-        Frame::Fault(fault) => writeln!(told, "{fault}")?,
+        Frame::Fault(fault) => {
+            told.line(fault);
+            false
+        }
     }
-    Ok(false)
 }

@@ -3,17 +3,15 @@
 //! - `types`: each type with its number, where its elements begin, how long one is, and whether it is
 //!   served;
 //! - `type FIRST LAST`: the types with these numbers;
-//! - `size TYPE COUNT..`: the sizes of payloads with so many elements;
+//! - `size TYPE COUNT`: the size of a payload with so many elements;
 //! - `conversions`: for each base the bases to which it is converted;
-//! - `view TYPE COUNT BYTES`: what the bytes show: the type, how many elements there are and how many
+//! - `view TYPE COUNT: BYTES`: what the bytes show: the type, how many elements there are and how many
 //!   a request for 0 and for 9 is given, the alarm, the stamp and the elements;
-//! - `of TYPE COUNT BYTES`: the same, but answered only if the bytes are refused;
+//! - `of TYPE COUNT: BYTES`: the same, but answered only if the bytes are refused;
 //! - `as TYPE COUNT`: what was viewed last, as a payload of another type.
-use crate::words::{bytes, number, short, word, write_bytes};
+use crate::words::{Call, Told};
 use dbr_layout::{Base, Converted, Dbr, Form, LayoutFault, View, converts};
 use std::alloc::Global;
-use std::fmt::Write;
-use std::test::Fail;
 
 const FORMS: [Form; 5] = [Form::Plain, Form::Sts, Form::Time, Form::Gr, Form::Ctrl];
 
@@ -43,133 +41,133 @@ impl Viewed {
             bytes: Vec::new(alloc),
         }
     }
-}
 
-pub(crate) fn call(
-    alloc: Global,
-    viewed: &mut Viewed,
-    line: &str,
-    told: &mut String,
-) -> Result<(), Fail> {
-    match word(line, 0)? {
-        "types" => types(told),
-        "type" => types_of(short(line, 1)?, short(line, 2)?, told),
-        "size" => sizes(line, told),
-        "conversions" => conversions(alloc, told),
-        "as" => write_as(alloc, viewed, line, told),
-        how => {
-            viewed.dtype = short(line, 1)?;
-            viewed.count = number(line, 2)?;
-            viewed.bytes = bytes(alloc, line, 3)?;
-            view(viewed, how, told)
+    fn put(&mut self, call: &Call, told: &mut Told) {
+        self.dtype = call.short(0);
+        self.count = call.number(1);
+        self.bytes.clear();
+        if self.bytes.extend_from_slice(&call.bytes).is_err() {
+            told.line(&"out of memory");
         }
     }
 }
 
-fn types(told: &mut String) -> Result<(), Fail> {
+pub(crate) fn call(viewed: &mut Viewed, verb: &str, call: &Call, told: &mut Told) {
+    match verb {
+        "types" => types(told),
+        "type" => types_of(call.short(0), call.short(1), told),
+        "size" => size(call.short(0), call.number(1), told),
+        "conversions" => conversions(call.alloc, told),
+        "as" => write_as(viewed, call, told),
+        _ => {
+            viewed.put(call, told);
+            view(viewed, verb == "view", told);
+        }
+    }
+}
+
+fn types(told: &mut Told) {
     for form in FORMS {
         for base in BASES {
             let dbr = Dbr { base, form };
-            let served = if Dbr::of(dbr.number()) == Some(dbr) {
-                "served"
-            } else {
-                "not served"
-            };
-            let (number, offset, element) = (dbr.number(), dbr.offset(), dbr.element());
-            writeln!(
-                told,
-                "{number} {form:?} {base:?} {offset} {element} {served}"
-            )?;
+            told.word(&dbr.number());
+            told.name(&form);
+            told.name(&base);
+            told.word(&dbr.offset());
+            told.word(&dbr.element());
+            let is_served = Dbr::of(dbr.number()) == Some(dbr);
+            told.line(if is_served { &"served" } else { &"not served" });
         }
     }
-    Ok(())
 }
 
-fn types_of(first: u16, last: u16, told: &mut String) -> Result<(), Fail> {
+fn types_of(first: u16, last: u16, told: &mut Told) {
     for number in first..=last {
         match Dbr::of(number) {
-            Some(dbr) => writeln!(told, "{:?} {:?}", dbr.form, dbr.base)?,
-            None => writeln!(told, "none")?,
+            Some(dbr) => {
+                told.name(&dbr.form);
+                told.name(&dbr.base);
+                told.end();
+            }
+            None => told.line(&"none"),
         }
     }
-    Ok(())
 }
 
-fn sizes(line: &str, told: &mut String) -> Result<(), Fail> {
-    let dbr = Dbr::of(short(line, 1)?).ok_or("no such type")?;
-    for count in line.split(' ').skip(2) {
-        match dbr.size_of(count.parse()?) {
-            Some(size) => writeln!(told, "{size}")?,
-            None => writeln!(told, "none")?,
-        }
+fn size(dtype: u16, count: u32, told: &mut Told) {
+    match Dbr::of(dtype) {
+        Some(dbr) => match dbr.size_of(count) {
+            Some(size) => told.line(&size),
+            None => told.line(&"none"),
+        },
+        None => told.line(&"no such type"),
     }
-    Ok(())
 }
 
-fn conversions(alloc: Global, told: &mut String) -> Result<(), Fail> {
+fn conversions(alloc: Global, told: &mut Told) {
     for base in BASES {
-        let from = Dbr {
-            base,
-            form: Form::Time,
-        };
-        write!(told, "{base:?} to")?;
+        told.name(&base);
+        told.word(&"to");
         for to in BASES {
-            conversion(alloc, from, to, told)?;
+            conversion(alloc, base, to, told);
         }
-        writeln!(told)?;
+        told.end();
     }
-    Ok(())
 }
 
-/// Tells the base if it is converted to, and if it is told otherwise than done.
-fn conversion(alloc: Global, from: Dbr, base: Base, told: &mut String) -> Result<(), Fail> {
-    let to = Dbr {
-        base,
-        form: Form::Sts,
+/// Tells the second base if the first is converted to it, and if it is told otherwise than done.
+fn conversion(alloc: Global, from: Base, to: Base, told: &mut Told) {
+    let form = Form::Time;
+    let (from, asked) = (Dbr { base: from, form }, Dbr { base: to, form });
+    let Ok(view) = View::new(from.number(), 1, &[0; 56]) else {
+        return told.word(&"no view");
     };
-    let view = View::new(from.number(), 1, &[0; 56])?;
     match (
-        converts(from, to),
-        Converted::write(alloc, &view, to.number(), 1),
+        converts(from, asked),
+        Converted::write(alloc, &view, asked.number(), 1),
     ) {
-        (true, Ok(_)) => write!(told, " {base:?}")?,
+        (true, Ok(_)) => told.name(&to),
         (false, Err(LayoutFault::BadType)) => {}
-        (_, _) => write!(told, " {base:?} or not")?,
+        (_, _) => told.word(&"otherwise"),
     }
-    Ok(())
 }
 
-fn view(viewed: &Viewed, how: &str, told: &mut String) -> Result<(), Fail> {
+fn view(viewed: &Viewed, whole: bool, told: &mut Told) {
     match View::new(viewed.dtype, viewed.count, &viewed.bytes) {
-        Ok(view) if how == "view" => parts(&view, told),
-        Ok(_) => Ok(()),
-        Err(fault) => Ok(writeln!(told, "{fault}")?),
+        Ok(view) => if whole {
+            parts(&view, told);
+        },
+        Err(fault) => told.line(&fault),
     }
 }
 
-fn parts(view: &View, told: &mut String) -> Result<(), Fail> {
-    let dbr = view.dbr();
-    let (form, base, count) = (dbr.form, dbr.base, view.count());
-    let (all, nine) = (view.given(0), view.given(9));
-    writeln!(
-        told,
-        "{form:?} {base:?}, {count} there, {all} and {nine} given"
-    )?;
-    let stamp = view.stamp();
-    let (seconds, nanoseconds) = (stamp.seconds, stamp.nanoseconds);
-    writeln!(told, "alarm {} {}", view.status(), view.severity())?;
-    writeln!(told, "stamp {seconds} {nanoseconds}")?;
-    told.push_str("elements")?;
-    write_bytes(told, view.elements())
+fn parts(view: &View, told: &mut Told) {
+    told.name(&view.dbr().form);
+    told.name(&view.dbr().base);
+    for count in [view.count(), view.given(0), view.given(9)] {
+        told.word(&count);
+    }
+    told.word(&"alarm");
+    told.word(&view.status());
+    told.word(&view.severity());
+    told.word(&"stamp");
+    told.word(&view.stamp().seconds);
+    told.line(&view.stamp().nanoseconds);
+    told.word(&"elements");
+    told.bytes(view.elements());
 }
 
-fn write_as(alloc: Global, viewed: &Viewed, line: &str, told: &mut String) -> Result<(), Fail> {
-    let view = View::new(viewed.dtype, viewed.count, &viewed.bytes)?;
-    match Converted::write(alloc, &view, short(line, 1)?, number(line, 2)?) {
+fn write_as(viewed: &Viewed, call: &Call, told: &mut Told) {
+    let view = match View::new(viewed.dtype, viewed.count, &viewed.bytes) {
+        Ok(view) => view,
+        Err(fault) => return told.line(&fault),
+    };
+    match Converted::write(call.alloc, &view, call.short(0), call.number(1)) {
         Ok(payload) => {
-            write!(told, "{} bytes", payload.len())?;
-            write_bytes(told, payload.as_slice())
+            told.word(&payload.len());
+            told.word(&"bytes");
+            told.bytes(payload.as_slice());
         }
-        Err(fault) => Ok(writeln!(told, "{fault}")?),
+        Err(fault) => told.line(&fault),
     }
 }

@@ -1,11 +1,14 @@
 //! Tests of what stands on the wire: headers, streams, DBR types, last messages, outboxes. They stand
 //! apart so that each crate they test is proved once, and not a second time with its tests.
 //!
-//! A test is a story, which is a text. Its lines are calls, each with one word for what is called, and
-//! behind `> ` stands what a call answers; behind `>16 ` what it answers 16 times. Lines that begin
-//! with `# ` are titles, and at each an empty intake, outbox and last message stand ready. Bytes are
-//! hexadecimal digits with blanks between them, and `00*24` is 24 times that. An answer of many bytes
-//! is told with the last ones in this form.
+//! A test is a story, which is a text. Its lines are calls: one word for what is called, then numbers,
+//! and behind a colon bytes. Behind `> ` stands what a call answers; behind `>16 ` what it answers 16
+//! times, with `; ` between lines. Lines that begin with `# ` are titles, and at each an empty intake,
+//! outbox and last message stand ready. Bytes are hexadecimal digits with blanks between them, and
+//! `00*24` is 24 times that. An answer of many bytes is told with the last ones in this form.
+//!
+//! The functions that make the calls return no error. What they tell would show one, and each way out
+//! of a function is dear to prove.
 //!
 //! The calls are said in the files that make them: `headers`, `streams`, `layouts`, `caches`,
 //! `outboxes`. The files named `.._stories` have the stories.

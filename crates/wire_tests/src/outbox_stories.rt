@@ -11,22 +11,22 @@ fn messages_wait_and_leave(rt: HostRuntime) -> Result<(), Fail> {
 # The example at the head of the crate.
 append 1 23 0 0 0 0 0
 front
-> out 0017 00*14
+> 0017 00*14
 length
-> 0
+> 0 wait
 # Messages leave in the order in which they came.
 append 1 23 0 10 0 0 0
 append 1 23 0 11 0 0 0
 append 1 23 0 12 0 0 0
 length
-> 3
+> 3 wait
 front
-> out 00170000 00000000 0000000a 00000000
+> 00170000 00000000 0000000a 00000000
 empty 5
-> out 00170000 00000000 0000000b 00000000
-> out 00170000 00000000 0000000c 00000000
+> 00170000 00000000 0000000b 00000000
+> 00170000 00000000 0000000c 00000000
 length
-> 0
+> 0 wait
 front
 > none
 # A marked outbox takes no message, and keeps its own.
@@ -35,15 +35,15 @@ mark
 append 1 23 0 7 0 0 0
 > back 00170000 00000000 00000007 00000000
 length
-> 3, marked
+> 3 marked
 # The message that finds it full marks it.
 append 16384 23 0 1 0 0 0
 length
-> 16384
+> 16384 wait
 append 1 23 0 2 0 0 0
 > back 00170000 00000000 00000002 00000000
 length
-> 16384, marked
+> 16384 marked
 ",
     )
 }

@@ -1,86 +1,67 @@
 //! Calls on an intake.
 //!
-//! - `feed BYTES`: answered only if it is refused;
+//! - `feed: BYTES`: answered only if it is refused;
 //! - `take`: the next message, `none`, or the fault;
-//! - `drip BYTES`: `take` before each byte, which is then fed; how often there was none is told last;
-//! - `cut FIRST LAST BYTES`: for each number of bytes from the first to the last, a new intake is fed
+//! - `drip: BYTES`: a look for a message before each byte, which is then fed; how often there was none
+//!   is told last;
+//! - `cut FIRST LAST: BYTES`: for each number of bytes from the first to the last, a new intake is fed
 //!   as many, then the others, and then none, with a `take` after each piece;
 //! - `refusals`: what is told where memory is refused.
-use crate::headers::write_header;
-use crate::words::{bytes, number, word, write_bytes};
-use ca_header::{Intake, IntakeFault, Message};
+use crate::headers::tell_header;
+use crate::words::{Call, Told};
+use ca_header::{Intake, IntakeFault};
 use std::alloc::Global;
-use std::fmt::Write;
-use std::test::Fail;
 
-pub(crate) fn call(
-    alloc: Global,
-    intake: &mut Intake,
-    line: &str,
-    told: &mut String,
-) -> Result<(), Fail> {
-    match word(line, 0)? {
-        "feed" => feed(intake, &bytes(alloc, line, 1)?, told),
+pub(crate) fn call(intake: &mut Intake, verb: &str, call: &Call, told: &mut Told) {
+    match verb {
+        "feed" => feed(intake, &call.bytes, told),
         "take" => take(intake, told),
-        "drip" => drip(intake, &bytes(alloc, line, 1)?, told),
+        "drip" => drip(intake, &call.bytes, told),
         "cut" => {
-            let (first, last) = (number(line, 1)?, number(line, 2)?);
-            cut(alloc, first, last, &bytes(alloc, line, 3)?, told)
+            for place in call.number(0)..=call.number(1) {
+                cut(call.alloc, place as usize, &call.bytes, told);
+            }
         }
-        _ => Ok(writeln!(told, "{}", IntakeFault::OutOfMemory)?),
+        _ => told.line(&IntakeFault::OutOfMemory),
     }
 }
 
-fn feed(intake: &mut Intake, piece: &[u8], told: &mut String) -> Result<(), Fail> {
-    match intake.feed(piece) {
-        Ok(()) => Ok(()),
-        Err(fault) => refused(fault, told),
+fn feed(intake: &mut Intake, piece: &[u8], told: &mut Told) {
+    if let Err(fault) = intake.feed(piece) {
+        told.line(&fault);
     }
 }
 
-fn take(intake: &mut Intake, told: &mut String) -> Result<(), Fail> {
+fn take(intake: &mut Intake, told: &mut Told) {
     match intake.take() {
-        Ok(Some(message)) => taken(&message, told),
-        Ok(None) => Ok(writeln!(told, "none")?),
-        Err(fault) => refused(fault, told),
+        Ok(Some(message)) => {
+            tell_header(told, &message.head);
+            told.word(&"with");
+            told.bytes(message.payload.as_slice());
+        }
+        Ok(None) => told.line(&"none"),
+        Err(fault) => told.line(&fault),
     }
 }
 
-fn taken(message: &Message, told: &mut String) -> Result<(), Fail> {
-    write_header(told, &message.head)?;
-    told.push_str(" with")?;
-    write_bytes(told, message.payload.as_slice())
-}
-
-fn refused(fault: IntakeFault, told: &mut String) -> Result<(), Fail> {
-    match fault {
-        IntakeFault::OutOfMemory => Err("out of memory".into()),
-        IntakeFault::Faulted(_) => Ok(writeln!(told, "{fault}")?),
-    }
-}
-
-fn drip(intake: &mut Intake, bytes: &[u8], told: &mut String) -> Result<(), Fail> {
+fn drip(intake: &mut Intake, bytes: &[u8], told: &mut Told) {
     let mut none = 0u32;
     for byte in bytes {
-        match intake.take() {
-            Ok(None) => none = none.saturating_add(1),
-            Ok(Some(message)) => taken(&message, told)?,
-            Err(fault) => refused(fault, told)?,
+        if matches!(&intake.take(), Ok(None)) {
+            none = none.saturating_add(1);
         }
-        feed(intake, &[*byte], told)?;
+        feed(intake, &[*byte], told);
     }
-    writeln!(told, "none {none} times")?;
-    Ok(())
+    told.word(&"none");
+    told.word(&none);
+    told.line(&"times");
 }
 
-fn cut(alloc: Global, first: u32, last: u32, bytes: &[u8], told: &mut String) -> Result<(), Fail> {
-    for place in first..=last {
-        let (front, rest) = bytes.split_at_checked(place as usize).ok_or("a place")?;
-        let mut intake = Intake::new(alloc);
-        for piece in [front, rest, &[]] {
-            feed(&mut intake, piece, told)?;
-            take(&mut intake, told)?;
-        }
+fn cut(alloc: Global, place: usize, bytes: &[u8], told: &mut Told) {
+    let (front, rest) = bytes.split_at(place.min(bytes.len()));
+    let mut intake = Intake::new(alloc);
+    for piece in [front, rest, &[]] {
+        feed(&mut intake, piece, told);
+        take(&mut intake, told);
     }
-    Ok(())
 }

@@ -52,16 +52,38 @@ type 21 60
 type 65535 65535
 > none
 # Sizes end at the limit.
-size 5 0 1 262144 262145
-> 0; 8; 1048576; none
-size 19 0 1 262141 262142 4294967295
-> 16; 16; 1048576; none; none
-size 0 26214 26215 4294967295
-> 1048560; none; none
-size 11 1048571 1048572
-> 1048576; none
-size 20 131070 131071
-> 1048576; none
+size 5 0
+> 0
+size 5 1
+> 8
+size 5 262144
+> 1048576
+size 5 262145
+> none
+size 19 0
+> 16
+size 19 1
+> 16
+size 19 262141
+> 1048576
+size 19 262142
+> none
+size 19 4294967295
+> none
+size 0 26214
+> 1048560
+size 0 26215
+> none
+size 0 4294967295
+> none
+size 11 1048571
+> 1048576
+size 11 1048572
+> none
+size 20 131070
+> 1048576
+size 20 131071
+> none
 # Bases are converted by a table.
 conversions
 > String to String

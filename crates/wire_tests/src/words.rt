@@ -1,37 +1,62 @@
-//! The words of a line: numbers and bytes, as they are read and written.
+//! The words of a line as it is read, and the words of the answers that are told.
 use std::alloc::Global;
-use std::fmt::Write;
+use std::fmt::{Debug, Display, Write};
 use std::test::Fail;
 
-/// So many equal bytes at the end are written as their number.
+/// So many equal bytes at the end are told as their number.
 const LONG_RUN: usize = 9;
 
-pub(crate) fn word(line: &str, place: usize) -> Result<&str, Fail> {
-    Ok(line.split(' ').nth(place).ok_or("a word more")?)
+/// What is called, the first word of a line.
+pub(crate) fn verb(line: &str) -> &str {
+    line.split([' ', ':'].as_slice()).next().unwrap_or("")
 }
 
-pub(crate) fn number(line: &str, place: usize) -> Result<u32, Fail> {
-    Ok(word(line, place)?.parse()?)
+/// What is called with: numbers, and behind a colon bytes. Numbers that aren't there are 0.
+#[derive(Drop)]
+pub(crate) struct Call {
+    pub(crate) alloc: Global,
+    pub(crate) numbers: Vec<u32>,
+    pub(crate) bytes: Vec<u8>,
 }
 
-pub(crate) fn short(line: &str, place: usize) -> Result<u16, Fail> {
-    Ok(word(line, place)?.parse()?)
-}
-
-/// The bytes that a line has from a word on.
-pub(crate) fn bytes(alloc: Global, line: &str, place: usize) -> Result<Vec<u8>, Fail> {
-    let mut bytes = Vec::new(alloc);
-    for word in line.split(' ').skip(place) {
-        read_bytes(alloc, word, &mut bytes)?;
+impl Call {
+    pub(crate) fn new(alloc: Global) -> Call {
+        Call {
+            alloc,
+            numbers: Vec::new(alloc),
+            bytes: Vec::new(alloc),
+        }
     }
-    Ok(bytes)
+
+    pub(crate) fn read(&mut self, line: &str) -> Result<(), Fail> {
+        self.numbers.clear();
+        self.bytes.clear();
+        let (front, back) = line.split_once(':').unwrap_or((line, ""));
+        for word in front.split(' ').skip(1) {
+            self.numbers.push(word.parse()?)?;
+        }
+        for word in back.split(' ') {
+            read_bytes(self.alloc, word, &mut self.bytes)?;
+        }
+        Ok(())
+    }
+
+    pub(crate) fn number(&self, place: usize) -> u32 {
+        match self.numbers.get(place) {
+            Some(number) => *number,
+            None => 0,
+        }
+    }
+
+    pub(crate) fn short(&self, place: usize) -> u16 {
+        self.number(place).min(65_535) as u16
+    }
 }
 
+/// Reads hexadecimal digits, as often as is said behind `*`, or once.
 fn read_bytes(alloc: Global, word: &str, bytes: &mut Vec<u8>) -> Result<(), Fail> {
-    let (digits, times) = match word.split_once('*') {
-        Some((digits, times)) => (digits, times.parse()?),
-        None => (word, 1),
-    };
+    let (digits, times) = word.split_once('*').unwrap_or((word, "1"));
+    let times: u32 = times.parse()?;
     let piece = hex::decode(alloc, digits)?;
     for _ in 0..times {
         bytes.extend_from_slice(&piece)?;
@@ -39,34 +64,67 @@ fn read_bytes(alloc: Global, word: &str, bytes: &mut Vec<u8>) -> Result<(), Fail
     Ok(())
 }
 
-/// Writes bytes behind a word, in groups of four, and the end of the line.
-pub(crate) fn write_bytes(told: &mut String, bytes: &[u8]) -> Result<(), Fail> {
-    let (front, run) = match last_run(bytes) {
-        run if run < LONG_RUN => (bytes, 0),
-        run => (&bytes[..bytes.len().saturating_sub(run)], run),
-    };
-    for (place, byte) in front.iter().enumerate() {
-        let blank = if place % 4 == 0 { " " } else { "" };
-        write!(told, "{blank}{byte:02x}")?;
-    }
-    match bytes.last() {
-        Some(byte) if run > 0 => writeln!(told, " {byte:02x}*{run}")?,
-        _ => writeln!(told)?,
-    }
-    Ok(())
+/// What is told: lines of words, each with a blank before it.
+#[derive(Drop)]
+pub(crate) struct Told {
+    pub(crate) text: String,
+    /// Memory was never refused.
+    pub(crate) is_whole: bool,
 }
 
-/// How many bytes at the end are as the last one.
+impl Told {
+    pub(crate) fn new(alloc: Global) -> Told {
+        Told {
+            text: String::new(alloc),
+            is_whole: true,
+        }
+    }
+
+    pub(crate) fn word<T: Display>(&mut self, value: &T) {
+        let written = write!(self.text, " {value}");
+        self.is_whole &= written.is_ok();
+    }
+
+    pub(crate) fn name<T: Debug>(&mut self, value: &T) {
+        let written = write!(self.text, " {value:?}");
+        self.is_whole &= written.is_ok();
+    }
+
+    pub(crate) fn end(&mut self) {
+        let written = self.text.push('\n');
+        self.is_whole &= written.is_ok();
+    }
+
+    pub(crate) fn line<T: Display>(&mut self, value: &T) {
+        self.word(value);
+        self.end();
+    }
+
+    /// Bytes in groups of four, and the end of the line.
+    pub(crate) fn bytes(&mut self, bytes: &[u8]) {
+        let run = last_run(bytes);
+        let front = bytes.len().saturating_sub(run);
+        for (place, byte) in bytes.iter().enumerate().take(front) {
+            let blank = if place % 4 == 0 { " " } else { "" };
+            let written = write!(self.text, "{blank}{byte:02x}");
+            self.is_whole &= written.is_ok();
+        }
+        if let Some(byte) = bytes.get(front) {
+            let written = write!(self.text, " {byte:02x}*{run}");
+            self.is_whole &= written.is_ok();
+        }
+        self.end();
+    }
+}
+
+/// How many bytes at the end are as the last one; none where these are few.
 fn last_run(bytes: &[u8]) -> usize {
-    let Some(last) = bytes.last() else {
-        return 0;
-    };
     let mut run = 0usize;
     for byte in bytes.iter().rev() {
-        if byte != last {
+        if Some(byte) != bytes.last() {
             break;
         }
         run = run.saturating_add(1);
     }
-    run
+    if run < LONG_RUN { 0 } else { run }
 }
