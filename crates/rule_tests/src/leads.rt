@@ -28,11 +28,11 @@ pub(crate) fn call(
 }
 
 fn leads(alloc: Global, rules: &Rules, text: &str, told: &mut String) -> Result<(), Fail> {
-    let mut comma = "";
-    for asked in text.split(", ") {
-        told.push_str(comma)?;
+    for (place, asked) in text.split(", ").enumerate() {
+        if place > 0 {
+            told.push_str(", ")?;
+        }
         lead(alloc, rules, asked, told)?;
-        comma = ", ";
     }
     told.push('\n')?;
     Ok(())
