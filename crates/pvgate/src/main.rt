@@ -33,10 +33,7 @@ fn run(rt: &HostRuntime) -> io::Result<u8> {
     let alloc = rt.alloc();
     let words: Vec<String> = env::args(rt)?.collect(alloc)?;
     match arguments::read(alloc, &words) {
-        Ok(Program::Replay) => {
-            let mut out = BufWriter::new(alloc, io::writer(rt))?;
-            Ok(replay(alloc, rt.reader(), &mut out))
-        }
+        Ok(Program::Replay) => replay_script(rt),
         Ok(Program::CheckRules(arguments)) => match check_rules(rt, &arguments) {
             Ok(status) => Ok(status),
             Err(fault) => {
@@ -53,4 +50,17 @@ fn run(rt: &HostRuntime) -> io::Result<u8> {
             })
         }
     }
+}
+
+/// Replays the script on standard input.
+fn replay_script(rt: &HostRuntime) -> io::Result<u8> {
+    let alloc = rt.alloc();
+    let mut out = BufWriter::new(alloc, io::writer(rt))?;
+    let ended = replay(alloc, rt.reader(), &mut out);
+    if ended == status::STREAM_FAILED {
+        let _ = eprintln!(rt;
+            "pvgate: the script can't be read, or what it prints can't be written"
+        );
+    }
+    Ok(ended)
 }

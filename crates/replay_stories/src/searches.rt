@@ -147,3 +147,64 @@ asks
 ",
     )
 }
+
+// Of what is searched for T1 has a server, D is denied, and U is asked for from then on. That D was
+// not remembered is seen once nothing is denied. T1 is denied at one host.
+#[test]
+fn replies_to_searches_for_names_that_are_admitted(rt: HostRuntime) -> Result<(), Fail> {
+    tells(
+        &rt,
+        rt.alloc(),
+        b"@served
+edit 2 0
+.* ALLOW
+D DENY
+search 10.0.0.9 000000000000000d0000000000000000000600080005000d00000011000000115431000000000000000600080005000d00000012000000124400000000000000000600080005000d00000013000000135500000000000000000600080005
+> reply 000000000000000d00000000000000000006000813c80000ffffffff00000011000d000000000000
+asks
+> asks U
+edit 2 0
+.* ALLOW
+T1 DENY FROM 10.0.0.9
+asks
+> asks U
+search 10.0.0.9 000600080005000d00000011000000115431000000000000
+> reply -
+search 10.0.0.8 000600080005000d00000011000000115431000000000000
+> reply 000000000000000d00000000000000000006000813c80000ffffffff00000011000d000000000000
+",
+    )
+}
+
+// P leads to T1, which has a server, and Q to U, then to W. Names are remembered as they were asked
+// for, so that without rules they are asked for themselves.
+#[test]
+fn replies_to_searches_by_what_a_name_leads_to(rt: HostRuntime) -> Result<(), Fail> {
+    tells(
+        &rt,
+        rt.alloc(),
+        b"@served
+edit 3 0
+.* ALLOW
+P ALIAS T1
+Q ALIAS U
+search 10.0.0.9 000600080005000d00000011000000115000000000000000000600080005000d00000012000000125100000000000000
+> reply 000000000000000d00000000000000000006000813c80000ffffffff00000011000d000000000000
+asks
+> asks U
+found U u1
+> u1 0012000800000000000000020000000d5500000000000000
+edit 3 0
+.* ALLOW
+P ALIAS T1
+Q ALIAS W
+asks
+> asks W
+edit 0 0
+asks
+> asks P Q
+search 10.0.0.9 000600080005000d00000011000000115000000000000000
+> reply -
+",
+    )
+}

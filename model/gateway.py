@@ -1,0 +1,481 @@
+"""A gateway, by the protocol's tables and the rules of the gateway alone: one event at a time."""
+import struct
+
+import values
+import wire
+from rows import (
+    ALARM, LOG, LOWEST_MINOR, MESSAGES_WAIT, MINOR, MOST_CHANNELS, MOST_LINKS, MOST_READS,
+    MOST_SEARCHES, MOST_SERVERS, MOST_SESSIONS, MOST_SUBS, MOST_WRITES, UPDATES_WAIT, VALUE,
+    Channel, Link, Outbox, Session, Subscription, Upstream, Waiting,
+)
+from rules import resolved
+from wire import Message, message
+
+ECA_NORMAL, ECA_ALLOCMEM, ECA_TOLARGE, ECA_BADTYPE, ECA_INTERNAL = 1, 48, 72, 114, 142
+ECA_GETFAIL, ECA_PUTFAIL, ECA_BADCOUNT, ECA_BADMASK = 152, 160, 176, 330
+ECA_NORDACCESS, ECA_NOWTACCESS, ECA_BADCHID = 368, 376, 410
+TEXTS = {
+    ECA_ALLOCMEM: b"limit reached",
+    ECA_TOLARGE: b"value too large",
+    ECA_BADTYPE: b"type not served",
+    ECA_INTERNAL: b"request not understood",
+    ECA_BADCOUNT: b"bad element count",
+    ECA_BADMASK: b"bad event mask",
+    ECA_NOWTACCESS: b"no write access",
+    ECA_BADCHID: b"unknown channel",
+}
+
+
+class Gateway:
+    """Its state, by lists. Connections are ("s", number) and ("u", number)."""
+
+    def __init__(self, serves_writes=False):
+        self.serves_writes = serves_writes
+        self.sessions, self.servers, self.boxes = {}, {}, {}
+        self.channels, self.subs, self.reads, self.writes = [], [], [], []
+        self.links, self.searches = [], []
+        self.rules, self.groups = None, {}
+        self.next = dict.fromkeys(("sid", "cid", "sub", "ioid"), 1)
+
+    def number(self, counter):
+        self.next[counter] += 1
+        return self.next[counter] - 1
+
+    # What is sent.
+
+    def send(self, dest, text):
+        box = self.boxes.get(dest)
+        if box is None or box.marked:
+            return
+        if len(box.messages) >= MESSAGES_WAIT:
+            box.marked = True
+        else:
+            box.messages.append(text)
+
+    def tell(self, session, *parts):
+        self.send(("s", session), message(*parts))
+
+    def ask(self, server, *parts):
+        self.send(("u", server), message(*parts))
+
+    def acts(self, dest):
+        return dest in self.boxes and not self.boxes[dest].marked
+
+    # What is known.
+
+    def channel(self, session, sid):
+        return next((c for c in self.channels if (c.session, c.sid) == (session, sid)), None)
+
+    def link(self, name):
+        return next((link for link in self.links if link.name == name), None)
+
+    def link_at(self, server, cid):
+        return next((x for x in self.links if (x.server, x.cid) == (server, cid)), None)
+
+    def lead(self, channel):
+        return resolved(self.rules, self.sessions[channel.session].host, channel.asked)
+
+    def left_by_group(self, group):
+        return 3 if group is None else self.groups.get(group, 3)
+
+    def rights(self, channel):
+        link, lead = self.link(channel.real), self.lead(channel)
+        if link is None or lead is None:
+            return 0
+        return link.rights & self.left_by_group(lead[1])
+
+    def may_read(self, channel):
+        return bool(self.rights(channel) & 1)
+
+    def is_served(self, channel):
+        link, lead = self.link(channel.real), self.lead(channel)
+        connected = link is not None and link.state == "connected"
+        return connected and lead is not None and lead[0] == channel.real
+
+    def wanted(self):
+        leads = (resolved(self.rules, host, name) for host, name in self.searches)
+        return {channel.real for channel in self.channels} | {lead[0] for lead in leads if lead}
+
+    def asks(self):
+        missing = (name for name in self.wanted() if self.link(name) is None)
+        return sorted(missing, key=str.encode)
+
+    def want(self, link):
+        """What the readers of a link's variable want together: events and count, or None."""
+        if link.state != "connected":
+            return None
+        wants = [(VALUE | ALARM, c.reach) for c in self.channels
+                 if c.real == link.name and c.reach and self.may_read(c)]
+        for sub in self.subs:
+            channel = self.channel(sub.session, sub.sid)
+            if channel.real == link.name and self.may_read(channel):
+                wants.append((sub.mask & 7, sub.count or link.count))
+        if not wants:
+            return None
+        mask = VALUE | ALARM
+        for events, _ in wants:
+            mask |= events
+        return mask, max(count for _, count in wants)
+
+    def covers(self, link, count):
+        return link.last is not None and (count or link.count) <= link.last.asked_with
+
+    def refusal(self, link, dtype, count):
+        """Why a value of this type and count can't be given over a link."""
+        known = values.base_and_form(dtype)
+        if known is None or not values.converts(link.native, known[0]):
+            return ECA_BADTYPE
+        if count > link.count:
+            return ECA_BADCOUNT
+        return None if values.fits(dtype, count or link.count) else ECA_TOLARGE
+
+    def read_refusal(self, channel, dtype, count):
+        refusal = self.refusal(self.link(channel.real), dtype, count)
+        return refusal or (None if self.may_read(channel) else ECA_NORDACCESS)
+
+    # Events, each followed by what others are owed.
+
+    def step(self, event, *parts):
+        getattr(self, event)(*parts)
+        self.tell_channels()
+        self.owe_withheld()
+        self.tell_links()
+        self.answer_reads()
+        self.give_updates()
+
+    def opened(self, session, host):
+        if session in self.sessions or len(self.sessions) >= MOST_SESSIONS:
+            return
+        self.sessions[session] = Session(host)
+        self.boxes["s", session] = Outbox()
+        self.tell(session, wire.VERSION, 0, MINOR, 0, 0)
+
+    def lost(self, session):
+        if self.sessions.pop(session, None) is None:
+            return
+        del self.boxes["s", session]
+        for rows in (self.channels, self.subs, self.reads, self.writes):
+            rows[:] = [row for row in rows if row.session != session]
+
+    def up_opened(self, server):
+        if server in self.servers or len(self.servers) >= MOST_SERVERS:
+            return
+        self.servers[server] = 0
+        self.boxes["u", server] = Outbox()
+        self.ask(server, wire.VERSION, 0, MINOR, 0, 0)
+        self.ask(server, wire.CLIENT_NAME, 0, 0, 0, 0, b"pvgate\0")
+        self.ask(server, wire.HOST_NAME, 0, 0, 0, 0, b"gw\0")
+
+    def up_lost(self, server):
+        if self.servers.pop(server, None) is None:
+            return
+        del self.boxes["u", server]
+        self.links = [link for link in self.links if link.server != server]
+        self.writes = [write for write in self.writes if write.server != server]
+
+    def found(self, name, server):
+        if not self.acts(("u", server)) or name not in self.asks() or len(self.links) >= MOST_LINKS:
+            return
+        link = Link(self.number("cid"), server, name)
+        self.links.append(link)
+        self.ask(server, wire.CREATE_CHAN, 0, 0, link.cid, MINOR, name.encode() + b"\0")
+
+    def search(self, host, name):
+        """Somebody at the host looks for a name."""
+        if resolved(self.rules, host, name) is None or len(self.searches) >= MOST_SEARCHES:
+            return
+        if (host.lower(), name) not in ((h.lower(), n) for h, n in self.searches):
+            self.searches.append((host, name))
+
+    def sweep(self):
+        self.searches = []
+
+    def edit(self, rules, groups):
+        self.rules, self.groups = rules, groups
+
+    def drain(self, dest, count, taken):
+        if dest in self.boxes:
+            taken.extend(self.boxes[dest].messages[:count])
+            del self.boxes[dest].messages[:count]
+
+    # What follows from an event.
+
+    def remove(self, channel):
+        self.channels.remove(channel)
+        for rows in (self.subs, self.reads, self.writes):
+            rows[:] = [row for row in rows
+                       if (row.session, row.sid) != (channel.session, channel.sid)]
+
+    def tell_channels(self):
+        for channel in sorted(self.channels, key=lambda c: (c.session, c.sid)):
+            rights = self.rights(channel)
+            if not self.is_served(channel):
+                self.remove(channel)
+                self.tell(channel.session, wire.SERVER_DISCONN, 0, 0, channel.cid, 0)
+            elif rights != channel.rights:
+                channel.rights = rights
+                self.tell(channel.session, wire.ACCESS_RIGHTS, 0, 0, channel.cid, rights)
+
+    def owe_withheld(self):
+        for sub in self.subs:
+            sub.owed |= not self.may_read(self.channel(sub.session, sub.sid))
+
+    def tell_links(self):
+        for link in sorted(self.links, key=lambda link: link.cid):
+            want, present = self.want(link), link.upstream
+            if want != (present and (present.mask, present.count)):
+                self.subscribe(link, want)
+            if link.name not in self.wanted():
+                if link.state == "connected":
+                    self.ask(link.server, wire.CLEAR_CHANNEL, 0, 0, link.sid, link.cid)
+                self.links.remove(link)
+
+    def subscribe(self, link, want):
+        dtype, present = values.time_type(link.native), link.upstream
+        if present:
+            self.ask(link.server, wire.EVENT_CANCEL, dtype, present.sent, link.sid, present.id)
+        if want is None:
+            link.upstream = link.last = None
+            return
+        mask, count = want
+        sent = 0 if count == link.count and self.servers[link.server] >= MINOR else count
+        link.upstream = Upstream(self.number("sub"), mask, count, sent)
+        events = bytes(12) + struct.pack(">HH", mask, 0)
+        self.ask(link.server, wire.EVENT_ADD, dtype, sent, link.sid, link.upstream.id, events)
+
+    def answer_reads(self):
+        for read in sorted(self.reads, key=lambda read: read.session):
+            channel = self.channel(read.session, read.sid)
+            link = self.link(channel.real)
+            if not self.may_read(channel):
+                self.refuse_read(read, ECA_NORDACCESS)
+            elif self.covers(link, read.count):
+                self.reads.remove(read)
+                count, value = values.laid_out(link.last, link.native, read.dtype, read.count)
+                self.tell(read.session, wire.READ_NOTIFY, read.dtype, count, 1, read.ioid, value)
+
+    def refuse_read(self, read, code):
+        self.reads.remove(read)
+        self.tell(read.session, wire.READ_NOTIFY, read.dtype, read.count, code, read.ioid)
+
+    def give_updates(self):
+        for sub in sorted(self.subs, key=lambda sub: sub.session):
+            channel, box = self.channel(sub.session, sub.sid), self.boxes["s", sub.session]
+            link = self.link(channel.real)
+            takes = not self.sessions[sub.session].paused and not box.marked
+            takes = takes and len(box.messages) < UPDATES_WAIT
+            if sub.owed and takes and self.may_read(channel) and self.covers(link, sub.count):
+                sub.owed = False
+                count, value = values.laid_out(link.last, link.native, sub.dtype, sub.count)
+                self.tell(sub.session, wire.EVENT_ADD, sub.dtype, count, 1, sub.id, value)
+
+    # Clients' messages.
+
+    def client(self, session, request):
+        if not self.acts(("s", session)):
+            return
+        channel = self.channel(session, request.p1)
+        over_channel = {
+            wire.EVENT_ADD: self.event_add,
+            wire.EVENT_CANCEL: self.event_cancel,
+            wire.CLEAR_CHANNEL: self.clear_channel,
+            wire.READ_NOTIFY: self.read_notify,
+        }
+        if self.serves_writes:
+            over_channel |= {wire.WRITE: self.write, wire.WRITE_NOTIFY: self.write_notify}
+        if request.command in over_channel:
+            short = request.command == wire.EVENT_ADD and len(request.payload) < 16
+            if short:
+                cid = channel.cid if channel else wire.NO_CHANNEL
+                self.error(session, request, ECA_INTERNAL, cid)
+            elif channel is None:
+                self.error(session, request, ECA_BADCHID)
+            else:
+                over_channel[request.command](session, request, channel)
+        else:
+            self.session_said(session, request)
+
+    def session_said(self, session, request):
+        row = self.sessions[session]
+        if request.command == wire.VERSION:
+            if request.count < LOWEST_MINOR:
+                self.boxes["s", session].marked = True
+        elif request.command in (wire.EVENTS_OFF, wire.EVENTS_ON):
+            row.paused = request.command == wire.EVENTS_OFF
+        elif request.command == wire.CREATE_CHAN:
+            self.create_channel(session, request)
+        elif request.command == wire.HOST_NAME:
+            host = wire.nul_ended(request.payload)
+            if host and not row.host_fixed:
+                row.host = host
+        elif request.command == wire.ECHO:
+            self.tell(session, *request)
+        elif request.command != wire.CLIENT_NAME:
+            self.error(session, request, ECA_INTERNAL)
+
+    def error(self, session, request, code, cid=wire.NO_CHANNEL):
+        head = wire.head(request.command, len(request.payload), *request[1:5])
+        self.tell(session, wire.ERROR, 0, 0, cid, code, head + TEXTS.get(code, b"") + b"\0")
+
+    def create_channel(self, session, request):
+        row = self.sessions[session]
+        row.host_fixed = True
+        name = wire.nul_ended(request.payload)
+        lead = resolved(self.rules, row.host, name) if name else None
+        full = sum(c.session == session for c in self.channels) >= MOST_CHANNELS
+        link = self.link(lead[0]) if lead else None
+        if lead is None or full or link is None or link.state != "connected":
+            if lead and not full:
+                self.search(row.host, name)
+            self.tell(session, wire.CREATE_CH_FAIL, 0, 0, request.p1, 0)
+            return
+        rights = link.rights & self.left_by_group(lead[1])
+        sid = self.number("sid")
+        self.channels.append(Channel(session, sid, request.p1, name, lead[0], rights))
+        self.tell(session, wire.ACCESS_RIGHTS, 0, 0, request.p1, rights)
+        self.tell(session, wire.CREATE_CHAN, link.native, link.count, request.p1, sid)
+
+    def event_add(self, session, request, channel):
+        mask = struct.unpack(">H", request.payload[12:14])[0]
+        own = [sub for sub in self.subs if sub.session == session]
+        code = self.refusal(self.link(channel.real), request.dtype, request.count)
+        if any(sub.id == request.p2 for sub in own):
+            code = ECA_INTERNAL
+        elif code is None and not mask & 7:
+            code = ECA_BADMASK
+        elif code is None and len(own) >= MOST_SUBS:
+            code = ECA_ALLOCMEM
+        if code:
+            self.error(session, request, code, channel.cid)
+        else:
+            self.subs.append(Subscription(session, request.p2, channel.sid, request.dtype,
+                                          request.count, mask))
+
+    def event_cancel(self, session, request, channel):
+        named = (session, request.p2, channel.sid)
+        sub = next((x for x in self.subs if (x.session, x.id, x.sid) == named), None)
+        if sub is None:
+            self.error(session, request, ECA_INTERNAL, channel.cid)
+            return
+        self.subs.remove(sub)
+        self.tell(session, wire.EVENT_ADD, request.dtype, request.count, request.p1, request.p2)
+
+    def clear_channel(self, session, request, channel):
+        self.remove(channel)
+        self.tell(session, wire.CLEAR_CHANNEL, 0, 0, request.p1, request.p2)
+
+    def read_notify(self, session, request, channel):
+        link = self.link(channel.real)
+        read = Waiting(session, channel.sid, request.dtype, request.count, request.p2)
+        code = self.read_refusal(channel, request.dtype, request.count)
+        waiting = sum(other.session == session for other in self.reads)
+        if code is None and not self.covers(link, request.count) and waiting >= MOST_READS:
+            code = ECA_GETFAIL
+        self.reads.append(read)
+        if code:
+            self.refuse_read(read, code)
+        else:
+            channel.reach = max(channel.reach, request.count or link.count)
+
+    # Writes.
+
+    def written(self, channel, request):
+        """The bytes that are handed on of a write, or why it is refused."""
+        dtype, count, payload = request.dtype, request.count, request.payload
+        if dtype > values.DOUBLE:
+            return None, ECA_BADTYPE
+        if not 1 <= count <= self.link(channel.real).count:
+            return None, ECA_BADCOUNT
+        size = values.ELEMENT[dtype] * count
+        if dtype == values.STRING and count == 1 and payload:
+            value = payload[:size].partition(b"\0")[0].ljust(size, b"\0")
+        elif len(payload) < size:
+            return None, ECA_BADCOUNT
+        else:
+            value = payload[:size]
+        return value, None if self.rights(channel) & 2 else ECA_NOWTACCESS
+
+    def write(self, session, request, channel):
+        value, code = self.written(channel, request)
+        if code:
+            self.error(session, request, code, channel.cid)
+        else:
+            link = self.link(channel.real)
+            self.ask(link.server, wire.WRITE, request.dtype, request.count, link.sid, 0, value)
+
+    def write_notify(self, session, request, channel):
+        value, code = self.written(channel, request)
+        if code is None and sum(w.session == session for w in self.writes) >= MOST_WRITES:
+            code = ECA_PUTFAIL
+        dtype, count = request.dtype, request.count
+        if code:
+            self.tell(session, wire.WRITE_NOTIFY, dtype, count, code, request.p2)
+            return
+        link, number = self.link(channel.real), self.number("ioid")
+        write = Waiting(session, channel.sid, dtype, count, request.p2, link.server, number)
+        self.writes.append(write)
+        self.ask(link.server, wire.WRITE_NOTIFY, dtype, count, link.sid, number, value)
+
+    # Servers' messages.
+
+    def server(self, server, reply: Message):
+        if not self.acts(("u", server)):
+            return
+        link = self.link_at(server, reply.p1)
+        if reply.command == wire.VERSION:
+            self.servers[server] = reply.count
+        elif reply.command == wire.EVENT_ADD:
+            self.update(server, reply)
+        elif reply.command == wire.CREATE_CHAN:
+            self.channel_made(server, link, reply)
+        elif reply.command == wire.WRITE_NOTIFY and self.serves_writes:
+            self.write_over(server, reply)
+        elif reply.command == wire.ACCESS_RIGHTS and link:
+            link.rights = reply.p2 & 3
+        elif reply.command == wire.CREATE_CH_FAIL and link and link.state == "creating":
+            self.links.remove(link)
+        elif reply.command == wire.SERVER_DISCONN and link:
+            self.links.remove(link)
+
+    def channel_made(self, server, link, reply):
+        usable = reply.dtype <= values.DOUBLE and reply.count >= 1
+        usable = usable and values.fits(values.time_type(reply.dtype), reply.count)
+        if link and link.state != "creating":
+            return
+        if link and usable:
+            link.state, link.sid = "connected", reply.p2
+            link.native, link.count = reply.dtype, reply.count
+            return
+        if link:
+            link.state = "unusable"
+        self.ask(server, wire.CLEAR_CHANNEL, 0, 0, reply.p2, reply.p1)
+
+    def update(self, server, reply):
+        link = next((x for x in self.links
+                     if x.server == server and x.upstream and x.upstream.id == reply.p2), None)
+        if link is None:
+            return
+        if reply.p1 != ECA_NORMAL:
+            for read in list(self.reads):
+                if self.channel(read.session, read.sid).real == link.name:
+                    self.refuse_read(read, ECA_GETFAIL)
+            return
+        dtype, count, asked = values.time_type(link.native), reply.count, link.upstream.count
+        long_enough = len(reply.payload) >= values.size_of(dtype, count)
+        if reply.dtype != dtype or count > asked or not long_enough:
+            return
+        before, link.last = link.last, values.read_update(link.native, count, reply.payload, asked)
+        after = (link.last.status, link.last.severity)
+        other_alarm = before is None or (before.status, before.severity) != after
+        for sub in self.subs:
+            concerned = sub.mask & (VALUE | LOG) or (sub.mask & ALARM and other_alarm)
+            if concerned and self.channel(sub.session, sub.sid).real == link.name:
+                sub.owed = True
+
+    def write_over(self, server, reply):
+        named = (server, reply.p2)
+        write = next((w for w in self.writes if (w.server, w.id) == named), None)
+        if write:
+            self.writes.remove(write)
+            over = write.dtype, write.count, reply.p1, write.ioid
+            self.tell(write.session, wire.WRITE_NOTIFY, *over)
