@@ -5,7 +5,7 @@ Run by hand, from anywhere: model/compare.py [SCRIPTS] [FILES] [SEED]. So many s
 by both (1,000 if not given) and so many rule files checked (1,000), from one seed (1). What is
 printed and the status must be equal. Each difference is printed, and its script is left in a file;
 after five the run ends. The model was written from the protocol's tables and the rules of the
-gateway, without a look at the sources.
+gateway, by an author who knew the definitions of the crates.
 """
 import os
 import random

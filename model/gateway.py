@@ -1,4 +1,4 @@
-"""A gateway, by the protocol's tables and the rules of the gateway alone: one event at a time."""
+"""A gateway, by the protocol's tables and the rules of the gateway: one event at a time."""
 import struct
 
 import values
