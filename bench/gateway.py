@@ -1,11 +1,11 @@
 #!/usr/bin/env python3
-"""Times what a read answered from the cache and an upstream update cost beside many channels.
+"""Times what a read answered from the cache, an upstream update and a write cost beside many channels.
 
 Run by hand, from anywhere: bench/gateway.py [MOST] [TIMES]. A client has 1, 100, .. channels, on the
-variable that is read or on a variable each of their own, up to MOST (4,000 if not given; channels on
+variable that is read and written or on a variable each of their own, up to MOST (4,000 if not given; channels on
 variables of their own stop at 1,000 unless MOST is above 4,000). A script that sets this up is
 replayed with and without the messages, TIMES times each (3 if not given); the difference of the
-fastest runs is their cost. Prints microseconds a message.
+fastest runs is their cost. Prints microseconds a message; a write is WRITE_NOTIFY with its reply.
 """
 import os
 import subprocess
@@ -18,6 +18,8 @@ PROGRAM = os.path.join(ROOT, "crates", "pvgate", "out", "pvgate")
 
 READ = "000f" "0000" "0005" "0001" "00000001" "00000021"
 UPDATE = "0001" "0010" "0013" "0001" "00000001" "00000001" "00000000" "3b9aca00" "00000000" "0000002a"
+WRITE = "0013" "0008" "0005" "0001" "00000001" "00000021" "0000002a" "00000000"
+WAITING = 100  # writes that wait before the server answers them
 
 
 def create(cid, name):
@@ -54,16 +56,35 @@ def replay(script_file):
         return time.perf_counter() - start, done.stdout.count(b"\n")
 
 
-def cost(same, others, line, printed, times):
+def reads(lines, each):
+    """Reads, and how many lines are printed of each."""
+    return ("client s1 " + READ * each + "\n") * lines, 1
+
+
+def updates(lines, each):
+    return ("server u1 " + UPDATE * each + "\n") * lines, 0
+
+
+def writes(lines, each):
+    """Writes, and the server's replies to them; what is printed is the request and the reply."""
+    script = ""
+    for first in range(1, lines * each, WAITING):
+        ids = range(first, min(first + WAITING, lines * each + 1))
+        script += "client s1 " + WRITE * len(ids) + "\n"
+        script += "server u1 " + "".join(f"001300000005000100000001{i:08x}" for i in ids) + "\n"
+    return script, 2
+
+
+def cost(same, others, messages, times):
     """Microseconds of a message, which is sent so often that it can be timed."""
-    message = READ if printed else UPDATE
     lines = 200 if same + others == 1 else 10 if others < 1_000 else 1
     each = min(1_000, max(100, 200_000 // max(1, others * others)))
     count = lines * each
     with tempfile.TemporaryDirectory() as folder:
         without, with_them = (os.path.join(folder, file) for file in ("without", "with"))
         script = "".join(setup(same, others))
-        for file, more in ((without, ""), (with_them, f"{line}{message * each}\n" * lines)):
+        added, printed = messages(lines, each)
+        for file, more in ((without, ""), (with_them, added)):
             with open(file, "w") as out:
                 out.write(script + more)
         bare = [replay(without) for _ in range(times)]
@@ -85,9 +106,9 @@ def main():
             if channels > most or (own and channels > 1_000 and most <= 4_000):
                 continue
             same, others = (1, channels) if own else (channels, 0)
-            read = cost(same, others, "client s1 ", 1, times)
-            update = cost(same, others, "server u1 ", 0, times)
-            print(f"{channels:6} channels on {where:24} read {read:10.1f} us, update {update:10.1f} us", flush=True)
+            costs = [(of.__name__[:-1], cost(same, others, of, times)) for of in (reads, updates, writes)]
+            told = ", ".join(f"{what} {each:10.1f} us" for what, each in costs)
+            print(f"{channels:6} channels on {where:24} {told}", flush=True)
 
 
 if __name__ == "__main__":

@@ -29,8 +29,7 @@ TEXTS = {
 class Gateway:
     """Its state, by lists. Connections are ("s", number) and ("u", number)."""
 
-    def __init__(self, serves_writes=False):
-        self.serves_writes = serves_writes
+    def __init__(self):
         self.sessions, self.servers, self.boxes = {}, {}, {}
         self.channels, self.subs, self.reads, self.writes = [], [], [], []
         self.links, self.searches = [], []
@@ -280,9 +279,9 @@ class Gateway:
             wire.EVENT_CANCEL: self.event_cancel,
             wire.CLEAR_CHANNEL: self.clear_channel,
             wire.READ_NOTIFY: self.read_notify,
+            wire.WRITE: self.write,
+            wire.WRITE_NOTIFY: self.write_notify,
         }
-        if self.serves_writes:
-            over_channel |= {wire.WRITE: self.write, wire.WRITE_NOTIFY: self.write_notify}
         if request.command in over_channel:
             short = request.command == wire.EVENT_ADD and len(request.payload) < 16
             if short:
@@ -428,7 +427,7 @@ class Gateway:
             self.update(server, reply)
         elif reply.command == wire.CREATE_CHAN:
             self.channel_made(server, link, reply)
-        elif reply.command == wire.WRITE_NOTIFY and self.serves_writes:
+        elif reply.command == wire.WRITE_NOTIFY:
             self.write_over(server, reply)
         elif reply.command == wire.ACCESS_RIGHTS and link:
             link.rights = reply.p2 & 3

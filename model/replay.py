@@ -51,8 +51,8 @@ def hexadecimal(text):
 class Replay:
     """A gateway, the script that is performed on it, and what it prints."""
 
-    def __init__(self, script, serves_writes=False):
-        self.gateway = Gateway(serves_writes)
+    def __init__(self, script):
+        self.gateway = Gateway()
         self.lines = script.split("\n")
         if self.lines[-1] == "":
             self.lines.pop()

@@ -13,6 +13,7 @@ use crate::read::read;
 use crate::refusals::{refuse_short_subscription, refuse_unknown};
 use crate::subscribe::{new_sub, subscribe_client};
 use crate::unsubscribe::cancel_subscription;
+use crate::write::{Write, hear_write, hear_write_notify};
 use ca_header::{Header, Message};
 use ca_message::commands::{
     CA_PROTO_CLIENT_NAME, CA_PROTO_CREATE_CHAN, CA_PROTO_EVENT_ADD, CA_PROTO_HOST_NAME,
@@ -62,9 +63,22 @@ fn hear_request(
             dtype,
             count,
         } => Ok(cancel_subscription(rows, number, sid, id, dtype, count, head)?),
-        ClientRequest::Write { .. } | ClientRequest::WriteNotify { .. } => {
-            Ok(refuse_unknown(rows, number, &message.head)?)
-        }
+        ClientRequest::Write {
+            sid,
+            dtype,
+            count,
+            value,
+        } => Ok(hear_write(
+            rows,
+            Write {
+                session: number,
+                sid,
+                dtype,
+                count,
+            },
+            value.as_slice(),
+            head,
+        )?),
         ClientRequest::EventsOff => Ok(pause(rows, number, true)?),
         ClientRequest::EventsOn => Ok(pause(rows, number, false)?),
         ClientRequest::ClearChannel { sid, cid } => {
@@ -80,6 +94,24 @@ fn hear_request(
             let name = name.to_name(rows.alloc)?;
             create_channel(rows, number, cid, &name)
         }
+        ClientRequest::WriteNotify {
+            sid,
+            ioid,
+            dtype,
+            count,
+            value,
+        } => hear_write_notify(
+            rows,
+            Write {
+                session: number,
+                sid,
+                dtype,
+                count,
+            },
+            ioid,
+            value.as_slice(),
+            head,
+        ),
         ClientRequest::ClientName(_) => Ok(()),
         ClientRequest::HostName(host) => {
             let host = host.to_host(rows.alloc)?;

@@ -16,5 +16,6 @@ mod read;
 mod refusals;
 mod subscribe;
 mod unsubscribe;
+mod write;
 
 pub use hear::hear_client;

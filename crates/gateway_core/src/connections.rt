@@ -39,6 +39,7 @@ pub(crate) fn lose_session(rows: &mut Rows, number: u32)
 {
     rows.connections.remove(Dest::Session(number));
     rows.clients.remove_session(number);
+    rows.upstream.remove_writes_of(number);
 }
 
 /// A server is connected.

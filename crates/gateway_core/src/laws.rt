@@ -1,12 +1,14 @@
 //! Laws of whole runs. Each is a call that does nothing, and its contract is the law.
-ghost use Rattle.std.specs.Prelude.{◌≡◌, List};
+ghost use Rattle.std.specs.Prelude.{◌≡◌, List, [], ◌∷◌, ◌++◌, false, if◌then◌else◌};
 ghost use Rattle.std.specs.List.{All};
 ghost use Rattle.gateway_state.specs.declared.config.Config.{Config};
 ghost use Rattle.rule_desk.specs.declared.policy.Policy.{Policy};
+ghost use Rattle.gateway_state.specs.declared.event.Dest.{Dest};
 ghost use Rattle.gateway_state.specs.declared.event.Event.{Event};
+ghost use Rattle.gateway_state.specs.Delivered.{IsWireForm, given_by, is_loss_of};
 ghost use Rattle.gateway_state.specs.Gateway.{Gateway, initial};
-ghost use Rattle.gateway_state.specs.Settled.{AreInOrder, HasLinksApart, HasLinksOnServers, HasSubsApart, HasSubsOnChannels, IsInUse, IsKeptPosted, IsSettled, IsSubscribedExactly, IsUpToDate, IsWaiting};
-ghost use Rattle.gateway_state.specs.Step.{consequences, run};
+ghost use Rattle.gateway_state.specs.Settled.{AreInOrder, HasLinksApart, HasLinksOnServers, HasSubsApart, HasSubsOnChannels, HasWritesOnLinks, IsInUse, IsKeptPosted, IsSettled, IsSubscribedExactly, IsUpToDate, IsWaiting};
+ghost use Rattle.gateway_state.specs.Step.{consequences, delivered, makes, run};
 
 /// In every state that a run reaches nobody is owed anything: no pass over channels, links, waiting
 /// reads or subscriptions would tell or change anything.
@@ -62,6 +64,13 @@ pub fn run_keeps_subscriptions_on_channels()
         → HasSubsOnChannels (run (initial config policy) events) }
 {}
 
+/// In every state that a run reaches each write that waits is on a channel that stands, and waits for
+/// the server of that channel's link.
+pub fn run_keeps_writes_on_links()
+    ensures { (config : Config) (policy : Policy) (events : List Event)
+        → HasWritesOnLinks (run (initial config policy) events) }
+{}
+
 /// In no state that a run reaches has a session two subscriptions under one ID.
 pub fn run_keeps_subscriptions_apart()
     ensures { (config : Config) (policy : Policy) (events : List Event)
@@ -85,4 +94,20 @@ pub fn run_keeps_links_on_servers()
 pub fn run_keeps_numbers_in_order()
     ensures { (config : Config) (policy : Policy) (events : List Event)
         → AreInOrder (run (initial config policy) events) }
+{}
+
+/// What was delivered to a connection, once one event more ran, is what was delivered before and then,
+/// in order, what this event gave it. It begins anew where the event makes the connection's row; what
+/// waited for a connection that is lost is never delivered.
+pub fn delivered_grows_by_what_is_given()
+    ensures { (config : Config) (policy : Policy) (events : List Event) (event : Event) (dest : Dest)
+        → is_loss_of event dest ≡ false
+        → let w = initial config policy in delivered w (events ++ event ∷ []) dest
+        ≡ (if makes (run w events) event dest then [] else delivered w events dest) ++ given_by (run w events) event dest }
+{}
+
+/// Each message that an event gives a connection is the wire form of one reply or notice, where it is
+/// a client's, or of one request, where it is a server's.
+pub fn what_is_given_is_in_wire_form()
+    ensures { (w : Gateway) (event : Event) (dest : Dest) → All (IsWireForm dest) (given_by w event dest) }
 {}

@@ -14,11 +14,12 @@ use pv_name::{Host, Name};
 use std::alloc::AllocError;
 
 impl Rows {
-    /// A channel goes with its subscriptions and reads.
+    /// A channel goes with its subscriptions, waiting reads and waiting writes.
     pub fn remove_channel(&mut self, number: u32, sid: u32)
         ensures { self.new ≡ without_channel number sid self.old }
     {
         self.clients.remove_channel(number, sid);
+        self.upstream.remove_writes(number, sid);
     }
 
     /// A read waits no longer.

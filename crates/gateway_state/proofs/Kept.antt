@@ -14,26 +14,29 @@ use Rattle.link_table.specs.declared.links.LinkState.{LinkState}
 use Rattle.link_table.specs.declared.links.LinkState.TheVariants.{Creating}
 use Rattle.link_table.specs.declared.links.Subscription.{Subscription}
 use Rattle.link_table.specs.declared.servers.Server.{Server}
+use Rattle.link_table.specs.declared.writes.WaitingWrite.{WaitingWrite}
 use Rattle.gateway_state.specs.declared.cached.LastMessage.{LastMessage}
 use Rattle.gateway_state.specs.declared.event.Dest.{Dest}
 use Rattle.gateway_state.specs.declared.event.Dest.TheVariants as dests
 use Rattle.rule_desk.specs.declared.policy.Policy.{Policy}
 use Rattle.gateway_state.specs.declared.connections.Connection.{Connection}
-use Rattle.fanout.specs.declared.outbox.Out.{Out}
 use Rattle.fanout.specs.Outbox.{appended}
 use Rattle.fanout.specs.Waiting.{Waiting}
 use Rattle.gateway_state.specs.declared.search.Search.{Search}
 use Rattle.gateway_state.specs.Clients.{with_channel, without_channel}
 use Rattle.gateway_state.specs.Asked.{stands}
 use Rattle.gateway_state.specs.Connections.{fresh, is_to}
+use Rattle.gateway_state.specs.Direct.{drained}
 use Rattle.gateway_state.specs.Gateway.{Gateway}
 use Rattle.gateway_state.specs.Notices.{with_reach, with_subscription_of, without_read}
 use Rattle.gateway_state.specs.Servers.{with_link_state, without_link}
 use Rattle.gateway_state.specs.Sessions.{lost, up_lost}
 use Rattle.gateway_state.specs.Subscribing.{sub_of, with_sub, without_sub}
-use Rattle.gateway_state.specs.Telling.{asked, outgoing, outgoing_upstream, sent, told}
+use Rattle.gateway_state.specs.Settled.{is_write_on_link}
+use Rattle.gateway_state.specs.Telling.{asked, marked, outgoing, outgoing_upstream, sent, told}
 use Rattle.gateway_state.specs.Updates.{owed_to, owed_to_all, with_owed_of}
 use Rattle.gateway_state.specs.Variables.{is_linked}
+use Rattle.gateway_state.specs.Writing.{with_write, without_write}
 
 -- the outbox of one connection is changed
 abbrev pub with_outbox : Dest → (Waiting → Waiting) → Gateway → Gateway
@@ -93,10 +96,17 @@ new_channel session cid name real rights w = record {
   rights = rights;
 }
 
--- each change of rows that a step is made of keeps it
-pub record IsKept (P : Gateway → Type 0) : Type 0 where
+-- what is said keeps it, and a mark does
+pub record KeepsMessages (P : Gateway → Type 0) : Type 0 where
+  pub telling : (number : ℕ) (said : ToClient) (w : Gateway) → P w → P (told number said w)
+  pub asking : (number : ℕ) (said : ToServer) (w : Gateway) → P w → P (asked number said w)
+  pub marking : (dest : Dest) (w : Gateway) → P w → P (marked dest w)
+
+-- each change of rows keeps it that what is said makes: rows come, change and go one by one, but for new
+-- links
+pub record KeepsRows (P : Gateway → Type 0) : Type 0 where
+  pub messages : KeepsMessages P
   pub connection_added : (dest : Dest) (w : Gateway) → P w → P (with_connections (w.connections ++ fresh dest ∷ []) w)
-  pub connection_changed : (dest : Dest) (change : Waiting → Waiting) (w : Gateway) → P w → P (with_outbox dest change w)
   pub sessions : (rows : List Session) (w : Gateway) → P w → P (with_sessions rows w)
   pub servers : (rows : List Server) (w : Gateway) → P w → P (with_servers rows w)
   pub cache : (rows : List LastMessage) (w : Gateway) → P w → P (with_cache rows w)
@@ -106,34 +116,43 @@ pub record IsKept (P : Gateway → Type 0) : Type 0 where
   pub channel_added : (session cid : ℕ) (name real : List ℕ) (rights : ℕ) (w : Gateway) → P w → P (with_channel session cid name real rights w)
   pub channel_changed : (session sid reach rights : ℕ) (w : Gateway) → P w → P (with_reach session sid reach rights w)
   pub channel_removed : (session sid : ℕ) (w : Gateway) → P w → P (without_channel session sid w)
-  pub session_removed : (session : ℕ) (w : Gateway) → P w → P (lost w session)
   pub sub_added : (sub : ClientSub) (w : Gateway) → is_some (sub_of w sub.session sub.id) ≡ false
       → list_any (is_channel sub.session sub.sid) w.clients.channels ≡ true → P w → P (with_sub sub w)
   pub sub_changed : (session id : ℕ) (owed : Bool) (w : Gateway) → P w → P (with_owed_of session id owed w)
   pub sub_removed : (session id : ℕ) (w : Gateway) → P w → P (without_sub session id w)
   pub read_added : (read : WaitingRead) (w : Gateway) → list_any (is_channel read.session read.sid) w.clients.channels ≡ true → P w → P (with_read read w)
   pub read_removed : (read : WaitingRead) (w : Gateway) → P w → P (without_read read w)
-  pub link_added : (server : ℕ) (name : List ℕ) (w : Gateway) → is_linked w name ≡ false → stands w (dests.Upstream server) ≡ true → P w → P (with_link server name w)
+  pub write_added : (write : WaitingWrite) (w : Gateway) → is_write_on_link w write ≡ true → P w → P (with_write write w)
+  pub write_removed : (server id : ℕ) (w : Gateway) → P w → P (without_write server id w)
   pub link_changed : (server cid : ℕ) (state : LinkState) (rights : ℕ) (w : Gateway) → P w → P (with_link_state server cid state rights w)
   pub subscription_changed : (server cid : ℕ) (sub : Option Subscription) (w : Gateway) → P w → P (with_subscription_of server cid sub w)
   pub link_removed : (server cid : ℕ) (w : Gateway) → P w → P (without_link server cid w)
+
+-- and what is drained and what goes with a connection keep it
+pub record IsKept (P : Gateway → Type 0) : Type 0 where
+  pub rows : KeepsRows P
+  pub connection_drained : (dest : Dest) (count : ℕ) (w : Gateway) → P w → P (drained w dest count)
+  pub session_removed : (session : ℕ) (w : Gateway) → P w → P (lost w session)
   pub server_removed : (server : ℕ) (w : Gateway) → P w → P (up_lost w server)
+
+-- and new links do
+abbrev pub KeepsLinks : (Gateway → Type 0) → Type 0
+KeepsLinks P = (server : ℕ) (name : List ℕ) (w : Gateway) → is_linked w name ≡ false → stands w (dests.Upstream server) ≡ true → P w → P (with_link server name w)
+
+-- what doesn't depend on outboxes is kept by all that is said
+pub messages_kept : (P : Gateway → Type 0) → ((dest : Dest) (change : Waiting → Waiting) (w : Gateway) → P w → P (with_outbox dest change w)) → KeepsMessages P
+unfolding sent
+messages_kept P kept = record {
+  telling = λ number said w holds. kept (dests.Session number) (λ (waiting : Waiting). appended waiting (outgoing said)) w holds;
+  asking = λ number said w holds. kept (dests.Upstream number) (λ (waiting : Waiting). appended waiting (outgoing_upstream said)) w holds;
+  marking = λ dest w holds. kept dest (λ (waiting : Waiting). record waiting { marked = true }) w holds;
+}
 
 -- one or the other
 pub kept_either : (P : Gateway → Type 0) (test : Bool) (v w : Gateway) → (test ≡ true → P v) → P w → P (cond test v w)
 kept_either P true v w first second = first refl
 kept_either P false v w first second = second
 
-pub kept_sent : (P : Gateway → Type 0) → IsKept P → (dest : Dest) (out : Out) (w : Gateway) → P w → P (sent dest out w)
-unfolding sent
-kept_sent P kept dest out w holds = kept.connection_changed dest (λ (waiting : Waiting). appended waiting out) w holds
-
-pub kept_told : (P : Gateway → Type 0) → IsKept P → (number : ℕ) (said : ToClient) (w : Gateway) → P w → P (told number said w)
-kept_told P kept number said w holds = kept_sent P kept (dests.Session number) (outgoing said) w holds
-
-pub kept_asked : (P : Gateway → Type 0) → IsKept P → (number : ℕ) (said : ToServer) (w : Gateway) → P w → P (asked number said w)
-kept_asked P kept number said w holds = kept_sent P kept (dests.Upstream number) (outgoing_upstream said) w holds
-
-pub kept_owed_to_all : (P : Gateway → Type 0) → IsKept P → (subs : List ClientSub) (w : Gateway) → P w → P (owed_to_all w subs)
+pub kept_owed_to_all : (P : Gateway → Type 0) → KeepsRows P → (subs : List ClientSub) (w : Gateway) → P w → P (owed_to_all w subs)
 kept_owed_to_all P kept [] w holds = holds
 kept_owed_to_all P kept (sub ∷ subs) w holds = kept_owed_to_all P kept subs (owed_to w sub) (kept.sub_changed sub.session sub.id true w holds)

@@ -1,16 +1,20 @@
 -- What clients say and do keeps what each change of rows keeps.
 use Rattle.std.proofs.Common.{◌≡◌, ℕ, List, [], ◌∷◌, ◌++◌, length, Bool, true, false, cond, eqb, leb, ltb, ◌||◌, Option, Some, None, Ok, Err, Result, refl}
 use Rattle.std.specs.Prelude.{is_some}
+use Rattle.std.proofs.lemmas.Bool.{eq-eqb}
 use Rattle.std.specs.List.{find, list_any}
 use Rattle.rows.specs.Rows.{change_first}
 use Rattle.ca_header.specs.declared.header.Header.{Header}
 use Rattle.ca_header.specs.declared.header.Message.{Message}
-use Rattle.ca_message.specs.declared.codes.TheConstants.{ECA_INTERNAL, ECA_BADCHID}
+use Rattle.ca_message.specs.declared.codes.TheConstants.{ECA_INTERNAL, ECA_BADCHID, ECA_NOWTACCESS, ECA_PUTFAIL}
 use Rattle.ca_message.specs.declared.commands.TheConstants.{NO_CHANNEL, CA_PROTO_CREATE_CHAN, CA_PROTO_CLIENT_NAME, CA_PROTO_EVENT_ADD, CA_PROTO_HOST_NAME}
 use Rattle.ca_message.specs.declared.request.ClientRequest.{ClientRequest}
 use Rattle.ca_message.specs.declared.request.ClientRequest.TheVariants as requests
 use Rattle.ca_message.specs.declared.request.RequestFault.{RequestFault}
 use Rattle.ca_message.specs.declared.to_client.ToClient.TheVariants as replies
+use Rattle.ca_message.specs.declared.to_server.ToServer.TheVariants as to_servers
+use Rattle.ca_message.specs.declared.written.WriteFault.{WriteFault}
+use Rattle.ca_message.specs.Written.{Written, written}
 use Rattle.ca_message.specs.ClientRequest.{request_of}
 use Rattle.channel_table.specs.declared.channels.Channel.{Channel}
 use Rattle.channel_table.specs.declared.reads.WaitingRead.{WaitingRead}
@@ -21,29 +25,37 @@ use Rattle.channel_table.specs.Channels.{is_channel}
 use Rattle.channel_table.specs.ClientRows.{channel_count}
 use Rattle.channel_table.specs.Sessions.{is_numbered}
 use Rattle.link_table.specs.declared.links.Link.{Link}
+use Rattle.link_table.specs.declared.links.LinkState.{LinkState}
+use Rattle.link_table.specs.declared.links.LinkState.TheVariants.{Creating, Connected, Unusable}
+use Rattle.link_table.specs.declared.table.TheConstants.{WRITE_LIMIT}
+use Rattle.link_table.specs.declared.writes.WaitingWrite.{WaitingWrite}
+use Rattle.link_table.specs.LinkRows.{write_count}
 use Rattle.gateway_state.specs.declared.event.Dest.TheVariants.{Session as ToSession}
 use Rattle.gateway_state.specs.declared.limits.TheConstants.{LOWEST_MINOR, SEARCH_LIMIT}
 use Rattle.gateway_state.specs.declared.notice.ReadVerdict.{ReadVerdict}
 use Rattle.gateway_state.specs.declared.notice.ReadVerdict.TheVariants.{NoChannel, Ignored, Refused, Accepted}
 use Rattle.gateway_state.specs.declared.notice.SubVerdict.{SubVerdict}
 use Rattle.gateway_state.specs.declared.notice.SubVerdict.TheVariants as SubVerdicts
+use Rattle.gateway_state.specs.declared.notice.WriteVerdict.{WriteVerdict}
+use Rattle.gateway_state.specs.declared.notice.WriteVerdict.TheVariants as WriteVerdicts
 use Rattle.gateway_state.specs.declared.reading.Native.{Native}
 use Rattle.gateway_state.specs.Answer.{native_in, value_refusal}
 use Rattle.pv_alias.specs.declared.lead.Lead.{Lead}
 use Rattle.gateway_state.specs.Asked.{stands}
 use Rattle.gateway_state.specs.Clients.{channel_asked, cleared, created, created_as, created_on, created_on_native, creation_failed, judged, not_connected, read_verdict, remembered, remembered_by, rights_on, versioned, with_channel, with_host_fixed, without_channel, verdict_on, fixed, renamed}
-use Rattle.fanout.specs.Waiting.{Waiting}
 use Rattle.gateway_state.specs.Connections.{fresh}
 use Rattle.gateway_state.specs.declared.search.Search.{Search}
 use Rattle.gateway_state.specs.Gateway.{Gateway}
 use Rattle.gateway_state.specs.Requests.{client_said, requested, unreadable}
-use Rattle.gateway_state.specs.Rights.{channel_of, lead_in}
+use Rattle.gateway_state.specs.Rights.{channel_of, lead_in, rights_of}
 use Rattle.gateway_state.specs.Searches.{same_search}
 use Rattle.gateway_state.specs.Sessions.{opened, with_session}
+use Rattle.gateway_state.specs.Settled.{is_of_server, is_write_on_link, link_under}
 use Rattle.gateway_state.specs.Subscribing.{cancelled_on, cid_in, is_on_sid, limit_unless, new_sub, paused_to, sub_judged, sub_of, sub_verdict, sub_verdict_natively, sub_verdict_on, sub_verdict_over, sub_verdict_unless, subscription_limit, subscription_refusal, with_pause, without_sub}
 use Rattle.gateway_state.specs.Telling.{marked, told}
 use Rattle.gateway_state.specs.Variables.{link_of}
-use Rattle.gateway_state.proofs.Kept.{IsKept, kept_either, kept_told, with_connections, with_read, with_searches}
+use Rattle.gateway_state.specs.Writing.{may_write, new_write, notified_by, with_write, write_answered, write_handed_on, write_judged, write_verdict, write_verdict_in, write_verdict_on, write_verdict_over, write_waits, written_by}
+use Rattle.gateway_state.proofs.Kept.{KeepsRows, kept_either, with_connections, with_read, with_searches}
 
 -- there is a row where the first that passes is found
 found_there : {A : Type 0} (test : A → Bool) (rows : List A) (row : A) → find test rows ≡ Some row → list_any test rows ≡ true
@@ -89,8 +101,40 @@ free_on w sub e = by (channel_of w sub.session sub.sid) refl e
     by None is e = absurd cc
     by (Some c) is e = record { free = free_over w sub c (link_of w c.real) e; on = found_there (is_channel sub.session sub.sid) w.clients.channels c is }
 
-module _ (P : Gateway → Type 0) (kept : IsKept P) where
-  -- connections that come and go
+-- a write is accepted to the server of its channel's link
+judged_server : (w : Gateway) (c : Channel) (at sid : ℕ) (value : Result Written WriteFault) (server upstream_sid : ℕ) (handed : Written)
+    → write_judged w c at sid value ≡ WriteVerdicts.Accepted server upstream_sid handed → at ≡ server
+judged_server w c at sid (Err fault) server upstream_sid handed e = absurd cc
+judged_server w c at sid (Ok value) server upstream_sid handed e = by (may_write (rights_of w c)) e
+  where
+    by : (may : Bool) → cond may (WriteVerdicts.Accepted at sid value) (WriteVerdicts.Refused c.cid ECA_NOWTACCESS) ≡ WriteVerdicts.Accepted server upstream_sid handed → at ≡ server
+    by true is = cc
+    by false is = absurd cc
+
+server_in : (w : Gateway) (c : Channel) (link : Link) (state : LinkState) (dtype count : ℕ) (payload : List ℕ) (server upstream_sid : ℕ) (handed : Written)
+    → write_verdict_in w c link.server dtype count payload state ≡ WriteVerdicts.Accepted server upstream_sid handed → link.server ≡ server
+server_in w c link Creating dtype count payload server upstream_sid handed e = absurd cc
+server_in w c link (Connected sid native native_count) dtype count payload server upstream_sid handed e =
+    judged_server w c link.server sid (written dtype count native_count payload) server upstream_sid handed e
+server_in w c link Unusable dtype count payload server upstream_sid handed e = absurd cc
+
+server_over : (w : Gateway) (c : Channel) (link : Option Link) (dtype count : ℕ) (payload : List ℕ) (server upstream_sid : ℕ) (handed : Written)
+    → write_verdict_over w c dtype count payload link ≡ WriteVerdicts.Accepted server upstream_sid handed → is_of_server server link ≡ true
+server_over w c None dtype count payload server upstream_sid handed e = absurd cc
+server_over w c (Some link) dtype count payload server upstream_sid handed e =
+    eq-eqb link.server server (server_in w c link link.state dtype count payload server upstream_sid handed e)
+
+write_on_link : (w : Gateway) (number sid dtype count ioid : ℕ) (payload : List ℕ) (server upstream_sid : ℕ) (handed : Written)
+    → write_verdict w number sid dtype count payload ≡ WriteVerdicts.Accepted server upstream_sid handed
+    → is_write_on_link w (new_write w server number sid dtype count ioid) ≡ true
+write_on_link w number sid dtype count ioid payload server upstream_sid handed e = by (channel_of w number sid) e
+  where
+    by : (found : Option Channel) → write_verdict_on w dtype count payload found ≡ WriteVerdicts.Accepted server upstream_sid handed → is_of_server server (link_under w found) ≡ true
+    by None is = absurd cc
+    by (Some c) is = server_over w c (link_of w c.real) dtype count payload server upstream_sid handed is
+
+module _ (P : Gateway → Type 0) (kept : KeepsRows P) where
+  -- connections that come
 
   pub kept_opened : (w : Gateway) (number : ℕ) (host : List ℕ) → P w → P (opened w number host)
   kept_opened w number host holds =
@@ -98,7 +142,7 @@ module _ (P : Gateway → Type 0) (kept : IsKept P) where
       let first : Gateway = with_connections (w.connections ++ fresh (ToSession number) ∷ []) w in
       let second = kept.sessions (w.clients.sessions ++ new ∷ []) first (kept.connection_added (ToSession number) w holds) in
       kept_either P (stands w (ToSession number) || leb SESSION_LIMIT (length w.clients.sessions)) w (told number replies.Version (with_session w number host))
-      (λ _. holds) (kept_told P kept number replies.Version (with_session w number host) second)
+      (λ _. holds) (kept.messages.telling number replies.Version (with_session w number host) second)
 
   -- new channels
 
@@ -106,8 +150,8 @@ module _ (P : Gateway → Type 0) (kept : IsKept P) where
   kept_created number cid name lead link native w holds =
       let rights : ℕ = rights_on w lead link in
       let first : Gateway = with_channel number cid name lead.real rights w in
-      kept_told P kept number (replies.CreateChannel cid w.upstream.counters.sid native.dtype native.count) (told number (replies.AccessRights cid rights) first)
-      (kept_told P kept number (replies.AccessRights cid rights) first (kept.channel_added number cid name lead.real rights w holds))
+      kept.messages.telling number (replies.CreateChannel cid w.upstream.counters.sid native.dtype native.count) (told number (replies.AccessRights cid rights) first)
+      (kept.messages.telling number (replies.AccessRights cid rights) first (kept.channel_added number cid name lead.real rights w holds))
 
   pub kept_remembered : (host name : List ℕ) (w : Gateway) → P w → P (remembered host name w)
   kept_remembered host name w holds =
@@ -122,7 +166,7 @@ module _ (P : Gateway → Type 0) (kept : IsKept P) where
   kept_not_connected : (number cid : ℕ) (name : List ℕ) (w : Gateway) → P w → P (not_connected number cid name w)
   kept_not_connected number cid name w holds =
       let row : Option Session = find (is_numbered number) w.clients.sessions in
-      kept_told P kept number (replies.CreateChannelFail cid) (remembered_by row name w) (kept_remembered_by row name w holds)
+      kept.messages.telling number (replies.CreateChannelFail cid) (remembered_by row name w) (kept_remembered_by row name w holds)
 
   kept_created_on_native : (number cid : ℕ) (name : List ℕ) (lead : Lead) (link : Link) (native : Option Native) (w : Gateway) → P w → P (created_on_native number cid name lead link native w)
   kept_created_on_native number cid name lead link None w holds = kept_not_connected number cid name w holds
@@ -133,10 +177,10 @@ module _ (P : Gateway → Type 0) (kept : IsKept P) where
   kept_created_on number cid name lead (Some link) w holds = kept_created_on_native number cid name lead link (native_in link.state) w holds
 
   kept_created_as : (number cid : ℕ) (name : List ℕ) (lead : Option Lead) (w : Gateway) → P w → P (created_as number cid name lead w)
-  kept_created_as number cid name None w holds = kept_told P kept number (replies.CreateChannelFail cid) w holds
+  kept_created_as number cid name None w holds = kept.messages.telling number (replies.CreateChannelFail cid) w holds
   kept_created_as number cid name (Some lead) w holds =
       kept_either P (leb CHANNEL_LIMIT (channel_count number w.clients)) (creation_failed number cid w) (created_on number cid name lead (link_of w lead.real) w)
-      (λ _. kept_told P kept number (replies.CreateChannelFail cid) w holds) (kept_created_on number cid name lead (link_of w lead.real) w holds)
+      (λ _. kept.messages.telling number (replies.CreateChannelFail cid) w holds) (kept_created_on number cid name lead (link_of w lead.real) w holds)
 
   kept_with_host_fixed : (number : ℕ) (w : Gateway) → P w → P (with_host_fixed number w)
   kept_with_host_fixed number w holds = kept.sessions (change_first (is_numbered number) fixed w.clients.sessions) w holds
@@ -148,16 +192,16 @@ module _ (P : Gateway → Type 0) (kept : IsKept P) where
   -- channels that go, and reads
 
   kept_cleared : (number sid cid : ℕ) (head : Header) (found : Option Channel) (w : Gateway) → P w → P (cleared number sid cid head found w)
-  kept_cleared number sid cid head None w holds = kept_told P kept number (replies.Error NO_CHANNEL ECA_BADCHID head) w holds
+  kept_cleared number sid cid head None w holds = kept.messages.telling number (replies.Error NO_CHANNEL ECA_BADCHID head) w holds
   kept_cleared number sid cid head (Some c) w holds =
-      kept_told P kept number (replies.ClearChannel sid cid) (without_channel number sid w) (kept.channel_removed number sid w holds)
+      kept.messages.telling number (replies.ClearChannel sid cid) (without_channel number sid w) (kept.channel_removed number sid w holds)
 
   kept_judged : (number sid ioid dtype count : ℕ) (head : Header) (verdict : ReadVerdict) (w : Gateway)
       → ((reach rights : ℕ) → verdict ≡ Accepted reach rights → list_any (is_channel number sid) w.clients.channels ≡ true)
       → P w → P (judged number sid ioid dtype count head verdict w)
-  kept_judged number sid ioid dtype count head NoChannel w on holds = kept_told P kept number (replies.Error NO_CHANNEL ECA_BADCHID head) w holds
+  kept_judged number sid ioid dtype count head NoChannel w on holds = kept.messages.telling number (replies.Error NO_CHANNEL ECA_BADCHID head) w holds
   kept_judged number sid ioid dtype count head Ignored w on holds = holds
-  kept_judged number sid ioid dtype count head (Refused code) w on holds = kept_told P kept number (replies.ReadNotifyRefused ioid dtype count code) w holds
+  kept_judged number sid ioid dtype count head (Refused code) w on holds = kept.messages.telling number (replies.ReadNotifyRefused ioid dtype count code) w holds
   kept_judged number sid ioid dtype count head (Accepted reach rights) w on holds =
       let read : WaitingRead = record { session = number; sid = sid; dtype = dtype; count = count; ioid = ioid } in
       kept.channel_changed number sid reach rights (with_read read w) (kept.read_added read w (on reach rights refl) holds)
@@ -165,29 +209,54 @@ module _ (P : Gateway → Type 0) (kept : IsKept P) where
   -- subscriptions
 
   kept_sub_judged : (sub : ClientSub) (head : Header) (verdict : SubVerdict) (w : Gateway) → (verdict ≡ SubVerdicts.Accepted → IsFree w sub) → P w → P (sub_judged sub head verdict w)
-  kept_sub_judged sub head SubVerdicts.NoChannel w free holds = kept_told P kept sub.session (replies.Error NO_CHANNEL ECA_BADCHID head) w holds
+  kept_sub_judged sub head SubVerdicts.NoChannel w free holds = kept.messages.telling sub.session (replies.Error NO_CHANNEL ECA_BADCHID head) w holds
   kept_sub_judged sub head SubVerdicts.Ignored w free holds = holds
-  kept_sub_judged sub head (SubVerdicts.Refused cid code) w free holds = kept_told P kept sub.session (replies.Error cid code head) w holds
+  kept_sub_judged sub head (SubVerdicts.Refused cid code) w free holds = kept.messages.telling sub.session (replies.Error cid code head) w holds
   kept_sub_judged sub head SubVerdicts.Accepted w free holds = let is = free refl in kept.sub_added sub w is.free is.on holds
 
   kept_cancelled_on : (number sid id dtype count : ℕ) (head : Header) (found : Option Channel) (w : Gateway) → P w → P (cancelled_on number sid id dtype count head found w)
-  kept_cancelled_on number sid id dtype count head None w holds = kept_told P kept number (replies.Error NO_CHANNEL ECA_BADCHID head) w holds
+  kept_cancelled_on number sid id dtype count head None w holds = kept.messages.telling number (replies.Error NO_CHANNEL ECA_BADCHID head) w holds
   kept_cancelled_on number sid id dtype count head (Some c) w holds =
       let removed : Gateway = told number (replies.EventCancelled sid id dtype count) (without_sub number id w) in
       let refused : Gateway = told number (replies.Error c.cid ECA_INTERNAL head) w in
       kept_either P (is_on_sid sid (sub_of w number id)) removed refused
-      (λ _. kept_told P kept number (replies.EventCancelled sid id dtype count) (without_sub number id w) (kept.sub_removed number id w holds))
-      (kept_told P kept number (replies.Error c.cid ECA_INTERNAL head) w holds)
+      (λ _. kept.messages.telling number (replies.EventCancelled sid id dtype count) (without_sub number id w) (kept.sub_removed number id w holds))
+      (kept.messages.telling number (replies.Error c.cid ECA_INTERNAL head) w holds)
 
   kept_paused_to : (number : ℕ) (paused : Bool) (w : Gateway) → P w → P (paused_to number paused w)
   kept_paused_to number paused w holds = kept.sessions (change_first (is_numbered number) (with_pause paused) w.clients.sessions) w holds
+
+  -- writes
+
+  kept_written_by : (number : ℕ) (head : Header) (verdict : WriteVerdict) (w : Gateway) → P w → P (written_by number head verdict w)
+  kept_written_by number head WriteVerdicts.NoChannel w holds = kept.messages.telling number (replies.Error NO_CHANNEL ECA_BADCHID head) w holds
+  kept_written_by number head WriteVerdicts.Ignored w holds = holds
+  kept_written_by number head (WriteVerdicts.Refused cid code) w holds = kept.messages.telling number (replies.Error cid code head) w holds
+  kept_written_by number head (WriteVerdicts.Accepted server sid value) w holds = kept.messages.asking server (to_servers.Write sid value) w holds
+
+  kept_handed_on : (number sid ioid dtype count server upstream_sid : ℕ) (value : Written) (w : Gateway)
+      → is_write_on_link w (new_write w server number sid dtype count ioid) ≡ true → P w → P (write_handed_on number sid ioid dtype count server upstream_sid value w)
+  kept_handed_on number sid ioid dtype count server upstream_sid value w on holds =
+      let write : WaitingWrite = new_write w server number sid dtype count ioid in
+      kept_either P (leb WRITE_LIMIT (write_count number w.upstream)) (write_answered number ioid dtype count ECA_PUTFAIL w) (write_waits write upstream_sid value w)
+      (λ _. kept.messages.telling number (replies.WriteNotify ioid dtype count ECA_PUTFAIL) w holds)
+      (kept.messages.asking server (to_servers.WriteNotify upstream_sid write.id value) (with_write write w) (kept.write_added write w on holds))
+
+  kept_notified_by : (number sid ioid dtype count : ℕ) (head : Header) (verdict : WriteVerdict) (w : Gateway)
+      → ((server upstream_sid : ℕ) (value : Written) → verdict ≡ WriteVerdicts.Accepted server upstream_sid value → is_write_on_link w (new_write w server number sid dtype count ioid) ≡ true)
+      → P w → P (notified_by number sid ioid dtype count head verdict w)
+  kept_notified_by number sid ioid dtype count head WriteVerdicts.NoChannel w on holds = kept.messages.telling number (replies.Error NO_CHANNEL ECA_BADCHID head) w holds
+  kept_notified_by number sid ioid dtype count head WriteVerdicts.Ignored w on holds = holds
+  kept_notified_by number sid ioid dtype count head (WriteVerdicts.Refused cid code) w on holds = kept.messages.telling number (replies.WriteNotify ioid dtype count code) w holds
+  kept_notified_by number sid ioid dtype count head (WriteVerdicts.Accepted server upstream_sid value) w on holds =
+      kept_handed_on number sid ioid dtype count server upstream_sid value w (on server upstream_sid value refl) holds
 
   -- what a client says
 
   kept_versioned : (w : Gateway) (number minor : ℕ) → P w → P (versioned w number minor)
   kept_versioned w number minor holds =
       kept_either P (ltb minor LOWEST_MINOR) (marked (ToSession number) w) w
-      (λ _. kept.connection_changed (ToSession number) (λ (waiting : Waiting). record waiting { marked = true }) w holds) holds
+      (λ _. kept.messages.marking (ToSession number) w holds) holds
 
   kept_unreadable : (w : Gateway) (number : ℕ) (head : Header) → P w → P (unreadable w number head)
   kept_unreadable w number head holds =
@@ -198,10 +267,10 @@ module _ (P : Gateway → Type 0) (kept : IsKept P) where
       let ignored : Bool = eqb head.command CA_PROTO_CLIENT_NAME || eqb head.command CA_PROTO_HOST_NAME in
       let adding : Bool = eqb head.command CA_PROTO_EVENT_ADD in
       kept_either P (eqb head.command CA_PROTO_CREATE_CHAN) failed (cond ignored w (cond adding short refused))
-      (λ _. kept_told P kept number (replies.CreateChannelFail head.p1) (with_host_fixed number w) (kept_with_host_fixed number w holds))
+      (λ _. kept.messages.telling number (replies.CreateChannelFail head.p1) (with_host_fixed number w) (kept_with_host_fixed number w holds))
       (kept_either P ignored w (cond adding short refused) (λ _. holds)
-      (kept_either P adding short refused (λ _. kept_told P kept number (replies.Error cid ECA_INTERNAL head) w holds)
-      (kept_told P kept number (replies.Error NO_CHANNEL ECA_INTERNAL head) w holds)))
+      (kept_either P adding short refused (λ _. kept.messages.telling number (replies.Error cid ECA_INTERNAL head) w holds)
+      (kept.messages.telling number (replies.Error NO_CHANNEL ECA_INTERNAL head) w holds)))
 
   kept_requested : (w : Gateway) (number : ℕ) (message : Message) (request : Result ClientRequest RequestFault) → P w → P (requested w number message request)
   kept_requested w number message (Ok (requests.Version minor)) holds = kept_versioned w number minor holds
@@ -211,7 +280,7 @@ module _ (P : Gateway → Type 0) (kept : IsKept P) where
   kept_requested w number message (Ok (requests.EventCancel sid id dtype count)) holds =
       kept_cancelled_on number sid id dtype count message.head (channel_of w number sid) w holds
   kept_requested w number message (Ok (requests.Write sid dtype count value)) holds =
-      kept_told P kept number (replies.Error NO_CHANNEL ECA_INTERNAL message.head) w holds
+      kept_written_by number message.head (write_verdict w number sid dtype count value) w holds
   kept_requested w number message (Ok requests.EventsOff) holds = kept_paused_to number true w holds
   kept_requested w number message (Ok requests.EventsOn) holds = kept_paused_to number false w holds
   kept_requested w number message (Ok (requests.ClearChannel sid cid)) holds = kept_cleared number sid cid message.head (channel_of w number sid) w holds
@@ -219,10 +288,11 @@ module _ (P : Gateway → Type 0) (kept : IsKept P) where
       kept_judged number sid ioid dtype count message.head (read_verdict w number sid dtype count) w (accepted_on w number sid dtype count) holds
   kept_requested w number message (Ok (requests.CreateChannel cid minor name)) holds = kept_channel_asked number cid name w holds
   kept_requested w number message (Ok (requests.WriteNotify sid ioid dtype count value)) holds =
-      kept_told P kept number (replies.Error NO_CHANNEL ECA_INTERNAL message.head) w holds
+      kept_notified_by number sid ioid dtype count message.head (write_verdict w number sid dtype count value) w
+      (λ server upstream_sid written is. write_on_link w number sid dtype count ioid value server upstream_sid written is) holds
   kept_requested w number message (Ok (requests.ClientName name)) holds = holds
   kept_requested w number message (Ok (requests.HostName host)) holds = kept.sessions (change_first (is_numbered number) (renamed host) w.clients.sessions) w holds
-  kept_requested w number message (Ok requests.Echo) holds = kept_told P kept number (replies.Echo message) w holds
+  kept_requested w number message (Ok requests.Echo) holds = kept.messages.telling number (replies.Echo message) w holds
   kept_requested w number message (Err fault) holds = kept_unreadable w number message.head holds
 
   pub kept_client_said : (w : Gateway) (number : ℕ) (message : Message) → P w → P (client_said w number message)

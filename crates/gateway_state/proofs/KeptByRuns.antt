@@ -2,7 +2,6 @@
 use Rattle.std.proofs.Common.{ℕ, ◌+◌, List, [], ◌∷◌, Option, Some, None, false}
 use Rattle.std.specs.Prelude.{filter, is_some}
 use Rattle.std.specs.List.{fold}
-use Rattle.rows.specs.Rows.{change_first}
 use Rattle.ca_message.specs.declared.to_client.ToClient.TheVariants as replies
 use Rattle.ca_message.specs.declared.to_server.ToServer.TheVariants as requests
 use Rattle.link_table.specs.declared.links.LinkState.TheVariants.{Creating, Connected, Unusable}
@@ -20,44 +19,46 @@ use Rattle.gateway_state.specs.declared.notice.UpdateNotice.{UpdateNotice}
 use Rattle.gateway_state.specs.Asked.{acts}
 use Rattle.gateway_state.specs.CachedRows.{is_cached_elsewhere}
 use Rattle.gateway_state.specs.Clients.{remembered, without_channel}
-use Rattle.fanout.specs.Outbox.{without_first}
+use Rattle.gateway_state.specs.Delivered.{before_said}
 use Rattle.gateway_state.specs.Direct.{direct_effect}
 use Rattle.gateway_state.specs.Gateway.{Gateway}
 use Rattle.gateway_state.specs.Notices.{channel_notices, channel_told, channels_told, link_notices, link_told, links_told, read_notices, read_told, reads_told, with_reach, with_subscription_of, without_read}
 use Rattle.gateway_state.specs.Requests.{client_said}
 use Rattle.gateway_state.specs.Resolution.{lead_of}
-use Rattle.gateway_state.specs.Servers.{server_said, without_link}
+use Rattle.gateway_state.specs.Servers.{found, server_said, without_link}
 use Rattle.gateway_state.specs.Step.{consequences, run, step}
 use Rattle.gateway_state.specs.Telling.{told}
 use Rattle.gateway_state.specs.Updates.{is_taking, update_notices, update_told, updates_withheld, with_owed_of, withheld}
-use Rattle.gateway_state.proofs.Kept.{IsKept, kept_asked, kept_either, kept_owed_to_all, kept_told, with_next_subscription}
+use Rattle.gateway_state.proofs.Kept.{IsKept, KeepsLinks, KeepsRows, kept_either, kept_owed_to_all, with_next_subscription}
 use Rattle.gateway_state.proofs.KeptByClients.{kept_client_said, kept_opened, kept_remembered}
 use Rattle.gateway_state.proofs.KeptByServers.{kept_found, kept_server_said, kept_up_opened}
 
-module _ (P : Gateway → Type 0) (kept : IsKept P) where
-  pub kept_direct_effect : (w : Gateway) (event : Event) → P w → P (direct_effect w event)
-  kept_direct_effect w (Opened number host) holds = kept_opened P kept w number host holds
-  kept_direct_effect w (Lost number) holds = kept.session_removed number w holds
-  kept_direct_effect w (Client number message) holds =
+module _ (P : Gateway → Type 0) (kept : KeepsRows P) where
+  -- what an event says, where new links keep it
+  pub kept_by_event : (w : Gateway) (event : Event) → ((name : List ℕ) (server : ℕ) → P w → P (found w name server))
+      → P (before_said w event) → P (direct_effect w event)
+  kept_by_event w (Opened number host) links holds = kept_opened P kept w number host holds
+  kept_by_event w (Lost number) links holds = holds
+  kept_by_event w (Client number message) links holds =
       kept_either P (acts w (dests.Session number)) (client_said w number message) w (λ _. kept_client_said P kept w number message holds) holds
-  kept_direct_effect w (UpOpened number) holds = kept_up_opened P kept w number holds
-  kept_direct_effect w (UpLost number) holds = kept.server_removed number w holds
-  kept_direct_effect w (Server number message) holds =
+  kept_by_event w (UpOpened number) links holds = kept_up_opened P kept w number holds
+  kept_by_event w (UpLost number) links holds = holds
+  kept_by_event w (Server number message) links holds =
       kept_either P (acts w (dests.Upstream number)) (server_said w number message) w (λ _. kept_server_said P kept w number message holds) holds
-  kept_direct_effect w (Found name number) holds = kept_found P kept w name number holds
-  kept_direct_effect w (Search host name) holds =
+  kept_by_event w (Found name number) links holds = links name number holds
+  kept_by_event w (Search host name) links holds =
       kept_either P (is_some (lead_of w.policy host name)) (remembered host name w) w (λ _. kept_remembered P kept host name w holds) holds
-  kept_direct_effect w Sweep holds = kept.searches [] w holds
-  kept_direct_effect w (Edit policy) holds = kept.policy policy w holds
-  kept_direct_effect w (Drain dest count) holds = kept.connection_changed dest (without_first count) w holds
+  kept_by_event w Sweep links holds = kept.searches [] w holds
+  kept_by_event w (Edit policy) links holds = kept.policy policy w holds
+  kept_by_event w (Drain dest count) links holds = holds
 
   -- the passes
 
   kept_channel_told : (w : Gateway) (notice : ChannelNotice) → P w → P (channel_told w notice)
   kept_channel_told w (Disconnected session sid cid) holds =
-      kept_told P kept session (replies.ServerDisconnect cid) (without_channel session sid w) (kept.channel_removed session sid w holds)
+      kept.messages.telling session (replies.ServerDisconnect cid) (without_channel session sid w) (kept.channel_removed session sid w holds)
   kept_channel_told w (RightsChanged session sid cid reach rights) holds =
-      kept_told P kept session (replies.AccessRights cid rights) (with_reach session sid reach rights w) (kept.channel_changed session sid reach rights w holds)
+      kept.messages.telling session (replies.AccessRights cid rights) (with_reach session sid reach rights w) (kept.channel_changed session sid reach rights w holds)
 
   kept_channels : (notices : List ChannelNotice) (w : Gateway) → P w → P (fold channel_told w notices)
   kept_channels [] w holds = holds
@@ -68,18 +69,18 @@ module _ (P : Gateway → Type 0) (kept : IsKept P) where
 
   kept_link_told : (w : Gateway) (notice : LinkNotice) → P w → P (link_told w notice)
   kept_link_told w (Cancelled server cid sid dtype sub) holds =
-      kept_asked P kept server (requests.EventCancel sid sub.id dtype sub.sent) (with_subscription_of server cid None w) (kept.subscription_changed server cid None w holds)
+      kept.messages.asking server (requests.EventCancel sid sub.id dtype sub.sent) (with_subscription_of server cid None w) (kept.subscription_changed server cid None w holds)
   kept_link_told w (Unread cid) holds = kept.cache (filter (is_cached_elsewhere cid) w.cache) w holds
   kept_link_told w (Subscribed server cid sid dtype want sent) holds =
       let id : ℕ = w.upstream.counters.subscription in
       let sub : Option Subscription = Some (record { id = id; mask = want.mask; count = want.count; sent = sent }) in
       let first : Gateway = with_next_subscription (id + 1) w in
-      kept_asked P kept server (requests.EventAdd sid id dtype sent want.mask) (with_subscription_of server cid sub first)
+      kept.messages.asking server (requests.EventAdd sid id dtype sent want.mask) (with_subscription_of server cid sub first)
       (kept.subscription_changed server cid sub first (kept.next_subscription (id + 1) w holds))
   kept_link_told w (Dropped server cid Creating) holds = kept.link_removed server cid w holds
   kept_link_told w (Dropped server cid Unusable) holds = kept.link_removed server cid w holds
   kept_link_told w (Dropped server cid (Connected sid dtype native)) holds =
-      kept_asked P kept server (requests.ClearChannel sid cid) (without_link server cid w) (kept.link_removed server cid w holds)
+      kept.messages.asking server (requests.ClearChannel sid cid) (without_link server cid w) (kept.link_removed server cid w holds)
 
   kept_links : (notices : List LinkNotice) (w : Gateway) → P w → P (fold link_told w notices)
   kept_links [] w holds = holds
@@ -90,9 +91,9 @@ module _ (P : Gateway → Type 0) (kept : IsKept P) where
 
   kept_read_told : (w : Gateway) (notice : ReadNotice) → P w → P (read_told w notice)
   kept_read_told w (Refused read code) holds =
-      kept_told P kept read.session (replies.ReadNotifyRefused read.ioid read.dtype read.count code) (without_read read w) (kept.read_removed read w holds)
+      kept.messages.telling read.session (replies.ReadNotifyRefused read.ioid read.dtype read.count code) (without_read read w) (kept.read_removed read w holds)
   kept_read_told w (Answered read count payload) holds =
-      kept_told P kept read.session (replies.ReadNotify read.ioid read.dtype count payload) (without_read read w) (kept.read_removed read w holds)
+      kept.messages.telling read.session (replies.ReadNotify read.ioid read.dtype count payload) (without_read read w) (kept.read_removed read w holds)
 
   kept_reads : (notices : List ReadNotice) (w : Gateway) → P w → P (fold read_told w notices)
   kept_reads [] w holds = holds
@@ -108,24 +109,50 @@ module _ (P : Gateway → Type 0) (kept : IsKept P) where
   kept_update_told w notice holds =
       let served : Gateway = with_owed_of notice.session notice.id false w in
       kept_either P (is_taking w notice.session) (told notice.session (replies.Update notice.id notice.dtype notice.count notice.payload) served) w
-      (λ _. kept_told P kept notice.session (replies.Update notice.id notice.dtype notice.count notice.payload) served (kept.sub_changed notice.session notice.id false w holds))
+      (λ _. kept.messages.telling notice.session (replies.Update notice.id notice.dtype notice.count notice.payload) served (kept.sub_changed notice.session notice.id false w holds))
       holds
 
   kept_updates : (notices : List UpdateNotice) (w : Gateway) → P w → P (fold update_told w notices)
   kept_updates [] w holds = holds
   kept_updates (notice ∷ notices) w holds = kept_updates notices (update_told w notice) (kept_update_told w notice holds)
 
-  -- steps and runs
-
-  kept_consequences : (w : Gateway) → P w → P (consequences w)
+  pub kept_consequences : (w : Gateway) → P w → P (consequences w)
   kept_consequences w holds =
       let first : Gateway = updates_withheld (channels_told w) in
       let second : Gateway = reads_told (links_told first) in
       kept_updates (update_notices second) second (kept_reads_told (links_told first) (kept_links_told first (kept_updates_withheld (channels_told w) (kept_channels_told w holds))))
 
-  pub kept_step : (w : Gateway) (event : Event) → P w → P (step w event)
+-- steps and runs
+
+module _ (P : Gateway → Type 0) (kept : IsKept P) where
+  -- what an event takes away
+  kept_before_said : (w : Gateway) (event : Event) → P w → P (before_said w event)
+  kept_before_said w (Opened number host) holds = holds
+  kept_before_said w (Lost number) holds = kept.session_removed number w holds
+  kept_before_said w (Client number message) holds = holds
+  kept_before_said w (UpOpened number) holds = holds
+  kept_before_said w (UpLost number) holds = kept.server_removed number w holds
+  kept_before_said w (Server number message) holds = holds
+  kept_before_said w (Found name number) holds = holds
+  kept_before_said w (Search host name) holds = holds
+  kept_before_said w Sweep holds = holds
+  kept_before_said w (Edit policy) holds = holds
+  kept_before_said w (Drain dest count) holds = kept.connection_drained dest count w holds
+
+  pub kept_step_by : (w : Gateway) (event : Event) → ((name : List ℕ) (server : ℕ) → P w → P (found w name server)) → P w → P (step w event)
   unfolding step
-  kept_step w event holds = kept_consequences (direct_effect w event) (kept_direct_effect w event holds)
+  kept_step_by w event links holds =
+      kept_consequences P kept.rows (direct_effect w event) (kept_by_event P kept.rows w event links (kept_before_said w event holds))
+
+module _ (P : Gateway → Type 0) (kept : IsKept P) (links : KeepsLinks P) where
+  with_found : (w : Gateway) (name : List ℕ) (server : ℕ) → P w → P (found w name server)
+  with_found w name server holds = kept_found P kept.rows.messages w name server (λ missing standing. links server name w missing standing holds) holds
+
+  pub kept_direct_effect : (w : Gateway) (event : Event) → P w → P (direct_effect w event)
+  kept_direct_effect w event holds = kept_by_event P kept.rows w event (with_found w) (kept_before_said P kept w event holds)
+
+  pub kept_step : (w : Gateway) (event : Event) → P w → P (step w event)
+  kept_step w event holds = kept_step_by P kept w event (with_found w) holds
 
   pub kept_run : (w : Gateway) (events : List Event) → P w → P (run w events)
   unfolding run

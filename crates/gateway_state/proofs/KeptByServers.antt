@@ -29,22 +29,25 @@ use Rattle.gateway_state.specs.CachedRows.{with_row}
 use Rattle.gateway_state.specs.Connections.{fresh}
 use Rattle.gateway_state.specs.Notices.{without_read}
 use Rattle.link_table.specs.declared.servers.Server.{Server}
+use Rattle.link_table.specs.declared.writes.WaitingWrite.{WaitingWrite}
+use Rattle.link_table.specs.Writes.{is_write}
 use Rattle.link_table.specs.Servers.{is_server, with_minor}
 use Rattle.std.proofs.lemmas.Bool.{and_parts, not-true}
 use Rattle.gateway_state.specs.Telling.{asked}
 use Rattle.gateway_state.specs.Updates.{concerned}
 use Rattle.gateway_state.specs.Variables.{is_creating, is_linked, is_missing, is_wanted}
-use Rattle.gateway_state.proofs.Kept.{IsKept, kept_asked, kept_either, kept_owed_to_all, kept_told, with_connections, with_link}
+use Rattle.gateway_state.specs.Writing.{without_write, write_ended_for}
+use Rattle.gateway_state.proofs.Kept.{KeepsMessages, KeepsRows, kept_either, kept_owed_to_all, with_connections, with_link}
 
-module _ (P : Gateway → Type 0) (kept : IsKept P) where
-  -- connections that come and go, and new links
+module _ (P : Gateway → Type 0) (kept : KeepsRows P) where
+  -- connections that come
 
   kept_introduced : (number : ℕ) (w : Gateway) → P w → P (introduced number w)
   kept_introduced number w holds =
       let first : Gateway = asked number requests.Version w in
       let second : Gateway = asked number (requests.ClientName w.config.client_name) first in
-      kept_asked P kept number (requests.HostName w.config.host_name) second
-      (kept_asked P kept number (requests.ClientName w.config.client_name) first (kept_asked P kept number requests.Version w holds))
+      kept.messages.asking number (requests.HostName w.config.host_name) second
+      (kept.messages.asking number (requests.ClientName w.config.client_name) first (kept.messages.asking number requests.Version w holds))
 
   pub kept_up_opened : (w : Gateway) (number : ℕ) → P w → P (up_opened w number)
   kept_up_opened w number holds =
@@ -54,31 +57,34 @@ module _ (P : Gateway → Type 0) (kept : IsKept P) where
       kept_either P (stands w (Upstream number) || leb SERVER_LIMIT (length w.upstream.servers)) w (introduced number (with_server w number))
       (λ _. holds) (kept_introduced number (with_server w number) second)
 
-  kept_linked : (w : Gateway) (server : ℕ) (name : List ℕ) → is_linked w name ≡ false → stands w (Upstream server) ≡ true → P w → P (linked w server name)
-  kept_linked w server name missing standing holds =
-      kept_asked P kept server (requests.CreateChannel w.upstream.counters.cid name) (with_link server name w) (kept.link_added server name w missing standing holds)
+-- a new link, where it keeps it
+module _ (P : Gateway → Type 0) (messages : KeepsMessages P) where
+  kept_linked : (w : Gateway) (server : ℕ) (name : List ℕ) → P (with_link server name w) → P (linked w server name)
+  kept_linked w server name holds = messages.asking server (requests.CreateChannel w.upstream.counters.cid name) (with_link server name w) holds
 
-  pub kept_found : (w : Gateway) (name : List ℕ) (server : ℕ) → P w → P (found w name server)
-  kept_found w name server holds =
+  pub kept_found : (w : Gateway) (name : List ℕ) (server : ℕ) → (is_linked w name ≡ false → stands w (Upstream server) ≡ true → P (with_link server name w))
+      → P w → P (found w name server)
+  kept_found w name server with_it holds =
       kept_either P (is_missing w name && acts w (Upstream server) && ltb (length w.upstream.links) LINK_LIMIT) (linked w server name) w
       (λ e.
       let tests = and_parts (is_missing w name && acts w (Upstream server)) (ltb (length w.upstream.links) LINK_LIMIT) e in
       let parts = and_parts (is_missing w name) (acts w (Upstream server)) tests.0 in
       let standing = and_parts (stands w (Upstream server)) (not (ends w (Upstream server))) parts.1 in
-      kept_linked w server name (not-true (is_linked w name) (and_parts (is_wanted w name) (not (is_linked w name)) parts.0).1) standing.0 holds)
+      kept_linked w server name (with_it (not-true (is_linked w name) (and_parts (is_wanted w name) (not (is_linked w name)) parts.0).1) standing.0))
       holds
 
+module _ (P : Gateway → Type 0) (kept : KeepsRows P) where
   -- changes of one link
 
   kept_created_for : (server cid sid dtype count : ℕ) (link : Option Link) (w : Gateway) → P w → P (created_for server cid sid dtype count link w)
-  kept_created_for server cid sid dtype count None w holds = kept_asked P kept server (requests.ClearChannel sid cid) w holds
+  kept_created_for server cid sid dtype count None w holds = kept.messages.asking server (requests.ClearChannel sid cid) w holds
   kept_created_for server cid sid dtype count (Some link) w holds =
       let connected : Gateway = with_link_state server cid (Connected sid dtype count) link.rights w in
       let unusable : Gateway = with_link_state server cid Unusable link.rights w in
       kept_either P (is_creating link.state) (answered_creating server cid sid dtype count link w) w
       (λ _. kept_either P (is_usable dtype count) connected (asked server (requests.ClearChannel sid cid) unusable)
       (λ _. kept.link_changed server cid (Connected sid dtype count) link.rights w holds)
-      (kept_asked P kept server (requests.ClearChannel sid cid) unusable (kept.link_changed server cid Unusable link.rights w holds)))
+      (kept.messages.asking server (requests.ClearChannel sid cid) unusable (kept.link_changed server cid Unusable link.rights w holds)))
       holds
 
   kept_rights_given : (server cid rights : ℕ) (link : Option Link) (w : Gateway) → P w → P (rights_given server cid rights link w)
@@ -98,7 +104,7 @@ module _ (P : Gateway → Type 0) (kept : IsKept P) where
 
   kept_read_failed : (w : Gateway) (read : WaitingRead) → P w → P (read_failed w read)
   kept_read_failed w read holds =
-      kept_told P kept read.session (replies.ReadNotifyRefused read.ioid read.dtype read.count ECA_GETFAIL) (without_read read w) (kept.read_removed read w holds)
+      kept.messages.telling read.session (replies.ReadNotifyRefused read.ioid read.dtype read.count ECA_GETFAIL) (without_read read w) (kept.read_removed read w holds)
 
   kept_all_failed : (reads : List WaitingRead) (w : Gateway) → P w → P (fold read_failed w reads)
   kept_all_failed [] w holds = holds
@@ -122,6 +128,13 @@ module _ (P : Gateway → Type 0) (kept : IsKept P) where
       (λ _. kept_updated_link link link.state link.subscription dtype count payload w holds)
       (kept_all_failed (filter (waits_for w link.name) w.clients.reads) w holds)
 
+  -- writes
+
+  kept_write_ended_for : (server id status : ℕ) (found : Option WaitingWrite) (w : Gateway) → P w → P (write_ended_for server id status found w)
+  kept_write_ended_for server id status None w holds = holds
+  kept_write_ended_for server id status (Some write) w holds =
+      kept.messages.telling write.session (replies.WriteNotify write.ioid write.dtype write.count status) (without_write server id w) (kept.write_removed server id w holds)
+
   -- what a server says
 
   kept_replied : (w : Gateway) (server : ℕ) (reply : Result ServerReply ReplyFault) → P w → P (replied w server reply)
@@ -130,7 +143,7 @@ module _ (P : Gateway → Type 0) (kept : IsKept P) where
       kept_updated_by status dtype count value (find (has_subscription server id) w.upstream.links) w holds
   kept_replied w server (Ok (says.CreateChannel cid sid dtype count)) holds =
       kept_created_for server cid sid dtype count (find (is_link server cid) w.upstream.links) w holds
-  kept_replied w server (Ok (says.WriteNotify ioid status)) holds = holds
+  kept_replied w server (Ok (says.WriteNotify ioid status)) holds = kept_write_ended_for server ioid status (find (is_write server ioid) w.upstream.writes) w holds
   kept_replied w server (Ok (says.AccessRights cid rights)) holds = kept_rights_given server cid rights (find (is_link server cid) w.upstream.links) w holds
   kept_replied w server (Ok (says.CreateChannelFail cid)) holds = kept_failed_for server cid (find (is_link server cid) w.upstream.links) w holds
   kept_replied w server (Ok (says.ServerDisconnect cid)) holds = kept_gone_for server cid (find (is_link server cid) w.upstream.links) w holds

@@ -1,3 +1,4 @@
+pub mod GivenMessages
 pub mod InOrder
 pub mod Kept
 pub mod KeptByClients
@@ -9,9 +10,9 @@ pub mod LinksOnServers
 pub mod NumberLemmas
 pub mod OnChannels
 pub mod ReachedStates
-pub mod ReadsOnChannels
 pub mod RisingRows
 pub mod RowTests
+pub mod RowsOnChannels
 pub mod SearchedNames
 pub mod SettledChannels
 pub mod SettledLinks
@@ -23,4 +24,4 @@ pub mod SettledSubs
 pub mod SettledUpdates
 pub mod SettledWithheld
 pub mod SubsApart
-pub mod SubsOnChannels
+pub mod WritesOnLinks

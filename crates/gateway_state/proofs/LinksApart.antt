@@ -13,7 +13,7 @@ use Rattle.gateway_state.specs.declared.event.Event.{Event}
 use Rattle.gateway_state.specs.Gateway.{initial}
 use Rattle.gateway_state.specs.Settled.{HasLinksApart}
 use Rattle.gateway_state.specs.Step.{run}
-use Rattle.gateway_state.proofs.Kept.{IsKept}
+use Rattle.gateway_state.proofs.Kept.{IsKept, KeepsLinks, messages_kept}
 use Rattle.gateway_state.proofs.KeptByRuns.{kept_run}
 
 -- of fewer rows no more pass
@@ -89,32 +89,39 @@ apart_changed links test change unseen apart name =
     let most = apart name in
     omega (arith, passing_changed (is_named name) test change links (unseen name))
 
-links_apart_kept : IsKept HasLinksApart
+pub links_apart_kept : IsKept HasLinksApart
 links_apart_kept = record {
-  connection_added = λ dest w apart. apart;
-  connection_changed = λ dest change w apart. apart;
-  sessions = λ rows w apart. apart;
-  servers = λ rows w apart. apart;
-  cache = λ rows w apart. apart;
-  searches = λ rows w apart. apart;
-  policy = λ policy w apart. apart;
-  next_subscription = λ next w apart. apart;
-  channel_added = λ session cid name real rights w apart. apart;
-  channel_changed = λ session sid reach rights w apart. apart;
-  channel_removed = λ session sid w apart. apart;
+  rows = record {
+    messages = messages_kept HasLinksApart (λ dest change w apart. apart);
+    connection_added = λ dest w apart. apart;
+    sessions = λ rows w apart. apart;
+    servers = λ rows w apart. apart;
+    cache = λ rows w apart. apart;
+    searches = λ rows w apart. apart;
+    policy = λ policy w apart. apart;
+    next_subscription = λ next w apart. apart;
+    channel_added = λ session cid name real rights w apart. apart;
+    channel_changed = λ session sid reach rights w apart. apart;
+    channel_removed = λ session sid w apart. apart;
+    sub_added = λ sub w free on apart. apart;
+    sub_changed = λ session id owed w apart. apart;
+    sub_removed = λ session id w apart. apart;
+    read_added = λ read w there apart. apart;
+    read_removed = λ read w apart. apart;
+    write_added = λ write w on apart. apart;
+    write_removed = λ server id w apart. apart;
+    link_changed = λ server cid state rights w apart. apart_changed w.upstream.links (is_link server cid) (with_state state rights) (λ name link. refl) apart;
+    subscription_changed = λ server cid sub w apart. apart_changed w.upstream.links (is_link server cid) (with_subscription sub) (λ name link. refl) apart;
+    link_removed = λ server cid w apart. apart_filtered w.upstream.links (is_not_link server cid) apart;
+  };
+  connection_drained = λ dest count w apart. apart;
   session_removed = λ session w apart. apart;
-  sub_added = λ sub w free on apart. apart;
-  sub_changed = λ session id owed w apart. apart;
-  sub_removed = λ session id w apart. apart;
-  read_added = λ read w there apart. apart;
-  read_removed = λ read w apart. apart;
-  link_added = λ server name w missing standing apart.
-      apart_pushed w.upstream.links (record { cid = w.upstream.counters.cid; server = server; name = name; state = Creating; rights = 0; subscription = None }) missing apart;
-  link_changed = λ server cid state rights w apart. apart_changed w.upstream.links (is_link server cid) (with_state state rights) (λ name link. refl) apart;
-  subscription_changed = λ server cid sub w apart. apart_changed w.upstream.links (is_link server cid) (with_subscription sub) (λ name link. refl) apart;
-  link_removed = λ server cid w apart. apart_filtered w.upstream.links (is_not_link server cid) apart;
   server_removed = λ server w apart. apart_filtered w.upstream.links (is_not_of server) apart;
 }
 
+pub links_apart_with_links : KeepsLinks HasLinksApart
+links_apart_with_links = λ server name w missing standing apart.
+    apart_pushed w.upstream.links (record { cid = w.upstream.counters.cid; server = server; name = name; state = Creating; rights = 0; subscription = None }) missing apart
+
 pub run_links_apart : (config : Config) (policy : Policy) (events : List Event) → HasLinksApart (run (initial config policy) events)
-run_links_apart config policy events = kept_run HasLinksApart links_apart_kept (initial config policy) events (λ name. omega arith)
+run_links_apart config policy events = kept_run HasLinksApart links_apart_kept links_apart_with_links (initial config policy) events (λ name. omega arith)

@@ -1,10 +1,9 @@
 -- Every link belongs to a server that stands.
-use Rattle.std.proofs.Common.{◌≡◌, ℕ, List, [], ◌∷◌, ◌++◌, Bool, true, false, cond, not, eqb, refl, ap, ◌∙◌}
+use Rattle.std.proofs.Common.{◌≡◌, ℕ, List, [], ◌∷◌, ◌++◌, Bool, true, not, eqb, refl, ap, ◌∙◌}
 use Rattle.std.specs.Prelude.{filter}
 use Rattle.std.specs.List.{list_all, list_any}
-use Rattle.std.proofs.lemmas.Bool.{and_from, and_parts, eqb-true}
+use Rattle.std.proofs.lemmas.Bool.{eqb-true}
 use Rattle.std.proofs.lemmas.List.Folds.{list_all-append, list_any-append}
-use Rattle.rows.specs.Rows.{change_first}
 use Rattle.link_table.specs.declared.links.Link.{Link}
 use Rattle.link_table.specs.Links.{is_link, is_not_link, is_not_of, with_state, with_subscription}
 use Rattle.gateway_state.specs.declared.config.Config.{Config}
@@ -13,14 +12,15 @@ use Rattle.gateway_state.specs.declared.connections.Connection.{Connection}
 use Rattle.gateway_state.specs.declared.event.Dest.{Dest}
 use Rattle.gateway_state.specs.declared.event.Dest.TheVariants.{Session, Upstream}
 use Rattle.gateway_state.specs.declared.event.Event.{Event}
-use Rattle.gateway_state.specs.Asked.{stands}
+use Rattle.fanout.specs.Outbox.{without_first}
+use Rattle.fanout.specs.Waiting.{Waiting}
 use Rattle.gateway_state.specs.Connections.{fresh, is_not_to, is_to, same_dest}
 use Rattle.gateway_state.specs.Gateway.{Gateway, initial}
 use Rattle.gateway_state.specs.Settled.{HasLinksOnServers, is_on_server}
 use Rattle.gateway_state.specs.Step.{run}
-use Rattle.gateway_state.proofs.Kept.{IsKept}
+use Rattle.gateway_state.proofs.Kept.{IsKept, KeepsLinks, messages_kept, with_outbox}
 use Rattle.gateway_state.proofs.KeptByRuns.{kept_run}
-use Rattle.gateway_state.proofs.RowTests.{all_changed, all_filtered, all_weaker, any_changed, any_filtered}
+use Rattle.gateway_state.proofs.RowTests.{all_changed, all_filtered, all_left, all_weaker, any_changed, any_filtered}
 
 -- the connection of a server is none of a client
 not_a_client : (number server : ℕ) (dest : Dest) → same_dest dest (Upstream server) ≡ true → not (same_dest dest (Session number)) ≡ true
@@ -49,48 +49,51 @@ module _ (rows : List Connection) (number : ℕ) where
   stands_still link = list_any (is_to (Upstream link.server)) (filter (is_not_to (Upstream number)) rows)
 
   others_left : (links : List Link) → list_all stood links ≡ true → list_all stands_still (filter (is_not_of number) links) ≡ true
-  others_left [] on = refl
-  others_left (link ∷ links) on =
-      let parts = and_parts (stood link) (list_all stood links) on in
-      by (is_not_of number link) refl parts.0 (others_left links parts.1)
-    where
-      by : (other : Bool) → is_not_of number link ≡ other → stood link ≡ true → list_all stands_still (filter (is_not_of number) links) ≡ true
-          → list_all stands_still (cond other (link ∷ filter (is_not_of number) links) (filter (is_not_of number) links)) ≡ true
-      by true e there rest =
-          and_from (stands_still link) (list_all stands_still (filter (is_not_of number) links))
-          (any_filtered (is_to (Upstream link.server)) (is_not_to (Upstream number)) rows (λ row same. another_server number link.server row.dest e same) there) rest
-      by false e there rest = rest
+  others_left links on =
+      all_left stood stands_still (is_not_of number) links
+      (λ link other there. any_filtered (is_to (Upstream link.server)) (is_not_to (Upstream number)) rows (λ row same. another_server number link.server row.dest other same) there) on
+
+-- no change of an outbox takes a connection away
+outboxes_changed : (dest : Dest) (change : Waiting → Waiting) (w : Gateway) → HasLinksOnServers w → HasLinksOnServers (with_outbox dest change w)
+outboxes_changed dest change w on =
+    let changed : Connection → Connection = λ row. record row { outbox = change row.outbox } in
+    all_weaker (is_on_server w) (is_on_server (with_outbox dest change w)) w.upstream.links
+    (λ link there. any_changed (is_to (Upstream link.server)) (is_to dest) changed w.connections (λ row. refl) ∙ there) on
 
 links_on_servers_kept : IsKept HasLinksOnServers
 links_on_servers_kept = record {
-  connection_added = λ dest w on.
-      all_weaker (is_on_server w) (λ (link : Link). list_any (is_to (Upstream link.server)) (w.connections ++ fresh dest ∷ [])) w.upstream.links
-      (λ link there. list_any-append (is_to (Upstream link.server)) w.connections (fresh dest ∷ []) ∙ rw there refl) on;
-  connection_changed = λ dest change w on.
-      all_weaker (is_on_server w)
-      (λ (link : Link). list_any (is_to (Upstream link.server)) (change_first (is_to dest) (λ (row : Connection). record row { outbox = change row.outbox }) w.connections)) w.upstream.links
-      (λ link there. any_changed (is_to (Upstream link.server)) (is_to dest) (λ (row : Connection). record row { outbox = change row.outbox }) w.connections (λ row. refl) ∙ there) on;
-  sessions = λ rows w on. on;
-  servers = λ rows w on. on;
-  cache = λ rows w on. on;
-  searches = λ rows w on. on;
-  policy = λ policy w on. on;
-  next_subscription = λ next w on. on;
-  channel_added = λ session cid name real rights w on. on;
-  channel_changed = λ session sid reach rights w on. on;
-  channel_removed = λ session sid w on. on;
+  rows = record {
+    messages = messages_kept HasLinksOnServers outboxes_changed;
+    connection_added = λ dest w on.
+        all_weaker (is_on_server w) (λ (link : Link). list_any (is_to (Upstream link.server)) (w.connections ++ fresh dest ∷ [])) w.upstream.links
+        (λ link there. list_any-append (is_to (Upstream link.server)) w.connections (fresh dest ∷ []) ∙ rw there refl) on;
+    sessions = λ rows w on. on;
+    servers = λ rows w on. on;
+    cache = λ rows w on. on;
+    searches = λ rows w on. on;
+    policy = λ policy w on. on;
+    next_subscription = λ next w on. on;
+    channel_added = λ session cid name real rights w on. on;
+    channel_changed = λ session sid reach rights w on. on;
+    channel_removed = λ session sid w on. on;
+    sub_added = λ sub w free there on. on;
+    sub_changed = λ session id owed w on. on;
+    sub_removed = λ session id w on. on;
+    read_added = λ read w there on. on;
+    read_removed = λ read w on. on;
+    write_added = λ write w there on. on;
+    write_removed = λ server id w on. on;
+    link_changed = λ server cid state rights w on. all_changed (is_on_server w) (is_link server cid) (with_state state rights) w.upstream.links (λ link. refl) ∙ on;
+    subscription_changed = λ server cid sub w on. all_changed (is_on_server w) (is_link server cid) (with_subscription sub) w.upstream.links (λ link. refl) ∙ on;
+    link_removed = λ server cid w on. all_filtered (is_on_server w) (is_not_link server cid) w.upstream.links on;
+  };
+  connection_drained = λ dest count w on. outboxes_changed dest (without_first count) w on;
   session_removed = λ session w on. links_left w.connections session w.upstream.links on;
-  sub_added = λ sub w free there on. on;
-  sub_changed = λ session id owed w on. on;
-  sub_removed = λ session id w on. on;
-  read_added = λ read w there on. on;
-  read_removed = λ read w on. on;
-  link_added = λ server name w missing standing on. list_all-append (is_on_server w) w.upstream.links _ ∙ rw (on, standing) refl;
-  link_changed = λ server cid state rights w on. all_changed (is_on_server w) (is_link server cid) (with_state state rights) w.upstream.links (λ link. refl) ∙ on;
-  subscription_changed = λ server cid sub w on. all_changed (is_on_server w) (is_link server cid) (with_subscription sub) w.upstream.links (λ link. refl) ∙ on;
-  link_removed = λ server cid w on. all_filtered (is_on_server w) (is_not_link server cid) w.upstream.links on;
   server_removed = λ server w on. others_left w.connections server w.upstream.links on;
 }
 
+pub links_on_servers_with_links : KeepsLinks HasLinksOnServers
+links_on_servers_with_links = λ server name w missing standing on. list_all-append (is_on_server w) w.upstream.links _ ∙ rw (on, standing) refl
+
 pub run_links_on_servers : (config : Config) (policy : Policy) (events : List Event) → HasLinksOnServers (run (initial config policy) events)
-run_links_on_servers config policy events = kept_run HasLinksOnServers links_on_servers_kept (initial config policy) events refl
+run_links_on_servers config policy events = kept_run HasLinksOnServers links_on_servers_kept links_on_servers_with_links (initial config policy) events refl

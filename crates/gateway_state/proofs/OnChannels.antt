@@ -1,13 +1,13 @@
 -- Rows that name a channel, and whether it stands.
-use Rattle.std.proofs.Common.{◌≡◌, ℕ, List, [], ◌∷◌, ◌++◌, Bool, true, false, cond, eqb, ◌&&◌, refl, ap, ◌∙◌}
+use Rattle.std.proofs.Common.{◌≡◌, ℕ, List, [], ◌∷◌, ◌++◌, Bool, true, eqb, ◌&&◌, refl, ap, ◌∙◌}
 use Rattle.std.specs.Prelude.{filter}
 use Rattle.std.specs.List.{list_all, list_any}
-use Rattle.std.proofs.lemmas.Bool.{and_from, and_parts, eqb-true}
+use Rattle.std.proofs.lemmas.Bool.{and_parts, eqb-true}
 use Rattle.std.proofs.lemmas.List.Folds.{list_any-append}
 use Rattle.rows.specs.Rows.{change_first}
 use Rattle.channel_table.specs.declared.channels.Channel.{Channel}
 use Rattle.channel_table.specs.Channels.{is_channel, is_channel_of, with_reach_and_rights}
-use Rattle.gateway_state.proofs.RowTests.{all_weaker, any_changed, any_filtered}
+use Rattle.gateway_state.proofs.RowTests.{all_left, all_weaker, any_changed, any_filtered}
 
 -- by the session and the SID that a row names
 module _ {A : Type 0} (session_in sid_in : A → ℕ) where
@@ -18,17 +18,9 @@ module _ {A : Type 0} (session_in sid_in : A → ℕ) where
   pub on_left : (channels : List Channel) (stays : Channel → Bool) (kept : A → Bool) (rows : List A)
       → ((row : A) (c : Channel) → kept row ≡ true → is_channel (session_in row) (sid_in row) c ≡ true → stays c ≡ true)
       → list_all (stands channels) rows ≡ true → list_all (stands (filter stays channels)) (filter kept rows) ≡ true
-  on_left channels stays kept [] both all = refl
-  on_left channels stays kept (row ∷ rows) both all =
-      let parts = and_parts (stands channels row) (list_all (stands channels) rows) all in
-      by (kept row) refl parts.0 (on_left channels stays kept rows both parts.1)
-    where
-      by : (is : Bool) → kept row ≡ is → stands channels row ≡ true → list_all (stands (filter stays channels)) (filter kept rows) ≡ true
-          → list_all (stands (filter stays channels)) (cond is (row ∷ filter kept rows) (filter kept rows)) ≡ true
-      by true e there rest =
-          and_from (stands (filter stays channels) row) (list_all (stands (filter stays channels)) (filter kept rows))
-          (any_filtered (is_channel (session_in row) (sid_in row)) stays channels (λ c is. both row c e is) there) rest
-      by false e there rest = rest
+  on_left channels stays kept rows both all =
+      all_left (stands channels) (stands (filter stays channels)) kept rows
+      (λ row is there. any_filtered (is_channel (session_in row) (sid_in row)) stays channels (λ c same. both row c is same) there) all
 
   -- a channel has the session and the SID that a row on it names
   pub same_channel : (row : A) (c : Channel) (session sid : ℕ) → is_channel (session_in row) (sid_in row) c ≡ true

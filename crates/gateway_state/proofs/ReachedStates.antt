@@ -1,8 +1,7 @@
 -- What holds of every state that a gateway can come to.
-use Rattle.std.proofs.Common.{◌≡◌, ℕ, List, [], ◌∷◌, ◌++◌, Bool, true, false, cond, Option, Some, None, refl, sym, ap, subst, ◌∙◌}
-use Rattle.std.specs.List.{All, find}
+use Rattle.std.proofs.Common.{◌≡◌, ℕ, List, [], ◌∷◌, ◌++◌, Option, Some, None, refl, sym, ap, subst, ◌∙◌}
+use Rattle.std.specs.List.{All}
 use Rattle.std.specs.Option.{option_map}
-use Rattle.std.proofs.lemmas.List.Elements.{All-head, All-tail}
 use Rattle.channel_table.specs.declared.channels.Channel.{Channel}
 use Rattle.channel_table.specs.Channels.{is_channel}
 use Rattle.gateway_state.specs.declared.config.Config.{Config}
@@ -13,6 +12,7 @@ use Rattle.gateway_state.specs.Reached.{IsReached, rights_told}
 use Rattle.gateway_state.specs.Rights.{channel_of, rights_asked, rights_in}
 use Rattle.gateway_state.specs.Settled.{IsUpToDate}
 use Rattle.gateway_state.specs.Step.{run, step}
+use Rattle.gateway_state.proofs.RowTests.{found_passes}
 use Rattle.gateway_state.proofs.SettledRuns.{run_up_to_date}
 
 pub reached_initial : (config : Config) (policy : Policy) → IsReached (initial config policy)
@@ -42,14 +42,6 @@ reached_at_first config policy v x first is = reached_along v x (subst IsReached
 
 pub reached_after : (w : Gateway) (event : Event) (v x : Gateway) → IsReached w → v ≡ step w event → Some v ≡ Some x → IsReached x
 reached_after w event v x reached after is = reached_along v x (subst IsReached (sym after) (reached_step w event reached)) is
-
-found_passes : {A : Type 0} (P : A → Type 0) (test : A → Bool) (rows : List A) (row : A) → All P rows → find test rows ≡ Some row → P row
-found_passes P test [] row all is = absurd cc
-found_passes {A = A} P test (first ∷ rows) row all is = by (test first) is (λ later. found_passes P test rows row (All-tail P first rows all) later)
-  where
-    by : (passes : Bool) → cond passes (Some first) (find test rows) ≡ Some row → (find test rows ≡ Some row → P row) → P row
-    by true e rest = let same : first ≡ row = cc in subst P same (All-head P first rows all)
-    by false e rest = rest e
 
 -- in such a state the rights that a client was last told are those that it has
 pub told_rights_hold : (w : Gateway) (session sid : ℕ) → IsReached w → rights_told w session sid ≡ rights_asked w session sid

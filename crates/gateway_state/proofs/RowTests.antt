@@ -1,8 +1,9 @@
 -- Tests over rows.
-use Rattle.std.proofs.Common.{◌≡◌, List, [], ◌∷◌, Bool, true, false, cond, ◌||◌, ◌&&◌, refl, sym, ap, ◌∙◌}
+use Rattle.std.proofs.Common.{◌≡◌, List, [], ◌∷◌, Bool, true, false, cond, ◌||◌, ◌&&◌, Some, refl, sym, ap, subst, ◌∙◌}
 use Rattle.std.specs.Prelude.{filter}
-use Rattle.std.specs.List.{list_all, list_any}
+use Rattle.std.specs.List.{All, find, list_all, list_any}
 use Rattle.std.proofs.lemmas.Bool.{and_from, and_parts, true≢false}
+use Rattle.std.proofs.lemmas.List.Elements.{All-head, All-tail}
 use Rattle.rows.specs.Rows.{change_first, remove_first}
 
 pub all_weaker : {A : Type 0} (test other : A → Bool) (rows : List A) → ((row : A) → test row ≡ true → other row ≡ true) → list_all test rows ≡ true → list_all other rows ≡ true
@@ -10,6 +11,27 @@ all_weaker test other [] weaker all = refl
 all_weaker test other (row ∷ rows) weaker all =
     let parts = and_parts (test row) (list_all test rows) all in
     and_from (other row) (list_all other rows) (weaker row parts.0) (all_weaker test other rows weaker parts.1)
+
+-- what each row that stays passes once it passed a test before
+pub all_left : {A : Type 0} (test other kept : A → Bool) (rows : List A) → ((row : A) → kept row ≡ true → test row ≡ true → other row ≡ true)
+    → list_all test rows ≡ true → list_all other (filter kept rows) ≡ true
+all_left test other kept [] both all = refl
+all_left test other kept (row ∷ rows) both all =
+    let parts = and_parts (test row) (list_all test rows) all in
+    by (kept row) refl parts.0 (all_left test other kept rows both parts.1)
+  where
+    by : (is : Bool) → kept row ≡ is → test row ≡ true → list_all other (filter kept rows) ≡ true → list_all other (cond is (row ∷ filter kept rows) (filter kept rows)) ≡ true
+    by true e passed rest = and_from (other row) (list_all other (filter kept rows)) (both row e passed) rest
+    by false e passed rest = rest
+
+-- what every row has, the one that is found has
+pub found_passes : {A : Type 0} (P : A → Type 0) (test : A → Bool) (rows : List A) (row : A) → All P rows → find test rows ≡ Some row → P row
+found_passes P test [] row all is = absurd cc
+found_passes {A = A} P test (first ∷ rows) row all is = by (test first) is (λ later. found_passes P test rows row (All-tail P first rows all) later)
+  where
+    by : (passes : Bool) → cond passes (Some first) (find test rows) ≡ Some row → (find test rows ≡ Some row → P row) → P row
+    by true e rest = let same : first ≡ row = cc in subst P same (All-head P first rows all)
+    by false e rest = rest e
 
 pub all_removed : {A : Type 0} (test other : A → Bool) (rows : List A) → list_all test rows ≡ true → list_all test (remove_first other rows) ≡ true
 all_removed test other [] all = all

@@ -8,6 +8,7 @@ use Rattle.channel_table.specs.declared.channels.Channel.{Channel}
 use Rattle.channel_table.specs.declared.reads.WaitingRead.{WaitingRead}
 use Rattle.channel_table.specs.declared.subs.ClientSub.{ClientSub}
 use Rattle.channel_table.specs.Channels.{is_channel, is_not_channel, with_reach_and_rights}
+use Rattle.link_table.specs.declared.writes.WaitingWrite.{WaitingWrite}
 use Rattle.gateway_state.specs.declared.connections.Connection.{Connection}
 use Rattle.gateway_state.specs.declared.notice.ChannelNotice.{ChannelNotice}
 use Rattle.gateway_state.specs.declared.notice.ChannelNotice.TheVariants.{Disconnected, RightsChanged}
@@ -24,14 +25,14 @@ left_by rows (Disconnected session sid cid) = filter (is_not_channel session sid
 left_by rows (RightsChanged session sid cid reach rights) = change_first (is_channel session sid) (with_reach_and_rights reach rights) rows
 
 -- a state with other channels, and what goes with them
-abbrev with_channels : Gateway → List Connection → List Channel → List ClientSub → List WaitingRead → Gateway
-with_channels w connections channels subs reads =
-    record w { connections = connections; clients = record w.clients { channels = channels; subs = subs; reads = reads } }
+abbrev with_channels : Gateway → List Connection → List Channel → List ClientSub → List WaitingRead → List WaitingWrite → Gateway
+with_channels w connections channels subs reads writes =
+    record w { connections = connections; clients = record w.clients { channels = channels; subs = subs; reads = reads }; upstream = record w.upstream { writes = writes } }
 
 -- notices on channels change nothing else
 channels_changed : (notices : List ChannelNotice) (w : Gateway)
     → fold channel_told w notices
-    ≡ with_channels w (fold channel_told w notices).connections (fold left_by w.clients.channels notices) (fold channel_told w notices).clients.subs (fold channel_told w notices).clients.reads
+    ≡ with_channels w (fold channel_told w notices).connections (fold left_by w.clients.channels notices) (fold channel_told w notices).clients.subs (fold channel_told w notices).clients.reads (fold channel_told w notices).upstream.writes
 unfolding sent
 channels_changed [] w = refl
 channels_changed (Disconnected session sid cid ∷ notices) w = channels_changed notices (channel_told w (Disconnected session sid cid))

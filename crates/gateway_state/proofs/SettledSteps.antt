@@ -162,14 +162,14 @@ module _ (w : Gateway) (order : AreInOrder w) (apart : HasSubsApart w) where
   fourth = reads_told third
 
   first_apart : HasSubsApart first
-  first_apart = kept_channels_told HasSubsApart subs_apart_kept w apart
+  first_apart = kept_channels_told HasSubsApart subs_apart_kept.rows w apart
 
   fourth_apart : HasSubsApart fourth
   fourth_apart =
-      kept_reads_told HasSubsApart subs_apart_kept third (kept_links_told HasSubsApart subs_apart_kept second (kept_updates_withheld HasSubsApart subs_apart_kept first first_apart))
+      kept_reads_told HasSubsApart subs_apart_kept.rows third (kept_links_told HasSubsApart subs_apart_kept.rows second (kept_updates_withheld HasSubsApart subs_apart_kept.rows first first_apart))
 
   passed : IsPassed second third
-  passed = links_passed second (kept_updates_withheld AreInOrder in_order_kept first (kept_channels_told AreInOrder in_order_kept w order)).links
+  passed = links_passed second (kept_updates_withheld AreInOrder in_order_kept.rows first (kept_channels_told AreInOrder in_order_kept.rows w order)).links
 
   -- before updates are given
   held_back : withheld fourth ≡ []

@@ -13,7 +13,7 @@ use Rattle.gateway_state.specs.declared.event.Event.{Event}
 use Rattle.gateway_state.specs.Gateway.{initial}
 use Rattle.gateway_state.specs.Settled.{AreApart, HasSubsApart}
 use Rattle.gateway_state.specs.Step.{run}
-use Rattle.gateway_state.proofs.Kept.{IsKept}
+use Rattle.gateway_state.proofs.Kept.{IsKept, KeepsLinks, messages_kept}
 use Rattle.gateway_state.proofs.KeptByRuns.{kept_run}
 use Rattle.gateway_state.proofs.RowTests.{any_changed}
 
@@ -72,29 +72,36 @@ apart_pushed (row ∷ rows) new free apart = by (is_sub new.session new.id row) 
 
 pub subs_apart_kept : IsKept HasSubsApart
 subs_apart_kept = record {
-  connection_added = λ dest w apart. apart;
-  connection_changed = λ dest change w apart. apart;
-  sessions = λ rows w apart. apart;
-  servers = λ rows w apart. apart;
-  cache = λ rows w apart. apart;
-  searches = λ rows w apart. apart;
-  policy = λ policy w apart. apart;
-  next_subscription = λ next w apart. apart;
-  channel_added = λ session cid name real rights w apart. apart;
-  channel_changed = λ session sid reach rights w apart. apart;
-  channel_removed = λ session sid w apart. apart_filtered (is_not_sub_on session sid) w.clients.subs apart;
+  rows = record {
+    messages = messages_kept HasSubsApart (λ dest change w apart. apart);
+    connection_added = λ dest w apart. apart;
+    sessions = λ rows w apart. apart;
+    servers = λ rows w apart. apart;
+    cache = λ rows w apart. apart;
+    searches = λ rows w apart. apart;
+    policy = λ policy w apart. apart;
+    next_subscription = λ next w apart. apart;
+    channel_added = λ session cid name real rights w apart. apart;
+    channel_changed = λ session sid reach rights w apart. apart;
+    channel_removed = λ session sid w apart. apart_filtered (is_not_sub_on session sid) w.clients.subs apart;
+    sub_added = λ sub w free on apart. apart_pushed w.clients.subs sub free apart;
+    sub_changed = λ session id owed w apart. apart_owed session id owed w.clients.subs apart;
+    sub_removed = λ session id w apart. apart_filtered (is_not_sub session id) w.clients.subs apart;
+    read_added = λ read w there apart. apart;
+    read_removed = λ read w apart. apart;
+    write_added = λ write w on apart. apart;
+    write_removed = λ server id w apart. apart;
+    link_changed = λ server cid state rights w apart. apart;
+    subscription_changed = λ server cid sub w apart. apart;
+    link_removed = λ server cid w apart. apart;
+  };
+  connection_drained = λ dest count w apart. apart;
   session_removed = λ session w apart. apart_filtered (is_not_sub_of session) w.clients.subs apart;
-  sub_added = λ sub w free on apart. apart_pushed w.clients.subs sub free apart;
-  sub_changed = λ session id owed w apart. apart_owed session id owed w.clients.subs apart;
-  sub_removed = λ session id w apart. apart_filtered (is_not_sub session id) w.clients.subs apart;
-  read_added = λ read w there apart. apart;
-  read_removed = λ read w apart. apart;
-  link_added = λ server name w missing standing apart. apart;
-  link_changed = λ server cid state rights w apart. apart;
-  subscription_changed = λ server cid sub w apart. apart;
-  link_removed = λ server cid w apart. apart;
   server_removed = λ server w apart. apart;
 }
 
+pub subs_apart_with_links : KeepsLinks HasSubsApart
+subs_apart_with_links = λ server name w missing standing apart. apart
+
 pub run_subs_apart : (config : Config) (policy : Policy) (events : List Event) → HasSubsApart (run (initial config policy) events)
-run_subs_apart config policy events = kept_run HasSubsApart subs_apart_kept (initial config policy) events (record {})
+run_subs_apart config policy events = kept_run HasSubsApart subs_apart_kept subs_apart_with_links (initial config policy) events (record {})

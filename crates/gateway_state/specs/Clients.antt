@@ -15,6 +15,7 @@ use Rattle.channel_table.specs.Reads.{is_not_read_on}
 use Rattle.channel_table.specs.Sessions.{is_numbered}
 use Rattle.channel_table.specs.Subs.{is_not_sub_on}
 use Rattle.link_table.specs.declared.links.Link.{Link}
+use Rattle.link_table.specs.Writes.{is_not_write_on}
 use Rattle.pv_alias.specs.declared.lead.Lead.{Lead}
 use Rattle.pv_alias.specs.Rights.{group_rights}
 use Rattle.gateway_state.specs.declared.event.Dest.TheVariants as dests
@@ -121,6 +122,7 @@ channel_asked number cid name w = created_as number cid name (lead_in w number n
 
 -- CLEAR_CHANNEL
 
+-- without a channel and what is on it: its subscriptions, waiting reads and waiting writes
 abbrev pub without_channel : ℕ → ℕ → Gateway → Gateway
 without_channel number sid w = record w {
   clients = record w.clients {
@@ -128,6 +130,7 @@ without_channel number sid w = record w {
     subs = filter (is_not_sub_on number sid) w.clients.subs;
     reads = filter (is_not_read_on number sid) w.clients.reads;
   };
+  upstream = record w.upstream { writes = filter (is_not_write_on number sid) w.upstream.writes };
 }
 
 abbrev pub cleared : ℕ → ℕ → ℕ → Header → Option Channel → Gateway → Gateway

@@ -3,6 +3,7 @@ pub mod Asked
 pub mod CachedRows
 pub mod Clients
 pub mod Connections
+pub mod Delivered
 pub mod Direct
 pub mod Gateway
 pub mod Interest
@@ -21,3 +22,4 @@ pub mod Subscribing
 pub mod Telling
 pub mod Updates
 pub mod Variables
+pub mod Writing

@@ -12,6 +12,7 @@ use Rattle.gateway_state.specs.Clients.{channel_asked, channel_cleared, creation
 use Rattle.gateway_state.specs.Gateway.{Gateway}
 use Rattle.gateway_state.specs.Subscribing.{new_sub, paused_to, short_subscription, subscription_asked, subscription_cancelled}
 use Rattle.gateway_state.specs.Telling.{told}
+use Rattle.gateway_state.specs.Writing.{write_asked, write_notify_asked}
 
 -- a message that is no request: a CREATE_CHAN without a name fails, texts that can't be read are
 -- ignored, a short EVENT_ADD is refused over its channel, and anything else isn't understood
@@ -22,21 +23,23 @@ unreadable w number head =
     else if head.command == CA_PROTO_EVENT_ADD then short_subscription w number head
     else not_understood w number head
 
--- what a request does, by what it means; writes aren't served yet
+-- what a request does, by what it means
 abbrev pub requested : Gateway → ℕ → Message → Result ClientRequest RequestFault → Gateway
 requested w number message (Ok (requests.Version minor)) = versioned w number minor
 requested w number message (Ok (requests.EventAdd sid id dtype count mask)) =
     subscription_asked (new_sub number sid id dtype count mask) message.head w
 requested w number message (Ok (requests.EventCancel sid id dtype count)) =
     subscription_cancelled number sid id dtype count message.head w
-requested w number message (Ok (requests.Write sid dtype count value)) = not_understood w number message.head
+requested w number message (Ok (requests.Write sid dtype count value)) =
+    write_asked number sid dtype count value message.head w
 requested w number message (Ok requests.EventsOff) = paused_to number true w
 requested w number message (Ok requests.EventsOn) = paused_to number false w
 requested w number message (Ok (requests.ClearChannel sid cid)) = channel_cleared number sid cid message.head w
 requested w number message (Ok (requests.ReadNotify sid ioid dtype count)) =
     read_asked number sid ioid dtype count message.head w
 requested w number message (Ok (requests.CreateChannel cid minor name)) = channel_asked number cid name w
-requested w number message (Ok (requests.WriteNotify sid ioid dtype count value)) = not_understood w number message.head
+requested w number message (Ok (requests.WriteNotify sid ioid dtype count value)) =
+    write_notify_asked number sid ioid dtype count value message.head w
 requested w number message (Ok (requests.ClientName name)) = w
 requested w number message (Ok (requests.HostName host)) = host_named number host w
 requested w number message (Ok requests.Echo) = told number (replies.Echo message) w

@@ -1,5 +1,5 @@
 -- What clients may do with their channels.
-use Rattle.std.specs.Prelude.{ℕ, List, [], Bool, false, ◌==◌, ◌&&◌, bit_and, Option, Some, None}
+use Rattle.std.specs.Prelude.{ℕ, List, Bool, false, ◌==◌, ◌&&◌, bit_and, Option, Some, None}
 use Rattle.std.specs.List.{find}
 use Rattle.ca_message.specs.declared.commands.TheConstants.{CA_PROTO_ACCESS_RIGHT_READ}
 use Rattle.channel_table.specs.declared.channels.Channel.{Channel}

@@ -33,6 +33,7 @@ use Rattle.gateway_state.specs.Rights.{channel_of}
 use Rattle.gateway_state.specs.Telling.{told, asked}
 use Rattle.gateway_state.specs.Updates.{alarm_differs_in, concerned, held_by, owed_to_all}
 use Rattle.gateway_state.specs.Variables.{is_channel_on, is_missing, is_creating, without_cached}
+use Rattle.gateway_state.specs.Writing.{write_ended}
 
 -- FOUND
 
@@ -195,7 +196,7 @@ abbrev pub replied : Gateway → ℕ → Result ServerReply ReplyFault → Gatew
 replied w server (Ok (says.Version minor)) = server_versioned w server minor
 replied w server (Ok (says.EventAdd id status dtype count value)) = updated w server id status dtype count value
 replied w server (Ok (says.CreateChannel cid sid dtype count)) = channel_made w server cid sid dtype count
-replied w server (Ok (says.WriteNotify ioid status)) = w
+replied w server (Ok (says.WriteNotify ioid status)) = write_ended w server ioid status
 replied w server (Ok (says.AccessRights cid rights)) = rights_said w server cid rights
 replied w server (Ok (says.CreateChannelFail cid)) = creation_refused w server cid
 replied w server (Ok (says.ServerDisconnect cid)) = channel_dropped w server cid

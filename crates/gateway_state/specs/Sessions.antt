@@ -10,7 +10,7 @@ use Rattle.channel_table.specs.Subs.{is_not_sub_of}
 use Rattle.link_table.specs.declared.table.TheConstants.{SERVER_LIMIT}
 use Rattle.link_table.specs.Links.{is_not_of}
 use Rattle.link_table.specs.Servers.{is_not_server}
-use Rattle.link_table.specs.Writes.{is_not_write_to}
+use Rattle.link_table.specs.Writes.{is_not_write_of, is_not_write_to}
 use Rattle.gateway_state.specs.declared.event.Dest.TheVariants.{Session, Upstream}
 use Rattle.gateway_state.specs.Asked.{stands}
 use Rattle.gateway_state.specs.CachedRows.{is_cached_by_another}
@@ -43,6 +43,7 @@ lost w number = record w {
     subs = filter (is_not_sub_of number) w.clients.subs;
     reads = filter (is_not_read_of number) w.clients.reads;
   };
+  upstream = record w.upstream { writes = filter (is_not_write_of number) w.upstream.writes };
 }
 
 -- with the rows of a new server, whose minor version isn't known yet

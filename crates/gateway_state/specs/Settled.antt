@@ -1,5 +1,5 @@
 -- What every state that a run reaches has: nobody is owed anything.
-use Rattle.std.specs.Prelude.{◌≡◌, ℕ, ◌+◌, ◌≤◌, List, [], ◌∷◌, length, filter, Bool, true, false, Option, Some, None, option_map}
+use Rattle.std.specs.Prelude.{◌≡◌, ℕ, ◌+◌, ◌≤◌, List, [], ◌∷◌, length, filter, Bool, true, false, ◌==◌, Option, Some, None, option_map}
 use Rattle.std.specs.List.{list_all, list_any}
 use Rattle.channel_table.specs.declared.channels.Channel.{Channel}
 use Rattle.channel_table.specs.declared.reads.WaitingRead.{WaitingRead}
@@ -10,6 +10,7 @@ use Rattle.link_table.specs.declared.links.Link.{Link}
 use Rattle.link_table.specs.declared.links.LinkState.{LinkState}
 use Rattle.link_table.specs.declared.links.LinkState.TheVariants.{Creating, Connected, Unusable}
 use Rattle.link_table.specs.declared.links.Subscription.{Subscription}
+use Rattle.link_table.specs.declared.writes.WaitingWrite.{WaitingWrite}
 use Rattle.link_table.specs.Links.{is_named}
 use Rattle.mask_merge.specs.declared.want.Want.{Want}
 use Rattle.gateway_state.specs.declared.event.Dest.TheVariants.{Upstream}
@@ -82,6 +83,22 @@ is_sub_on_channel w sub = has_channel sub.session sub.sid w.clients
 
 abbrev pub HasSubsOnChannels : Gateway → Type 0
 HasSubsOnChannels w = list_all (is_sub_on_channel w) w.clients.subs ≡ true
+
+-- the link of the variable that a channel is on
+abbrev pub link_under : Gateway → Option Channel → Option Link
+link_under w None = None
+link_under w (Some c) = link_of w c.real
+
+abbrev pub is_of_server : ℕ → Option Link → Bool
+is_of_server server None = false
+is_of_server server (Some link) = link.server == server
+
+-- the write waits on a channel that stands, for the server of its link
+abbrev pub is_write_on_link : Gateway → WaitingWrite → Bool
+is_write_on_link w write = is_of_server write.server (link_under w (channel_of w write.session write.sid))
+
+abbrev pub HasWritesOnLinks : Gateway → Type 0
+HasWritesOnLinks w = list_all (is_write_on_link w) w.upstream.writes ≡ true
 
 -- a channel is served, and has the rights that its client was last told
 pub record IsUpToDate (w : Gateway) (c : Channel) : Type 0 where

@@ -23,7 +23,9 @@ pub use connections::{Connection, Connections};
 pub use event::{Dest, Event};
 pub use interest::{ALARM_EVENTS, PLAIN_TYPES, READ_EVENTS, Sub, TIME_FORM, VALUE_EVENTS};
 pub use limits::{LOWEST_MINOR, SEARCH_LIMIT, UPDATE_LIMIT, UPDATE_MINOR};
-pub use notice::{ChannelNotice, LinkNotice, ReadNotice, ReadVerdict, SubVerdict, UpdateNotice};
+pub use notice::{
+    ChannelNotice, LinkNotice, ReadNotice, ReadVerdict, SubVerdict, UpdateNotice, WriteVerdict,
+};
 pub use reading::{Given, Native, Reading};
 pub use resolution::{is_real, lead_of, rights_left};
 pub use rule_desk::Policy;

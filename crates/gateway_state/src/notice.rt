@@ -1,5 +1,6 @@
 //! What others are owed after an event.
 use bytes::Bytes;
+use ca_message::WrittenValue;
 use channel_table::WaitingRead;
 use link_table::{LinkState, Subscription};
 use mask_merge::Want;
@@ -28,6 +29,26 @@ pub enum SubVerdict {
     Refused { cid: u32, code: u32 },
     /// The subscription is made.
     Accepted,
+}
+
+/// What becomes of a WRITE or a WRITE_NOTIFY.
+#[derive(Debug, Drop)]
+pub enum WriteVerdict<'a> {
+    /// The session has no such channel.
+    NoChannel,
+    /// The channel has no connected variable, so nothing is said.
+    Ignored,
+    /// It is refused over its channel, which the client calls `cid`, with this code.
+    Refused {
+        cid: u32,
+        code: u32,
+    },
+    /// The value goes to this server, for the channel that it calls `sid`.
+    Accepted {
+        server: u32,
+        sid: u32,
+        value: WrittenValue<'a>,
+    },
 }
 
 /// What a client is owed about one of its channels.

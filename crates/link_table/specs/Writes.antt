@@ -22,6 +22,10 @@ is_not_write server id row = not (is_write server id row)
 abbrev pub is_write_of : ℕ → WaitingWrite → Bool
 is_write_of session row = row.session == session
 
+-- a write of another
+abbrev pub is_not_write_of : ℕ → WaitingWrite → Bool
+is_not_write_of session row = not (is_write_of session row)
+
 -- a write on the session's channel of this ID
 abbrev pub is_write_on : ℕ → ℕ → WaitingWrite → Bool
 is_write_on session sid row = is_write_of session row && row.sid == sid

@@ -7,7 +7,7 @@ ghost use Rattle.link_table.specs.declared.counter.TheConstants.{LAST_NUMBER};
 ghost use Rattle.link_table.specs.LinkRows.{has_server, has_link, write_count};
 ghost use Rattle.link_table.specs.Servers.{is_server, is_not_server, with_minor};
 ghost use Rattle.link_table.specs.Links.{is_link, is_not_link, is_not_of, is_named, has_subscription, with_state, with_subscription};
-ghost use Rattle.link_table.specs.Writes.{is_write, is_not_write, is_not_write_on, is_not_write_to};
+ghost use Rattle.link_table.specs.Writes.{is_write, is_not_write, is_not_write_of, is_not_write_on, is_not_write_to};
 ghost use Rattle.link_table.specs.Counters.{all_at, are_over, counter_of, raised};
 
 use crate::counter::{Counter, NextNumbers};
@@ -269,6 +269,13 @@ impl Links {
         ensures { self.new ≡ record self.old { writes = filter (is_not_write_on session sid) self.old.writes } }
     {
         writes::remove_on(&mut self.writes, session, sid);
+    }
+
+    /// Removes all writes of the session.
+    pub fn remove_writes_of(&mut self, session: u32)
+        ensures { self.new ≡ record self.old { writes = filter (is_not_write_of session) self.old.writes } }
+    {
+        writes::remove_of(&mut self.writes, session);
     }
 
     /// No number past the last one was given out, whatever was done: this call does nothing.

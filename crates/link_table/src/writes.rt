@@ -2,7 +2,7 @@
 ghost use Rattle.std.specs.Prelude.{◌≡◌};
 ghost use Rattle.std.specs.List.{filter, find, count_by};
 ghost use Rattle.std.specs.Option.{option_copied};
-ghost use Rattle.link_table.specs.Writes.{is_write, is_write_of, is_not_write, is_not_write_on, is_not_write_to};
+ghost use Rattle.link_table.specs.Writes.{is_write, is_write_of, is_not_write, is_not_write_of, is_not_write_on, is_not_write_to};
 
 /// A client's write that a server was told of and hasn't acknowledged.
 #[derive(Clone, Copy, Debug, PartialEq, Eq)]
@@ -45,6 +45,12 @@ pub(crate) fn remove_on(rows: &mut Vec<WaitingWrite>, session: u32, sid: u32)
     ensures { rows.new.items ≡ filter (is_not_write_on session sid) rows.old.items }
 {
     rows.retain(|row| !(row.session == session && row.sid == sid));
+}
+
+pub(crate) fn remove_of(rows: &mut Vec<WaitingWrite>, session: u32)
+    ensures { rows.new.items ≡ filter (is_not_write_of session) rows.old.items }
+{
+    rows.retain(|row| row.session != session);
 }
 
 pub(crate) fn remove_to(rows: &mut Vec<WaitingWrite>, server: u32)

@@ -36,3 +36,5 @@ mod subscriptions;
 mod tell;
 #[cfg(test)]
 mod types;
+#[cfg(test)]
+mod writes;

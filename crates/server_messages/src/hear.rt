@@ -4,6 +4,7 @@ ghost use Rattle.gateway_state.specs.Servers.{server_said, server_versioned};
 
 use crate::channels::{hear_disconnect, hear_refusal, hear_rights, make_channel};
 use crate::update::update;
+use crate::write::end_write;
 use ca_header::Message;
 use ca_message::{ServerReply, read_reply};
 use gateway_rows::Rows;
@@ -50,7 +51,8 @@ pub fn hear_server(rows: &mut Rows, server: u32, message: Message) -> Result<(),
             hear_disconnect(rows, server, cid);
             Ok(())
         }
-        Ok(ServerReply::WriteNotify { .. }) | Err(_) => Ok(()),
+        Ok(ServerReply::WriteNotify { ioid, status }) => end_write(rows, server, ioid, status),
+        Err(_) => Ok(()),
     }
 }
 

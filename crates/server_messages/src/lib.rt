@@ -3,7 +3,8 @@
 //! `hear_server` takes the rows of the gateway, the number of a server's connection and a message
 //! that came over it. It leaves the rows that `server_said` makes of the old ones: channels are made,
 //! refused or dropped, rights are kept, and an update under a present subscription becomes the last
-//! message, owed to those whom it concerns. Any other message is ignored. `find_at` makes a link for
+//! message, owed to those whom it concerns; how a write ended is told to the client that waits for it.
+//! Any other message is ignored. `find_at` makes a link for
 //! a variable that is wanted and has none (`found`). What follows for clients isn't told here. A
 //! refusal leaves the rows half done; it says that numbers are used up only where the link would get
 //! a number past the last one.
@@ -13,6 +14,7 @@ mod channels;
 mod found;
 mod hear;
 mod update;
+mod write;
 
 pub use found::find_at;
 pub use hear::hear_server;
