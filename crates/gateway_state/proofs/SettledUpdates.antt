@@ -82,7 +82,7 @@ all_served (notice ∷ notices) w served =
 
 -- ---- room in outboxes
 
-box_taking : (box : Waiting) (out : Out) → takes_updates (appended box out) ≡ true → takes_updates box ≡ true
+pub box_taking : (box : Waiting) (out : Out) → takes_updates (appended box out) ≡ true → takes_updates box ≡ true
 box_taking box out e = by (refuses box) e
   where
     by : (refused : Bool) → takes_updates (cond refused (record box { marked = true }) (record box { messages = box.messages ++ out ∷ [] })) ≡ true → takes_updates box ≡ true
@@ -333,7 +333,7 @@ updates_keep_reads w = ap read_notices (updates_changed w)
 
 -- ---- what servers are owed doesn't depend on what subscriptions are owed
 
-wants_whatever_owed : (w : Gateway) (name : List ℕ) (native : ℕ) (rows : List ClientSub)
+pub wants_whatever_owed : (w : Gateway) (name : List ℕ) (native : ℕ) (rows : List ClientSub)
     → map (sub_want native) (filter (is_subscriber w name) rows) ≡ map (sub_want native) (filter (is_subscriber w name) (map (with_owed true) rows))
 wants_whatever_owed w name native [] = refl
 wants_whatever_owed w name native (row ∷ rows) =
@@ -342,7 +342,7 @@ wants_whatever_owed w name native (row ∷ rows) =
     ≡ map (sub_want native) (cond t (with_owed true row ∷ filter (is_subscriber w name) (map (with_owed true) rows)) (filter (is_subscriber w name) (map (with_owed true) rows))))
     [ true ↦ ap (λ (wants : List Want). sub_want native row ∷ wants) rest | false ↦ rest ]
 
-alike_but_owed : (session id : ℕ) (owed : Bool) (rows : List ClientSub) → map (with_owed true) (change_first (is_sub session id) (with_owed owed) rows) ≡ map (with_owed true) rows
+pub alike_but_owed : (session id : ℕ) (owed : Bool) (rows : List ClientSub) → map (with_owed true) (change_first (is_sub session id) (with_owed owed) rows) ≡ map (with_owed true) rows
 alike_but_owed session id owed [] = refl
 alike_but_owed session id owed (row ∷ rows) =
     elim (is_sub session id row) as (λ t. map (with_owed true) (cond t (with_owed owed row ∷ rows) (row ∷ change_first (is_sub session id) (with_owed owed) rows)) ≡ with_owed true row ∷ map (with_owed true) rows)
