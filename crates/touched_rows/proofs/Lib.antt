@@ -3,6 +3,9 @@ pub mod Connections
 pub mod Drained
 pub mod LessGiven
 pub mod Nothing
+pub mod Numbered
+pub mod Owing
 pub mod Passes
+pub mod Shapes
 pub mod Tellings
 pub mod TouchedAlone
