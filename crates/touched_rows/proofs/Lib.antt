@@ -9,3 +9,4 @@ pub mod Passes
 pub mod Shapes
 pub mod Tellings
 pub mod TouchedAlone
+pub mod Updated
