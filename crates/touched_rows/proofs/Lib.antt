@@ -4,6 +4,7 @@ pub mod Drained
 pub mod LessGiven
 pub mod Nothing
 pub mod Numbered
+pub mod OneLink
 pub mod Owing
 pub mod Passes
 pub mod Shapes
