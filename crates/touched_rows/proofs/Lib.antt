@@ -7,7 +7,10 @@ pub mod Numbered
 pub mod OneLink
 pub mod Owing
 pub mod Passes
+pub mod ReadersOf
 pub mod Shapes
+pub mod Subscribed
 pub mod Tellings
 pub mod TouchedAlone
+pub mod Unsubscribed
 pub mod Updated

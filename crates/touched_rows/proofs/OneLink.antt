@@ -26,7 +26,7 @@ use Rattle.touched_rows.proofs.TouchedAlone.{found_holds, found_passes, touched_
 
 -- ---- at most one row passes
 
-planned_over : {A B : Type 0} → (A → List B) → Option A → List B
+abbrev planned_over : {A B : Type 0} → (A → List B) → Option A → List B
 planned_over notices None = []
 planned_over notices (Some row) = notices row
 
@@ -39,7 +39,6 @@ none_passing test rows none = by (filter test rows) none
 
 plan_of_one : {A B : Type 0} (notices : A → List B) (test : A → Bool) (rows : List A) → length (filter test rows) ≤ 1
     → flat_map notices (filter test rows) ≡ planned_over notices (find test rows)
-unfolding planned_over
 plan_of_one notices test [] one = refl
 plan_of_one {A = A} {B = B} notices test (row ∷ rows) one = by (test row) one (λ rest. plan_of_one notices test rows rest)
   where
@@ -54,7 +53,6 @@ plan_of_one {A = A} {B = B} notices test (row ∷ rows) one = by (test row) one 
 -- ---- the notices on one link
 
 over_is : (x : Gateway) (found : Option Link) → planned_over (link_notices_of x) found ≡ link_notices_over x found
-unfolding planned_over
 over_is x None = refl
 over_is x (Some link) = refl
 
