@@ -7,6 +7,7 @@ pub mod Numbered
 pub mod OneLink
 pub mod Owing
 pub mod Passes
+pub mod ReadAsked
 pub mod ReadersOf
 pub mod Shapes
 pub mod Subscribed
