@@ -9,6 +9,7 @@ pub mod Owing
 pub mod Passes
 pub mod ReadAsked
 pub mod ReadersOf
+pub mod Sessions
 pub mod Shapes
 pub mod Subscribed
 pub mod Tellings
