@@ -74,7 +74,7 @@ is_for-same (Some want) (Some sub) is =
     λ i. Some (record { mask = masks i; count = counts i })
 
 -- where the subscription isn't for what is wanted, something is told
-told_anew : (link : Link) (minor sid dtype native : ℕ) (sub : Option Subscription) (want : Option Want)
+pub told_anew : (link : Link) (minor sid dtype native : ℕ) (sub : Option Subscription) (want : Option Want)
     → cancelled link sid dtype sub ++ subscribed minor link sid dtype native want ≡ [] → ⊥
 told_anew link minor sid dtype native None None none = cc
 told_anew link minor sid dtype native None (Some want) none = cc

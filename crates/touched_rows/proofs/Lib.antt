@@ -2,6 +2,7 @@ pub mod Blanked
 pub mod Connections
 pub mod Drained
 pub mod LessGiven
+pub mod LinksQuiet
 pub mod Nothing
 pub mod Numbered
 pub mod OneLink
@@ -9,6 +10,7 @@ pub mod Owing
 pub mod Passes
 pub mod ReadAsked
 pub mod ReadersOf
+pub mod Searched
 pub mod Sessions
 pub mod Shapes
 pub mod Subscribed
