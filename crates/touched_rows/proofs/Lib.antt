@@ -1,5 +1,6 @@
 pub mod Blanked
 pub mod Connections
+pub mod Created
 pub mod Drained
 pub mod LessGiven
 pub mod LinksQuiet
