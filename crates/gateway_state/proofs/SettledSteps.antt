@@ -37,7 +37,7 @@ use Rattle.gateway_state.proofs.SubsApart.{subs_apart_kept}
 -- ---- the links that are left mean the same to each channel
 
 -- a channel that is found is on its own variable
-found_is_on : (test : Channel → Bool) (rows : List Channel) (c : Channel) → find test rows ≡ Some c → list_any (is_on c.real) rows ≡ true
+pub found_is_on : (test : Channel → Bool) (rows : List Channel) (c : Channel) → find test rows ≡ Some c → list_any (is_on c.real) rows ≡ true
 found_is_on test [] c e = absurd cc
 found_is_on test (row ∷ rows) c e = by (test row) e (λ rest. found_is_on test rows c rest)
   where

@@ -19,3 +19,4 @@ pub mod Tellings
 pub mod TouchedAlone
 pub mod Unsubscribed
 pub mod Updated
+pub mod WantedLinks

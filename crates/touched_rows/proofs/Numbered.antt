@@ -1,6 +1,7 @@
 -- Rows of rising numbers that have the same number are the same.
 use Rattle.std.proofs.Common.{◌≡◌, ℕ, ◌+◌, ◌≤◌, List, [], ◌∷◌, Bool, true, false, cond, Option, Some, None, refl, sym, ap, ◌∙◌, arith}
-use Rattle.std.specs.List.{find}
+use Rattle.std.specs.List.{All, find}
+use Rattle.std.proofs.lemmas.List.Elements.{All-cons, All-nil, All-weaker}
 use Rattle.gateway_state.specs.Settled.{AreRising}
 
 found_above : {A : Type 0} (number : A → ℕ) (low high : ℕ) (test : A → Bool) (rows : List A) (row : A) → AreRising number low rows high → find test rows ≡ Some row → low ≤ number row
@@ -39,3 +40,28 @@ same_number number low high one other (row ∷ rows) a b rising is_a is_b number
         let above = above_a is_a in
         absurd (omega arith)
     by false false is_a is_b rest above_a above_b = rest is_a is_b
+
+all_above : {A : Type 0} (number : A → ℕ) (low high : ℕ) (rows : List A) → AreRising number low rows high → All (λ (row : A). low ≤ number row) rows
+all_above {A = A} number low high [] rising = All-nil (λ (row : A). low ≤ number row)
+all_above {A = A} number low high (row ∷ rows) rising =
+    All-cons (λ (x : A). low ≤ number x) row rows rising.0
+    (All-weaker (λ (x : A). number row + 1 ≤ number x) (λ (x : A). low ≤ number x) (λ x above. omega (arith, rising.0)) rows (all_above number (number row + 1) high rows rising.1))
+
+-- no other row has the number of one that is found
+pub one_of_number : {A : Type 0} (number : A → ℕ) (low high : ℕ) (test : A → Bool) (rows : List A) (a : A) → AreRising number low rows high → find test rows ≡ Some a
+    → All (λ (row : A). number row ≡ number a → row ≡ a) rows
+one_of_number number low high test [] a rising found = absurd cc
+one_of_number {A = A} number low high test (row ∷ rows) a rising found =
+    by (test row) found (λ later. one_of_number number (number row + 1) high test rows a rising.1 later) (λ later. found_above number (number row + 1) high test rows a rising.1 later)
+  where
+    by : (is : Bool) → cond is (Some row) (find test rows) ≡ Some a → (find test rows ≡ Some a → All (λ (x : A). number x ≡ number a → x ≡ a) rows)
+        → (find test rows ≡ Some a → number row + 1 ≤ number a) → All (λ (x : A). number x ≡ number a → x ≡ a) (row ∷ rows)
+    by true is rest above =
+        let same : row ≡ a = cc in
+        let here : number row ≡ number a = ap number same in
+        All-cons (λ (x : A). number x ≡ number a → x ≡ a) row rows (λ _. same)
+        (All-weaker (λ (x : A). number row + 1 ≤ number x) (λ (x : A). number x ≡ number a → x ≡ a) (λ x after alike. absurd (omega arith)) rows
+        (all_above number (number row + 1) high rows rising.1))
+    by false is rest above =
+        let later = above is in
+        All-cons (λ (x : A). number x ≡ number a → x ≡ a) row rows (λ alike. absurd (omega arith)) (rest is)

@@ -1,5 +1,5 @@
 -- Which readers of a variable a change of rows leaves.
-use Rattle.std.proofs.Common.{◌≡◌, ℕ, List, [], ◌∷◌, ◌++◌, Bool, true, false, cond, Option, Some, None, refl, sym, ap, ◌∙◌}
+use Rattle.std.proofs.Common.{◌≡◌, ℕ, List, [], ◌∷◌, ◌++◌, Bool, true, false, cond, not, ◌||◌, Option, Some, None, refl, sym, ap, ◌∙◌}
 use Rattle.std.specs.Prelude.{bytes_eq, filter}
 use Rattle.std.specs.List.{All, find}
 use Rattle.std.proofs.lemmas.Bool.{true≢false}
@@ -56,3 +56,7 @@ none_left passes stays (row ∷ rows) none = by (passes row) (stays row) refl no
     by true kept is none rest = absurd cc
     by false true is none rest = rw is (rest none)
     by false false is none rest = rest none
+
+pub not_not : (t : Bool) → not t ≡ false → t ≡ true
+not_not true e = refl
+not_not false e = absurd (true≢false e)

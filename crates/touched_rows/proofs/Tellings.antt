@@ -111,7 +111,7 @@ found_bare : (name : List ℕ) (test : Link → Bool) (sub : Option Subscription
     → option_map bare (find (is_named name) (change_first test (with_subscription sub) links)) ≡ option_map bare (find (is_named name) links)
 found_bare name test sub links = found_blanked bare (with_subscription sub) (λ link. refl) test (is_named name) (λ link. refl) links
 
-rights_bare : (found : Option Link) → link_rights found ≡ link_rights (option_map bare found)
+pub rights_bare : (found : Option Link) → link_rights found ≡ link_rights (option_map bare found)
 rights_bare None = refl
 rights_bare (Some link) = refl
 

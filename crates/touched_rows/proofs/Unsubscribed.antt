@@ -30,7 +30,7 @@ use Rattle.touched_rows.proofs.Connections.{HasNoMoreRoom, no_more_room_given}
 use Rattle.touched_rows.proofs.LessGiven.{GivesNoMore, gives_no_more}
 use Rattle.touched_rows.proofs.OneLink.{IsBesideOthers, interest_alone, interest_told_clients, less_interest_told}
 use Rattle.touched_rows.proofs.Passes.{each_update_stays, from_links, no_reads}
-use Rattle.touched_rows.proofs.ReadersOf.{none_left, other_name, passing_left}
+use Rattle.touched_rows.proofs.ReadersOf.{none_left, not_not, other_name, passing_left}
 use Rattle.touched_rows.proofs.Tellings.{less_beside, less_connections}
 use Rattle.touched_rows.proofs.TouchedAlone.{none_planned}
 
@@ -85,10 +85,6 @@ module _ (w : Gateway) (settled : IsSettled w) (links_apart : HasLinksApart w) (
       All-weaker (λ (row : ClientSub). is_sub session id row ≡ true → row ≡ sub) (λ (row : ClientSub). is_not_sub session id row ≡ false → is_subscriber w other row ≡ false)
       (λ row one gone. ap (is_subscriber w other) (one (not_not (is_sub session id row) gone)) ∙ elsewhere other differ) w.clients.subs
       (one_of_id session id w.clients.subs sub subs_apart found)
-    where
-      not_not : (t : Bool) → not t ≡ false → t ≡ true
-      not_not true e = refl
-      not_not false e = absurd (true≢false e)
 
   beside : IsBesideOthers w fewer c.real
   beside = record {
