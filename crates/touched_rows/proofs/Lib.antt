@@ -1,4 +1,5 @@
 pub mod Blanked
+pub mod Cleared
 pub mod Connections
 pub mod Created
 pub mod Drained

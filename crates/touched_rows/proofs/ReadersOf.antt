@@ -1,7 +1,7 @@
 -- Which readers of a variable a change of rows leaves.
 use Rattle.std.proofs.Common.{◌≡◌, ℕ, List, [], ◌∷◌, ◌++◌, Bool, true, false, cond, not, ◌||◌, Option, Some, None, refl, sym, ap, ◌∙◌}
 use Rattle.std.specs.Prelude.{bytes_eq, filter}
-use Rattle.std.specs.List.{All, find}
+use Rattle.std.specs.List.{All, find, list_any}
 use Rattle.std.proofs.lemmas.Bool.{true≢false}
 use Rattle.std.proofs.lemmas.List.{append-nil}
 use Rattle.std.proofs.lemmas.List.Elements.{All-head, All-tail, filter-append}
@@ -60,3 +60,39 @@ none_left passes stays (row ∷ rows) none = by (passes row) (stays row) refl no
 pub not_not : (t : Bool) → not t ≡ false → t ≡ true
 not_not true e = refl
 not_not false e = absurd (true≢false e)
+
+-- the rows that are left, by another test that says the same of them
+pub passing_of_left : {A : Type 0} (passes before stays : A → Bool) → ((row : A) → stays row ≡ true → passes row ≡ before row) → ((row : A) → stays row ≡ false → before row ≡ false)
+    → (rows : List A) → filter passes (filter stays rows) ≡ filter before rows
+passing_of_left passes before stays alike fail [] = refl
+passing_of_left {A = A} passes before stays alike fail (row ∷ rows) = by (stays row) (alike row) (fail row) (passing_of_left passes before stays alike fail rows)
+  where
+    by : (is : Bool) → (is ≡ true → passes row ≡ before row) → (is ≡ false → before row ≡ false) → filter passes (filter stays rows) ≡ filter before rows
+        → filter passes (cond is (row ∷ filter stays rows) (filter stays rows)) ≡ cond (before row) (row ∷ filter before rows) (filter before rows)
+    by true same fails rest = let first = same refl in λ i. cond (first i) (row ∷ rest i) (rest i)
+    by false same fails rest = rest ∙ sym (ap (λ (t : Bool). cond t (row ∷ filter before rows) (filter before rows)) (fails refl))
+
+-- none of them passes where none passed
+pub none_of_left : {A : Type 0} (passes before stays : A → Bool) → ((row : A) → stays row ≡ true → passes row ≡ before row) → (rows : List A)
+    → filter before rows ≡ [] → filter passes (filter stays rows) ≡ []
+none_of_left passes before stays alike [] none = refl
+none_of_left {A = A} passes before stays alike (row ∷ rows) none = by (stays row) (before row) (alike row) none (λ rest. none_of_left passes before stays alike rows rest)
+  where
+    by : (is held : Bool) → (is ≡ true → passes row ≡ held) → cond held (row ∷ filter before rows) (filter before rows) ≡ []
+        → (filter before rows ≡ [] → filter passes (filter stays rows) ≡ []) → filter passes (cond is (row ∷ filter stays rows) (filter stays rows)) ≡ []
+    by is true same none rest = absurd cc
+    by true false same none rest = rw (same refl) (rest none)
+    by false false same none rest = rest none
+
+-- whether some row passes
+pub any_left : {A : Type 0} (passes stays : A → Bool) (rows : List A) → All (λ (row : A). stays row ≡ false → passes row ≡ false) rows
+    → list_any passes (filter stays rows) ≡ list_any passes rows
+any_left passes stays [] fail = refl
+any_left {A = A} passes stays (row ∷ rows) fail =
+    by (stays row) (All-head (λ (x : A). stays x ≡ false → passes x ≡ false) row rows fail)
+    (any_left passes stays rows (All-tail (λ (x : A). stays x ≡ false → passes x ≡ false) row rows fail))
+  where
+    by : (is : Bool) → (is ≡ false → passes row ≡ false) → list_any passes (filter stays rows) ≡ list_any passes rows
+        → list_any passes (cond is (row ∷ filter stays rows) (filter stays rows)) ≡ (passes row || list_any passes rows)
+    by true fails rest = ap (λ (t : Bool). passes row || t) rest
+    by false fails rest = rest ∙ sym (ap (λ (t : Bool). t || list_any passes rows) (fails refl))
