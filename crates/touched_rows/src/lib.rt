@@ -1,6 +1,10 @@
 //! What an event touches: where nobody was owed anything before it, what follows from it is told on
 //! one variable, or to one session, or is nothing at all.
 //!
-//! `specs/Touched.antt` has the words for what is told on one variable alone. The lemmas of `proofs/`
-//! say, event by event, that this is all that follows.
+//! `Touched` names what is told. `specs/Touched.antt` has the words for what is told on one variable
+//! alone, `specs/Touches.antt` says what each event touches, and `laws` that this is all that follows.
 #![tactic(auto)]
+
+mod touched;
+
+pub use touched::Touched;
