@@ -17,6 +17,8 @@ pub mod Sessions
 pub mod Shapes
 pub mod Subscribed
 pub mod Tellings
+pub mod Tidy
+pub mod ToldClients
 pub mod TouchedAlone
 pub mod Unsubscribed
 pub mod Updated

@@ -54,7 +54,7 @@ follows (SubscriptionTo name sub) w = one_update_told sub (interest_told name w)
 abbrev pub new_read : ℕ → ℕ → ℕ → ℕ → ℕ → WaitingRead
 new_read number sid ioid dtype count = record { session = number; sid = sid; dtype = dtype; count = count; ioid = ioid }
 
-abbrev read_touches_by : WaitingRead → Option Channel → ReadVerdict → Touched
+abbrev pub read_touches_by : WaitingRead → Option Channel → ReadVerdict → Touched
 read_touches_by read None verdict = Nothing
 read_touches_by read (Some c) reads.NoChannel = Nothing
 read_touches_by read (Some c) reads.Ignored = Nothing
@@ -66,7 +66,7 @@ abbrev pub read_touches : Gateway → WaitingRead → Touched
 read_touches w read =
     read_touches_by read (channel_of w read.session read.sid) (read_verdict w read.session read.sid read.dtype read.count)
 
-abbrev sub_touches_by : ClientSub → Option Channel → SubVerdict → Touched
+abbrev pub sub_touches_by : ClientSub → Option Channel → SubVerdict → Touched
 sub_touches_by sub None verdict = Nothing
 sub_touches_by sub (Some c) subs.NoChannel = Nothing
 sub_touches_by sub (Some c) subs.Ignored = Nothing
@@ -77,7 +77,7 @@ sub_touches_by sub (Some c) subs.Accepted = SubscriptionTo c.real sub
 abbrev pub sub_touches : Gateway → ClientSub → Touched
 sub_touches w sub = sub_touches_by sub (channel_of w sub.session sub.sid) (sub_verdict w sub)
 
-abbrev cancel_touches_by : ℕ → Option ClientSub → Option Channel → Touched
+abbrev pub cancel_touches_by : ℕ → Option ClientSub → Option Channel → Touched
 cancel_touches_by sid sub None = Nothing
 cancel_touches_by sid sub (Some c) = if is_on_sid sid sub then Interest c.real else Nothing
 
@@ -85,7 +85,7 @@ cancel_touches_by sid sub (Some c) = if is_on_sid sid sub then Interest c.real e
 abbrev pub cancel_touches : Gateway → ℕ → ℕ → ℕ → Touched
 cancel_touches w number sid id = cancel_touches_by sid (sub_of w number id) (channel_of w number sid)
 
-abbrev clear_touches_by : Option Channel → Touched
+abbrev pub clear_touches_by : Option Channel → Touched
 clear_touches_by None = Nothing
 clear_touches_by (Some c) = LinkOf c.real
 
@@ -111,14 +111,14 @@ request_touches w number (Err fault) = Nothing
 
 -- SERVERS' MESSAGES
 
-abbrev value_touches : Link → LinkState → Option Subscription → ℕ → ℕ → List ℕ → Touched
+abbrev pub value_touches : Link → LinkState → Option Subscription → ℕ → ℕ → List ℕ → Touched
 value_touches link (Connected sid native native_count) (Some sub) dtype count payload =
     if is_value native sub.count dtype count payload then Value link.name else Nothing
 value_touches link (Connected sid native native_count) None dtype count payload = Nothing
 value_touches link Creating sub dtype count payload = Nothing
 value_touches link Unusable sub dtype count payload = Nothing
 
-abbrev update_touches_over : ℕ → ℕ → ℕ → List ℕ → Option Link → Touched
+abbrev pub update_touches_over : ℕ → ℕ → ℕ → List ℕ → Option Link → Touched
 update_touches_over status dtype count payload None = Nothing
 update_touches_over status dtype count payload (Some link) =
     if status == ECA_NORMAL then value_touches link link.state link.subscription dtype count payload else Nothing
@@ -140,7 +140,7 @@ reply_touches w server (Err fault) = Nothing
 
 -- EVENTS
 
-abbrev drain_touches : Dest → Touched
+abbrev pub drain_touches : Dest → Touched
 drain_touches (dests.Session number) = Session number
 drain_touches (dests.Upstream number) = Nothing
 
