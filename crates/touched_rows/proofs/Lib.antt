@@ -18,7 +18,9 @@ pub mod Shapes
 pub mod Subscribed
 pub mod Tellings
 pub mod Tidy
+pub mod ToldAlone
 pub mod ToldClients
+pub mod ToldServers
 pub mod TouchedAlone
 pub mod Unsubscribed
 pub mod Updated

@@ -5,6 +5,7 @@
 //! alone, `specs/Touches.antt` says what each event touches, and `laws` that this is all that follows.
 #![tactic(auto)]
 
+pub mod laws;
 mod touched;
 
 pub use touched::Touched;
