@@ -342,7 +342,7 @@ wants_whatever_owed w name native (row ∷ rows) =
     ≡ map (sub_want native) (cond t (with_owed true row ∷ filter (is_subscriber w name) (map (with_owed true) rows)) (filter (is_subscriber w name) (map (with_owed true) rows))))
     [ true ↦ ap (λ (wants : List Want). sub_want native row ∷ wants) rest | false ↦ rest ]
 
-pub alike_but_owed : (session id : ℕ) (owed : Bool) (rows : List ClientSub) → map (with_owed true) (change_first (is_sub session id) (with_owed owed) rows) ≡ map (with_owed true) rows
+alike_but_owed : (session id : ℕ) (owed : Bool) (rows : List ClientSub) → map (with_owed true) (change_first (is_sub session id) (with_owed owed) rows) ≡ map (with_owed true) rows
 alike_but_owed session id owed [] = refl
 alike_but_owed session id owed (row ∷ rows) =
     elim (is_sub session id row) as (λ t. map (with_owed true) (cond t (with_owed owed row ∷ rows) (row ∷ change_first (is_sub session id) (with_owed owed) rows)) ≡ with_owed true row ∷ map (with_owed true) rows)

@@ -1,6 +1,6 @@
 -- A channel that is given up: the server of its variable is told what is wanted now, or that the
 -- variable isn't wanted any more.
-use Rattle.std.proofs.Common.{◌≡◌, ℕ, List, [], ◌∷◌, ◌++◌, Bool, true, false, cond, eqb, not, ◌&&◌, ◌||◌, Option, Some, None, refl, sym, ap, ◌∙◌}
+use Rattle.std.proofs.Common.{◌≡◌, ℕ, List, [], ◌++◌, Bool, true, false, eqb, not, ◌&&◌, ◌||◌, Option, Some, None, refl, sym, ap, ◌∙◌}
 use Rattle.std.specs.Prelude.{bytes_eq, filter, filter_map, map}
 use Rattle.std.specs.List.{All, find, list_any}
 use Rattle.std.proofs.lemmas.Bool.{and_from, and_parts, eq-eqb, eqb-true, true≢false}
@@ -20,20 +20,20 @@ use Rattle.gateway_state.specs.declared.event.Dest.{Dest}
 use Rattle.gateway_state.specs.Clients.{without_channel}
 use Rattle.gateway_state.specs.Connections.{given, is_to}
 use Rattle.gateway_state.specs.Gateway.{Gateway}
-use Rattle.gateway_state.specs.Interest.{channel_want, interest_of, is_read_through, is_reader, is_subscriber, sub_want}
+use Rattle.gateway_state.specs.Interest.{channel_want, is_read_through, is_reader, is_subscriber, sub_want}
 use Rattle.gateway_state.specs.Notices.{channel_notice, channel_notices, notice_on, read_notice, read_notices, reads_told}
 use Rattle.gateway_state.specs.Rights.{channel_of, may_read, rights_of}
 use Rattle.gateway_state.specs.Searches.{leads_to}
 use Rattle.gateway_state.specs.Settled.{AreInOrder, HasLinksApart, IsSettled, sid_of}
 use Rattle.gateway_state.specs.Step.{consequences}
 use Rattle.gateway_state.specs.Telling.{sent}
-use Rattle.gateway_state.specs.Updates.{is_open_to, is_unreadable, is_withheld, update_notice, update_notices, update_on, updates_told, withheld}
+use Rattle.gateway_state.specs.Updates.{is_unreadable, is_withheld, update_notice, update_notices, update_on, updates_told, withheld}
 use Rattle.gateway_state.specs.Variables.{is_on, is_wanted}
 use Rattle.gateway_state.proofs.SettledMeaning.{none_told}
 use Rattle.gateway_state.proofs.SettledSteps.{found_is_on, reads_stay, updates_stay}
 use Rattle.touched_rows.specs.Touched.{link_told_on}
 use Rattle.touched_rows.proofs.Connections.{HasNoMoreRoom, no_more_room_given}
-use Rattle.touched_rows.proofs.LessGiven.{is_open, read_on-stays, update_if_open, update_on-stays}
+use Rattle.touched_rows.proofs.LessGiven.{read_on-stays, update_if_open, update_on-stays}
 use Rattle.touched_rows.proofs.Numbered.{one_of_number}
 use Rattle.touched_rows.proofs.OneLink.{IsBesideOthers, link_told_clients, links_alone}
 use Rattle.touched_rows.proofs.Passes.{from_links}
@@ -64,9 +64,9 @@ module _ (w : Gateway) (settled : IsSettled w) (order : AreInOrder w) (links_apa
   one_channel =
       All-weaker (λ (row : Channel). sid_of row ≡ sid_of c → row ≡ c) (λ (row : Channel). is_not_channel session sid row ≡ false → row ≡ c)
       (λ row one gone.
-          let here = and_parts (eqb row.session session) (eqb row.sid sid) (not_not (is_channel session sid row) gone) in
-          let there = and_parts (eqb c.session session) (eqb c.sid sid) (found_passes (is_channel session sid) w.clients.channels c on) in
-          one (eqb-true row.sid sid here.1 ∙ sym (eqb-true c.sid sid there.1)))
+      let here = and_parts (eqb row.session session) (eqb row.sid sid) (not_not (is_channel session sid row) gone) in
+      let there = and_parts (eqb c.session session) (eqb c.sid sid) (found_passes (is_channel session sid) w.clients.channels c on) in
+      one (eqb-true row.sid sid here.1 ∙ sym (eqb-true c.sid sid there.1)))
       w.clients.channels (one_of_number sid_of 0 w.upstream.counters.sid (is_channel session sid) w.clients.channels c order.channels on)
 
   other_channel : (number of : ℕ) → (eqb number session && eqb of sid) ≡ false → (row : Channel) → is_not_channel session sid row ≡ false → is_channel number of row ≡ false

@@ -1,5 +1,5 @@
 -- A channel that is asked for concerns nobody else, whether it is made or not.
-use Rattle.std.proofs.Common.{◌≡◌, ℕ, ◌+◌, List, [], ◌∷◌, ◌++◌, Bool, true, false, cond, eqb, ltb, not, ◌&&◌, ◌||◌, Option, Some, None, refl, sym, ap, ◌∙◌}
+use Rattle.std.proofs.Common.{◌≡◌, ℕ, ◌+◌, List, [], ◌∷◌, ◌++◌, Bool, true, false, cond, ltb, not, ◌&&◌, ◌||◌, Option, Some, None, refl, sym, ap, ◌∙◌}
 use Rattle.std.specs.Prelude.{bit_and, filter, filter_map, map, nat_le}
 use Rattle.std.specs.List.{All, cons_option, find, list_all, list_any}
 use Rattle.std.proofs.lemmas.Bool.{and_parts, eq-eqb, true≢false}
@@ -44,7 +44,7 @@ use Rattle.touched_rows.proofs.Nothing.{settled_sent}
 use Rattle.touched_rows.proofs.ReadersOf.{passing_pushed}
 use Rattle.touched_rows.proofs.Searched.{settled_remembered}
 use Rattle.touched_rows.proofs.Sessions.{lead_after_fixing, settled_host_fixed}
-use Rattle.touched_rows.proofs.TouchedAlone.{none_planned, one_planned}
+use Rattle.touched_rows.proofs.TouchedAlone.{one_planned}
 
 -- ---- rows on channels that stand
 

@@ -1,16 +1,15 @@
 -- Servers are owed nothing where readers want what they wanted, and each variable is wanted still.
-use Rattle.std.proofs.Common.{◌≡◌, ℕ, List, [], ◌∷◌, ◌++◌, Bool, true, false, cond, refl, sym, ap, ◌∙◌}
+use Rattle.std.proofs.Common.{◌≡◌, ℕ, List, [], ◌∷◌, ◌++◌, Bool, true, false, cond, refl, ap, ◌∙◌}
 use Rattle.std.specs.Prelude.{flat_map}
 use Rattle.std.specs.List.{All}
 use Rattle.std.proofs.lemmas.List.Elements.{All-cons, All-head, All-nil, All-tail}
 use Rattle.link_table.specs.declared.links.Link.{Link}
 use Rattle.link_table.specs.declared.links.LinkState.{LinkState}
 use Rattle.link_table.specs.declared.links.LinkState.TheVariants.{Creating, Connected, Unusable}
-use Rattle.gateway_state.specs.declared.notice.LinkNotice.{LinkNotice}
 use Rattle.gateway_state.specs.declared.notice.LinkNotice.TheVariants.{Dropped}
 use Rattle.gateway_state.specs.Gateway.{Gateway}
 use Rattle.gateway_state.specs.Interest.{interest_of, is_for, minor_of}
-use Rattle.gateway_state.specs.Notices.{cancelled, interest_notices, link_notices, link_notices_of, subscribed}
+use Rattle.gateway_state.specs.Notices.{cancelled, interest_notices, link_notices_of, subscribed}
 use Rattle.gateway_state.specs.Settled.{IsInUse, IsSettled}
 use Rattle.gateway_state.specs.Variables.{is_wanted}
 use Rattle.gateway_state.proofs.SettledMeaning.{all_in_use, nothing_told, told_anew}

@@ -1,15 +1,12 @@
 -- Owing an update to some subscriptions changes each of those, and nothing that doesn't look at what is
 -- owed.
-use Rattle.std.proofs.Common.{◌≡◌, ℕ, List, [], ◌∷◌, ◌++◌, Bool, true, false, cond, not, ◌&&◌, Option, refl, sym, ap, ◌∙◌}
-use Rattle.std.specs.Prelude.{filter, flat_map, map}
+use Rattle.std.proofs.Common.{◌≡◌, ℕ, List, [], ◌∷◌, Bool, true, false, cond, refl, sym, ap, ◌∙◌}
+use Rattle.std.specs.Prelude.{filter, map}
 use Rattle.std.specs.List.{fold}
-use Rattle.rows.specs.Rows.{change_first}
 use Rattle.channel_table.specs.declared.subs.ClientSub.{ClientSub}
 use Rattle.channel_table.specs.Subs.{with_owed}
-use Rattle.mask_merge.specs.declared.want.Want.{Want}
-use Rattle.mask_merge.specs.Merged.{merged}
 use Rattle.gateway_state.specs.Gateway.{Gateway}
-use Rattle.gateway_state.specs.Interest.{channel_want, interest_of, is_reader, is_subscriber, sub_want}
+use Rattle.gateway_state.specs.Interest.{is_subscriber, sub_want}
 use Rattle.gateway_state.specs.Settled.{AreApart}
 use Rattle.gateway_state.specs.Updates.{is_withheld}
 use Rattle.gateway_state.proofs.SettledUpdates.{wants_whatever_owed}

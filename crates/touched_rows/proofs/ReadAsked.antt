@@ -1,8 +1,8 @@
 -- A read that is accepted: the server of its variable is told what is wanted now, and then the read is
 -- answered, or waits.
-use Rattle.std.proofs.Common.{◌≡◌, ℕ, List, [], ◌∷◌, ◌++◌, Bool, true, false, cond, eqb, not, ◌&&◌, ◌||◌, Option, Some, None, refl, sym, ap, ◌∙◌}
+use Rattle.std.proofs.Common.{◌≡◌, ℕ, List, [], ◌++◌, Bool, true, false, eqb, not, ◌&&◌, ◌||◌, Option, Some, None, refl, sym, ap, ◌∙◌}
 use Rattle.std.specs.Prelude.{bytes_eq, filter, filter_map, map, option_map}
-use Rattle.std.specs.List.{All, cons_option, find, fold, list_any}
+use Rattle.std.specs.List.{cons_option, find, fold, list_any}
 use Rattle.rows.specs.Rows.{change_first}
 use Rattle.channel_table.specs.ClientRows.{ClientRows}
 use Rattle.channel_table.specs.declared.channels.Channel.{Channel}
@@ -14,7 +14,7 @@ use Rattle.gateway_state.specs.declared.notice.ReadNotice.{ReadNotice}
 use Rattle.gateway_state.specs.declared.notice.ReadNotice.TheVariants.{Answered, Refused}
 use Rattle.gateway_state.specs.Clients.{accepted}
 use Rattle.gateway_state.specs.Gateway.{Gateway}
-use Rattle.gateway_state.specs.Interest.{channel_want, interest_of, is_read_through, is_reader, is_subscriber, sub_want}
+use Rattle.gateway_state.specs.Interest.{channel_want, is_read_through, is_reader, is_subscriber, sub_want}
 use Rattle.gateway_state.specs.Notices.{channel_notice, channel_notices, read_notice, read_notices, read_told, reads_told}
 use Rattle.gateway_state.specs.Rights.{channel_of, is_served, rights_of}
 use Rattle.gateway_state.specs.Searches.{leads_to}

@@ -1,11 +1,8 @@
 -- What is looked for, and what a server's version is, concern nobody else.
-use Rattle.std.proofs.Common.{◌≡◌, ℕ, List, [], ◌∷◌, ◌++◌, Bool, true, false, cond, ◌||◌, Option, Some, None, refl, sym, ap, ◌∙◌}
+use Rattle.std.proofs.Common.{◌≡◌, ℕ, List, [], ◌∷◌, ◌++◌, Bool, true, false, cond, ◌||◌, refl, ◌∙◌}
 use Rattle.std.specs.Prelude.{length, nat_le, is_some}
 use Rattle.std.specs.List.{list_any}
 use Rattle.std.proofs.lemmas.List.Folds.{list_any-append}
-use Rattle.rows.specs.Rows.{change_first}
-use Rattle.link_table.specs.declared.servers.Server.{Server}
-use Rattle.link_table.specs.Servers.{is_server, with_minor}
 use Rattle.gateway_state.specs.declared.limits.TheConstants.{SEARCH_LIMIT}
 use Rattle.gateway_state.specs.declared.search.Search.{Search}
 use Rattle.gateway_state.specs.Clients.{remembered}

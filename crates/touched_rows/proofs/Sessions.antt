@@ -20,7 +20,7 @@ use Rattle.gateway_state.specs.declared.notice.ReadNotice.TheVariants.{Refused}
 use Rattle.gateway_state.specs.declared.notice.UpdateNotice.{UpdateNotice}
 use Rattle.gateway_state.specs.Clients.{fixed, with_host_fixed}
 use Rattle.gateway_state.specs.Gateway.{Gateway}
-use Rattle.gateway_state.specs.Interest.{channel_want, interest_of, is_read_through, is_reader, is_subscriber, sub_want}
+use Rattle.gateway_state.specs.Interest.{channel_want, interest_of, is_read_through, sub_want}
 use Rattle.gateway_state.specs.Notices.{answered_over, channel_notices, link_notices, notice_on, read_notice}
 use Rattle.gateway_state.specs.Resolution.{is_real, rights_left}
 use Rattle.gateway_state.specs.Rights.{channel_of, is_served, lead_for, lead_in, link_connected, link_rights, may_read, rights_of}
@@ -33,7 +33,6 @@ use Rattle.gateway_state.proofs.LinkNotices.{link_notices_alike}
 use Rattle.gateway_state.proofs.SettledChannels.{notice_by}
 use Rattle.gateway_state.proofs.SettledMeaning.{none_told}
 use Rattle.gateway_state.proofs.SettledSteps.{settled_stays}
-use Rattle.std.specs.List.{cons_option}
 use Rattle.touched_rows.specs.Touched.{updates_told_to}
 use Rattle.touched_rows.proofs.Blanked.{found_blanked, found_other}
 use Rattle.touched_rows.proofs.LessGiven.{GivesNoMore, is_open}
@@ -164,9 +163,9 @@ nothing_after_pausing w number settled =
     settled_stays (paused_to number true w)
     (settled_sessions w (change_first (is_numbered number) (with_pause true) w.clients.sessions) (lead_after_pausing w number true)
     (λ other open_to.
-        let paused : List Session = change_first (is_numbered number) (with_pause true) w.clients.sessions in
-        let parts = and_parts (not (paused_in (find (is_numbered other) paused))) (is_taking w other) open_to in
-        and_from (not (paused_in (find (is_numbered other) w.clients.sessions))) (is_taking w other) (active_before number other w.clients.sessions parts.0) parts.1)
+    let paused : List Session = change_first (is_numbered number) (with_pause true) w.clients.sessions in
+    let parts = and_parts (not (paused_in (find (is_numbered other) paused))) (is_taking w other) open_to in
+    and_from (not (paused_in (find (is_numbered other) w.clients.sessions))) (is_taking w other) (active_before number other w.clients.sessions parts.0) parts.1)
     settled)
 
 -- a session that wants updates again gets those that it is owed

@@ -1,15 +1,15 @@
 -- A new subscription: the server of its variable is told what is wanted now, and then the subscription
 -- gets its first update.
-use Rattle.std.proofs.Common.{◌≡◌, ℕ, List, [], ◌∷◌, ◌++◌, Bool, true, false, cond, not, ◌&&◌, Option, Some, None, refl, sym, ap, ◌∙◌}
+use Rattle.std.proofs.Common.{◌≡◌, ℕ, List, [], ◌∷◌, ◌++◌, Bool, true, false, not, ◌&&◌, Option, Some, None, refl, ap, ◌∙◌}
 use Rattle.std.specs.Prelude.{bytes_eq, filter, filter_map, map}
-use Rattle.std.specs.List.{cons_option, find, fold}
+use Rattle.std.specs.List.{cons_option, fold}
 use Rattle.channel_table.specs.ClientRows.{ClientRows}
 use Rattle.channel_table.specs.declared.channels.Channel.{Channel}
 use Rattle.channel_table.specs.declared.subs.ClientSub.{ClientSub}
 use Rattle.mask_merge.specs.Merged.{merged}
 use Rattle.gateway_state.specs.declared.notice.UpdateNotice.{UpdateNotice}
 use Rattle.gateway_state.specs.Gateway.{Gateway}
-use Rattle.gateway_state.specs.Interest.{channel_want, interest_of, is_read_through, is_reader, is_subscriber, sub_want}
+use Rattle.gateway_state.specs.Interest.{channel_want, is_read_through, is_reader, is_subscriber, sub_want}
 use Rattle.gateway_state.specs.Notices.{read_notice, read_notices, reads_told}
 use Rattle.gateway_state.specs.Rights.{channel_of, may_read, rights_of}
 use Rattle.gateway_state.specs.Settled.{HasLinksApart, IsSettled}

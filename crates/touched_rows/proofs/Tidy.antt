@@ -1,9 +1,8 @@
 -- What events rest on of the state before them, in every state that a run reaches.
 use Rattle.std.proofs.Common.{sym, subst}
-use Rattle.gateway_state.specs.Gateway.{Gateway, initial}
+use Rattle.gateway_state.specs.Gateway.{Gateway}
 use Rattle.gateway_state.specs.Reached.{IsReached}
 use Rattle.gateway_state.specs.Settled.{AreInOrder, HasLinksApart, HasReadsOnChannels, HasSubsApart, HasSubsOnChannels, IsSettled}
-use Rattle.gateway_state.specs.Step.{run}
 use Rattle.gateway_state.proofs.LinksApart.{run_links_apart}
 use Rattle.gateway_state.proofs.ReadsOnChannels.{run_reads_on_channels}
 use Rattle.gateway_state.proofs.SettledRuns.{run_in_order, run_settled}

@@ -1,8 +1,7 @@
 -- In every state that a run reaches, what follows from an event is what it touches.
-use Rattle.std.proofs.Common.{◌≡◌, ℕ, true, false, cond, refl}
+use Rattle.std.proofs.Common.{◌≡◌, true, false, cond, refl}
 use Rattle.ca_message.specs.ClientRequest.{request_of}
 use Rattle.ca_message.specs.ServerReply.{reply_of}
-use Rattle.gateway_state.specs.declared.event.Dest.{Dest}
 use Rattle.gateway_state.specs.declared.event.Dest.TheVariants.{Session as ToSession, Upstream}
 use Rattle.gateway_state.specs.declared.event.Event.{Event}
 use Rattle.gateway_state.specs.declared.event.Event.TheVariants.{Opened, Lost, Client, UpOpened, UpLost, Server, Found, Search, Sweep, Edit, Drain}

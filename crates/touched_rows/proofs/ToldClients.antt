@@ -1,7 +1,6 @@
 -- What follows from a client's message is what it touches.
-use Rattle.std.proofs.Common.{◌≡◌, ℕ, List, [], Bool, true, false, cond, eqb, ltb, ◌||◌, Option, Some, None, refl, sym, ap, subst, ◌∙◌}
+use Rattle.std.proofs.Common.{◌≡◌, ℕ, Bool, true, false, cond, eqb, ltb, ◌||◌, Option, Some, None, refl, subst, ◌∙◌}
 use Rattle.std.specs.Prelude.{Ok, Err, Result}
-use Rattle.std.specs.List.{find}
 use Rattle.std.proofs.lemmas.Bool.{and_parts, eqb-true}
 use Rattle.ca_header.specs.declared.header.Header.{Header}
 use Rattle.ca_header.specs.declared.header.Message.{Message}
@@ -23,10 +22,9 @@ use Rattle.gateway_state.specs.declared.notice.ReadVerdict.{ReadVerdict}
 use Rattle.gateway_state.specs.declared.notice.ReadVerdict.TheVariants as reads
 use Rattle.gateway_state.specs.declared.notice.SubVerdict.{SubVerdict}
 use Rattle.gateway_state.specs.declared.notice.SubVerdict.TheVariants as subs
-use Rattle.gateway_state.specs.declared.reading.Given.{Given}
 use Rattle.gateway_state.specs.declared.reading.Native.{Native}
 use Rattle.gateway_state.specs.Answer.{cached_value, native_in, refusal}
-use Rattle.gateway_state.specs.Clients.{accepted, channel_cleared, cleared, creation_failed, is_one_too_many, judged, not_understood, read_asked, verdict_natively, verdict_on, verdict_over, verdict_unless, versioned, with_host_fixed, without_channel}
+use Rattle.gateway_state.specs.Clients.{accepted, channel_cleared, cleared, creation_failed, is_one_too_many, judged, not_understood, read_asked, verdict_natively, verdict_on, verdict_over, verdict_unless, versioned, with_host_fixed}
 use Rattle.gateway_state.specs.Gateway.{Gateway}
 use Rattle.gateway_state.specs.Requests.{requested, unreadable}
 use Rattle.gateway_state.specs.Rights.{channel_of, rights_of}

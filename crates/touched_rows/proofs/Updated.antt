@@ -1,7 +1,7 @@
 -- An update that is accepted is told to the readers of its variable alone.
-use Rattle.std.proofs.Common.{◌≡◌, ℕ, List, [], ◌∷◌, ◌++◌, Bool, true, false, cond, eqb, not, ◌&&◌, Option, Some, None, refl, sym, ap, subst, ◌∙◌}
+use Rattle.std.proofs.Common.{◌≡◌, ℕ, List, [], ◌∷◌, ◌++◌, Bool, true, false, cond, eqb, ◌&&◌, Option, Some, None, refl, sym, ap, subst, ◌∙◌}
 use Rattle.std.specs.Prelude.{bytes_eq, filter, filter_map, flat_map, map}
-use Rattle.std.specs.List.{All, find, fold}
+use Rattle.std.specs.List.{find, fold}
 use Rattle.std.specs.Option.{option_or}
 use Rattle.std.proofs.lemmas.Bool.{eq-eqb, eqb-true, true≢false}
 use Rattle.std.proofs.lemmas.List.Elements.{All-map, All-weaker}
@@ -22,19 +22,18 @@ use Rattle.gateway_state.specs.declared.connections.Connection.{Connection}
 use Rattle.gateway_state.specs.declared.notice.ReadNotice.{ReadNotice}
 use Rattle.gateway_state.specs.declared.notice.ReadNotice.TheVariants.{Refused}
 use Rattle.gateway_state.specs.declared.notice.UpdateNotice.{UpdateNotice}
-use Rattle.gateway_state.specs.declared.reading.Given.{Given}
 use Rattle.gateway_state.specs.declared.reading.Native.{Native}
-use Rattle.gateway_state.specs.Answer.{cached_as, cached_value, native_in}
+use Rattle.gateway_state.specs.Answer.{cached_as, native_in}
 use Rattle.gateway_state.specs.CachedRows.{is_cached_elsewhere, is_cached_of, with_row}
 use Rattle.gateway_state.specs.Gateway.{Gateway}
 use Rattle.gateway_state.specs.Interest.{channel_want, interest_of, is_reader}
-use Rattle.gateway_state.specs.Notices.{answered_by, answered_natively, answered_over, link_notices, notice_on, read_notice, read_notices, read_told, reads_told}
+use Rattle.gateway_state.specs.Notices.{answered_by, answered_natively, answered_over, link_notices, notice_on, read_notice, read_told, reads_told}
 use Rattle.gateway_state.specs.Rights.{channel_of, may_read, rights_of}
 use Rattle.gateway_state.specs.Servers.{concerned_owed, waits_for, with_cached}
 use Rattle.gateway_state.specs.Settled.{AreInOrder, HasSubsApart, IsSettled, cid_of}
 use Rattle.gateway_state.specs.Step.{consequences}
 use Rattle.gateway_state.specs.Updates.{concerned, is_concerned, is_open_to, is_sub_to, update_by, update_natively, update_notice, update_notices, update_on, update_over, update_told, updates_told}
-use Rattle.gateway_state.specs.Variables.{is_channel_on, is_on, link_of}
+use Rattle.gateway_state.specs.Variables.{is_channel_on, link_of}
 use Rattle.gateway_state.proofs.LinkNotices.{link_notices_alike}
 use Rattle.gateway_state.proofs.SettledMeaning.{none_told}
 use Rattle.gateway_state.proofs.SettledWithheld.{owing_changed, with_subs}

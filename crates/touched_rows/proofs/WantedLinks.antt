@@ -1,11 +1,10 @@
 -- What is told about one link leaves the links of variables that are wanted.
-use Rattle.std.proofs.Common.{◌≡◌, ℕ, List, [], ◌∷◌, ◌++◌, Bool, true, false, cond, eqb, not, ◌&&◌, Option, Some, None, refl, sym, ap, subst, ◌∙◌}
+use Rattle.std.proofs.Common.{◌≡◌, ℕ, List, [], ◌∷◌, Bool, true, false, cond, eqb, Option, Some, None, refl, sym, ap, ◌∙◌}
 use Rattle.std.specs.Prelude.{bit_and, filter, option_map}
 use Rattle.std.specs.List.{All, find, fold, list_all}
 use Rattle.std.proofs.lemmas.Bool.{and_parts, eqb-true, true≢false}
 use Rattle.std.proofs.lemmas.List.Elements.{All-weaker}
 use Rattle.std.proofs.lemmas.List.Sums.{fold-append}
-use Rattle.rows.specs.Rows.{change_first}
 use Rattle.ca_message.specs.declared.to_server.ToServer.TheVariants as requests
 use Rattle.channel_table.specs.declared.channels.Channel.{Channel}
 use Rattle.link_table.specs.declared.links.Link.{Link}
@@ -103,8 +102,8 @@ module _ (x : Gateway) (high : ℕ) (order : AreRising cid_of 0 x.upstream.links
         links_hold (IsOther other) (λ sub row holds. holds) (interest_notices x link link.state) x (interest_keeps x link link.state)
         (All-weaker (λ (row : Link). cid_of row ≡ cid_of link → row ≡ link) (IsOther other)
         (λ row one gone.
-            let parts = and_parts (eqb row.server link.server) (eqb row.cid link.cid) (not_not (is_link link.server link.cid row) gone) in
-            ap (is_named other) (one (eqb-true row.cid link.cid parts.1)) ∙ unnamed)
+        let parts = and_parts (eqb row.server link.server) (eqb row.cid link.cid) (not_not (is_link link.server link.cid row) gone) in
+        ap (is_named other) (one (eqb-true row.cid link.cid parts.1)) ∙ unnamed)
         x.upstream.links (one_of_number cid_of 0 high (is_named name) x.upstream.links link order is))
 
     link_left : (other : List ℕ) (wanted : Bool) → is_wanted x link.name ≡ wanted → is_wanted x other ≡ true → option_map bare (link_of (last wanted) other) ≡ option_map bare (link_of x other)

@@ -1,7 +1,6 @@
 -- What each event touches.
-use Rattle.std.specs.Prelude.{ℕ, List, Bool, ◌==◌, if◌then◌else◌, Option, Some, None, Result, Ok, Err}
+use Rattle.std.specs.Prelude.{ℕ, List, ◌==◌, if◌then◌else◌, Option, Some, None, Result, Ok, Err}
 use Rattle.std.specs.List.{find}
-use Rattle.ca_header.specs.declared.header.Message.{Message}
 use Rattle.ca_message.specs.declared.codes.TheConstants.{ECA_NORMAL}
 use Rattle.ca_message.specs.declared.reply.ReplyFault.{ReplyFault}
 use Rattle.ca_message.specs.declared.reply.ServerReply.{ServerReply}
