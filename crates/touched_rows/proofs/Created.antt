@@ -1,9 +1,9 @@
 -- A channel that is asked for concerns nobody else, whether it is made or not.
 use Rattle.std.proofs.Common.{◌≡◌, ℕ, ◌+◌, List, [], ◌∷◌, ◌++◌, Bool, true, false, cond, ltb, not, ◌&&◌, ◌||◌, Option, Some, None, refl, sym, ap, ◌∙◌}
-use Rattle.std.specs.Prelude.{bit_and, filter, filter_map, map, nat_le}
+use Rattle.std.specs.Prelude.{bit_and, filter, map, nat_le}
 use Rattle.std.specs.List.{All, cons_option, find, list_all, list_any}
 use Rattle.std.proofs.lemmas.Bool.{and_parts, eq-eqb, true≢false}
-use Rattle.std.proofs.lemmas.List.Elements.{All-cons, All-head, All-nil, All-tail, All-weaker}
+use Rattle.std.proofs.lemmas.List.Elements.{All-cons, All-nil, All-weaker}
 use Rattle.std.proofs.lemmas.List.Folds.{list_any-append}
 use Rattle.std.proofs.lemmas.Slice.Eq.{bytes_eq-Decides}
 use Rattle.ca_message.specs.declared.to_client.ToClient.TheVariants as replies
@@ -41,7 +41,7 @@ use Rattle.gateway_state.proofs.SettledMeaning.{none_told}
 use Rattle.gateway_state.proofs.SettledSteps.{settled_stays}
 use Rattle.touched_rows.proofs.LinksQuiet.{links_quiet}
 use Rattle.touched_rows.proofs.Nothing.{settled_sent}
-use Rattle.touched_rows.proofs.ReadersOf.{passing_pushed}
+use Rattle.touched_rows.proofs.ReadersOf.{filtered_alike, passing_pushed, planned_alike}
 use Rattle.touched_rows.proofs.Searched.{settled_remembered}
 use Rattle.touched_rows.proofs.Sessions.{lead_after_fixing, settled_host_fixed}
 use Rattle.touched_rows.proofs.TouchedAlone.{one_planned}
@@ -62,20 +62,6 @@ found_before {A = A} test (row ∷ rows) new there = by (test row) there (λ lat
         → cond is (Some row) (find test (rows ++ new ∷ [])) ≡ cond is (Some row) (find test rows)
     by true there rest = refl
     by false there rest = rest there
-
-filtered_alike : {A : Type 0} (test other : A → Bool) (rows : List A) → All (λ (row : A). test row ≡ other row) rows → filter test rows ≡ filter other rows
-filtered_alike test other [] alike = refl
-filtered_alike {A = A} test other (row ∷ rows) alike =
-    let first = All-head (λ (x : A). test x ≡ other x) row rows alike in
-    let rest = filtered_alike test other rows (All-tail (λ (x : A). test x ≡ other x) row rows alike) in
-    λ i. cond (first i) (row ∷ rest i) (rest i)
-
-planned_alike : {A B : Type 0} (notice other : A → Option B) (rows : List A) → All (λ (row : A). notice row ≡ other row) rows → filter_map notice rows ≡ filter_map other rows
-planned_alike notice other [] alike = refl
-planned_alike {A = A} notice other (row ∷ rows) alike =
-    let first = All-head (λ (x : A). notice x ≡ other x) row rows alike in
-    let rest = planned_alike notice other rows (All-tail (λ (x : A). notice x ≡ other x) row rows alike) in
-    λ i. cons_option (first i) (rest i)
 
 not_read : (on may : Bool) → (on && ltb 0 0 && may) ≡ false
 not_read true may = refl

@@ -3,6 +3,7 @@ pub mod Cleared
 pub mod Connections
 pub mod Created
 pub mod Drained
+pub mod Found
 pub mod LessGiven
 pub mod LinksQuiet
 pub mod Nothing
@@ -22,6 +23,7 @@ pub mod ToldAlone
 pub mod ToldClients
 pub mod ToldServers
 pub mod TouchedAlone
+pub mod UnseenLinks
 pub mod Unsubscribed
 pub mod Updated
 pub mod WantedLinks

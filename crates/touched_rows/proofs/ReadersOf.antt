@@ -1,7 +1,7 @@
 -- Which readers of a variable a change of rows leaves.
 use Rattle.std.proofs.Common.{◌≡◌, ℕ, List, [], ◌∷◌, ◌++◌, Bool, true, false, cond, not, ◌||◌, Option, Some, refl, sym, ap, ◌∙◌}
-use Rattle.std.specs.Prelude.{bytes_eq, filter}
-use Rattle.std.specs.List.{All, find, list_any}
+use Rattle.std.specs.Prelude.{bytes_eq, filter, filter_map}
+use Rattle.std.specs.List.{All, cons_option, find, list_any}
 use Rattle.std.proofs.lemmas.Bool.{true≢false}
 use Rattle.std.proofs.lemmas.List.{append-nil}
 use Rattle.std.proofs.lemmas.List.Elements.{All-head, All-tail, filter-append}
@@ -96,3 +96,18 @@ any_left {A = A} passes stays (row ∷ rows) fail =
         → list_any passes (cond is (row ∷ filter stays rows) (filter stays rows)) ≡ (passes row || list_any passes rows)
     by true fails rest = ap (λ (t : Bool). passes row || t) rest
     by false fails rest = rest ∙ sym (ap (λ (t : Bool). t || list_any passes rows) (fails refl))
+
+-- tests, and notices, that say the same of each row
+pub filtered_alike : {A : Type 0} (test other : A → Bool) (rows : List A) → All (λ (row : A). test row ≡ other row) rows → filter test rows ≡ filter other rows
+filtered_alike test other [] alike = refl
+filtered_alike {A = A} test other (row ∷ rows) alike =
+    let first = All-head (λ (x : A). test x ≡ other x) row rows alike in
+    let rest = filtered_alike test other rows (All-tail (λ (x : A). test x ≡ other x) row rows alike) in
+    λ i. cond (first i) (row ∷ rest i) (rest i)
+
+pub planned_alike : {A B : Type 0} (notice other : A → Option B) (rows : List A) → All (λ (row : A). notice row ≡ other row) rows → filter_map notice rows ≡ filter_map other rows
+planned_alike notice other [] alike = refl
+planned_alike {A = A} notice other (row ∷ rows) alike =
+    let first = All-head (λ (x : A). notice x ≡ other x) row rows alike in
+    let rest = planned_alike notice other rows (All-tail (λ (x : A). notice x ≡ other x) row rows alike) in
+    λ i. cons_option (first i) (rest i)

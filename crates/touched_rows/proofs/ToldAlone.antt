@@ -16,6 +16,7 @@ use Rattle.gateway_state.proofs.SettledSteps.{settled_stays}
 use Rattle.touched_rows.specs.declared.touched.Touched.TheVariants.{Nothing}
 use Rattle.touched_rows.specs.Touches.{event_touches, follows, reply_touches, request_touches}
 use Rattle.touched_rows.proofs.Drained.{nothing_after_server_drain, told_after_drain}
+use Rattle.touched_rows.proofs.Found.{nothing_after_found}
 use Rattle.touched_rows.proofs.Searched.{nothing_after_search}
 use Rattle.touched_rows.proofs.Tidy.{IsTidy, reached_tidy}
 use Rattle.touched_rows.proofs.ToldClients.{told_request}
@@ -36,7 +37,7 @@ told_event w (Server number message) tidy =
     as (λ t. consequences (cond t (server_said w number message) w)
     ≡ follows (cond t (reply_touches w number (reply_of message.head message.payload)) Nothing) (cond t (server_said w number message) w))
     [ true ↦ told_reply w tidy number (reply_of message.head message.payload) | false ↦ settled_stays w tidy.settled ]
-told_event w (Found name number) tidy = refl
+told_event w (Found name number) tidy = nothing_after_found w name number tidy.settled
 told_event w (Search host name) tidy = nothing_after_search host name w tidy.settled
 told_event w Sweep tidy = refl
 told_event w (Edit policy) tidy = refl

@@ -152,7 +152,7 @@ event_touches w (events.UpOpened number) = All
 event_touches w (events.UpLost number) = All
 event_touches w (events.Server number message) =
     if acts w (dests.Upstream number) then reply_touches w number (reply_of message.head message.payload) else Nothing
-event_touches w (events.Found name number) = All
+event_touches w (events.Found name number) = Nothing
 event_touches w (events.Search host name) = Nothing
 event_touches w events.Sweep = All
 event_touches w (events.Edit policy) = All
