@@ -177,7 +177,7 @@ pub record IsLeft (w : Gateway) (links left : List Link) : Type 0 where
   pub connected : (name : List ℕ) → is_wanted w name ≡ true → link_connected (find (is_named name) left) ≡ link_connected (find (is_named name) links)
 
 -- a link that isn't wanted isn't that of a wanted name
-unwanted : (w : Gateway) (link : Link) (name : List ℕ) → is_wanted w link.name ≡ false → is_wanted w name ≡ true → is_named name link ≡ false
+pub unwanted : (w : Gateway) (link : Link) (name : List ℕ) → is_wanted w link.name ≡ false → is_wanted w name ≡ true → is_named name link ≡ false
 unwanted w link name refused wanted = by (is_named name link) refl
   where
     by : (named : Bool) → is_named name link ≡ named → named ≡ false

@@ -38,7 +38,7 @@ none_told {A = A} {B = B} notice (row ∷ rows) none = by (notice row) refl none
     by None is empty rest = All-cons (λ (x : A). notice x ≡ None) row rows is (rest empty)
     by (Some told) is empty rest = absurd cc
 
-nothing_told : {A B : Type 0} (notices : A → List B) (rows : List A) → flat_map notices rows ≡ [] → All (λ (row : A). notices row ≡ []) rows
+pub nothing_told : {A B : Type 0} (notices : A → List B) (rows : List A) → flat_map notices rows ≡ [] → All (λ (row : A). notices row ≡ []) rows
 nothing_told {A = A} notices [] none = All-nil (λ (row : A). notices row ≡ [])
 nothing_told {A = A} {B = B} notices (row ∷ rows) none = by (notices row) refl none (λ rest. nothing_told notices rows rest)
   where
@@ -74,7 +74,7 @@ is_for-same (Some want) (Some sub) is =
     λ i. Some (record { mask = masks i; count = counts i })
 
 -- where the subscription isn't for what is wanted, something is told
-told_anew : (link : Link) (minor sid dtype native : ℕ) (sub : Option Subscription) (want : Option Want)
+pub told_anew : (link : Link) (minor sid dtype native : ℕ) (sub : Option Subscription) (want : Option Want)
     → cancelled link sid dtype sub ++ subscribed minor link sid dtype native want ≡ [] → ⊥
 told_anew link minor sid dtype native None None none = cc
 told_anew link minor sid dtype native None (Some want) none = cc

@@ -37,7 +37,7 @@ use Rattle.gateway_state.proofs.SubsApart.{subs_apart_kept}
 -- ---- the links that are left mean the same to each channel
 
 -- a channel that is found is on its own variable
-found_is_on : (test : Channel → Bool) (rows : List Channel) (c : Channel) → find test rows ≡ Some c → list_any (is_on c.real) rows ≡ true
+pub found_is_on : (test : Channel → Bool) (rows : List Channel) (c : Channel) → find test rows ≡ Some c → list_any (is_on c.real) rows ≡ true
 found_is_on test [] c e = absurd cc
 found_is_on test (row ∷ rows) c e = by (test row) e (λ rest. found_is_on test rows c rest)
   where
@@ -187,19 +187,19 @@ module _ (w : Gateway) (order : AreInOrder w) (apart : HasSubsApart w) where
 -- ---- what is settled
 
 -- nothing to tell, nothing told
-channels_stay : (w : Gateway) → channel_notices w ≡ [] → channels_told w ≡ w
+pub channels_stay : (w : Gateway) → channel_notices w ≡ [] → channels_told w ≡ w
 channels_stay w none = ap (λ (notices : List ChannelNotice). fold channel_told w notices) none
 
-links_stay : (w : Gateway) → link_notices w ≡ [] → links_told w ≡ w
+pub links_stay : (w : Gateway) → link_notices w ≡ [] → links_told w ≡ w
 links_stay w none = ap (λ (notices : List LinkNotice). fold link_told w notices) none
 
-reads_stay : (w : Gateway) → read_notices w ≡ [] → reads_told w ≡ w
+pub reads_stay : (w : Gateway) → read_notices w ≡ [] → reads_told w ≡ w
 reads_stay w none = ap (λ (notices : List ReadNotice). fold read_told w notices) none
 
-withheld_stay : (w : Gateway) → withheld w ≡ [] → updates_withheld w ≡ w
+pub withheld_stay : (w : Gateway) → withheld w ≡ [] → updates_withheld w ≡ w
 withheld_stay w none = ap (λ (subs : List ClientSub). owed_to_all w subs) none
 
-updates_stay : (w : Gateway) → update_notices w ≡ [] → updates_told w ≡ w
+pub updates_stay : (w : Gateway) → update_notices w ≡ [] → updates_told w ≡ w
 updates_stay w none = ap (λ (notices : List UpdateNotice). fold update_told w notices) none
 
 pub settled_stays : (w : Gateway) → IsSettled w → consequences w ≡ w

@@ -82,7 +82,7 @@ all_served (notice ∷ notices) w served =
 
 -- ---- room in outboxes
 
-box_taking : (box : Waiting) (out : Out) → takes_updates (appended box out) ≡ true → takes_updates box ≡ true
+pub box_taking : (box : Waiting) (out : Out) → takes_updates (appended box out) ≡ true → takes_updates box ≡ true
 box_taking box out e = by (refuses box) e
   where
     by : (refused : Bool) → takes_updates (cond refused (record box { marked = true }) (record box { messages = box.messages ++ out ∷ [] })) ≡ true → takes_updates box ≡ true
@@ -333,7 +333,7 @@ updates_keep_reads w = ap read_notices (updates_changed w)
 
 -- ---- what servers are owed doesn't depend on what subscriptions are owed
 
-wants_whatever_owed : (w : Gateway) (name : List ℕ) (native : ℕ) (rows : List ClientSub)
+pub wants_whatever_owed : (w : Gateway) (name : List ℕ) (native : ℕ) (rows : List ClientSub)
     → map (sub_want native) (filter (is_subscriber w name) rows) ≡ map (sub_want native) (filter (is_subscriber w name) (map (with_owed true) rows))
 wants_whatever_owed w name native [] = refl
 wants_whatever_owed w name native (row ∷ rows) =

@@ -17,16 +17,16 @@ abbrev pub with_subs : Gateway → List ClientSub → Gateway
 with_subs w subs = record w { clients = record w.clients { subs = subs } }
 
 -- what owing to one leaves of them
-abbrev owing : List ClientSub → ClientSub → List ClientSub
+abbrev pub owing : List ClientSub → ClientSub → List ClientSub
 owing rows sub = change_first (is_sub sub.session sub.id) (with_owed true) rows
 
 -- owing changes nothing else
-owing_changed : (subs : List ClientSub) (w : Gateway) → owed_to_all w subs ≡ with_subs w (fold owing w.clients.subs subs)
+pub owing_changed : (subs : List ClientSub) (w : Gateway) → owed_to_all w subs ≡ with_subs w (fold owing w.clients.subs subs)
 owing_changed [] w = refl
 owing_changed (sub ∷ subs) w = owing_changed subs (with_subs w (owing w.clients.subs sub))
 
 -- owing to others leaves a subscription as it is
-kept_by_others : (test : ClientSub → Bool) (quiet : ClientSub) (rows others : List ClientSub) → list_any (is_sub quiet.session quiet.id) rows ≡ false
+pub kept_by_others : (test : ClientSub → Bool) (quiet : ClientSub) (rows others : List ClientSub) → list_any (is_sub quiet.session quiet.id) rows ≡ false
     → fold owing (quiet ∷ others) (filter test rows) ≡ quiet ∷ fold owing others (filter test rows)
 kept_by_others test quiet [] others apart = refl
 kept_by_others test quiet (row ∷ rows) others apart =

@@ -1,0 +1,222 @@
+-- A channel that is asked for concerns nobody else, whether it is made or not.
+use Rattle.std.proofs.Common.{◌≡◌, ℕ, ◌+◌, List, [], ◌∷◌, ◌++◌, Bool, true, false, cond, ltb, not, ◌&&◌, ◌||◌, Option, Some, None, refl, sym, ap, ◌∙◌}
+use Rattle.std.specs.Prelude.{bit_and, filter, map, nat_le}
+use Rattle.std.specs.List.{All, cons_option, find, list_all, list_any}
+use Rattle.std.proofs.lemmas.Bool.{and_parts, eq-eqb, true≢false}
+use Rattle.std.proofs.lemmas.List.Elements.{All-cons, All-nil, All-weaker}
+use Rattle.std.proofs.lemmas.List.Folds.{list_any-append}
+use Rattle.std.proofs.lemmas.Slice.Eq.{bytes_eq-Decides}
+use Rattle.ca_message.specs.declared.to_client.ToClient.TheVariants as replies
+use Rattle.channel_table.specs.declared.channels.Channel.{Channel}
+use Rattle.channel_table.specs.declared.reads.WaitingRead.{WaitingRead}
+use Rattle.channel_table.specs.declared.sessions.Session.{Session}
+use Rattle.channel_table.specs.declared.subs.ClientSub.{ClientSub}
+use Rattle.channel_table.specs.declared.table.TheConstants.{CHANNEL_LIMIT}
+use Rattle.channel_table.specs.Channels.{is_channel}
+use Rattle.channel_table.specs.ClientRows.{channel_count}
+use Rattle.channel_table.specs.Sessions.{is_numbered}
+use Rattle.link_table.specs.declared.links.Link.{Link}
+use Rattle.link_table.specs.declared.links.LinkState.{LinkState}
+use Rattle.link_table.specs.declared.links.LinkState.TheVariants.{Creating, Connected, Unusable}
+use Rattle.link_table.specs.LinkRows.{Counters}
+use Rattle.mask_merge.specs.Merged.{merged}
+use Rattle.pv_alias.specs.declared.lead.Lead.{Lead}
+use Rattle.gateway_state.specs.declared.event.Dest.TheVariants.{Session as ToSession}
+use Rattle.gateway_state.specs.declared.notice.ChannelNotice.{ChannelNotice}
+use Rattle.gateway_state.specs.declared.reading.Native.{Native}
+use Rattle.gateway_state.specs.Answer.{native_in}
+use Rattle.gateway_state.specs.Clients.{channel_asked, created_as, created_on, created_on_native, creation_failed, not_connected, remembered_by, rights_on, with_channel, with_host_fixed}
+use Rattle.gateway_state.specs.Gateway.{Gateway}
+use Rattle.gateway_state.specs.Interest.{channel_want, interest_of, is_read_through, is_reader, is_subscriber, sub_want}
+use Rattle.gateway_state.specs.Notices.{channel_notice, channel_notices, notice_on, read_notice, read_notices}
+use Rattle.gateway_state.specs.Resolution.{is_real, rights_left}
+use Rattle.gateway_state.specs.Rights.{channel_of, is_served, lead_in, link_connected, link_rights, may_read, rights_of}
+use Rattle.gateway_state.specs.Searches.{leads_to}
+use Rattle.gateway_state.specs.Settled.{HasReadsOnChannels, HasSubsOnChannels, IsSettled, is_on_channel, is_sub_on_channel}
+use Rattle.gateway_state.specs.Step.{consequences}
+use Rattle.gateway_state.specs.Telling.{outgoing, sent}
+use Rattle.gateway_state.specs.Updates.{is_open_to, is_unreadable, is_withheld, update_notice, update_notices, update_on, withheld}
+use Rattle.gateway_state.specs.Variables.{is_connected, is_on, is_wanted, link_of}
+use Rattle.gateway_state.proofs.SettledMeaning.{none_told}
+use Rattle.gateway_state.proofs.SettledSteps.{settled_stays}
+use Rattle.touched_rows.proofs.LinksQuiet.{links_quiet}
+use Rattle.touched_rows.proofs.Nothing.{settled_sent}
+use Rattle.touched_rows.proofs.ReadersOf.{filtered_alike, passing_pushed, planned_alike}
+use Rattle.touched_rows.proofs.Searched.{settled_remembered}
+use Rattle.touched_rows.proofs.Sessions.{lead_after_fixing, settled_host_fixed}
+use Rattle.touched_rows.proofs.TouchedAlone.{one_planned}
+
+-- ---- rows on channels that stand
+
+each_true : {A : Type 0} (test : A → Bool) (rows : List A) → list_all test rows ≡ true → All (λ (row : A). test row ≡ true) rows
+each_true {A = A} test [] all = All-nil (λ (row : A). test row ≡ true)
+each_true {A = A} test (row ∷ rows) all =
+    let parts = and_parts (test row) (list_all test rows) all in
+    All-cons (λ (x : A). test x ≡ true) row rows parts.0 (each_true test rows parts.1)
+
+found_before : {A : Type 0} (test : A → Bool) (rows : List A) (new : A) → list_any test rows ≡ true → find test (rows ++ new ∷ []) ≡ find test rows
+found_before test [] new there = absurd (true≢false (sym there))
+found_before {A = A} test (row ∷ rows) new there = by (test row) there (λ later. found_before test rows new later)
+  where
+    by : (is : Bool) → (is || list_any test rows) ≡ true → (list_any test rows ≡ true → find test (rows ++ new ∷ []) ≡ find test rows)
+        → cond is (Some row) (find test (rows ++ new ∷ [])) ≡ cond is (Some row) (find test rows)
+    by true there rest = refl
+    by false there rest = rest there
+
+not_read : (on may : Bool) → (on && ltb 0 0 && may) ≡ false
+not_read true may = refl
+not_read false may = refl
+
+or_first : (before after other : Bool) → (before ≡ true → after ≡ true) → (before || other) ≡ true → (after || other) ≡ true
+or_first true true other more there = refl
+or_first true false other more there = absurd (true≢false (sym (more refl)))
+or_first false true other more there = refl
+or_first false false other more there = there
+
+-- ---- a channel more
+
+module _ (w : Gateway) (settled : IsSettled w) (subs_on : HasSubsOnChannels w) (reads_on : HasReadsOnChannels w) (new : Channel) (counters : Counters)
+    (unread : new.reach ≡ 0) (quiet : channel_notice w new ≡ None) where
+  abbrev x : Gateway
+  x = record w { clients = record w.clients { channels = w.clients.channels ++ new ∷ [] }; upstream = record w.upstream { counters = counters } }
+
+  channels_quiet : channel_notices x ≡ []
+  channels_quiet =
+      one_planned (channel_notice w) w.clients.channels new (none_told (channel_notice w) w.clients.channels settled.channels)
+      ∙ ap (λ (notice : Option ChannelNotice). cons_option notice []) quiet
+
+  abbrev IsFoundBefore : ℕ → ℕ → Type 0
+  IsFoundBefore session sid = channel_of x session sid ≡ channel_of w session sid
+
+  subs_found : All (λ (sub : ClientSub). IsFoundBefore sub.session sub.sid) w.clients.subs
+  subs_found =
+      All-weaker (λ (sub : ClientSub). is_sub_on_channel w sub ≡ true) (λ (sub : ClientSub). IsFoundBefore sub.session sub.sid)
+      (λ sub there. found_before (is_channel sub.session sub.sid) w.clients.channels new there) w.clients.subs (each_true (is_sub_on_channel w) w.clients.subs subs_on)
+
+  reads_found : All (λ (read : WaitingRead). IsFoundBefore read.session read.sid) w.clients.reads
+  reads_found =
+      All-weaker (λ (read : WaitingRead). is_on_channel w read ≡ true) (λ (read : WaitingRead). IsFoundBefore read.session read.sid)
+      (λ read there. found_before (is_channel read.session read.sid) w.clients.channels new there) w.clients.reads (each_true (is_on_channel w) w.clients.reads reads_on)
+
+  not_withheld : withheld x ≡ []
+  not_withheld =
+      filtered_alike (is_withheld x) (is_withheld w) w.clients.subs
+      (All-weaker (λ (sub : ClientSub). IsFoundBefore sub.session sub.sid) (λ (sub : ClientSub). is_withheld x sub ≡ is_withheld w sub)
+      (λ sub same. ap (λ (found : Option Channel). not sub.owed && is_unreadable w found) same) w.clients.subs subs_found)
+      ∙ settled.held_back
+
+  reads_quiet : read_notices x ≡ []
+  reads_quiet =
+      planned_alike (read_notice x) (read_notice w) w.clients.reads
+      (All-weaker (λ (read : WaitingRead). IsFoundBefore read.session read.sid) (λ (read : WaitingRead). read_notice x read ≡ read_notice w read)
+      (λ read same. ap (notice_on w read) same) w.clients.reads reads_found)
+      ∙ settled.reads
+
+  due_as_before : (sub : ClientSub) → IsFoundBefore sub.session sub.sid → update_notice x sub ≡ update_notice w sub
+  unfolding update_notice
+  due_as_before sub same = ap (λ (found : Option Channel). cond (sub.owed && is_open_to w sub) (update_on w sub found) None) same
+
+  updates_quiet : update_notices x ≡ []
+  updates_quiet =
+      planned_alike (update_notice x) (update_notice w) w.clients.subs
+      (All-weaker (λ (sub : ClientSub). IsFoundBefore sub.session sub.sid) (λ (sub : ClientSub). update_notice x sub ≡ update_notice w sub) due_as_before w.clients.subs subs_found)
+      ∙ settled.updates
+
+  interest_same : (name : List ℕ) (native : ℕ) → interest_of x name native ≡ interest_of w name native
+  interest_same name native =
+      let subs : filter (is_subscriber x name) w.clients.subs ≡ filter (is_subscriber w name) w.clients.subs =
+      filtered_alike (is_subscriber x name) (is_subscriber w name) w.clients.subs
+      (All-weaker (λ (sub : ClientSub). IsFoundBefore sub.session sub.sid) (λ (sub : ClientSub). is_subscriber x name sub ≡ is_subscriber w name sub)
+      (λ sub same. ap (is_read_through w name) same) w.clients.subs subs_found) in
+      let fails : is_reader w name new ≡ false =
+      ap (λ (reach : ℕ). is_on name new && ltb 0 reach && may_read (rights_of w new)) unread ∙ not_read (is_on name new) (may_read (rights_of w new)) in
+      let readers = passing_pushed (is_reader w name) w.clients.channels new fails in
+      λ i. merged (map (sub_want native) (subs i) ++ map channel_want (readers i))
+
+  still_wanted : (name : List ℕ) → is_wanted w name ≡ true → is_wanted x name ≡ true
+  still_wanted name there =
+      or_first (list_any (is_on name) w.clients.channels) (list_any (is_on name) (w.clients.channels ++ new ∷ [])) (list_any (leads_to w.policy name) w.searches)
+      (λ on. list_any-append (is_on name) w.clients.channels (new ∷ []) ∙ rw on refl) there
+
+  settled_channel_added : IsSettled x
+  settled_channel_added = record {
+    channels = channels_quiet;
+    held_back = not_withheld;
+    links = links_quiet w x interest_same still_wanted settled;
+    reads = reads_quiet;
+    updates = updates_quiet;
+  }
+
+-- ---- CREATE_CHAN
+
+connected_natively : (state : LinkState) (native : Native) → native_in state ≡ Some native → is_connected state ≡ true
+connected_natively Creating native is = absurd cc
+connected_natively (Connected sid dtype count) native is = refl
+connected_natively Unusable native is = absurd cc
+
+settled_remembered_by : (found : Option Session) (name : List ℕ) (w : Gateway) → IsSettled w → IsSettled (remembered_by found name w)
+settled_remembered_by None name w settled = settled
+settled_remembered_by (Some row) name w settled = settled_remembered row.host name w settled
+
+pub settled_creation_failed : (number cid : ℕ) (w : Gateway) → IsSettled w → IsSettled (creation_failed number cid w)
+settled_creation_failed number cid w settled = settled_sent (ToSession number) (outgoing (replies.CreateChannelFail cid)) w settled
+
+settled_not_connected : (number cid : ℕ) (name : List ℕ) (w : Gateway) → IsSettled w → IsSettled (not_connected number cid name w)
+settled_not_connected number cid name w settled =
+    let found : Option Session = find (is_numbered number) w.clients.sessions in
+    settled_creation_failed number cid (remembered_by found name w) (settled_remembered_by found name w settled)
+
+module _ (w : Gateway) (settled : IsSettled w) (subs_on : HasSubsOnChannels w) (reads_on : HasReadsOnChannels w) (number cid : ℕ) (name : List ℕ) (lead : Lead)
+    (leads : lead_in w number name ≡ Some lead) where
+  settled_created : (link : Link) (native : Native) → link_of w lead.real ≡ Some link → native_in link.state ≡ Some native
+      → IsSettled (created_on_native number cid name lead link (Some native) w)
+  settled_created link native over known =
+      let made : Gateway = with_channel number cid name lead.real (rights_on w lead link) w in
+      let first : Gateway = sent (ToSession number) (outgoing (replies.AccessRights cid (rights_on w lead link))) made in
+      settled_sent (ToSession number) (outgoing (replies.CreateChannel cid w.upstream.counters.sid native.dtype native.count)) first
+      (settled_sent (ToSession number) (outgoing (replies.AccessRights cid (rights_on w lead link))) made
+      (settled_channel_added w settled subs_on reads_on new (record w.upstream.counters { sid = w.upstream.counters.sid + 1 }) refl quiet))
+    where
+      new : Channel
+      new = record { session = number; sid = w.upstream.counters.sid; cid = cid; asked = name; real = lead.real; reach = 0; rights = rights_on w lead link }
+
+      served : is_served w new ≡ true
+      served =
+          (λ i. is_real (leads i) lead.real && link_connected (over i))
+          ∙ rw ((bytes_eq-Decides lead.real lead.real).1 refl) (connected_natively link.state native known)
+
+      rights : rights_of w new ≡ rights_on w lead link
+      rights = λ i. bit_and (link_rights (over i)) (rights_left w.policy (leads i))
+
+      quiet : channel_notice w new ≡ None
+      quiet = rw (served, eq-eqb (rights_on w lead link) (rights_of w new) (sym rights)) refl
+
+  settled_created_on : (over : Option Link) → link_of w lead.real ≡ over → IsSettled (created_on number cid name lead over w)
+  settled_created_on None is = settled_not_connected number cid name w settled
+  settled_created_on (Some link) is = by (native_in link.state) refl
+    where
+      by : (native : Option Native) → native_in link.state ≡ native → IsSettled (created_on_native number cid name lead link native w)
+      by None known = settled_not_connected number cid name w settled
+      by (Some native) known = settled_created link native is known
+
+  settled_created_as : IsSettled (created_as number cid name (Some lead) w)
+  settled_created_as =
+      elim (nat_le CHANNEL_LIMIT (channel_count number w.clients))
+      as (λ t. IsSettled (cond t (creation_failed number cid w) (created_on number cid name lead (link_of w lead.real) w)))
+      [ true ↦ settled_creation_failed number cid w settled | false ↦ settled_created_on (link_of w lead.real) refl ]
+
+pub settled_channel_asked : (number cid : ℕ) (name : List ℕ) (w : Gateway) → IsSettled w → HasSubsOnChannels w → HasReadsOnChannels w → IsSettled (channel_asked number cid name w)
+settled_channel_asked number cid name w settled subs_on reads_on = by (lead_in w number name) refl
+  where
+    v : Gateway
+    v = with_host_fixed number w
+
+    by : (found : Option Lead) → lead_in w number name ≡ found → IsSettled (created_as number cid name found v)
+    by None is = settled_creation_failed number cid v (settled_host_fixed number w settled)
+    by (Some lead) is =
+        settled_created_as v (settled_host_fixed number w settled) subs_on reads_on number cid name lead (lead_after_fixing w number number name ∙ is)
+
+pub nothing_after_channel_asked : (number cid : ℕ) (name : List ℕ) (w : Gateway) → IsSettled w → HasSubsOnChannels w → HasReadsOnChannels w
+    → consequences (channel_asked number cid name w) ≡ channel_asked number cid name w
+nothing_after_channel_asked number cid name w settled subs_on reads_on =
+    settled_stays (channel_asked number cid name w) (settled_channel_asked number cid name w settled subs_on reads_on)

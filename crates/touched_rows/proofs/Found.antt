@@ -1,0 +1,83 @@
+-- A variable that a server has concerns no client until its link is connected.
+use Rattle.std.proofs.Common.{◌≡◌, ℕ, ◌+◌, List, [], ◌∷◌, ◌++◌, Bool, true, false, cond, ltb, not, ◌&&◌, Option, Some, None, refl, sym, ◌∙◌}
+use Rattle.std.specs.Prelude.{length}
+use Rattle.std.specs.List.{All, find}
+use Rattle.std.specs.Option.{option_or}
+use Rattle.std.proofs.lemmas.Bool.{and_parts, true≢false}
+use Rattle.std.proofs.lemmas.Grind.{flat_map-append}
+use Rattle.std.proofs.lemmas.List.Elements.{All-weaker}
+use Rattle.std.proofs.lemmas.List.Folds.{find-append}
+use Rattle.rows.specs.Rows.{change_first}
+use Rattle.ca_message.specs.declared.to_server.ToServer.TheVariants as requests
+use Rattle.channel_table.specs.declared.channels.Channel.{Channel}
+use Rattle.link_table.specs.declared.links.Link.{Link}
+use Rattle.link_table.specs.declared.links.LinkState.TheVariants.{Creating}
+use Rattle.link_table.specs.declared.table.TheConstants.{LINK_LIMIT}
+use Rattle.link_table.specs.LinkRows.{Counters}
+use Rattle.link_table.specs.Links.{is_named}
+use Rattle.gateway_state.specs.declared.connections.Connection.{Connection}
+use Rattle.gateway_state.specs.declared.event.Dest.TheVariants.{Upstream}
+use Rattle.gateway_state.specs.Asked.{acts}
+use Rattle.gateway_state.specs.Connections.{given, is_to}
+use Rattle.gateway_state.specs.Gateway.{Gateway}
+use Rattle.gateway_state.specs.Notices.{link_notices_of}
+use Rattle.gateway_state.specs.Rights.{lead_in, link_connected}
+use Rattle.gateway_state.specs.Resolution.{is_real}
+use Rattle.gateway_state.specs.Servers.{found, linked}
+use Rattle.gateway_state.specs.Settled.{IsSettled, IsUpToDate}
+use Rattle.gateway_state.specs.Step.{consequences}
+use Rattle.gateway_state.specs.Telling.{outgoing_upstream, sent}
+use Rattle.gateway_state.specs.Variables.{is_linked, is_missing, is_wanted, link_of}
+use Rattle.gateway_state.proofs.SettledMeaning.{all_up_to_date}
+use Rattle.gateway_state.proofs.SettledSteps.{settled_stays}
+use Rattle.touched_rows.proofs.Connections.{HasNoMoreRoom, no_more_room_given}
+use Rattle.touched_rows.proofs.LinksQuiet.{links_quiet}
+use Rattle.touched_rows.proofs.UnseenLinks.{interest_unseen, relinked, settled_unseen}
+
+-- the link of a channel is found before a new one
+found_first : (over other : Option Link) → link_connected over ≡ true → option_or over other ≡ over
+found_first None other connected = absurd (true≢false (sym connected))
+found_first (Some link) other connected = refl
+
+module _ (w : Gateway) (settled : IsSettled w) (new : Link) (state : new.state ≡ Creating) (wanted : is_wanted w new.name ≡ true) (connections : List Connection)
+    (room : HasNoMoreRoom w.connections connections) (counters : Counters) where
+  abbrev links : List Link
+  links = w.upstream.links ++ new ∷ []
+
+  unseen : All (λ (c : Channel). find (is_named c.real) links ≡ link_of w c.real) w.clients.channels
+  unseen =
+      All-weaker (IsUpToDate w) (λ (c : Channel). find (is_named c.real) links ≡ link_of w c.real)
+      (λ c up. find-append (is_named c.real) w.upstream.links (new ∷ [])
+      ∙ found_first (link_of w c.real) (find (is_named c.real) (new ∷ [])) (and_parts (is_real (lead_in w c.session c.asked) c.real) (link_connected (link_of w c.real)) up.served).1)
+      w.clients.channels (all_up_to_date w settled)
+
+  abbrev x : Gateway
+  x = relinked w settled connections room links counters unseen
+
+  new_quiet : link_notices_of x new ≡ []
+  new_quiet = rw (state, wanted) refl
+
+  settled_link_added : IsSettled x
+  settled_link_added =
+      settled_unseen w settled connections room links counters unseen
+      (flat_map-append (link_notices_of x) w.upstream.links (new ∷ [])
+      ∙ (λ i. links_quiet w x (interest_unseen w settled connections room links counters unseen) (λ name there. there) settled i ++ (new_quiet i ++ [])))
+
+settled_linked : (w : Gateway) → IsSettled w → (server : ℕ) (name : List ℕ) → is_wanted w name ≡ true → IsSettled (linked w server name)
+unfolding sent
+settled_linked w settled server name wanted =
+    let new : Link = record { cid = w.upstream.counters.cid; server = server; name = name; state = Creating; rights = 0; subscription = None } in
+    settled_link_added w settled new refl wanted
+    (change_first (is_to (Upstream server)) (given (outgoing_upstream (requests.CreateChannel w.upstream.counters.cid name))) w.connections)
+    (no_more_room_given (Upstream server) (outgoing_upstream (requests.CreateChannel w.upstream.counters.cid name)) w.connections)
+    (record w.upstream.counters { cid = w.upstream.counters.cid + 1 })
+
+pub nothing_after_found : (w : Gateway) (name : List ℕ) (server : ℕ) → IsSettled w → consequences (found w name server) ≡ found w name server
+nothing_after_found w name server settled = settled_stays (found w name server) (by (is_missing w name && acts w (Upstream server) && ltb (length w.upstream.links) LINK_LIMIT) refl)
+  where
+    by : (is : Bool) → (is_missing w name && acts w (Upstream server) && ltb (length w.upstream.links) LINK_LIMIT) ≡ is → IsSettled (cond is (linked w server name) w)
+    by true e =
+        let some = and_parts (is_missing w name && acts w (Upstream server)) (ltb (length w.upstream.links) LINK_LIMIT) e in
+        let missing = and_parts (is_missing w name) (acts w (Upstream server)) some.0 in
+        settled_linked w settled server name (and_parts (is_wanted w name) (not (is_linked w name)) missing.0).0
+    by false e = settled

@@ -1,0 +1,26 @@
+-- What is told of one read or subscription takes no number back.
+use Rattle.std.proofs.Common.{◌≡◌, Bool, true, Option, Some, None}
+use Rattle.channel_table.specs.declared.reads.WaitingRead.{WaitingRead}
+use Rattle.channel_table.specs.declared.subs.ClientSub.{ClientSub}
+use Rattle.gateway_state.specs.declared.notice.ReadNotice.{ReadNotice}
+use Rattle.gateway_state.specs.declared.notice.UpdateNotice.{UpdateNotice}
+use Rattle.gateway_state.specs.Gateway.{Gateway}
+use Rattle.gateway_state.specs.Notices.{read_notice}
+use Rattle.gateway_state.specs.Numbers.{is_past_numbers}
+use Rattle.gateway_state.specs.Updates.{update_notice}
+use Rattle.gateway_state.proofs.NumberLemmas.{read_told_past, update_told_past}
+use Rattle.touched_rows.specs.Touched.{one_read_told, one_update_told, read_told_if, update_told_if}
+
+read_past : (notice : Option ReadNotice) (w : Gateway) → is_past_numbers w ≡ true → is_past_numbers (read_told_if notice w) ≡ true
+read_past None w e = e
+read_past (Some notice) w e = read_told_past w notice e
+
+pub read_follows_past : (read : WaitingRead) (w : Gateway) → is_past_numbers w ≡ true → is_past_numbers (one_read_told read w) ≡ true
+read_follows_past read w e = read_past (read_notice w read) w e
+
+update_past : (notice : Option UpdateNotice) (w : Gateway) → is_past_numbers w ≡ true → is_past_numbers (update_told_if notice w) ≡ true
+update_past None w e = e
+update_past (Some notice) w e = update_told_past w notice e
+
+pub update_follows_past : (sub : ClientSub) (w : Gateway) → is_past_numbers w ≡ true → is_past_numbers (one_update_told sub w) ≡ true
+update_follows_past sub w e = update_past (update_notice w sub) w e

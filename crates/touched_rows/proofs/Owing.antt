@@ -1,0 +1,58 @@
+-- Owing an update to some subscriptions changes each of those, and nothing that doesn't look at what is
+-- owed.
+use Rattle.std.proofs.Common.{◌≡◌, ℕ, List, [], ◌∷◌, Bool, true, false, cond, refl, sym, ap, ◌∙◌}
+use Rattle.std.specs.Prelude.{filter, map}
+use Rattle.std.specs.List.{fold}
+use Rattle.channel_table.specs.declared.subs.ClientSub.{ClientSub}
+use Rattle.channel_table.specs.Subs.{with_owed}
+use Rattle.gateway_state.specs.Gateway.{Gateway}
+use Rattle.gateway_state.specs.Interest.{is_subscriber, sub_want}
+use Rattle.gateway_state.specs.Settled.{AreApart}
+use Rattle.gateway_state.specs.Updates.{is_withheld}
+use Rattle.gateway_state.proofs.SettledUpdates.{wants_whatever_owed}
+use Rattle.gateway_state.proofs.SettledWithheld.{kept_by_others, owing}
+use Rattle.gateway_state.proofs.SubsApart.{itself}
+
+-- the subscription is owed an update where it passes the test
+abbrev pub owed_where : (ClientSub → Bool) → ClientSub → ClientSub
+owed_where test sub = cond (test sub) (with_owed true sub) sub
+
+-- owing to each that passes is a change of each
+pub owing_each : (test : ClientSub → Bool) (rows : List ClientSub) → AreApart rows → fold owing rows (filter test rows) ≡ map (owed_where test) rows
+owing_each test [] apart = refl
+owing_each test (row ∷ rows) apart = by (test row) (owing_each test rows apart.1)
+  where
+    by : (is : Bool) → fold owing rows (filter test rows) ≡ map (owed_where test) rows
+        → fold owing (row ∷ rows) (cond is (row ∷ filter test rows) (filter test rows)) ≡ cond is (with_owed true row) row ∷ map (owed_where test) rows
+    by true rest =
+        let step : owing (row ∷ rows) row ≡ with_owed true row ∷ rows = rw (itself row) refl in
+        ap (λ (left : List ClientSub). fold owing left (filter test rows)) step ∙ kept_by_others test (with_owed true row) rows rows apart.0
+        ∙ ap (λ (more : List ClientSub). with_owed true row ∷ more) rest
+    by false rest = kept_by_others test row rows rows apart.0 ∙ ap (λ (more : List ClientSub). row ∷ more) rest
+
+-- none is withheld that wasn't
+pub none_withheld : (w : Gateway) (test : ClientSub → Bool) (rows : List ClientSub) → filter (is_withheld w) rows ≡ [] → filter (is_withheld w) (map (owed_where test) rows) ≡ []
+none_withheld w test [] none = refl
+none_withheld w test (row ∷ rows) none = by (is_withheld w row) (test row) refl none (λ rest. none_withheld w test rows rest)
+  where
+    by : (held passes : Bool) → is_withheld w row ≡ held → cond held (row ∷ filter (is_withheld w) rows) (filter (is_withheld w) rows) ≡ []
+        → (filter (is_withheld w) rows ≡ [] → filter (is_withheld w) (map (owed_where test) rows) ≡ [])
+        → filter (is_withheld w) (cond passes (with_owed true row) row ∷ map (owed_where test) rows) ≡ []
+    by true passes is none rest = absurd cc
+    by false true is none rest = rest none
+    by false false is none rest = rw is (rest none)
+
+-- what readers want
+alike_but_owed : (test : ClientSub → Bool) (rows : List ClientSub) → map (with_owed true) (map (owed_where test) rows) ≡ map (with_owed true) rows
+alike_but_owed test [] = refl
+alike_but_owed test (row ∷ rows) =
+    let rest = alike_but_owed test rows in
+    elim (test row) as (λ t. with_owed true (cond t (with_owed true row) row) ∷ map (with_owed true) (map (owed_where test) rows) ≡ with_owed true row ∷ map (with_owed true) rows)
+    [ true ↦ ap (λ (more : List ClientSub). with_owed true row ∷ more) rest | false ↦ ap (λ (more : List ClientSub). with_owed true row ∷ more) rest ]
+
+pub wants_alike : (w : Gateway) (name : List ℕ) (native : ℕ) (test : ClientSub → Bool) (rows : List ClientSub)
+    → map (sub_want native) (filter (is_subscriber w name) (map (owed_where test) rows)) ≡ map (sub_want native) (filter (is_subscriber w name) rows)
+wants_alike w name native test rows =
+    wants_whatever_owed w name native (map (owed_where test) rows)
+    ∙ ap (λ (all : List ClientSub). map (sub_want native) (filter (is_subscriber w name) all)) (alike_but_owed test rows)
+    ∙ sym (wants_whatever_owed w name native rows)

@@ -1,0 +1,45 @@
+-- What tellings leave as it is.
+use Rattle.std.proofs.Common.{◌≡◌, List, [], ◌∷◌, refl}
+use Rattle.std.specs.List.{fold}
+use Rattle.channel_table.specs.declared.reads.WaitingRead.{WaitingRead}
+use Rattle.link_table.specs.declared.links.LinkState.TheVariants.{Creating, Connected, Unusable}
+use Rattle.link_table.specs.LinkRows.{LinkRows}
+use Rattle.gateway_state.specs.declared.cached.LastMessage.{LastMessage}
+use Rattle.gateway_state.specs.declared.connections.Connection.{Connection}
+use Rattle.gateway_state.specs.declared.notice.LinkNotice.{LinkNotice}
+use Rattle.gateway_state.specs.declared.notice.LinkNotice.TheVariants.{Cancelled, Unread, Subscribed, Dropped}
+use Rattle.gateway_state.specs.declared.notice.ReadNotice.{ReadNotice}
+use Rattle.gateway_state.specs.declared.notice.ReadNotice.TheVariants.{Refused, Answered}
+use Rattle.gateway_state.specs.Gateway.{Gateway}
+use Rattle.gateway_state.specs.Notices.{link_told, read_told}
+use Rattle.gateway_state.specs.Telling.{sent}
+
+-- a state with other waiting reads and outboxes
+abbrev pub with_reads : Gateway → List Connection → List WaitingRead → Gateway
+with_reads w connections reads = record w { connections = connections; clients = record w.clients { reads = reads } }
+
+-- answers to reads change nothing else
+pub reads_told_shape : (notices : List ReadNotice) (w : Gateway)
+    → fold read_told w notices ≡ with_reads w (fold read_told w notices).connections (fold read_told w notices).clients.reads
+unfolding sent
+reads_told_shape [] w = refl
+reads_told_shape (Refused read code ∷ notices) w = reads_told_shape notices (read_told w (Refused read code))
+reads_told_shape (Answered read count payload ∷ notices) w = reads_told_shape notices (read_told w (Answered read count payload))
+
+-- a state with other links, last messages and outboxes
+abbrev pub with_links : Gateway → List Connection → List LastMessage → LinkRows → Gateway
+with_links w connections cache upstream = record w { connections = connections; cache = cache; upstream = upstream }
+
+-- what servers are told changes nothing else
+pub links_told_shape : (notices : List LinkNotice) (w : Gateway)
+    → fold link_told w notices ≡ with_links w (fold link_told w notices).connections (fold link_told w notices).cache (fold link_told w notices).upstream
+unfolding sent
+links_told_shape [] w = refl
+links_told_shape (Cancelled server cid sid dtype sub ∷ notices) w = links_told_shape notices (link_told w (Cancelled server cid sid dtype sub))
+links_told_shape (Unread cid ∷ notices) w = links_told_shape notices (link_told w (Unread cid))
+links_told_shape (Subscribed server cid sid dtype want asked ∷ notices) w =
+    links_told_shape notices (link_told w (Subscribed server cid sid dtype want asked))
+links_told_shape (Dropped server cid Creating ∷ notices) w = links_told_shape notices (link_told w (Dropped server cid Creating))
+links_told_shape (Dropped server cid Unusable ∷ notices) w = links_told_shape notices (link_told w (Dropped server cid Unusable))
+links_told_shape (Dropped server cid (Connected sid dtype native) ∷ notices) w =
+    links_told_shape notices (link_told w (Dropped server cid (Connected sid dtype native)))

@@ -1,0 +1,30 @@
+-- What events rest on of the state before them, in every state that a run reaches.
+use Rattle.std.proofs.Common.{sym, subst}
+use Rattle.gateway_state.specs.Gateway.{Gateway}
+use Rattle.gateway_state.specs.Reached.{IsReached}
+use Rattle.gateway_state.specs.Settled.{AreInOrder, HasLinksApart, HasReadsOnChannels, HasSubsApart, HasSubsOnChannels, IsSettled}
+use Rattle.gateway_state.proofs.LinksApart.{run_links_apart}
+use Rattle.gateway_state.proofs.ReadsOnChannels.{run_reads_on_channels}
+use Rattle.gateway_state.proofs.SettledRuns.{run_in_order, run_settled}
+use Rattle.gateway_state.proofs.SubsApart.{run_subs_apart}
+use Rattle.gateway_state.proofs.SubsOnChannels.{run_subs_on_channels}
+
+-- nobody is owed anything, and rows are apart and stand on others as they should
+pub record IsTidy (w : Gateway) : Type 0 where
+  pub settled : IsSettled w
+  pub order : AreInOrder w
+  pub links_apart : HasLinksApart w
+  pub subs_apart : HasSubsApart w
+  pub subs_on : HasSubsOnChannels w
+  pub reads_on : HasReadsOnChannels w
+
+pub reached_tidy : (w : Gateway) → IsReached w → IsTidy w
+reached_tidy w reached =
+    subst IsTidy (sym reached.by_run) (record {
+      settled = run_settled reached.config reached.policy reached.events;
+      order = run_in_order reached.config reached.policy reached.events;
+      links_apart = run_links_apart reached.config reached.policy reached.events;
+      subs_apart = run_subs_apart reached.config reached.policy reached.events;
+      subs_on = run_subs_on_channels reached.config reached.policy reached.events;
+      reads_on = run_reads_on_channels reached.config reached.policy reached.events;
+    })

@@ -1,0 +1,52 @@
+-- In every state that a run reaches, what follows from an event is what it touches.
+use Rattle.std.proofs.Common.{◌≡◌, true, false, cond, refl}
+use Rattle.ca_message.specs.ClientRequest.{request_of}
+use Rattle.ca_message.specs.ServerReply.{reply_of}
+use Rattle.gateway_state.specs.declared.event.Dest.TheVariants.{Session as ToSession, Upstream}
+use Rattle.gateway_state.specs.declared.event.Event.{Event}
+use Rattle.gateway_state.specs.declared.event.Event.TheVariants.{Opened, Lost, Client, UpOpened, UpLost, Server, Found, Search, Sweep, Edit, Drain}
+use Rattle.gateway_state.specs.Asked.{acts}
+use Rattle.gateway_state.specs.Direct.{direct_effect}
+use Rattle.gateway_state.specs.Gateway.{Gateway}
+use Rattle.gateway_state.specs.Reached.{IsReached}
+use Rattle.gateway_state.specs.Requests.{client_said}
+use Rattle.gateway_state.specs.Servers.{server_said}
+use Rattle.gateway_state.specs.Step.{consequences, step}
+use Rattle.gateway_state.proofs.SettledSteps.{settled_stays}
+use Rattle.touched_rows.specs.declared.touched.Touched.TheVariants.{Nothing}
+use Rattle.touched_rows.specs.Touches.{event_touches, follows, reply_touches, request_touches}
+use Rattle.touched_rows.proofs.Drained.{nothing_after_server_drain, told_after_drain}
+use Rattle.touched_rows.proofs.Found.{nothing_after_found}
+use Rattle.touched_rows.proofs.Searched.{nothing_after_search}
+use Rattle.touched_rows.proofs.Tidy.{IsTidy, reached_tidy}
+use Rattle.touched_rows.proofs.ToldClients.{told_request}
+use Rattle.touched_rows.proofs.ToldServers.{told_reply}
+
+told_event : (w : Gateway) (event : Event) → IsTidy w → consequences (direct_effect w event) ≡ follows (event_touches w event) (direct_effect w event)
+told_event w (Opened number host) tidy = refl
+told_event w (Lost number) tidy = refl
+told_event w (Client number message) tidy =
+    elim (acts w (ToSession number))
+    as (λ t. consequences (cond t (client_said w number message) w)
+    ≡ follows (cond t (request_touches w number (request_of message.head message.payload)) Nothing) (cond t (client_said w number message) w))
+    [ true ↦ told_request w tidy number message (request_of message.head message.payload) | false ↦ settled_stays w tidy.settled ]
+told_event w (UpOpened number) tidy = refl
+told_event w (UpLost number) tidy = refl
+told_event w (Server number message) tidy =
+    elim (acts w (Upstream number))
+    as (λ t. consequences (cond t (server_said w number message) w)
+    ≡ follows (cond t (reply_touches w number (reply_of message.head message.payload)) Nothing) (cond t (server_said w number message) w))
+    [ true ↦ told_reply w tidy number (reply_of message.head message.payload) | false ↦ settled_stays w tidy.settled ]
+told_event w (Found name number) tidy = nothing_after_found w name number tidy.settled
+told_event w (Search host name) tidy = nothing_after_search host name w tidy.settled
+told_event w Sweep tidy = refl
+told_event w (Edit policy) tidy = refl
+told_event w (Drain (ToSession number) count) tidy = told_after_drain w number count tidy.settled
+told_event w (Drain (Upstream number) count) tidy = nothing_after_server_drain w number count tidy.settled
+
+pub told_alone : (w : Gateway) (event : Event) → IsReached w → consequences (direct_effect w event) ≡ follows (event_touches w event) (direct_effect w event)
+told_alone w event reached = told_event w event (reached_tidy w reached)
+
+pub step_alone : (w : Gateway) (event : Event) → IsReached w → step w event ≡ follows (event_touches w event) (direct_effect w event)
+unfolding step
+step_alone w event reached = told_alone w event reached

@@ -1,0 +1,74 @@
+-- What is told on one variable, to one session, on one link, read or subscription alone.
+use Rattle.std.specs.Prelude.{ℕ, List, [], filter, filter_map, Option, Some, None}
+use Rattle.std.specs.List.{fold}
+use Rattle.channel_table.specs.declared.reads.WaitingRead.{WaitingRead}
+use Rattle.channel_table.specs.declared.subs.ClientSub.{ClientSub}
+use Rattle.channel_table.specs.Subs.{is_sub_of}
+use Rattle.link_table.specs.declared.links.Link.{Link}
+use Rattle.gateway_state.specs.declared.notice.LinkNotice.{LinkNotice}
+use Rattle.gateway_state.specs.declared.notice.ReadNotice.{ReadNotice}
+use Rattle.gateway_state.specs.declared.notice.UpdateNotice.{UpdateNotice}
+use Rattle.gateway_state.specs.Gateway.{Gateway}
+use Rattle.gateway_state.specs.Notices.{interest_notices, link_notices_of, link_told, read_notice, read_told}
+use Rattle.gateway_state.specs.Servers.{waits_for}
+use Rattle.gateway_state.specs.Updates.{is_sub_to, update_notice, update_told}
+use Rattle.gateway_state.specs.Variables.{link_of}
+
+-- LINKS
+
+abbrev pub interest_notices_over : Gateway → Option Link → List LinkNotice
+interest_notices_over w None = []
+interest_notices_over w (Some link) = interest_notices w link link.state
+
+-- the server of one variable is asked for what the variable's readers want together
+abbrev pub interest_told : List ℕ → Gateway → Gateway
+interest_told name w = fold link_told w (interest_notices_over w (link_of w name))
+
+abbrev pub link_notices_over : Gateway → Option Link → List LinkNotice
+link_notices_over w None = []
+link_notices_over w (Some link) = link_notices_of w link
+
+-- the same, and the link goes where nobody wants it
+abbrev pub link_told_on : List ℕ → Gateway → Gateway
+link_told_on name w = fold link_told w (link_notices_over w (link_of w name))
+
+-- READS that wait
+
+abbrev pub read_notices_on : List ℕ → Gateway → List ReadNotice
+read_notices_on name w = filter_map (read_notice w) (filter (waits_for w name) w.clients.reads)
+
+-- on one variable, in the order of asking
+abbrev pub reads_told_on : List ℕ → Gateway → Gateway
+reads_told_on name w = fold read_told w (read_notices_on name w)
+
+abbrev pub read_told_if : Option ReadNotice → Gateway → Gateway
+read_told_if None w = w
+read_told_if (Some notice) w = read_told w notice
+
+-- one read
+abbrev pub one_read_told : WaitingRead → Gateway → Gateway
+one_read_told read w = read_told_if (read_notice w read) w
+
+-- UPDATES
+
+abbrev pub update_notices_on : List ℕ → Gateway → List UpdateNotice
+update_notices_on name w = filter_map (update_notice w) (filter (is_sub_to w name) w.clients.subs)
+
+-- on one variable, in the order in which the subscriptions were made
+abbrev pub updates_told_on : List ℕ → Gateway → Gateway
+updates_told_on name w = fold update_told w (update_notices_on name w)
+
+abbrev pub update_notices_to : ℕ → Gateway → List UpdateNotice
+update_notices_to number w = filter_map (update_notice w) (filter (is_sub_of number) w.clients.subs)
+
+-- to one session
+abbrev pub updates_told_to : ℕ → Gateway → Gateway
+updates_told_to number w = fold update_told w (update_notices_to number w)
+
+abbrev pub update_told_if : Option UpdateNotice → Gateway → Gateway
+update_told_if None w = w
+update_told_if (Some notice) w = update_told w notice
+
+-- to one subscription
+abbrev pub one_update_told : ClientSub → Gateway → Gateway
+one_update_told sub w = update_told_if (update_notice w sub) w

@@ -1,0 +1,159 @@
+-- What each event touches.
+use Rattle.std.specs.Prelude.{ℕ, List, ◌==◌, if◌then◌else◌, Option, Some, None, Result, Ok, Err}
+use Rattle.std.specs.List.{find}
+use Rattle.ca_message.specs.declared.codes.TheConstants.{ECA_NORMAL}
+use Rattle.ca_message.specs.declared.reply.ReplyFault.{ReplyFault}
+use Rattle.ca_message.specs.declared.reply.ServerReply.{ServerReply}
+use Rattle.ca_message.specs.declared.reply.ServerReply.TheVariants as says
+use Rattle.ca_message.specs.declared.request.ClientRequest.{ClientRequest}
+use Rattle.ca_message.specs.declared.request.ClientRequest.TheVariants as requests
+use Rattle.ca_message.specs.declared.request.RequestFault.{RequestFault}
+use Rattle.ca_message.specs.ClientRequest.{request_of}
+use Rattle.ca_message.specs.ServerReply.{reply_of}
+use Rattle.channel_table.specs.declared.channels.Channel.{Channel}
+use Rattle.channel_table.specs.declared.reads.WaitingRead.{WaitingRead}
+use Rattle.channel_table.specs.declared.subs.ClientSub.{ClientSub}
+use Rattle.link_table.specs.declared.links.Link.{Link}
+use Rattle.link_table.specs.declared.links.LinkState.{LinkState}
+use Rattle.link_table.specs.declared.links.LinkState.TheVariants.{Creating, Connected, Unusable}
+use Rattle.link_table.specs.declared.links.Subscription.{Subscription}
+use Rattle.link_table.specs.Links.{has_subscription}
+use Rattle.gateway_state.specs.declared.event.Dest.{Dest}
+use Rattle.gateway_state.specs.declared.event.Dest.TheVariants as dests
+use Rattle.gateway_state.specs.declared.event.Event.{Event}
+use Rattle.gateway_state.specs.declared.event.Event.TheVariants as events
+use Rattle.gateway_state.specs.declared.notice.ReadVerdict.{ReadVerdict}
+use Rattle.gateway_state.specs.declared.notice.ReadVerdict.TheVariants as reads
+use Rattle.gateway_state.specs.declared.notice.SubVerdict.{SubVerdict}
+use Rattle.gateway_state.specs.declared.notice.SubVerdict.TheVariants as subs
+use Rattle.gateway_state.specs.Asked.{acts}
+use Rattle.gateway_state.specs.Clients.{read_verdict}
+use Rattle.gateway_state.specs.Gateway.{Gateway}
+use Rattle.gateway_state.specs.Rights.{channel_of}
+use Rattle.gateway_state.specs.Servers.{is_value}
+use Rattle.gateway_state.specs.Step.{consequences}
+use Rattle.gateway_state.specs.Subscribing.{is_on_sid, new_sub, sub_of, sub_verdict}
+use Rattle.touched_rows.specs.declared.touched.Touched.{Touched}
+use Rattle.touched_rows.specs.declared.touched.Touched.TheVariants.{All, Nothing, Session, Value, Interest, Link as LinkOf, Read, Subscription as SubscriptionTo}
+use Rattle.touched_rows.specs.Touched.{interest_told, link_told_on, one_read_told, one_update_told, reads_told_on, updates_told_on, updates_told_to}
+
+-- what follows where no more than this was touched
+abbrev pub follows : Touched → Gateway → Gateway
+follows All w = consequences w
+follows Nothing w = w
+follows (Session number) w = updates_told_to number w
+follows (Value name) w = updates_told_on name (reads_told_on name w)
+follows (Interest name) w = interest_told name w
+follows (LinkOf name) w = link_told_on name w
+follows (Read name read) w = one_read_told read (interest_told name w)
+follows (SubscriptionTo name sub) w = one_update_told sub (interest_told name w)
+
+-- CLIENTS' MESSAGES
+
+abbrev pub new_read : ℕ → ℕ → ℕ → ℕ → ℕ → WaitingRead
+new_read number sid ioid dtype count = record { session = number; sid = sid; dtype = dtype; count = count; ioid = ioid }
+
+abbrev pub read_touches_by : WaitingRead → Option Channel → ReadVerdict → Touched
+read_touches_by read None verdict = Nothing
+read_touches_by read (Some c) reads.NoChannel = Nothing
+read_touches_by read (Some c) reads.Ignored = Nothing
+read_touches_by read (Some c) (reads.Refused code) = Nothing
+read_touches_by read (Some c) (reads.Accepted reach rights) = Read c.real read
+
+-- a read that is accepted
+abbrev pub read_touches : Gateway → WaitingRead → Touched
+read_touches w read =
+    read_touches_by read (channel_of w read.session read.sid) (read_verdict w read.session read.sid read.dtype read.count)
+
+abbrev pub sub_touches_by : ClientSub → Option Channel → SubVerdict → Touched
+sub_touches_by sub None verdict = Nothing
+sub_touches_by sub (Some c) subs.NoChannel = Nothing
+sub_touches_by sub (Some c) subs.Ignored = Nothing
+sub_touches_by sub (Some c) (subs.Refused cid code) = Nothing
+sub_touches_by sub (Some c) subs.Accepted = SubscriptionTo c.real sub
+
+-- a subscription that is made
+abbrev pub sub_touches : Gateway → ClientSub → Touched
+sub_touches w sub = sub_touches_by sub (channel_of w sub.session sub.sid) (sub_verdict w sub)
+
+abbrev pub cancel_touches_by : ℕ → Option ClientSub → Option Channel → Touched
+cancel_touches_by sid sub None = Nothing
+cancel_touches_by sid sub (Some c) = if is_on_sid sid sub then Interest c.real else Nothing
+
+-- a subscription that is given up
+abbrev pub cancel_touches : Gateway → ℕ → ℕ → ℕ → Touched
+cancel_touches w number sid id = cancel_touches_by sid (sub_of w number id) (channel_of w number sid)
+
+abbrev pub clear_touches_by : Option Channel → Touched
+clear_touches_by None = Nothing
+clear_touches_by (Some c) = LinkOf c.real
+
+-- a channel that is given up
+abbrev pub clear_touches : Gateway → ℕ → ℕ → Touched
+clear_touches w number sid = clear_touches_by (channel_of w number sid)
+
+abbrev pub request_touches : Gateway → ℕ → Result ClientRequest RequestFault → Touched
+request_touches w number (Ok (requests.Version minor)) = Nothing
+request_touches w number (Ok (requests.EventAdd sid id dtype count mask)) = sub_touches w (new_sub number sid id dtype count mask)
+request_touches w number (Ok (requests.EventCancel sid id dtype count)) = cancel_touches w number sid id
+request_touches w number (Ok (requests.Write sid dtype count value)) = All
+request_touches w number (Ok requests.EventsOff) = Nothing
+request_touches w number (Ok requests.EventsOn) = Session number
+request_touches w number (Ok (requests.ClearChannel sid cid)) = clear_touches w number sid
+request_touches w number (Ok (requests.ReadNotify sid ioid dtype count)) = read_touches w (new_read number sid ioid dtype count)
+request_touches w number (Ok (requests.CreateChannel cid minor name)) = Nothing
+request_touches w number (Ok (requests.WriteNotify sid ioid dtype count value)) = All
+request_touches w number (Ok (requests.ClientName name)) = Nothing
+request_touches w number (Ok (requests.HostName host)) = All
+request_touches w number (Ok requests.Echo) = Nothing
+request_touches w number (Err fault) = Nothing
+
+-- SERVERS' MESSAGES
+
+abbrev pub value_touches : Link → LinkState → Option Subscription → ℕ → ℕ → List ℕ → Touched
+value_touches link (Connected sid native native_count) (Some sub) dtype count payload =
+    if is_value native sub.count dtype count payload then Value link.name else Nothing
+value_touches link (Connected sid native native_count) None dtype count payload = Nothing
+value_touches link Creating sub dtype count payload = Nothing
+value_touches link Unusable sub dtype count payload = Nothing
+
+abbrev pub update_touches_over : ℕ → ℕ → ℕ → List ℕ → Option Link → Touched
+update_touches_over status dtype count payload None = Nothing
+update_touches_over status dtype count payload (Some link) =
+    if status == ECA_NORMAL then value_touches link link.state link.subscription dtype count payload else Nothing
+
+-- an update that is accepted
+abbrev pub update_touches : Gateway → ℕ → ℕ → ℕ → ℕ → ℕ → List ℕ → Touched
+update_touches w server id status dtype count payload =
+    update_touches_over status dtype count payload (find (has_subscription server id) w.upstream.links)
+
+abbrev pub reply_touches : Gateway → ℕ → Result ServerReply ReplyFault → Touched
+reply_touches w server (Ok (says.Version minor)) = Nothing
+reply_touches w server (Ok (says.EventAdd id status dtype count value)) = update_touches w server id status dtype count value
+reply_touches w server (Ok (says.CreateChannel cid sid dtype count)) = All
+reply_touches w server (Ok (says.WriteNotify ioid status)) = All
+reply_touches w server (Ok (says.AccessRights cid rights)) = All
+reply_touches w server (Ok (says.CreateChannelFail cid)) = All
+reply_touches w server (Ok (says.ServerDisconnect cid)) = All
+reply_touches w server (Err fault) = Nothing
+
+-- EVENTS
+
+abbrev pub drain_touches : Dest → Touched
+drain_touches (dests.Session number) = Session number
+drain_touches (dests.Upstream number) = Nothing
+
+abbrev pub event_touches : Gateway → Event → Touched
+event_touches w (events.Opened number host) = All
+event_touches w (events.Lost number) = All
+event_touches w (events.Client number message) =
+    if acts w (dests.Session number) then request_touches w number (request_of message.head message.payload) else Nothing
+event_touches w (events.UpOpened number) = All
+event_touches w (events.UpLost number) = All
+event_touches w (events.Server number message) =
+    if acts w (dests.Upstream number) then reply_touches w number (reply_of message.head message.payload) else Nothing
+event_touches w (events.Found name number) = Nothing
+event_touches w (events.Search host name) = Nothing
+event_touches w events.Sweep = All
+event_touches w (events.Edit policy) = All
+event_touches w (events.Drain dest count) = drain_touches dest

@@ -1,0 +1,11 @@
+//! What an event touches: where nobody was owed anything before it, what follows from it is told on
+//! one variable, or to one session, or is nothing at all.
+//!
+//! `Touched` names what is told. `specs/Touched.antt` has the words for what is told on one variable
+//! alone, `specs/Touches.antt` says what each event touches, and `laws` that this is all that follows.
+#![tactic(auto)]
+
+pub mod laws;
+mod touched;
+
+pub use touched::Touched;

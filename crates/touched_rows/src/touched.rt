@@ -1,0 +1,24 @@
+//! What an event touches.
+use channel_table::{ClientSub, WaitingRead};
+use pv_name::Name;
+
+/// What others may be owed after an event's direct effect, where nobody was owed anything before it.
+#[derive(Debug, Drop)]
+pub enum Touched {
+    /// Anything, to anybody.
+    All,
+    /// Nothing.
+    Nothing,
+    /// Updates to the subscriptions of this session, which may have room for them now.
+    Session(u32),
+    /// Answers to the reads that wait for this variable, and updates to its subscriptions.
+    Value(Name),
+    /// What the readers of this variable want together, to its server.
+    Interest(Name),
+    /// The same, or that the variable isn't wanted any more.
+    Link(Name),
+    /// What the readers of this variable want together, and then the answer to this read.
+    Read(Name, WaitingRead),
+    /// What the readers of this variable want together, and then an update to this subscription.
+    Subscription(Name, ClientSub),
+}
