@@ -1,9 +1,11 @@
 //! What clients ask for.
-ghost use Rattle.std.specs.Prelude.{◌≡◌, true, Ok, OnOk, IsErrOf};
+ghost use Rattle.std.specs.Prelude.{◌≡◌, true, Ok, OnOk, IfOk, IsErrOf};
+ghost use Rattle.ca_message.specs.ClientRequest.{request_of};
 ghost use Rattle.gateway_state.specs.Numbers.{is_past_numbers};
 ghost use Rattle.gateway_state.specs.Clients.{versioned};
 ghost use Rattle.gateway_state.specs.Requests.{client_said, requested, unreadable};
 ghost use Rattle.gateway_state.specs.Telling.{told};
+ghost use Rattle.touched_rows.specs.Touches.{request_touches};
 
 use crate::clear_channel::clear_channel;
 use crate::create_channel::{create_channel, fail_creation};
@@ -22,15 +24,20 @@ use ca_message::{ClientRequest, ToClient, read_request};
 use gateway_rows::{Refusal, Rows};
 use gateway_state::{Dest, LOWEST_MINOR};
 use std::alloc::AllocError;
+use touched_rows::Touched;
 
 /// A client sent a message.
-pub fn hear_client(rows: &mut Rows, number: u32, message: Message) -> Result<(), Refusal>
+pub fn hear_client(rows: &mut Rows, number: u32, message: Message) -> Result<Touched, Refusal>
     ensures ok { OnOk result (rows.new ≡ client_said rows.old number message) }
+    ensures touched { IfOk result (λ touched. touched ≡ request_touches rows.old number (request_of message.head message.payload)) }
     ensures used_up { IsErrOf result Refusal.NumbersUsedUp → is_past_numbers (client_said rows.old number message) ≡ true }
 {
     match read_request(&message.head, &message.payload) {
         Ok(request) => hear_request(rows, number, request, &message),
-        Err(_) => Ok(hear_unreadable(rows, number, &message.head)?),
+        Err(_) => {
+            hear_unreadable(rows, number, &message.head)?;
+            Ok(Touched::Nothing)
+        }
     }
 }
 
@@ -40,15 +47,16 @@ fn hear_request(
     number: u32,
     request: ClientRequest<'_>,
     message: &Message,
-) -> Result<(), Refusal>
+) -> Result<Touched, Refusal>
     ensures ok { OnOk result (rows.new ≡ requested rows.old number message.now (Ok request.entry)) }
+    ensures touched { IfOk result (λ touched. touched ≡ request_touches rows.old number (Ok request.entry)) }
     ensures used_up { IsErrOf result Refusal.NumbersUsedUp → is_past_numbers (requested rows.old number message.now (Ok request.entry)) ≡ true }
 {
     let head = &message.head;
     match request {
         ClientRequest::Version { minor } => {
             hear_version(rows, number, minor);
-            Ok(())
+            Ok(Touched::Nothing)
         }
         ClientRequest::EventAdd {
             sid,
@@ -68,19 +76,24 @@ fn hear_request(
             dtype,
             count,
             value,
-        } => Ok(hear_write(
-            rows,
-            Write {
+        } => {
+            let write = Write {
                 session: number,
                 sid,
                 dtype,
                 count,
-            },
-            value.as_slice(),
-            head,
-        )?),
-        ClientRequest::EventsOff => Ok(pause(rows, number, true)?),
-        ClientRequest::EventsOn => Ok(pause(rows, number, false)?),
+            };
+            hear_write(rows, write, value.as_slice(), head)?;
+            Ok(Touched::Nothing)
+        }
+        ClientRequest::EventsOff => {
+            pause(rows, number, true)?;
+            Ok(Touched::Nothing)
+        }
+        ClientRequest::EventsOn => {
+            pause(rows, number, false)?;
+            Ok(Touched::Session(number))
+        }
         ClientRequest::ClearChannel { sid, cid } => {
             Ok(clear_channel(rows, number, sid, cid, head)?)
         }
@@ -92,7 +105,8 @@ fn hear_request(
         } => Ok(read(rows, number, sid, ioid, dtype, count, head)?),
         ClientRequest::CreateChannel { cid, name, .. } => {
             let name = name.to_name(rows.alloc)?;
-            create_channel(rows, number, cid, &name)
+            create_channel(rows, number, cid, &name)?;
+            Ok(Touched::Nothing)
         }
         ClientRequest::WriteNotify {
             sid,
@@ -100,24 +114,26 @@ fn hear_request(
             dtype,
             count,
             value,
-        } => hear_write_notify(
-            rows,
-            Write {
+        } => {
+            let write = Write {
                 session: number,
                 sid,
                 dtype,
                 count,
-            },
-            ioid,
-            value.as_slice(),
-            head,
-        ),
-        ClientRequest::ClientName(_) => Ok(()),
+            };
+            hear_write_notify(rows, write, ioid, value.as_slice(), head)?;
+            Ok(Touched::Nothing)
+        }
+        ClientRequest::ClientName(_) => Ok(Touched::Nothing),
         ClientRequest::HostName(host) => {
             let host = host.to_host(rows.alloc)?;
-            Ok(name_host(rows, number, host)?)
+            name_host(rows, number, host)?;
+            Ok(Touched::All)
         }
-        ClientRequest::Echo => Ok(echo(rows, number, message)?),
+        ClientRequest::Echo => {
+            echo(rows, number, message)?;
+            Ok(Touched::Nothing)
+        }
     }
 }
 

@@ -2,6 +2,8 @@
 ghost use Rattle.std.specs.Prelude.{◌≡◌, Some, OnOk, IfOk};
 ghost use Rattle.gateway_state.specs.Answer.{cached_value};
 ghost use Rattle.gateway_state.specs.Clients.{accepted, is_one_too_many, read_asked, read_refused, read_verdict, verdict_natively};
+ghost use Rattle.gateway_state.specs.Rights.{channel_of};
+ghost use Rattle.touched_rows.specs.Touches.{accepted_touches, new_read, read_touches};
 
 use crate::refusals::refuse_channel;
 use ca_header::Header;
@@ -12,6 +14,7 @@ use gateway_rows::{Rows, meant_count, native_in, read_refusal};
 use gateway_state::{Native, ReadVerdict};
 use link_table::Link;
 use std::alloc::AllocError;
+use touched_rows::Touched;
 
 /// Whether a read isn't covered, and as many reads of the session wait as may.
 fn is_one_too_many(
@@ -119,13 +122,20 @@ pub(crate) fn read(
     dtype: u16,
     count: u32,
     head: &Header,
-) -> Result<(), AllocError>
-    ensures { OnOk result (rows.new ≡ read_asked number sid ioid dtype count head.now rows.old) }
+) -> Result<Touched, AllocError>
+    ensures ok { OnOk result (rows.new ≡ read_asked number sid ioid dtype count head.now rows.old) }
+    ensures touched { IfOk result (λ touched. touched ≡ read_touches rows.old (new_read number sid ioid dtype count)) }
 {
     match read_verdict(rows, number, sid, dtype, count)? {
-        ReadVerdict::NoChannel => refuse_channel(rows, number, head),
-        ReadVerdict::Ignored => Ok(()),
-        ReadVerdict::Refused(code) => refuse_read(rows, number, ioid, dtype, count, code),
+        ReadVerdict::NoChannel => {
+            refuse_channel(rows, number, head)?;
+            Ok(Touched::Nothing)
+        }
+        ReadVerdict::Ignored => Ok(Touched::Nothing),
+        ReadVerdict::Refused(code) => {
+            refuse_read(rows, number, ioid, dtype, count, code)?;
+            Ok(Touched::Nothing)
+        }
         ReadVerdict::Accepted { reach, rights } => {
             let read = WaitingRead {
                 session: number,
@@ -134,7 +144,19 @@ pub(crate) fn read(
                 count,
                 ioid,
             };
-            accept_read(rows, read, reach, rights)
+            let touched = accepted_touches(rows, read)?;
+            accept_read(rows, read, reach, rights)?;
+            Ok(touched)
         }
+    }
+}
+
+/// What a read touches that is accepted.
+fn accepted_touches(rows: &Rows, read: WaitingRead) -> Result<Touched, AllocError>
+    ensures { IfOk result (λ touched. touched ≡ accepted_touches read (channel_of rows.now read.session read.sid)) }
+{
+    match rows.channel_of(read.session, read.sid) {
+        Some(channel) => Ok(Touched::Read(channel.real.copy()?, read)),
+        None => Ok(Touched::Nothing),
     }
 }

@@ -1,6 +1,8 @@
 //! EVENT_ADD.
-ghost use Rattle.std.specs.Prelude.{◌≡◌, Some, OnOk};
+ghost use Rattle.std.specs.Prelude.{◌≡◌, Some, OnOk, IfOk};
+ghost use Rattle.gateway_state.specs.Rights.{channel_of};
 ghost use Rattle.gateway_state.specs.Subscribing.{new_sub, sub_verdict, sub_verdict_natively, subscription_asked, subscription_limit, subscription_refusal, with_sub};
+ghost use Rattle.touched_rows.specs.Touches.{made_touches, sub_touches};
 
 use crate::refusals::{refuse_channel, refuse_request};
 use ca_header::Header;
@@ -10,6 +12,7 @@ use gateway_rows::{Rows, native_in, value_refusal};
 use gateway_state::{Native, SubVerdict};
 use mask_merge::KNOWN_EVENTS;
 use std::alloc::AllocError;
+use touched_rows::Touched;
 
 /// A new subscription, which is owed an update.
 pub(crate) fn new_sub(
@@ -101,13 +104,34 @@ pub(crate) fn subscribe_client(
     rows: &mut Rows,
     sub: ClientSub,
     head: &Header,
-) -> Result<(), AllocError>
-    ensures { OnOk result (rows.new ≡ subscription_asked sub head.now rows.old) }
+) -> Result<Touched, AllocError>
+    ensures ok { OnOk result (rows.new ≡ subscription_asked sub head.now rows.old) }
+    ensures touched { IfOk result (λ touched. touched ≡ sub_touches rows.old sub) }
 {
     match sub_verdict(rows, sub) {
-        SubVerdict::NoChannel => refuse_channel(rows, sub.session, head),
-        SubVerdict::Ignored => Ok(()),
-        SubVerdict::Refused { cid, code } => refuse_request(rows, sub.session, cid, code, head),
-        SubVerdict::Accepted => add_sub(rows, sub),
+        SubVerdict::NoChannel => {
+            refuse_channel(rows, sub.session, head)?;
+            Ok(Touched::Nothing)
+        }
+        SubVerdict::Ignored => Ok(Touched::Nothing),
+        SubVerdict::Refused { cid, code } => {
+            refuse_request(rows, sub.session, cid, code, head)?;
+            Ok(Touched::Nothing)
+        }
+        SubVerdict::Accepted => {
+            let touched = made_touches(rows, sub)?;
+            add_sub(rows, sub)?;
+            Ok(touched)
+        }
+    }
+}
+
+/// What a subscription touches that is made.
+fn made_touches(rows: &Rows, sub: ClientSub) -> Result<Touched, AllocError>
+    ensures { IfOk result (λ touched. touched ≡ made_touches sub (channel_of rows.now sub.session sub.sid)) }
+{
+    match rows.channel_of(sub.session, sub.sid) {
+        Some(channel) => Ok(Touched::Subscription(channel.real.copy()?, sub)),
+        None => Ok(Touched::Nothing),
     }
 }

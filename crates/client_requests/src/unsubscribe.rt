@@ -1,6 +1,7 @@
 //! EVENT_CANCEL.
-ghost use Rattle.std.specs.Prelude.{◌≡◌, OnOk};
+ghost use Rattle.std.specs.Prelude.{◌≡◌, OnOk, IfOk};
 ghost use Rattle.gateway_state.specs.Subscribing.{is_on_sid, sub_of, subscription_cancelled, without_sub};
+ghost use Rattle.touched_rows.specs.Touches.{cancel_touches};
 
 use crate::refusals::{refuse_channel, refuse_request};
 use ca_header::Header;
@@ -8,6 +9,7 @@ use ca_message::ToClient;
 use ca_message::codes::ECA_INTERNAL;
 use gateway_rows::Rows;
 use std::alloc::AllocError;
+use touched_rows::Touched;
 
 /// Whether the session's subscription of an ID is on this channel.
 fn is_sub_on(rows: &Rows, number: u32, id: u32, sid: u32) -> bool
@@ -34,16 +36,20 @@ pub(crate) fn cancel_subscription(
     dtype: u16,
     count: u32,
     head: &Header,
-) -> Result<(), AllocError>
-    ensures { OnOk result (rows.new ≡ subscription_cancelled number sid id dtype count head.now rows.old) }
+) -> Result<Touched, AllocError>
+    ensures ok { OnOk result (rows.new ≡ subscription_cancelled number sid id dtype count head.now rows.old) }
+    ensures touched { IfOk result (λ touched. touched ≡ cancel_touches rows.old number sid id) }
 {
     let Some(channel) = rows.channel_of(number, sid) else {
-        return refuse_channel(rows, number, head);
+        refuse_channel(rows, number, head)?;
+        return Ok(Touched::Nothing);
     };
     let cid = channel.cid;
     if !is_sub_on(rows, number, id, sid) {
-        return refuse_request(rows, number, cid, ECA_INTERNAL, head);
+        refuse_request(rows, number, cid, ECA_INTERNAL, head)?;
+        return Ok(Touched::Nothing);
     }
+    let name = channel.real.copy()?;
     remove_sub(rows, number, id);
     let said = ToClient::EventCancelled {
         sid,
@@ -51,5 +57,6 @@ pub(crate) fn cancel_subscription(
         dtype,
         count,
     };
-    rows.tell(number, &said)
+    rows.tell(number, &said)?;
+    Ok(Touched::Interest(name))
 }

@@ -2,114 +2,118 @@
 ghost use Rattle.std.specs.Prelude.{◌≡◌, true, false, OnOk, IfOk, IsErrOf};
 ghost use Rattle.gateway_state.specs.Numbers.{is_past_numbers};
 ghost use Rattle.gateway_state.specs.Direct.{direct_effect, searched};
-ghost use Rattle.gateway_state.specs.Step.{consequences, step, taken};
+ghost use Rattle.gateway_state.specs.Reached.{IsReached};
+ghost use Rattle.gateway_state.specs.Step.{step, taken};
+ghost use Rattle.touched_rows.specs.Touches.{drain_touches, event_touches};
 
 use crate::connections::{lose_server, lose_session, open_server, open_session};
 use client_requests::hear_client;
 use fanout::Out;
-use gateway_notices::{tell_channels, tell_links, tell_reads, tell_updates, withhold_updates};
+use gateway_notices::follow;
 use gateway_rows::{Refusal, Rows};
 use gateway_state::{Dest, Event};
 use pv_name::{Host, Name};
 use server_messages::{find_at, hear_server};
 use std::alloc::AllocError;
+use touched_rows::Touched;
 
-/// Performs one event.
-#[tactic(auto, using(gateway_state::proofs::NumberLemmas::consequences_past), unfolding(gateway_state::specs::Step::step))]
+/// Performs one event, in a state that a run reaches.
+#[tactic(auto, using(gateway_state::proofs::NumberLemmas::consequences_past, touched_rows::proofs::ToldAlone::step_alone), unfolding(gateway_state::specs::Step::step))]
 pub(crate) fn step(rows: &mut Rows, event: Event) -> Result<(), Refusal>
+    requires reached { IsReached rows.old }
     ensures ok { OnOk result (rows.new ≡ step rows.old event) }
     ensures used_up { IsErrOf result Refusal.NumbersUsedUp → is_past_numbers (step rows.old event) ≡ true }
     ensures in_range { OnOk result (is_past_numbers rows.new ≡ false) }
 {
-    perform(rows, event)?;
-    follow(rows)?;
+    let touched = perform(rows, event)?;
+    follow(rows, touched)?;
     rows.numbers_are_in_range();
     Ok(())
 }
 
 /// Takes the oldest messages of an outbox, in order. This is an event too.
-#[tactic(auto, using(gateway_state::proofs::NumberLemmas::consequences_past), unfolding(gateway_state::specs::Step::step))]
+#[tactic(auto, using(gateway_state::proofs::NumberLemmas::consequences_past, touched_rows::proofs::ToldAlone::step_alone), unfolding(gateway_state::specs::Step::step))]
 pub(crate) fn drain(rows: &mut Rows, dest: Dest, count: usize) -> Result<Vec<Out>, Refusal>
+    requires reached { IsReached rows.old }
     ensures ok { OnOk result (rows.new ≡ step rows.old (Event.Drain dest count)) }
     ensures found { IfOk result (λ outs. outs.items ≡ taken rows.old (Event.Drain dest count) dest) }
     ensures used_up { IsErrOf result Refusal.NumbersUsedUp → is_past_numbers (step rows.old (Event.Drain dest count)) ≡ true }
     ensures in_range { OnOk result (is_past_numbers rows.new ≡ false) }
 {
     let outs = rows.take(dest, count)?;
-    follow(rows)?;
+    follow(rows, drain_touches(dest))?;
     rows.numbers_are_in_range();
     Ok(outs)
 }
 
-/// What the event does by itself.
-fn perform(rows: &mut Rows, event: Event) -> Result<(), Refusal>
+/// A client may take updates again once its outbox was drained.
+fn drain_touches(dest: Dest) -> Touched
+    ensures { result ≡ drain_touches dest }
+{
+    match dest {
+        Dest::Session(number) => Touched::Session(number),
+        Dest::Upstream(_) => Touched::Nothing,
+    }
+}
+
+/// What the event does by itself. It answers what was touched.
+fn perform(rows: &mut Rows, event: Event) -> Result<Touched, Refusal>
     ensures ok { OnOk result (rows.new ≡ direct_effect rows.old event) }
+    ensures touched { IfOk result (λ touched. touched ≡ event_touches rows.old event) }
     ensures used_up { IsErrOf result Refusal.NumbersUsedUp → is_past_numbers (direct_effect rows.old event) ≡ true }
 {
     match event {
         Event::Opened(number, host) => {
             open_session(rows, number, host)?;
-            Ok(())
+            Ok(Touched::All)
         }
         Event::Lost(number) => {
             lose_session(rows, number);
-            Ok(())
+            Ok(Touched::All)
         }
         Event::Client(number, message) => {
             if rows.acts(Dest::Session(number)) {
                 hear_client(rows, number, message)
             } else {
-                Ok(())
+                Ok(Touched::Nothing)
             }
         }
         Event::UpOpened(number) => {
             open_server(rows, number)?;
-            Ok(())
+            Ok(Touched::All)
         }
         Event::UpLost(number) => {
             lose_server(rows, number);
-            Ok(())
+            Ok(Touched::All)
         }
         Event::Server(number, message) => {
             if rows.acts(Dest::Upstream(number)) {
-                hear_server(rows, number, message)?;
-                Ok(())
+                Ok(hear_server(rows, number, message)?)
             } else {
-                Ok(())
+                Ok(Touched::Nothing)
             }
         }
-        Event::Found(name, number) => find_at(rows, name, number),
+        Event::Found(name, number) => {
+            find_at(rows, name, number)?;
+            Ok(Touched::Nothing)
+        }
         Event::Search(host, name) => {
             search_for(rows, &host, &name)?;
-            Ok(())
+            Ok(Touched::Nothing)
         }
         Event::Edit(policy) => {
             rows.set_policy(policy);
-            Ok(())
+            Ok(Touched::All)
         }
         Event::Sweep => {
             rows.sweep();
-            Ok(())
+            Ok(Touched::All)
         }
         Event::Drain(dest, count) => {
             let _taken = rows.take(dest, count)?;
-            Ok(())
+            Ok(drain_touches(dest))
         }
     }
-}
-
-/// What follows from it for everybody.
-#[tactic(auto, using(gateway_state::proofs::NumberLemmas::links_told_past))]
-pub(crate) fn follow(rows: &mut Rows) -> Result<(), Refusal>
-    ensures ok { OnOk result (rows.new ≡ consequences rows.old) }
-    ensures used_up { IsErrOf result Refusal.NumbersUsedUp → is_past_numbers (consequences rows.old) ≡ true }
-{
-    tell_channels(rows)?;
-    withhold_updates(rows)?;
-    tell_links(rows)?;
-    tell_reads(rows)?;
-    tell_updates(rows)?;
-    Ok(())
 }
 
 /// Somebody at a host looks for a name, which is remembered where it leads somewhere.

@@ -73,7 +73,7 @@ fn tell_channel(rows: &mut Rows, notice: ChannelNotice) -> Result<(), AllocError
 }
 
 /// Tells clients of channels that are gone, and of rights that changed.
-pub fn tell_channels(rows: &mut Rows) -> Result<(), AllocError>
+pub(crate) fn tell_channels(rows: &mut Rows) -> Result<(), AllocError>
     ensures { OnOk result (rows.new ≡ channels_told rows.old) }
 {
     let notices = channel_notices(rows)?;

@@ -1,8 +1,9 @@
 //! What servers are owed about links.
-ghost use Rattle.std.specs.Prelude.{◌≡◌, ◌++◌, true, OnOk, IfOk, IsErrOf};
+ghost use Rattle.std.specs.Prelude.{◌≡◌, ◌++◌, true, fold, OnOk, IfOk, IsErrOf};
 ghost use Rattle.gateway_state.specs.Numbers.{is_past_numbers};
 ghost use Rattle.gateway_state.specs.Notices.{dropped, interest_notices, link_notices, link_notices_of, link_told, links_told, subscribed_to, with_subscription_of};
-ghost use Rattle.gateway_state.specs.Variables.{search_names};
+ghost use Rattle.gateway_state.specs.Variables.{is_wanted, link_of};
+ghost use Rattle.touched_rows.specs.Touched.{interest_notices_over, interest_told, link_notices_over, link_told_on};
 
 use ca_message::ToServer;
 use gateway_rows::{Refusal, Rows, is_for, sent_count, time_of};
@@ -53,15 +54,15 @@ fn add_interest_notices(
 
 fn add_link_notices(
     rows: &Rows,
-    searched: &[Name],
+    wanted: bool,
     notices: &mut Vec<LinkNotice>,
     link: &Link,
 ) -> Result<(), AllocError>
-    requires { searched.now ≡ search_names rows.now.policy rows.now.searches }
+    requires { wanted ≡ is_wanted rows.now link.now.name }
     ensures { OnOk result (notices.new.items ≡ notices.old.items ++ link_notices_of rows.now link.now) }
 {
     add_interest_notices(rows, notices, link)?;
-    if !rows.is_wanted_by(searched, &link.name) {
+    if !wanted {
         notices.push(LinkNotice::Dropped {
             server: link.server,
             cid: link.cid,
@@ -77,7 +78,8 @@ fn link_notices(rows: &Rows) -> Result<Vec<LinkNotice>, AllocError>
     let searched = rows.searched_names()?;
     let mut notices = Vec::new(rows.alloc);
     for link in rows.upstream.links() {
-        add_link_notices(rows, &searched, &mut notices, link)?;
+        let wanted = rows.is_wanted_by(&searched, &link.name);
+        add_link_notices(rows, wanted, &mut notices, link)?;
     }
     Ok(notices)
 }
@@ -190,14 +192,60 @@ fn tell_link(rows: &mut Rows, notice: LinkNotice) -> Result<(), Refusal>
     }
 }
 
+fn tell_each(rows: &mut Rows, notices: &[LinkNotice]) -> Result<(), Refusal>
+    ensures ok { OnOk result (rows.new ≡ fold link_told rows.old notices.now) }
+    ensures used_up { IsErrOf result Refusal.NumbersUsedUp → is_past_numbers (fold link_told rows.old notices.now) ≡ true }
+{
+    for notice in notices {
+        tell_link(rows, *notice)?;
+    }
+    Ok(())
+}
+
 /// Asks servers for what is wanted of each variable, and drops links that are no longer wanted.
-pub fn tell_links(rows: &mut Rows) -> Result<(), Refusal>
+pub(crate) fn tell_links(rows: &mut Rows) -> Result<(), Refusal>
     ensures ok { OnOk result (rows.new ≡ links_told rows.old) }
     ensures used_up { IsErrOf result Refusal.NumbersUsedUp → is_past_numbers (links_told rows.old) ≡ true }
 {
     let notices = link_notices(rows)?;
-    for notice in &notices {
-        tell_link(rows, *notice)?;
+    tell_each(rows, &notices)
+}
+
+fn interest_notices_on(rows: &Rows, name: &Name) -> Result<Vec<LinkNotice>, AllocError>
+    ensures { IfOk result (λ notices. notices.items ≡ interest_notices_over rows.now (link_of rows.now name.now)) }
+{
+    let mut notices = Vec::new(rows.alloc);
+    if let Some(link) = rows.link_of(name) {
+        add_interest_notices(rows, &mut notices, link)?;
     }
-    Ok(())
+    Ok(notices)
+}
+
+/// Asks one variable's server for what is wanted of it.
+pub(crate) fn tell_interest(rows: &mut Rows, name: &Name) -> Result<(), Refusal>
+    ensures ok { OnOk result (rows.new ≡ interest_told name.now rows.old) }
+    ensures used_up { IsErrOf result Refusal.NumbersUsedUp → is_past_numbers (interest_told name.now rows.old) ≡ true }
+{
+    let notices = interest_notices_on(rows, name)?;
+    tell_each(rows, &notices)
+}
+
+fn link_notices_on(rows: &Rows, name: &Name) -> Result<Vec<LinkNotice>, AllocError>
+    ensures { IfOk result (λ notices. notices.items ≡ link_notices_over rows.now (link_of rows.now name.now)) }
+{
+    let mut notices = Vec::new(rows.alloc);
+    if let Some(link) = rows.link_of(name) {
+        let wanted = rows.is_wanted(&link.name)?;
+        add_link_notices(rows, wanted, &mut notices, link)?;
+    }
+    Ok(notices)
+}
+
+/// The same, and drops its link where it is no longer wanted.
+pub(crate) fn tell_link_on(rows: &mut Rows, name: &Name) -> Result<(), Refusal>
+    ensures ok { OnOk result (rows.new ≡ link_told_on name.now rows.old) }
+    ensures used_up { IsErrOf result Refusal.NumbersUsedUp → is_past_numbers (link_told_on name.now rows.old) ≡ true }
+{
+    let notices = link_notices_on(rows, name)?;
+    tell_each(rows, &notices)
 }

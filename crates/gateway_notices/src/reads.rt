@@ -1,7 +1,8 @@
 //! What clients are owed about reads that wait.
-ghost use Rattle.std.specs.Prelude.{◌≡◌, OnOk, IfOk};
+ghost use Rattle.std.specs.Prelude.{◌≡◌, fold, OnOk, IfOk};
 ghost use Rattle.gateway_state.specs.Notices.{answered_natively, answered_over, read_notice, read_notices, read_told, reads_told};
 ghost use Rattle.gateway_state.specs.Variables.{link_of};
+ghost use Rattle.touched_rows.specs.Touched.{one_read_told, read_notices_on, reads_told_on};
 
 use ca_message::ToClient;
 use ca_message::codes::ECA_NORDACCESS;
@@ -58,6 +59,21 @@ fn read_notices(rows: &Rows) -> Result<VecDeque<ReadNotice>, AllocError>
     Ok(notices)
 }
 
+/// What is owed about the reads that wait for a variable.
+fn read_notices_on(rows: &Rows, name: &Name) -> Result<VecDeque<ReadNotice>, AllocError>
+    ensures { IfOk result (λ notices. notices.items ≡ read_notices_on name.now rows.now) }
+{
+    let mut notices = VecDeque::new(rows.alloc);
+    for read in rows.clients.reads() {
+        if rows.waits_for(name, *read)
+            && let Some(notice) = read_notice(rows, *read)?
+        {
+            notices.push_back(notice)?;
+        }
+    }
+    Ok(notices)
+}
+
 fn tell_read(rows: &mut Rows, notice: ReadNotice) -> Result<(), AllocError>
     ensures { OnOk result (rows.new ≡ read_told rows.old notice) }
 {
@@ -85,13 +101,37 @@ fn tell_read(rows: &mut Rows, notice: ReadNotice) -> Result<(), AllocError>
     }
 }
 
-/// Answers reads that are covered, and refuses those whose right is gone.
-pub fn tell_reads(rows: &mut Rows) -> Result<(), AllocError>
-    ensures { OnOk result (rows.new ≡ reads_told rows.old) }
+fn tell_each(rows: &mut Rows, mut notices: VecDeque<ReadNotice>) -> Result<(), AllocError>
+    ensures { OnOk result (rows.new ≡ fold read_told rows.old notices.items) }
 {
-    let mut notices = read_notices(rows)?;
     while let Some(notice) = notices.pop_front() {
         tell_read(rows, notice)?;
     }
     Ok(())
+}
+
+/// Answers reads that are covered, and refuses those whose right is gone.
+pub(crate) fn tell_reads(rows: &mut Rows) -> Result<(), AllocError>
+    ensures { OnOk result (rows.new ≡ reads_told rows.old) }
+{
+    let notices = read_notices(rows)?;
+    tell_each(rows, notices)
+}
+
+/// The same of the reads that wait for one variable.
+pub(crate) fn tell_reads_on(rows: &mut Rows, name: &Name) -> Result<(), AllocError>
+    ensures { OnOk result (rows.new ≡ reads_told_on name.now rows.old) }
+{
+    let notices = read_notices_on(rows, name)?;
+    tell_each(rows, notices)
+}
+
+/// The same of one read.
+pub(crate) fn tell_one_read(rows: &mut Rows, read: WaitingRead) -> Result<(), AllocError>
+    ensures { OnOk result (rows.new ≡ one_read_told read rows.old) }
+{
+    match read_notice(rows, read)? {
+        Some(notice) => tell_read(rows, notice),
+        None => Ok(()),
+    }
 }

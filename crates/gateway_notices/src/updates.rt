@@ -1,8 +1,9 @@
 //! What clients are owed about their subscriptions.
-ghost use Rattle.std.specs.Prelude.{◌≡◌, Some, OnOk, IfOk};
+ghost use Rattle.std.specs.Prelude.{◌≡◌, Some, fold, OnOk, IfOk};
 ghost use Rattle.gateway_state.specs.Rights.{channel_of};
 ghost use Rattle.gateway_state.specs.Updates.{is_open_to, is_paused, is_taking, is_unreadable, is_withheld, update_notice, update_notices, update_on, update_over, update_told, updates_told, updates_withheld, withheld};
 ghost use Rattle.gateway_state.specs.Variables.{link_of};
+ghost use Rattle.touched_rows.specs.Touched.{one_update_told, update_notices_on, update_notices_to, updates_told_on, updates_told_to};
 
 use ca_message::ToClient;
 use channel_table::{Channel, ClientSub};
@@ -42,7 +43,7 @@ fn withheld(rows: &Rows) -> Result<Vec<ClientSub>, AllocError>
 }
 
 /// Owes the latest value to subscriptions whose channels may not be read.
-pub fn withhold_updates(rows: &mut Rows) -> Result<(), AllocError>
+pub(crate) fn withhold_updates(rows: &mut Rows) -> Result<(), AllocError>
     ensures { OnOk result (rows.new ≡ updates_withheld rows.old) }
 {
     let subs = withheld(rows)?;
@@ -139,6 +140,36 @@ fn update_notices(rows: &Rows) -> Result<VecDeque<UpdateNotice>, AllocError>
     Ok(notices)
 }
 
+/// The updates that are due to subscriptions to a variable.
+fn update_notices_on(rows: &Rows, name: &Name) -> Result<VecDeque<UpdateNotice>, AllocError>
+    ensures { IfOk result (λ notices. notices.items ≡ update_notices_on name.now rows.now) }
+{
+    let mut notices = VecDeque::new(rows.alloc);
+    for sub in rows.clients.subs() {
+        if rows.is_sub_to(name, sub)
+            && let Some(notice) = update_notice(rows, *sub)?
+        {
+            notices.push_back(notice)?;
+        }
+    }
+    Ok(notices)
+}
+
+/// The updates that are due to a session.
+fn update_notices_to(rows: &Rows, number: u32) -> Result<VecDeque<UpdateNotice>, AllocError>
+    ensures { IfOk result (λ notices. notices.items ≡ update_notices_to number rows.now) }
+{
+    let mut notices = VecDeque::new(rows.alloc);
+    for sub in rows.clients.subs() {
+        if sub.session == number
+            && let Some(notice) = update_notice(rows, *sub)?
+        {
+            notices.push_back(notice)?;
+        }
+    }
+    Ok(notices)
+}
+
 /// Gives an update, as long as those given before it leave room for it.
 fn tell_update(rows: &mut Rows, notice: UpdateNotice) -> Result<(), AllocError>
     ensures { OnOk result (rows.new ≡ update_told rows.old notice) }
@@ -156,13 +187,45 @@ fn tell_update(rows: &mut Rows, notice: UpdateNotice) -> Result<(), AllocError>
     rows.tell(notice.session, &said)
 }
 
-/// Gives the updates that are due.
-pub fn tell_updates(rows: &mut Rows) -> Result<(), AllocError>
-    ensures { OnOk result (rows.new ≡ updates_told rows.old) }
+fn tell_each(rows: &mut Rows, mut notices: VecDeque<UpdateNotice>) -> Result<(), AllocError>
+    ensures { OnOk result (rows.new ≡ fold update_told rows.old notices.items) }
 {
-    let mut notices = update_notices(rows)?;
     while let Some(notice) = notices.pop_front() {
         tell_update(rows, notice)?;
     }
     Ok(())
+}
+
+/// Gives the updates that are due.
+pub(crate) fn tell_updates(rows: &mut Rows) -> Result<(), AllocError>
+    ensures { OnOk result (rows.new ≡ updates_told rows.old) }
+{
+    let notices = update_notices(rows)?;
+    tell_each(rows, notices)
+}
+
+/// The same of one variable.
+pub(crate) fn tell_updates_on(rows: &mut Rows, name: &Name) -> Result<(), AllocError>
+    ensures { OnOk result (rows.new ≡ updates_told_on name.now rows.old) }
+{
+    let notices = update_notices_on(rows, name)?;
+    tell_each(rows, notices)
+}
+
+/// The same of one session.
+pub(crate) fn tell_updates_to(rows: &mut Rows, number: u32) -> Result<(), AllocError>
+    ensures { OnOk result (rows.new ≡ updates_told_to number rows.old) }
+{
+    let notices = update_notices_to(rows, number)?;
+    tell_each(rows, notices)
+}
+
+/// The same of one subscription.
+pub(crate) fn tell_one_update(rows: &mut Rows, sub: ClientSub) -> Result<(), AllocError>
+    ensures { OnOk result (rows.new ≡ one_update_told sub rows.old) }
+{
+    match update_notice(rows, sub)? {
+        Some(notice) => tell_update(rows, notice),
+        None => Ok(()),
+    }
 }

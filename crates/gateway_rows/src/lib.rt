@@ -16,6 +16,7 @@ mod changes;
 mod connections;
 mod fault;
 mod interest;
+mod own;
 mod policy;
 mod rights;
 mod state;

@@ -43,6 +43,9 @@ impl Rows {
     pub fn is_wanted(&self, name: &Name) -> Result<bool, AllocError>
         ensures { IfOk result (λ answer. answer ≡ is_wanted self.now name.now) }
     {
+        if any_on(self.clients.channels(), name) {
+            return Ok(true);
+        }
         let searched = self.searched_names()?;
         Ok(self.is_wanted_by(&searched, name))
     }

@@ -57,7 +57,7 @@ all_channels_past : (w : Gateway) (notices : List ChannelNotice) → is_past_num
 all_channels_past w [] e = e
 all_channels_past w (notice ∷ notices) e = all_channels_past (channel_told w notice) notices (channel_told_past w notice e)
 
-read_told_past : (w : Gateway) (notice : ReadNotice) → is_past_numbers w ≡ true → is_past_numbers (read_told w notice) ≡ true
+pub read_told_past : (w : Gateway) (notice : ReadNotice) → is_past_numbers w ≡ true → is_past_numbers (read_told w notice) ≡ true
 unfolding sent is_past_numbers
 read_told_past w (reads.Refused read code) e = e
 read_told_past w (reads.Answered read count payload) e = e
@@ -76,7 +76,7 @@ unfolding is_past_numbers
 owed_to_all_past w [] e = e
 owed_to_all_past w (sub ∷ subs) e = owed_to_all_past (owed_to w sub) subs e
 
-update_told_past : (w : Gateway) (notice : UpdateNotice) → is_past_numbers w ≡ true → is_past_numbers (update_told w notice) ≡ true
+pub update_told_past : (w : Gateway) (notice : UpdateNotice) → is_past_numbers w ≡ true → is_past_numbers (update_told w notice) ≡ true
 unfolding sent is_past_numbers
 update_told_past w notice e =
     elim (is_taking w notice.session) as (λ t. is_past_numbers (cond t (told notice.session (replies.Update notice.id notice.dtype notice.count notice.payload) (with_owed_of notice.session notice.id false w)) w) ≡ true)

@@ -1,6 +1,8 @@
 //! What servers say.
-ghost use Rattle.std.specs.Prelude.{◌≡◌, OnOk};
+ghost use Rattle.std.specs.Prelude.{◌≡◌, OnOk, IfOk};
+ghost use Rattle.ca_message.specs.ServerReply.{reply_of};
 ghost use Rattle.gateway_state.specs.Servers.{server_said, server_versioned};
+ghost use Rattle.touched_rows.specs.Touches.{reply_touches};
 
 use crate::channels::{hear_disconnect, hear_refusal, hear_rights, make_channel};
 use crate::update::update;
@@ -9,15 +11,17 @@ use ca_header::Message;
 use ca_message::{ServerReply, read_reply};
 use gateway_rows::Rows;
 use std::alloc::AllocError;
+use touched_rows::Touched;
 
 /// A server sent a message.
-pub fn hear_server(rows: &mut Rows, server: u32, message: Message) -> Result<(), AllocError>
-    ensures { OnOk result (rows.new ≡ server_said rows.old server message) }
+pub fn hear_server(rows: &mut Rows, server: u32, message: Message) -> Result<Touched, AllocError>
+    ensures ok { OnOk result (rows.new ≡ server_said rows.old server message) }
+    ensures touched { IfOk result (λ touched. touched ≡ reply_touches rows.old server (reply_of message.head message.payload)) }
 {
     match read_reply(&message.head, &message.payload) {
         Ok(ServerReply::Version { minor }) => {
             hear_server_version(rows, server, minor);
-            Ok(())
+            Ok(Touched::Nothing)
         }
         Ok(
             ServerReply::EventAdd {
@@ -38,21 +42,27 @@ pub fn hear_server(rows: &mut Rows, server: u32, message: Message) -> Result<(),
                 dtype,
                 count,
             },
-        ) => make_channel(rows, server, cid, sid, dtype, count),
+        ) => {
+            make_channel(rows, server, cid, sid, dtype, count)?;
+            Ok(Touched::All)
+        }
         Ok(ServerReply::AccessRights { cid, rights }) => {
             hear_rights(rows, server, cid, rights);
-            Ok(())
+            Ok(Touched::All)
         }
         Ok(ServerReply::CreateChannelFail { cid }) => {
             hear_refusal(rows, server, cid);
-            Ok(())
+            Ok(Touched::All)
         }
         Ok(ServerReply::ServerDisconnect { cid }) => {
             hear_disconnect(rows, server, cid);
-            Ok(())
+            Ok(Touched::All)
         }
-        Ok(ServerReply::WriteNotify { ioid, status }) => end_write(rows, server, ioid, status),
-        Err(_) => Ok(()),
+        Ok(ServerReply::WriteNotify { ioid, status }) => {
+            end_write(rows, server, ioid, status)?;
+            Ok(Touched::Nothing)
+        }
+        Err(_) => Ok(Touched::Nothing),
     }
 }
 

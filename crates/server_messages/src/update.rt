@@ -1,9 +1,8 @@
 //! Updates.
-ghost use Rattle.std.specs.Prelude.{◌≡◌, filter, fold, OnOk, IfOk};
-ghost use Rattle.gateway_state.specs.Servers.{has_other_alarm, is_value, read_failed, updated, waits_for, with_cached};
-ghost use Rattle.gateway_state.specs.Rights.{channel_of};
-ghost use Rattle.gateway_state.specs.Updates.{concerned, is_concerned, is_sub_to};
-ghost use Rattle.gateway_state.specs.Variables.{is_channel_on};
+ghost use Rattle.std.specs.Prelude.{◌≡◌, fold, OnOk, IfOk};
+ghost use Rattle.gateway_state.specs.Servers.{has_other_alarm, is_value, read_failed, updated, with_cached};
+ghost use Rattle.gateway_state.specs.Updates.{concerned, is_concerned};
+ghost use Rattle.touched_rows.specs.Touches.{update_touches};
 
 use bytes::Bytes;
 use ca_message::ToClient;
@@ -15,37 +14,8 @@ use gateway_state::{ALARM_EVENTS, LastMessage, VALUE_EVENTS};
 use link_table::LinkState;
 use pv_name::Name;
 use std::alloc::AllocError;
+use touched_rows::Touched;
 use value_cache::Cached;
-
-/// Whether a session's channel stands and is on a variable.
-fn is_channel_on(rows: &Rows, name: &Name, session: u32, sid: u32) -> bool
-    ensures { result ≡ is_channel_on name.now (channel_of rows.now session sid) }
-{
-    match rows.channel_of(session, sid) {
-        Some(channel) => channel.real == *name,
-        None => false,
-    }
-}
-
-/// Whether a read waits for a variable.
-fn waits_for(rows: &Rows, name: &Name, read: WaitingRead) -> bool
-    ensures { result ≡ waits_for rows.now name.now read }
-{
-    is_channel_on(rows, name, read.session, read.sid)
-}
-
-/// The reads that wait for a variable, in the order of asking.
-fn reads_for(rows: &Rows, name: &Name) -> Result<Vec<WaitingRead>, AllocError>
-    ensures { IfOk result (λ reads. reads.items ≡ filter (waits_for rows.now name.now) rows.now.clients.reads) }
-{
-    let mut reads = Vec::new(rows.alloc);
-    for read in rows.clients.reads() {
-        if waits_for(rows, name, *read) {
-            reads.push(*read)?;
-        }
-    }
-    Ok(reads)
-}
 
 /// A read can't be had.
 fn fail_read(rows: &mut Rows, read: WaitingRead) -> Result<(), AllocError>
@@ -77,20 +47,13 @@ fn keep_value(rows: &mut Rows, row: LastMessage) -> Result<(), AllocError>
     rows.cache.put(row)
 }
 
-/// Whether a subscription is on a variable.
-fn is_sub_to(rows: &Rows, name: &Name, sub: &ClientSub) -> bool
-    ensures { result ≡ is_sub_to rows.now name.now sub.now }
-{
-    is_channel_on(rows, name, sub.session, sub.sid)
-}
-
 /// The subscriptions to a variable that an update of it concerns.
 fn concerned(rows: &Rows, name: &Name, differs: bool) -> Result<Vec<ClientSub>, AllocError>
     ensures { IfOk result (λ subs. subs.items ≡ concerned rows.now name.now differs) }
 {
     let mut subs = Vec::new(rows.alloc);
     for sub in rows.clients.subs() {
-        if is_sub_to(rows, name, sub) && is_concerned(sub, differs) {
+        if is_concerned(sub, differs) && rows.is_sub_to(name, sub) {
             subs.push(*sub)?;
         }
     }
@@ -119,32 +82,36 @@ pub(crate) fn update(
     dtype: u16,
     count: u32,
     payload: Bytes,
-) -> Result<(), AllocError>
-    ensures { OnOk result (rows.new ≡ updated rows.old server id status dtype count payload) }
+) -> Result<Touched, AllocError>
+    ensures ok { OnOk result (rows.new ≡ updated rows.old server id status dtype count payload) }
+    ensures touched { IfOk result (λ touched. touched ≡ update_touches rows.old server id status dtype count payload) }
 {
     let Some(link) = rows.upstream.by_sub(server, id) else {
-        return Ok(());
+        return Ok(Touched::Nothing);
     };
     if status != ECA_NORMAL {
-        let reads = reads_for(rows, &link.name)?;
-        return fail_reads(rows, reads);
+        let reads = rows.reads_for(&link.name)?;
+        fail_reads(rows, reads)?;
+        return Ok(Touched::Nothing);
     }
     let LinkState::Connected { dtype: native, .. } = link.state else {
-        return Ok(());
+        return Ok(Touched::Nothing);
     };
     let Some(subscription) = link.subscription else {
-        return Ok(());
+        return Ok(Touched::Nothing);
     };
     if !is_value(native, subscription.count, dtype, count, &payload) {
-        return Ok(());
+        return Ok(Touched::Nothing);
     }
+    let touched = Touched::Value(link.name.copy()?);
     let (server, cid) = (link.server, link.cid);
     let differs = has_other_alarm(rows, cid, dtype, count, &payload);
     let owed = concerned(rows, &link.name, differs)?;
     rows.owe_all(&owed);
     let mut held = Cached::empty();
     held.put(dtype, count, payload, subscription.count);
-    keep_value(rows, LastMessage { server, cid, held })
+    keep_value(rows, LastMessage { server, cid, held })?;
+    Ok(touched)
 }
 
 /// Whether an update counts as the last message.

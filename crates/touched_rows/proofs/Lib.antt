@@ -28,3 +28,4 @@ pub mod UnseenLinks
 pub mod Unsubscribed
 pub mod Updated
 pub mod WantedLinks
+pub mod Written

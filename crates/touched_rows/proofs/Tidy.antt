@@ -4,10 +4,9 @@ use Rattle.gateway_state.specs.Gateway.{Gateway}
 use Rattle.gateway_state.specs.Reached.{IsReached}
 use Rattle.gateway_state.specs.Settled.{AreInOrder, HasLinksApart, HasReadsOnChannels, HasSubsApart, HasSubsOnChannels, IsSettled}
 use Rattle.gateway_state.proofs.LinksApart.{run_links_apart}
-use Rattle.gateway_state.proofs.ReadsOnChannels.{run_reads_on_channels}
+use Rattle.gateway_state.proofs.RowsOnChannels.{run_on_channels}
 use Rattle.gateway_state.proofs.SettledRuns.{run_in_order, run_settled}
 use Rattle.gateway_state.proofs.SubsApart.{run_subs_apart}
-use Rattle.gateway_state.proofs.SubsOnChannels.{run_subs_on_channels}
 
 -- nobody is owed anything, and rows are apart and stand on others as they should
 pub record IsTidy (w : Gateway) : Type 0 where
@@ -25,6 +24,6 @@ reached_tidy w reached =
       order = run_in_order reached.config reached.policy reached.events;
       links_apart = run_links_apart reached.config reached.policy reached.events;
       subs_apart = run_subs_apart reached.config reached.policy reached.events;
-      subs_on = run_subs_on_channels reached.config reached.policy reached.events;
-      reads_on = run_reads_on_channels reached.config reached.policy reached.events;
+      subs_on = (run_on_channels reached.config reached.policy reached.events).subs;
+      reads_on = (run_on_channels reached.config reached.policy reached.events).reads;
     })

@@ -33,6 +33,7 @@ use Rattle.gateway_state.specs.Step.{consequences}
 use Rattle.gateway_state.specs.Subscribing.{cancelled_on, is_on_sid, new_sub, request_refused, short_subscription, sub_judged, sub_of, sub_verdict_on, sub_verdict_over, subscription_asked, subscription_cancelled, without_sub}
 use Rattle.gateway_state.specs.Telling.{marked, outgoing, told}
 use Rattle.gateway_state.specs.Variables.{link_of}
+use Rattle.gateway_state.specs.Writing.{write_verdict}
 use Rattle.gateway_state.proofs.SettledSteps.{settled_stays}
 use Rattle.touched_rows.specs.declared.touched.Touched.TheVariants.{Nothing, Interest}
 use Rattle.touched_rows.specs.Touched.{interest_told, one_read_told}
@@ -46,6 +47,7 @@ use Rattle.touched_rows.proofs.Subscribed.{told_after_subscribing}
 use Rattle.touched_rows.proofs.Tidy.{IsTidy}
 use Rattle.touched_rows.proofs.TouchedAlone.{found_passes}
 use Rattle.touched_rows.proofs.Unsubscribed.{told_after_unsubscribing}
+use Rattle.touched_rows.proofs.Written.{settled_notified, settled_written}
 
 -- a read that is accepted leaves the rights last told
 accepted_rights : (w : Gateway) (c : Channel) (dtype count : ℕ) (over : Option Link) (reach rights : ℕ) → verdict_over w c dtype count over ≡ reads.Accepted reach rights → c.rights ≡ rights
@@ -178,13 +180,15 @@ module _ (w : Gateway) (tidy : IsTidy w) where
   told_request number message (Ok (requests.Version minor)) = told_version number minor
   told_request number message (Ok (requests.EventAdd sid id dtype count mask)) = told_sub (new_sub number sid id dtype count mask) message.head refl
   told_request number message (Ok (requests.EventCancel sid id dtype count)) = told_cancel number sid id dtype count message.head
-  told_request number message (Ok (requests.Write sid dtype count value)) = refl
+  told_request number message (Ok (requests.Write sid dtype count value)) =
+      settled_stays _ (settled_written w tidy.settled number message.head (write_verdict w number sid dtype count value))
   told_request number message (Ok requests.EventsOff) = nothing_after_pausing w number tidy.settled
   told_request number message (Ok requests.EventsOn) = told_after_resuming w number tidy.settled
   told_request number message (Ok (requests.ClearChannel sid cid)) = told_clear number sid cid message.head
   told_request number message (Ok (requests.ReadNotify sid ioid dtype count)) = told_read number sid ioid dtype count message.head
   told_request number message (Ok (requests.CreateChannel cid minor name)) = nothing_after_channel_asked number cid name w tidy.settled tidy.subs_on tidy.reads_on
-  told_request number message (Ok (requests.WriteNotify sid ioid dtype count value)) = refl
+  told_request number message (Ok (requests.WriteNotify sid ioid dtype count value)) =
+      settled_stays _ (settled_notified w tidy.settled number sid ioid dtype count message.head (write_verdict w number sid dtype count value))
   told_request number message (Ok (requests.ClientName name)) = nothing_at_all
   told_request number message (Ok (requests.HostName host)) = refl
   told_request number message (Ok requests.Echo) = replied_all number (replies.Echo message)

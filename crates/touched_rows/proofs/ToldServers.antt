@@ -11,6 +11,7 @@ use Rattle.link_table.specs.declared.links.LinkState.{LinkState}
 use Rattle.link_table.specs.declared.links.LinkState.TheVariants.{Creating, Connected, Unusable}
 use Rattle.link_table.specs.declared.links.Subscription.{Subscription}
 use Rattle.link_table.specs.Links.{has_subscription}
+use Rattle.link_table.specs.Writes.{is_write}
 use Rattle.value_cache.specs.Held.{held_after}
 use Rattle.gateway_state.specs.declared.cached.LastMessage.{LastMessage}
 use Rattle.gateway_state.specs.Gateway.{Gateway}
@@ -23,6 +24,7 @@ use Rattle.touched_rows.proofs.Nothing.{nothing_after_failure}
 use Rattle.touched_rows.proofs.Searched.{nothing_after_server_version}
 use Rattle.touched_rows.proofs.Tidy.{IsTidy}
 use Rattle.touched_rows.proofs.Updated.{told_after_update}
+use Rattle.touched_rows.proofs.Written.{settled_ended}
 
 module _ (w : Gateway) (tidy : IsTidy w) where
   told_update : (server id status dtype count : ℕ) (payload : List ℕ)
@@ -57,7 +59,7 @@ module _ (w : Gateway) (tidy : IsTidy w) where
   told_reply server (Ok (says.Version minor)) = nothing_after_server_version w server minor tidy.settled
   told_reply server (Ok (says.EventAdd id status dtype count value)) = told_update server id status dtype count value
   told_reply server (Ok (says.CreateChannel cid sid dtype count)) = refl
-  told_reply server (Ok (says.WriteNotify ioid status)) = refl
+  told_reply server (Ok (says.WriteNotify ioid status)) = settled_stays _ (settled_ended w tidy.settled server ioid status (find (is_write server ioid) w.upstream.writes))
   told_reply server (Ok (says.AccessRights cid rights)) = refl
   told_reply server (Ok (says.CreateChannelFail cid)) = refl
   told_reply server (Ok (says.ServerDisconnect cid)) = refl

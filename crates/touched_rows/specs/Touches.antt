@@ -53,26 +53,32 @@ follows (SubscriptionTo name sub) w = one_update_told sub (interest_told name w)
 abbrev pub new_read : ℕ → ℕ → ℕ → ℕ → ℕ → WaitingRead
 new_read number sid ioid dtype count = record { session = number; sid = sid; dtype = dtype; count = count; ioid = ioid }
 
-abbrev pub read_touches_by : WaitingRead → Option Channel → ReadVerdict → Touched
-read_touches_by read None verdict = Nothing
-read_touches_by read (Some c) reads.NoChannel = Nothing
-read_touches_by read (Some c) reads.Ignored = Nothing
-read_touches_by read (Some c) (reads.Refused code) = Nothing
-read_touches_by read (Some c) (reads.Accepted reach rights) = Read c.real read
-
 -- a read that is accepted
+abbrev pub accepted_touches : WaitingRead → Option Channel → Touched
+accepted_touches read None = Nothing
+accepted_touches read (Some c) = Read c.real read
+
+abbrev pub read_touches_by : WaitingRead → Option Channel → ReadVerdict → Touched
+read_touches_by read on reads.NoChannel = Nothing
+read_touches_by read on reads.Ignored = Nothing
+read_touches_by read on (reads.Refused code) = Nothing
+read_touches_by read on (reads.Accepted reach rights) = accepted_touches read on
+
 abbrev pub read_touches : Gateway → WaitingRead → Touched
 read_touches w read =
     read_touches_by read (channel_of w read.session read.sid) (read_verdict w read.session read.sid read.dtype read.count)
 
-abbrev pub sub_touches_by : ClientSub → Option Channel → SubVerdict → Touched
-sub_touches_by sub None verdict = Nothing
-sub_touches_by sub (Some c) subs.NoChannel = Nothing
-sub_touches_by sub (Some c) subs.Ignored = Nothing
-sub_touches_by sub (Some c) (subs.Refused cid code) = Nothing
-sub_touches_by sub (Some c) subs.Accepted = SubscriptionTo c.real sub
-
 -- a subscription that is made
+abbrev pub made_touches : ClientSub → Option Channel → Touched
+made_touches sub None = Nothing
+made_touches sub (Some c) = SubscriptionTo c.real sub
+
+abbrev pub sub_touches_by : ClientSub → Option Channel → SubVerdict → Touched
+sub_touches_by sub on subs.NoChannel = Nothing
+sub_touches_by sub on subs.Ignored = Nothing
+sub_touches_by sub on (subs.Refused cid code) = Nothing
+sub_touches_by sub on subs.Accepted = made_touches sub on
+
 abbrev pub sub_touches : Gateway → ClientSub → Touched
 sub_touches w sub = sub_touches_by sub (channel_of w sub.session sub.sid) (sub_verdict w sub)
 
@@ -96,13 +102,13 @@ abbrev pub request_touches : Gateway → ℕ → Result ClientRequest RequestFau
 request_touches w number (Ok (requests.Version minor)) = Nothing
 request_touches w number (Ok (requests.EventAdd sid id dtype count mask)) = sub_touches w (new_sub number sid id dtype count mask)
 request_touches w number (Ok (requests.EventCancel sid id dtype count)) = cancel_touches w number sid id
-request_touches w number (Ok (requests.Write sid dtype count value)) = All
+request_touches w number (Ok (requests.Write sid dtype count value)) = Nothing
 request_touches w number (Ok requests.EventsOff) = Nothing
 request_touches w number (Ok requests.EventsOn) = Session number
 request_touches w number (Ok (requests.ClearChannel sid cid)) = clear_touches w number sid
 request_touches w number (Ok (requests.ReadNotify sid ioid dtype count)) = read_touches w (new_read number sid ioid dtype count)
 request_touches w number (Ok (requests.CreateChannel cid minor name)) = Nothing
-request_touches w number (Ok (requests.WriteNotify sid ioid dtype count value)) = All
+request_touches w number (Ok (requests.WriteNotify sid ioid dtype count value)) = Nothing
 request_touches w number (Ok (requests.ClientName name)) = Nothing
 request_touches w number (Ok (requests.HostName host)) = All
 request_touches w number (Ok requests.Echo) = Nothing
@@ -131,7 +137,7 @@ abbrev pub reply_touches : Gateway → ℕ → Result ServerReply ReplyFault →
 reply_touches w server (Ok (says.Version minor)) = Nothing
 reply_touches w server (Ok (says.EventAdd id status dtype count value)) = update_touches w server id status dtype count value
 reply_touches w server (Ok (says.CreateChannel cid sid dtype count)) = All
-reply_touches w server (Ok (says.WriteNotify ioid status)) = All
+reply_touches w server (Ok (says.WriteNotify ioid status)) = Nothing
 reply_touches w server (Ok (says.AccessRights cid rights)) = All
 reply_touches w server (Ok (says.CreateChannelFail cid)) = All
 reply_touches w server (Ok (says.ServerDisconnect cid)) = All

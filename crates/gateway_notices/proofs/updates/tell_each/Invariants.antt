@@ -1,10 +1,10 @@
 use Rattle.std.proofs.Common.{◌≡◌, fold, length}
-use Rattle.gateway_state.specs.Notices.{read_told, reads_told}
-use Rattle.gateway_notices.proofs.reads.tell_reads.Given as goal
+use Rattle.gateway_state.specs.Updates.{update_told}
+use Rattle.gateway_notices.proofs.updates.tell_each.Given as goal
 
 -- giving the notices that are left leads from here to where giving all leads
 abbrev pub invariant-loop-notice : goal.invariant-loop-notice
-invariant-loop-notice l = fold read_told l.rows l.notices.items ≡ reads_told l.fn.rows
+invariant-loop-notice l = fold update_told l.rows l.notices.items ≡ fold update_told l.fn.rows l.fn.notices.items
 
 abbrev pub decreases-loop-notice : goal.decreases-loop-notice
 decreases-loop-notice l = length l.notices.items

@@ -1,13 +1,12 @@
 use Rattle.std.proofs.Common.{arith}
 use Rattle.std.proofs.lemmas.Result.{err_from_is_err_and}
 use Rattle.gateway_state.proofs.NumberLemmas.{notices_told_past_at}
-use Rattle.gateway_notices.proofs.links.tell_links.Goals as goal
+use Rattle.gateway_notices.proofs.links.tell_each.Goals as goal
 
--- src/notices/links.rt:198:13
 -- what was refused is the notice at the place that the loop came to
 pub returns-in_err-tell_link-clause-used_up : goal.returns-in_err-tell_link-clause-used_up
 returns-in_err-tell_link-clause-used_up c = λ e.
-    let refused = err_from_is_err_and c.from_residual-in_err-tell_link.result c.from_residual-in_err-tell_link.ensures.1 in
+    let refused = err_from_is_err_and c.from_residual.result c.from_residual.ensures.1 in
     let returned = refused.1 in
     let converted = refused.2 in
     let was = c.in_err-tell_link.was in

@@ -1,0 +1,24 @@
+use Rattle.std.proofs.Common.{◌≡◌, sym, ap, ◌∙◌}
+use Rattle.std.proofs.lemmas.Result.{err_from_is_err_and}
+use Rattle.gateway_state.specs.Gateway.{Gateway}
+use Rattle.gateway_state.specs.Numbers.{is_past_numbers}
+use Rattle.touched_rows.specs.Touches.{follows}
+use Rattle.gateway_core.proofs.DrainSteps.{drain_alone}
+use Rattle.gateway_core.proofs.step.drain.Goals as goal
+
+-- what was refused is what follows from the drain
+pub returns-in_err-follow-clause-used_up : goal.returns-in_err-follow-clause-used_up
+returns-in_err-follow-clause-used_up c = λ e.
+    let refused = err_from_is_err_and c.from_residual-in_err-follow.result c.from_residual-in_err-follow.ensures.1 in
+    let returned = refused.1 in
+    let converted = refused.2 in
+    let was = c.in_err-follow.was in
+    ap is_past_numbers (drain_alone c.args.rows.now c.args.dest c.args.count c.requires.reached)
+    ∙ (λ i. is_past_numbers (follows (sym c.drain_touches.ensures i) (sym c.in_ok-outs.ensures.ok i)))
+    ∙ c.follow.ensures.used_up cc
+
+pub returns-clause-ok : goal.returns-clause-ok
+returns-clause-ok c =
+    c.in_ok-follow.ensures.ok
+    ∙ (λ i. follows (c.drain_touches.ensures i) (c.in_ok-outs.ensures.ok i))
+    ∙ sym (drain_alone c.args.rows.now c.args.dest c.args.count c.requires.reached)

@@ -1,7 +1,0 @@
-use Rattle.std.proofs.Common.{◌≡◌, fold, drop}
-use Rattle.gateway_state.specs.Notices.{link_told, links_told}
-use Rattle.gateway_notices.proofs.links.tell_links.Given as goal
-
--- giving the notices that are left leads from here to where giving all leads
-abbrev pub invariant-loop-notice : goal.invariant-loop-notice
-invariant-loop-notice l = fold link_told l.rows (drop l.notice-index l.notice-items) ≡ links_told l.fn.rows
