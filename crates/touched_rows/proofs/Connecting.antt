@@ -15,7 +15,7 @@ use Rattle.link_table.specs.Links.{is_link, is_named, with_state}
 use Rattle.gateway_state.specs.declared.connections.Connection.{Connection}
 use Rattle.gateway_state.specs.declared.notice.LinkNotice.{LinkNotice}
 use Rattle.gateway_state.specs.Gateway.{Gateway}
-use Rattle.gateway_state.specs.Notices.{link_notices, link_notices_of, link_told, links_told, read_notice, read_notices, reads_told}
+use Rattle.gateway_state.specs.Notices.{link_notices, link_notices_of, link_told, read_notice, read_notices, reads_told}
 use Rattle.gateway_state.specs.Resolution.{is_real}
 use Rattle.gateway_state.specs.Rights.{lead_in, link_connected}
 use Rattle.gateway_state.specs.Settled.{AreInOrder, HasLinksApart, IsInUse, IsSettled, IsUpToDate, cid_of}
@@ -25,7 +25,7 @@ use Rattle.gateway_state.specs.Variables.{is_connected, is_creating, is_wanted, 
 use Rattle.gateway_state.proofs.LinksApart.{apart_changed}
 use Rattle.gateway_state.proofs.SettledMeaning.{all_in_use, all_up_to_date, nothing_told}
 use Rattle.gateway_state.proofs.SettledSteps.{reads_stay, updates_stay}
-use Rattle.touched_rows.specs.Touched.{interest_notices_over, interest_told, link_notices_over}
+use Rattle.touched_rows.specs.Touched.{interest_notices_over, interest_told}
 use Rattle.touched_rows.proofs.Blanked.{found_beside}
 use Rattle.touched_rows.proofs.Connections.{HasNoMoreRoom}
 use Rattle.touched_rows.proofs.LessGiven.{GivesNoMore}
@@ -78,9 +78,9 @@ module _ (w : Gateway) (settled : IsSettled w) (order : AreInOrder w) (links_apa
   the_link =
       All-weaker (λ (row : Link). cid_of row ≡ cid_of link → row ≡ link) (λ (row : Link). is_link server cid row ≡ true → row ≡ link)
       (λ row one is.
-          let here = and_parts (eqb row.server server) (eqb row.cid cid) is in
-          let there = and_parts (eqb link.server server) (eqb link.cid cid) (found_passes (is_link server cid) w.upstream.links link found) in
-          one (eqb-true row.cid cid here.1 ∙ sym (eqb-true link.cid cid there.1)))
+      let here = and_parts (eqb row.server server) (eqb row.cid cid) is in
+      let there = and_parts (eqb link.server server) (eqb link.cid cid) (found_passes (is_link server cid) w.upstream.links link found) in
+      one (eqb-true row.cid cid here.1 ∙ sym (eqb-true link.cid cid there.1)))
       w.upstream.links (one_of_number cid_of 0 w.upstream.counters.cid (is_link server cid) w.upstream.links link order.links found)
 
   -- no channel is on it
@@ -98,11 +98,11 @@ module _ (w : Gateway) (settled : IsSettled w) (order : AreInOrder w) (links_apa
   unseen =
       All-weaker (IsUpToDate w) (λ (c : Channel). find (is_named c.real) links ≡ link_of w c.real)
       (λ c up.
-          let fails : is_named c.real link ≡ false = unnamed c (and_parts (is_real (lead_in w c.session c.asked) c.real) (link_connected (link_of w c.real)) up.served).1 in
-          found_beside (is_named c.real) (is_link server cid) (with_state state rights) w.upstream.links
-          (All-weaker (λ (row : Link). is_link server cid row ≡ true → row ≡ link)
-          (λ (row : Link). is_link server cid row ≡ true → (is_named c.real row ≡ false) × (is_named c.real (with_state state rights row) ≡ false))
-          (λ row one is. let here = ap (is_named c.real) (one is) ∙ fails in (here, here)) w.upstream.links the_link))
+      let fails : is_named c.real link ≡ false = unnamed c (and_parts (is_real (lead_in w c.session c.asked) c.real) (link_connected (link_of w c.real)) up.served).1 in
+      found_beside (is_named c.real) (is_link server cid) (with_state state rights) w.upstream.links
+      (All-weaker (λ (row : Link). is_link server cid row ≡ true → row ≡ link)
+      (λ (row : Link). is_link server cid row ≡ true → (is_named c.real row ≡ false) × (is_named c.real (with_state state rights row) ≡ false))
+      (λ row one is. let here = ap (is_named c.real) (one is) ∙ fails in (here, here)) w.upstream.links the_link))
       w.clients.channels (all_up_to_date w settled)
 
   abbrev x : Gateway
@@ -115,8 +115,8 @@ module _ (w : Gateway) (settled : IsSettled w) (order : AreInOrder w) (links_apa
       (each_quiet w x (interest_unseen w settled connections room links w.upstream.counters unseen) (λ name there. there) w.upstream.links (all_in_use w settled)
       (nothing_told (link_notices_of w) w.upstream.links settled.links)))
       (λ row is none other.
-          let same : link ≡ row = cc in
-          absurd (true≢false (sym ((bytes_eq-Decides row.name link.name).1 (sym (ap (λ (k : Link). k.name) same))) ∙ other)))
+      let same : link ≡ row = cc in
+      absurd (true≢false (sym ((bytes_eq-Decides row.name link.name).1 (sym (ap (λ (k : Link). k.name) same))) ∙ other)))
 
   wanted : is_wanted x link.name ≡ true
   wanted =
