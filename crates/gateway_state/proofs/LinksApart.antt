@@ -83,7 +83,7 @@ apart_filtered links test apart name =
     let most = apart name in
     omega (arith, passing_filtered (is_named name) test links)
 
-apart_changed : (links : List Link) (test : Link → Bool) (change : Link → Link) → ((name : List ℕ) (link : Link) → is_named name (change link) ≡ is_named name link)
+pub apart_changed : (links : List Link) (test : Link → Bool) (change : Link → Link) → ((name : List ℕ) (link : Link) → is_named name (change link) ≡ is_named name link)
     → ((name : List ℕ) → length (filter (is_named name) links) ≤ 1) → (name : List ℕ) → length (filter (is_named name) (change_first test change links)) ≤ 1
 apart_changed links test change unseen apart name =
     let most = apart name in

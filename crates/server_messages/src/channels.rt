@@ -1,13 +1,15 @@
 //! What servers say of channels.
-ghost use Rattle.std.specs.Prelude.{◌≡◌, OnOk};
+ghost use Rattle.std.specs.Prelude.{◌≡◌, OnOk, IfOk};
 ghost use Rattle.gateway_state.specs.Servers.{is_usable, channel_made, answered_creating, channel_returned, rights_said, creation_refused, channel_dropped, with_link_state};
 ghost use Rattle.dbr_layout.specs.Dbr.{dbr_of};
+ghost use Rattle.touched_rows.specs.Touches.{created_touches, rights_touches};
 
 use ca_message::ToServer;
 use gateway_rows::{Rows, fits_payload, is_creating, time_of};
 use gateway_state::PLAIN_TYPES;
 use link_table::LinkState;
 use std::alloc::AllocError;
+use touched_rows::Touched;
 
 fn put_link(rows: &mut Rows, server: u32, cid: u32, state: LinkState, rights: u32)
     ensures { rows.new ≡ with_link_state server cid state rights rows.old }
@@ -30,15 +32,18 @@ pub(crate) fn make_channel(
     sid: u32,
     dtype: u16,
     count: u32,
-) -> Result<(), AllocError>
-    ensures { OnOk result (rows.new ≡ channel_made rows.old server cid sid dtype count) }
+) -> Result<Touched, AllocError>
+    ensures ok { OnOk result (rows.new ≡ channel_made rows.old server cid sid dtype count) }
+    ensures touched { IfOk result (λ touched. touched ≡ created_touches rows.old server cid) }
 {
     let Some(link) = rows.upstream.by_cid(server, cid) else {
-        return return_channel(rows, server, sid, cid);
+        return_channel(rows, server, sid, cid)?;
+        return Ok(Touched::Nothing);
     };
     if !is_creating(link.state) {
-        return Ok(());
+        return Ok(Touched::Nothing);
     }
+    let touched = Touched::Interest(link.name.copy()?);
     let rights = link.rights;
     if is_usable(dtype, count) {
         put_link(
@@ -48,21 +53,34 @@ pub(crate) fn make_channel(
             LinkState::Connected { sid, dtype, count },
             rights,
         );
-        Ok(())
     } else {
         put_link(rows, server, cid, LinkState::Unusable, rights);
-        return_channel(rows, server, sid, cid)
+        return_channel(rows, server, sid, cid)?;
     }
+    Ok(touched)
 }
 
 /// A server said what may be done with a channel.
-pub(crate) fn hear_rights(rows: &mut Rows, server: u32, cid: u32, rights: u32)
-    ensures { rows.new ≡ rights_said rows.old server cid rights }
+pub(crate) fn hear_rights(
+    rows: &mut Rows,
+    server: u32,
+    cid: u32,
+    rights: u32,
+) -> Result<Touched, AllocError>
+    ensures ok { OnOk result (rows.new ≡ rights_said rows.old server cid rights) }
+    ensures touched { IfOk result (λ touched. touched ≡ rights_touches rows.old server cid) }
 {
-    if let Some(link) = rows.upstream.by_cid(server, cid) {
-        let state = link.state;
-        put_link(rows, server, cid, state, rights);
-    }
+    let Some(link) = rows.upstream.by_cid(server, cid) else {
+        return Ok(Touched::Nothing);
+    };
+    let touched = if is_creating(link.state) {
+        Touched::Interest(link.name.copy()?)
+    } else {
+        Touched::All
+    };
+    let state = link.state;
+    put_link(rows, server, cid, state, rights);
+    Ok(touched)
 }
 
 /// A server didn't make a channel.

@@ -42,14 +42,8 @@ pub fn hear_server(rows: &mut Rows, server: u32, message: Message) -> Result<Tou
                 dtype,
                 count,
             },
-        ) => {
-            make_channel(rows, server, cid, sid, dtype, count)?;
-            Ok(Touched::All)
-        }
-        Ok(ServerReply::AccessRights { cid, rights }) => {
-            hear_rights(rows, server, cid, rights);
-            Ok(Touched::All)
-        }
+        ) => make_channel(rows, server, cid, sid, dtype, count),
+        Ok(ServerReply::AccessRights { cid, rights }) => hear_rights(rows, server, cid, rights),
         Ok(ServerReply::CreateChannelFail { cid }) => {
             hear_refusal(rows, server, cid);
             Ok(Touched::All)

@@ -1,7 +1,8 @@
 -- Rows of which one was changed in a field that isn't looked at.
 use Rattle.std.proofs.Common.{◌≡◌, List, [], ◌∷◌, Bool, true, false, cond, Option, Some, refl, sym, ap, ◌∙◌}
 use Rattle.std.specs.Prelude.{filter, map, option_map}
-use Rattle.std.specs.List.{find}
+use Rattle.std.specs.List.{All, find}
+use Rattle.std.proofs.lemmas.List.Elements.{All-head, All-tail}
 use Rattle.rows.specs.Rows.{change_first}
 
 module _ {A : Type 0} (blank change : A → A) (unseen : (row : A) → blank (change row) ≡ blank row) (test : A → Bool) where
@@ -65,3 +66,19 @@ found_other {A = A} sought test change (row ∷ rows) other = by (test row) refl
         let both = other row is in
         ap (λ (t : Bool). cond t (Some (change row)) (find sought rows)) both.1 ∙ sym (ap (λ (t : Bool). cond t (Some row) (find sought rows)) both.0)
     by false is rest = ap (λ (found : Option A). cond (sought row) (Some row) found) rest
+
+-- the same, of the rows that are there
+pub found_beside : {A : Type 0} (sought test : A → Bool) (change : A → A) (rows : List A)
+    → All (λ (row : A). test row ≡ true → (sought row ≡ false) × (sought (change row) ≡ false)) rows
+    → find sought (change_first test change rows) ≡ find sought rows
+found_beside sought test change [] other = refl
+found_beside {A = A} sought test change (row ∷ rows) other =
+    by (test row) (All-head (λ (x : A). test x ≡ true → (sought x ≡ false) × (sought (change x) ≡ false)) row rows other)
+    (found_beside sought test change rows (All-tail (λ (x : A). test x ≡ true → (sought x ≡ false) × (sought (change x) ≡ false)) row rows other))
+  where
+    by : (is : Bool) → (is ≡ true → (sought row ≡ false) × (sought (change row) ≡ false)) → find sought (change_first test change rows) ≡ find sought rows
+        → find sought (cond is (change row ∷ rows) (row ∷ change_first test change rows)) ≡ find sought (row ∷ rows)
+    by true unsought rest =
+        let both = unsought refl in
+        ap (λ (t : Bool). cond t (Some (change row)) (find sought rows)) both.1 ∙ sym (ap (λ (t : Bool). cond t (Some row) (find sought rows)) both.0)
+    by false unsought rest = ap (λ (found : Option A). cond (sought row) (Some row) found) rest

@@ -1,5 +1,6 @@
 pub mod Blanked
 pub mod Cleared
+pub mod Connecting
 pub mod Connections
 pub mod Created
 pub mod Drained

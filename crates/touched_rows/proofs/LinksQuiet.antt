@@ -42,7 +42,7 @@ module _ (w x : Gateway) (interest : (name : List ℕ) (native : ℕ) → intere
       let still : is_wanted x link.name ≡ true = wanted link.name used.wanted in
       λ i. first i ++ cond (still i) [] (Dropped link.server link.cid link.state ∷ [])
 
-  each_quiet : (links : List Link) → All (IsInUse w) links → All (λ (link : Link). link_notices_of w link ≡ []) links → All (λ (link : Link). link_notices_of x link ≡ []) links
+  pub each_quiet : (links : List Link) → All (IsInUse w) links → All (λ (link : Link). link_notices_of w link ≡ []) links → All (λ (link : Link). link_notices_of x link ≡ []) links
   each_quiet [] used none = All-nil (λ (link : Link). link_notices_of x link ≡ [])
   each_quiet (link ∷ links) used none =
       All-cons (λ (l : Link). link_notices_of x l ≡ []) link links

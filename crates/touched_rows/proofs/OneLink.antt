@@ -126,3 +126,20 @@ interest_told_clients x name = ap (λ (v : Gateway). v.clients) (links_told_shap
 
 pub link_told_clients : (x : Gateway) (name : List ℕ) → (link_told_on name x).clients ≡ x.clients
 link_told_clients x name = ap (λ (v : Gateway). v.clients) (links_told_shape (link_notices_over x (link_of x name)) x)
+
+-- ---- the same where the links changed too
+
+pub one_link_of : (x : Gateway) (name : List ℕ) → All (λ (link : Link). is_named name link ≡ false → link_notices_of x link ≡ []) x.upstream.links
+    → length (filter (is_named name) x.upstream.links) ≤ 1 → link_notices x ≡ link_notices_over x (link_of x name)
+one_link_of x name others one =
+    touched_alone_flat (link_notices_of x) (is_named name) x.upstream.links others
+    ∙ plan_of_one (link_notices_of x) (is_named name) x.upstream.links one
+    ∙ over_is x (link_of x name)
+
+-- a link whose variable is wanted stays
+pub stays_over : (x : Gateway) (name : List ℕ) → is_wanted x name ≡ true → (found : Option Link) → link_of x name ≡ found → link_notices_over x found ≡ interest_notices_over x found
+stays_over x name wanted None is = refl
+stays_over x name wanted (Some link) is =
+    let named : link.name ≡ name = (bytes_eq-Decides link.name name).0 (found_passes (is_named name) x.upstream.links link is) in
+    ap (λ (t : Bool). interest_notices x link link.state ++ cond t [] (Dropped link.server link.cid link.state ∷ [])) (ap (is_wanted x) named ∙ wanted)
+    ∙ append-nil (interest_notices x link link.state)

@@ -1,5 +1,5 @@
 -- What follows from a server's message is what it touches.
-use Rattle.std.proofs.Common.{◌≡◌, ℕ, List, true, false, cond, eqb, Option, Some, None, refl}
+use Rattle.std.proofs.Common.{◌≡◌, ℕ, List, true, false, cond, eqb, Option, Some, None, refl, Bool}
 use Rattle.std.specs.Prelude.{Ok, Err, Result}
 use Rattle.std.specs.List.{find}
 use Rattle.ca_message.specs.declared.codes.TheConstants.{ECA_NORMAL}
@@ -10,17 +10,27 @@ use Rattle.link_table.specs.declared.links.Link.{Link}
 use Rattle.link_table.specs.declared.links.LinkState.{LinkState}
 use Rattle.link_table.specs.declared.links.LinkState.TheVariants.{Creating, Connected, Unusable}
 use Rattle.link_table.specs.declared.links.Subscription.{Subscription}
-use Rattle.link_table.specs.Links.{has_subscription}
+use Rattle.link_table.specs.Links.{has_subscription, is_link}
 use Rattle.link_table.specs.Writes.{is_write}
 use Rattle.value_cache.specs.Held.{held_after}
 use Rattle.gateway_state.specs.declared.cached.LastMessage.{LastMessage}
 use Rattle.gateway_state.specs.Gateway.{Gateway}
-use Rattle.gateway_state.specs.Servers.{concerned_owed, has_other_alarm, is_value, reads_failed, replied, updated, updated_by, updated_link, with_cached}
+use Rattle.gateway_state.specs.Connections.{given, is_to}
+use Rattle.gateway_state.specs.Servers.{answered_creating, channel_made, channel_returned, concerned_owed, created_for, has_other_alarm, is_usable, is_value, reads_failed, replied, rights_given, rights_said, updated, updated_by, updated_link, with_cached, with_link_state}
 use Rattle.gateway_state.specs.Step.{consequences}
+use Rattle.gateway_state.specs.Telling.{outgoing_upstream, sent}
+use Rattle.gateway_state.specs.Variables.{is_creating}
+use Rattle.gateway_state.specs.declared.event.Dest.TheVariants.{Upstream}
+use Rattle.fanout.specs.declared.outbox.Out.{Out}
+use Rattle.rows.specs.Rows.{change_first}
+use Rattle.ca_message.specs.declared.to_server.ToServer.TheVariants as requests
 use Rattle.gateway_state.proofs.SettledSteps.{settled_stays}
-use Rattle.touched_rows.specs.declared.touched.Touched.TheVariants.{Nothing, Value}
-use Rattle.touched_rows.specs.Touches.{follows, reply_touches, update_touches, update_touches_over, value_touches}
-use Rattle.touched_rows.proofs.Nothing.{nothing_after_failure}
+use Rattle.touched_rows.specs.declared.touched.Touched.TheVariants.{All, Nothing, Value, Interest}
+use Rattle.touched_rows.specs.Touches.{created_touches, created_touches_over, follows, reply_touches, rights_touches, rights_touches_over, update_touches, update_touches_over, value_touches}
+use Rattle.touched_rows.specs.Touched.{interest_told}
+use Rattle.touched_rows.proofs.Connecting.{told_after_connecting}
+use Rattle.touched_rows.proofs.Connections.{no_more_room_given}
+use Rattle.touched_rows.proofs.Nothing.{nothing_after_failure, nothing_after_reply}
 use Rattle.touched_rows.proofs.Searched.{nothing_after_server_version}
 use Rattle.touched_rows.proofs.Tidy.{IsTidy}
 use Rattle.touched_rows.proofs.Updated.{told_after_update}
@@ -55,12 +65,60 @@ module _ (w : Gateway) (tidy : IsTidy w) where
           ≡ follows (cond t (value_touches link link.state link.subscription dtype count payload) Nothing) (cond t after (reads_failed w link.name)))
           [ true ↦ value link is link.state link.subscription | false ↦ nothing_after_failure w link.name tidy.settled ]
 
+  -- ---- channels that were asked for
+
+  told_changed : (server cid : ℕ) (link : Link) → find (is_link server cid) w.upstream.links ≡ Some link → is_creating link.state ≡ true → (state : LinkState) (rights : ℕ)
+      → consequences (with_link_state server cid state rights w) ≡ interest_told link.name (with_link_state server cid state rights w)
+  told_changed server cid link found creating state rights =
+      told_after_connecting w tidy.settled tidy.order tidy.links_apart server cid link found creating state rights w.connections (λ number taking. taking)
+
+  told_returned : (server cid sid : ℕ) (link : Link) → find (is_link server cid) w.upstream.links ≡ Some link → is_creating link.state ≡ true
+      → consequences (channel_returned server sid cid (with_link_state server cid Unusable link.rights w))
+      ≡ interest_told link.name (channel_returned server sid cid (with_link_state server cid Unusable link.rights w))
+  unfolding sent
+  told_returned server cid sid link found creating =
+      let said : Out = outgoing_upstream (requests.ClearChannel sid cid) in
+      told_after_connecting w tidy.settled tidy.order tidy.links_apart server cid link found creating Unusable link.rights (change_first (is_to (Upstream server)) (given said) w.connections)
+      (no_more_room_given (Upstream server) said w.connections)
+
+  told_made : (server cid sid dtype count : ℕ) → consequences (channel_made w server cid sid dtype count) ≡ follows (created_touches w server cid) (channel_made w server cid sid dtype count)
+  told_made server cid sid dtype count = by (find (is_link server cid) w.upstream.links) refl
+    where
+      answered : (link : Link) → find (is_link server cid) w.upstream.links ≡ Some link → (creating : Bool) → is_creating link.state ≡ creating
+          → consequences (cond creating (answered_creating server cid sid dtype count link w) w)
+          ≡ follows (cond creating (Interest link.name) Nothing) (cond creating (answered_creating server cid sid dtype count link w) w)
+      answered link is true creating =
+          elim (is_usable dtype count) as (λ t. consequences (cond t (with_link_state server cid (Connected sid dtype count) link.rights w)
+          (channel_returned server sid cid (with_link_state server cid Unusable link.rights w)))
+          ≡ interest_told link.name (cond t (with_link_state server cid (Connected sid dtype count) link.rights w)
+          (channel_returned server sid cid (with_link_state server cid Unusable link.rights w))))
+          [ true ↦ told_changed server cid link is creating (Connected sid dtype count) link.rights | false ↦ told_returned server cid sid link is creating ]
+      answered link is false creating = settled_stays w tidy.settled
+
+      by : (found : Option Link) → find (is_link server cid) w.upstream.links ≡ found
+          → consequences (created_for server cid sid dtype count found w) ≡ follows (created_touches_over found) (created_for server cid sid dtype count found w)
+      by None is = nothing_after_reply (Upstream server) (outgoing_upstream (requests.ClearChannel sid cid)) w tidy.settled
+      by (Some link) is = answered link is (is_creating link.state) refl
+
+  told_rights : (server cid rights : ℕ) → consequences (rights_said w server cid rights) ≡ follows (rights_touches w server cid) (rights_said w server cid rights)
+  told_rights server cid rights = by (find (is_link server cid) w.upstream.links) refl
+    where
+      over : (link : Link) → find (is_link server cid) w.upstream.links ≡ Some link → (creating : Bool) → is_creating link.state ≡ creating
+          → consequences (with_link_state server cid link.state rights w) ≡ follows (cond creating (Interest link.name) All) (with_link_state server cid link.state rights w)
+      over link is true creating = told_changed server cid link is creating link.state rights
+      over link is false creating = refl
+
+      by : (found : Option Link) → find (is_link server cid) w.upstream.links ≡ found
+          → consequences (rights_given server cid rights found w) ≡ follows (rights_touches_over found) (rights_given server cid rights found w)
+      by None is = settled_stays w tidy.settled
+      by (Some link) is = over link is (is_creating link.state) refl
+
   pub told_reply : (server : ℕ) (reply : Result ServerReply ReplyFault) → consequences (replied w server reply) ≡ follows (reply_touches w server reply) (replied w server reply)
   told_reply server (Ok (says.Version minor)) = nothing_after_server_version w server minor tidy.settled
   told_reply server (Ok (says.EventAdd id status dtype count value)) = told_update server id status dtype count value
-  told_reply server (Ok (says.CreateChannel cid sid dtype count)) = refl
+  told_reply server (Ok (says.CreateChannel cid sid dtype count)) = told_made server cid sid dtype count
   told_reply server (Ok (says.WriteNotify ioid status)) = settled_stays _ (settled_ended w tidy.settled server ioid status (find (is_write server ioid) w.upstream.writes))
-  told_reply server (Ok (says.AccessRights cid rights)) = refl
+  told_reply server (Ok (says.AccessRights cid rights)) = told_rights server cid rights
   told_reply server (Ok (says.CreateChannelFail cid)) = refl
   told_reply server (Ok (says.ServerDisconnect cid)) = refl
   told_reply server (Err fault) = settled_stays w tidy.settled

@@ -17,7 +17,7 @@ use Rattle.link_table.specs.declared.links.Link.{Link}
 use Rattle.link_table.specs.declared.links.LinkState.{LinkState}
 use Rattle.link_table.specs.declared.links.LinkState.TheVariants.{Creating, Connected, Unusable}
 use Rattle.link_table.specs.declared.links.Subscription.{Subscription}
-use Rattle.link_table.specs.Links.{has_subscription}
+use Rattle.link_table.specs.Links.{has_subscription, is_link}
 use Rattle.gateway_state.specs.declared.event.Dest.{Dest}
 use Rattle.gateway_state.specs.declared.event.Dest.TheVariants as dests
 use Rattle.gateway_state.specs.declared.event.Event.{Event}
@@ -33,6 +33,7 @@ use Rattle.gateway_state.specs.Rights.{channel_of}
 use Rattle.gateway_state.specs.Servers.{is_value}
 use Rattle.gateway_state.specs.Step.{consequences}
 use Rattle.gateway_state.specs.Subscribing.{is_on_sid, new_sub, sub_of, sub_verdict}
+use Rattle.gateway_state.specs.Variables.{is_creating}
 use Rattle.touched_rows.specs.declared.touched.Touched.{Touched}
 use Rattle.touched_rows.specs.declared.touched.Touched.TheVariants.{All, Nothing, Session, Value, Interest, Link as LinkOf, Read, Subscription as SubscriptionTo}
 use Rattle.touched_rows.specs.Touched.{interest_told, link_told_on, one_read_told, one_update_told, reads_told_on, updates_told_on, updates_told_to}
@@ -133,12 +134,28 @@ abbrev pub update_touches : Gateway → ℕ → ℕ → ℕ → ℕ → ℕ → 
 update_touches w server id status dtype count payload =
     update_touches_over status dtype count payload (find (has_subscription server id) w.upstream.links)
 
+abbrev pub created_touches_over : Option Link → Touched
+created_touches_over None = Nothing
+created_touches_over (Some link) = if is_creating link.state then Interest link.name else Nothing
+
+-- a channel that a server was asked for, and that it made or can't offer in a usable type
+abbrev pub created_touches : Gateway → ℕ → ℕ → Touched
+created_touches w server cid = created_touches_over (find (is_link server cid) w.upstream.links)
+
+abbrev pub rights_touches_over : Option Link → Touched
+rights_touches_over None = Nothing
+rights_touches_over (Some link) = if is_creating link.state then Interest link.name else All
+
+-- rights on such a channel; those on a channel that is there concern all who use it
+abbrev pub rights_touches : Gateway → ℕ → ℕ → Touched
+rights_touches w server cid = rights_touches_over (find (is_link server cid) w.upstream.links)
+
 abbrev pub reply_touches : Gateway → ℕ → Result ServerReply ReplyFault → Touched
 reply_touches w server (Ok (says.Version minor)) = Nothing
 reply_touches w server (Ok (says.EventAdd id status dtype count value)) = update_touches w server id status dtype count value
-reply_touches w server (Ok (says.CreateChannel cid sid dtype count)) = All
+reply_touches w server (Ok (says.CreateChannel cid sid dtype count)) = created_touches w server cid
 reply_touches w server (Ok (says.WriteNotify ioid status)) = Nothing
-reply_touches w server (Ok (says.AccessRights cid rights)) = All
+reply_touches w server (Ok (says.AccessRights cid rights)) = rights_touches w server cid
 reply_touches w server (Ok (says.CreateChannelFail cid)) = All
 reply_touches w server (Ok (says.ServerDisconnect cid)) = All
 reply_touches w server (Err fault) = Nothing
