@@ -36,8 +36,6 @@ pub mod laws;
 mod payload;
 mod reply;
 mod request;
-#[cfg(test)]
-mod tests;
 mod text;
 mod to_client;
 mod to_server;

@@ -34,8 +34,6 @@ pub mod laws;
 mod links;
 mod servers;
 mod table;
-#[cfg(test)]
-mod tests;
 mod writes;
 
 pub use counter::{Counter, LAST_NUMBER};

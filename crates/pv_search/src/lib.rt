@@ -32,8 +32,6 @@ pub mod laws;
 mod message;
 mod reply;
 mod search;
-#[cfg(test)]
-mod tests;
 
 /// The error of a call that fails only where memory runs out.
 pub type NoMemory = std::alloc::AllocError;

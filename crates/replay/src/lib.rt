@@ -11,31 +11,20 @@
 //! ```
 //!
 //! Here the status is `status::GOOD`, and `out` is the line of the VERSION message that the client
-//! is greeted with. `replay_text` has the lines of scripts, and those that are printed.
+//! is greeted with. `replay_text` has the lines of scripts, and those that are printed; `script_player`
+//! performs them.
 #![tactic(auto)]
 
-ghost use Rattle.std.specs.Prelude.{◌≡◌, ◌+◌, ℕ, IsSome, IfOk, OnOk};
-ghost use Rattle.std.specs.Io.KnownBytes.{Appends, Keeps};
-ghost use Rattle.replay.specs.Replay.{EndsIn, IfBadLine, IsStatus, bad_line, last_line, status_at};
-ghost use Rattle.replay.specs.Reading.{lines_left, IsBadFrom, IsGoodFrom};
-ghost use Rattle.replay.specs.Script.{IsBadAt, IsGood};
+ghost use Rattle.std.specs.Prelude.{◌≡◌, ℕ, IsSome};
+ghost use Rattle.script_player.specs.Replay.{EndsIn, IsStatus, bad_line};
+ghost use Rattle.script_player.specs.Script.{IsBadAt, IsGood};
 
-mod counted;
-mod entry;
-mod fault;
-mod player;
-mod script;
-pub mod status;
-#[cfg(test)]
-mod tests;
+pub use script_player::status;
 
-use fault::{Fault, ReplayFault};
 use gateway_core::{Config, Engine, Policy};
-use player::Player;
 use pv_name::Name;
-use script::Script;
+use script_player::play;
 use std::alloc::Global;
-use std::io;
 use std::io::{Read, Write};
 
 /// Performs the script that the reader gives, one line after another, and prints what the gateway
@@ -49,81 +38,20 @@ pub fn replay<R: Read + Drop, W: Write>(alloc: Global, reader: R, writer: &mut W
     ensures bad { result ≡ 2 → (number : ℕ) × IsBadAt (R.remaining reader) number
         × (((held : W) → IsSome (W.contents held)) → EndsIn (W.contents writer.new) (bad_line number)) }
 {
-    let ended = play_script(alloc, reader, writer);
-    match report(ended, writer) {
-        Ok(status) => status,
-        Err(_) => status::STREAM_FAILED,
+    match gateway(alloc) {
+        Some(engine) => play(alloc, engine, reader, writer),
+        None => status::FAILED,
     }
 }
 
-fn play_script<R: Read + Drop, W: Write>(
-    alloc: Global,
-    reader: R,
-    writer: &mut W,
-) -> Result<(), ReplayFault>
-    ensures good { OnOk result (IsGood (R.remaining reader)) }
-    ensures bad { IfBadLine result (IsBadAt (R.remaining reader)) }
-{
-    let mut player = Player::new(alloc, gateway(alloc)?);
-    let mut script = Script::new(alloc, reader)?;
-    play_entries(&mut player, &mut script, writer)
-}
-
-/// The gateway that scripts are performed on. It admits every name.
-fn gateway(alloc: Global) -> Result<Engine, Fault> {
+/// The gateway that scripts are performed on. It admits every name. There is none where memory is
+/// refused.
+fn gateway(alloc: Global) -> Option<Engine> {
     let config = Config {
-        client_name: name(alloc, b"pvgate")?,
-        host_name: name(alloc, b"gw")?,
+        client_name: Name::read(alloc, b"pvgate").ok()?,
+        host_name: Name::read(alloc, b"gw").ok()?,
         port: 5064,
         first: 1,
     };
-    Ok(Engine::new(alloc, config, Policy::open_to_all(alloc))?)
-}
-
-fn name(alloc: Global, text: &[u8]) -> Result<Name, Fault> {
-    Name::read(alloc, text).map_err(|_| Fault::OutOfMemory)
-}
-
-fn play_entries<R: Read + Drop, W: Write>(
-    player: &mut Player,
-    script: &mut Script<R>,
-    writer: &mut W,
-) -> Result<(), ReplayFault>
-    ensures good { OnOk result (IsGoodFrom (script.old.number + 1) (lines_left R.remaining script.old)) }
-    ensures bad { IfBadLine result (IsBadFrom (script.old.number + 1) (lines_left R.remaining script.old)) }
-{
-    for _ in 0..u64::MAX {
-        let Some(entry) = script.next(writer)? else {
-            return Ok(());
-        };
-        player.play(entry, writer)?;
-    }
-    Err(ReplayFault::Halted(Fault::StreamFailed))
-}
-
-/// Prints how the script ended, where that is printed, and gives the program's status.
-fn report<W: Write>(ended: Result<(), ReplayFault>, writer: &mut W) -> io::Result<u8>
-    ensures ok { IfOk result (λ status. status ≡ status_at ended) }
-    ensures among { IfOk result IsStatus }
-    ensures printed { OnOk result (Appends (W.contents writer.old) (W.contents writer.new) (last_line ended)) }
-{
-    match ended {
-        Ok(()) => finish(status::GOOD, writer),
-        Err(fault) => {
-            match fault {
-                ReplayFault::BadLine(number) => writeln!(writer, "line {number}: bad")?,
-                ReplayFault::Halted(Fault::EngineFailed) => writer.write_all(b"failed\n")?,
-                ReplayFault::Halted(Fault::StreamFailed | Fault::OutOfMemory) => {}
-            }
-            finish(fault.status(), writer)
-        }
-    }
-}
-
-fn finish<W: Write>(status: u8, writer: &mut W) -> io::Result<u8>
-    ensures ok { IfOk result (λ s. s ≡ status) }
-    ensures same { OnOk result (Keeps (W.contents writer.old) (W.contents writer.new)) }
-{
-    writer.flush()?;
-    Ok(status)
+    Engine::new(alloc, config, Policy::open_to_all(alloc)).ok()
 }

@@ -23,8 +23,6 @@ mod command;
 mod line;
 mod output;
 mod piece;
-#[cfg(test)]
-mod tests;
 mod values;
 mod words;
 

@@ -14,9 +14,6 @@ use gateway_state::Dest;
 use pv_name::{Host, Name};
 use std::alloc::Global;
 
-#[cfg(test)]
-mod tests;
-
 /// What a line of a script asks for.
 #[derive(Debug, Drop)]
 pub enum Line {

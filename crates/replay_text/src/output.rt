@@ -12,9 +12,6 @@ use pvlist::RuleCause;
 use std::io;
 use std::io::Write;
 
-#[cfg(test)]
-mod tests;
-
 // How many bytes are put into digits at a time.
 const PIECE: usize = 512;
 

@@ -7,4 +7,10 @@ mod client_rows;
 #[cfg(test)]
 mod clients;
 #[cfg(test)]
+mod link_rows;
+#[cfg(test)]
+mod links;
+#[cfg(test)]
 mod wants;
+#[cfg(test)]
+mod words;

@@ -1,5 +1,6 @@
-//! Tests of what stands on the wire: headers, streams, DBR types, last messages, outboxes. They stand
-//! apart so that each crate they test is proved once, and not a second time with its tests.
+//! Tests of what stands on the wire: headers, streams, messages, search datagrams, DBR types, last
+//! messages, outboxes. They stand apart so that each crate they test is proved once, and not a second
+//! time with its tests.
 //!
 //! A test is a story, which is a text. Its lines are calls: one word for what is called, then numbers,
 //! and behind a colon bytes. Behind `> ` stands what a call answers; behind `>16 ` what it answers 16
@@ -10,8 +11,8 @@
 //! The functions that make the calls return no error. What they tell would show one, and each way out
 //! of a function is dear to prove.
 //!
-//! The calls are said in the files that make them: `headers`, `streams`, `layouts`, `caches`,
-//! `outboxes`. The files named `.._stories` have the stories.
+//! The calls are said in the files that make them: `headers`, `streams`, `messages`, `to_clients`,
+//! `to_servers`, `searches`, `layouts`, `caches`, `outboxes`. The files named `.._stories` have the stories.
 #![tactic(auto)]
 
 #[cfg(test)]
@@ -27,13 +28,27 @@ mod layout_stories;
 #[cfg(test)]
 mod layouts;
 #[cfg(test)]
+mod message_stories;
+#[cfg(test)]
+mod messages;
+#[cfg(test)]
 mod outbox_stories;
 #[cfg(test)]
 mod outboxes;
 #[cfg(test)]
+mod search_stories;
+#[cfg(test)]
+mod searches;
+#[cfg(test)]
+mod sent_stories;
+#[cfg(test)]
 mod streams;
 #[cfg(test)]
 mod tell;
+#[cfg(test)]
+mod to_clients;
+#[cfg(test)]
+mod to_servers;
 #[cfg(test)]
 mod type_stories;
 #[cfg(test)]

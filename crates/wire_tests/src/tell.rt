@@ -1,7 +1,9 @@
 //! How a story is told.
 use crate::layouts::Viewed;
 use crate::words::{Call, Told, verb};
-use crate::{caches, headers, layouts, outboxes, streams};
+use crate::{
+    caches, headers, layouts, messages, outboxes, searches, streams, to_clients, to_servers,
+};
 use ca_header::Intake;
 use fanout::Outbox;
 use std::alloc::Global;
@@ -40,6 +42,12 @@ impl Wire {
             "append" | "mark" | "length" | "front" | "empty" => {
                 outboxes::call(&mut self.outbox, verb, call, told);
             }
+            "request" | "reply" | "name" | "host" | "error-text" => {
+                messages::call(verb, call, told);
+            }
+            "search" | "answer" | "answer-cut" | "test" | "found" => searches::call(
+                verb, call, told,
+            ),
             _ => layouts::call(&mut self.viewed, verb, call, told),
         }
     }
@@ -65,10 +73,28 @@ fn tell(alloc: Global, story: &str, told: &mut Told, wanted: &mut Told) -> Resul
             wire = Wire::new(alloc);
         } else {
             call.read(line)?;
-            wire.call(verb(line), &call, told);
+            if !send(verb(line), &call, told) {
+                wire.call(verb(line), &call, told);
+            }
         }
     }
     Ok(())
+}
+
+/// Makes a call on a message that is sent. False where it is none.
+fn send(verb: &str, call: &Call, told: &mut Told) -> bool {
+    if let Some(kind) = verb.strip_prefix("client-") {
+        to_clients::call(kind, call, told);
+    } else if let Some(kind) = verb.strip_prefix("server-") {
+        to_servers::call(kind, call, told);
+    } else if let Some(kind) = verb.strip_prefix("reread-client-") {
+        to_clients::reread(kind, call, told);
+    } else if let Some(kind) = verb.strip_prefix("reread-server-") {
+        to_servers::reread(kind, call, told);
+    } else {
+        return false;
+    }
+    true
 }
 
 /// Adds the lines of an answer, as often as is said before them, or once.

@@ -1,0 +1,197 @@
+//! How a story of a table of servers, links and writes is told.
+//!
+//! A story is a text. Its lines are calls on a table in which server 1 stands, with link 1 for T1 and
+//! link 2 for T2, and behind `> ` stands what they answer. A call that adds or puts a row is answered
+//! where it is refused.
+//!
+//! - `empty from FIRST`: from now on the table is an empty one, whose counters begin here;
+//! - `add servers FIRST LAST`, `add links SERVER FIRST LAST`, `add writes SERVER FIRST LAST SESSION SID`:
+//!   rows of these numbers, of which link 7 is for T7;
+//! - `put server N MINOR`, `put link SERVER CID SID TYPE COUNT RIGHTS`, `put unusable SERVER CID RIGHTS`,
+//!   `put sub SERVER CID ID MASK COUNT SENT`, `put none SERVER CID`;
+//! - `remove server N`, `remove link SERVER CID`, `remove write SERVER ID`, `remove writes SESSION SID`;
+//! - `find cid SERVER CID`, `find name NAME`, `find place N`, `find sub SERVER ID`: the CID of a link, or
+//!   `none`;
+//! - `show server N`: its minor version; `show link SERVER CID`: its state, rights and subscription;
+//!   `show write SERVER ID`: the write; or `None`;
+//! - `count links`, `count writes SESSION`;
+//! - `give COUNTER`: its next number.
+use crate::words::{Call, Told};
+use link_table::{Counter, Link, LinkState, Links, Server, Subscription, TableFault, WaitingWrite};
+use pv_name::Name;
+use std::alloc::Global;
+use std::process::Abort;
+
+/// Asserts that a story comes out as it is told.
+pub(crate) fn tells(rt: &impl Abort, alloc: Global, story: &str) {
+    let mut told = Told::new(alloc);
+    let mut wanted = Told::new(alloc);
+    tell(alloc, story, &mut told, &mut wanted);
+    assert_eq!(rt; told.text.as_str(), wanted.text.as_str());
+    assert!(rt; told.is_whole && wanted.is_whole);
+}
+
+fn tell(alloc: Global, story: &str, told: &mut Told, wanted: &mut Told) {
+    let mut links = Links::new(alloc, 1);
+    for line in ["add servers 1 1", "add links 1 1 2"] {
+        call(alloc, &mut links, line, told);
+    }
+    for line in story.lines() {
+        match line.strip_prefix("> ") {
+            Some(answer) => wanted.line(&answer),
+            None => call(alloc, &mut links, line, told),
+        }
+    }
+}
+
+fn call(alloc: Global, links: &mut Links, line: &str, told: &mut Told) {
+    let call = Call::read(line);
+    match call.verb {
+        "empty" => *links = Links::new(alloc, call.numbers[0]),
+        "add" => add(alloc, links, &call, told),
+        "put" => put(links, &call, told),
+        "remove" => remove(links, &call),
+        "find" => find(alloc, links, &call, told),
+        "show" => show(links, &call, told),
+        "count" => match call.what {
+            "links" => told.line(&links.link_count()),
+            _ => told.line(&links.writes(call.numbers[0])),
+        },
+        _ => give(links, &call, told),
+    }
+}
+
+fn add(alloc: Global, links: &mut Links, call: &Call<'_>, told: &mut Told) {
+    let [of, first, last, session, sid, _] = call.numbers;
+    match call.what {
+        "servers" => for number in of..=first {
+            refused(links.add_server(Server { number, minor: 0 }), told);
+        },
+        "links" => for cid in first..=last {
+            add_link(alloc, links, of, cid, told);
+        },
+        _ => for id in first..=last {
+            refused(links.add_write(write(of, id, session, sid)), told);
+        },
+    }
+}
+
+fn refused(done: Result<(), TableFault>, told: &mut Told) {
+    if let Err(fault) = done {
+        told.name(&fault);
+        told.end();
+    }
+}
+
+fn add_link(alloc: Global, links: &mut Links, server: u32, cid: u32, told: &mut Told) {
+    match name_of(alloc, cid) {
+        Some(name) => refused(
+            links.add_link(Link {
+                cid,
+                server,
+                name,
+                state: LinkState::Creating,
+                rights: 0,
+                subscription: None,
+            }),
+            told,
+        ),
+        None => told.line(&"out of memory"),
+    }
+}
+
+fn name_of(alloc: Global, cid: u32) -> Option<Name> {
+    let text = format!(in alloc; "T{cid}").ok()?;
+    Name::read(alloc, text.as_bytes()).ok()
+}
+
+fn write(server: u32, id: u32, session: u32, sid: u32) -> WaitingWrite {
+    WaitingWrite {
+        server,
+        id,
+        session,
+        sid,
+        dtype: 5,
+        count: 1,
+        ioid: 43,
+    }
+}
+
+fn put(links: &mut Links, call: &Call<'_>, told: &mut Told) {
+    let [server, cid, third, fourth, fifth, sixth] = call.numbers;
+    match call.what {
+        "server" => links.put_server(server, cid),
+        "link" => {
+            let state = LinkState::Connected {
+                sid: third,
+                dtype: fourth.min(65_535) as u16,
+                count: fifth,
+            };
+            links.put_link(server, cid, state, sixth);
+        }
+        "unusable" => links.put_link(server, cid, LinkState::Unusable, third),
+        "sub" => {
+            let subscription = Subscription {
+                id: third,
+                mask: fourth.min(65_535) as u16,
+                count: fifth,
+                sent: sixth,
+            };
+            refused(links.set_sub(server, cid, Some(subscription)), told);
+        }
+        _ => refused(links.set_sub(server, cid, None), told),
+    }
+}
+
+fn remove(links: &mut Links, call: &Call<'_>) {
+    let [first, second, ..] = call.numbers;
+    match call.what {
+        "server" => links.remove_server(first),
+        "link" => links.remove_link(first, second),
+        "write" => links.remove_write(first, second),
+        _ => links.remove_writes(first, second),
+    }
+}
+
+fn find(alloc: Global, links: &Links, call: &Call<'_>, told: &mut Told) {
+    let [first, second, ..] = call.numbers;
+    let found = match call.what {
+        "cid" => links.by_cid(first, second),
+        "place" => links.link(first as usize),
+        "sub" => links.by_sub(first, second),
+        _ => match Name::read(alloc, call.text.as_bytes()) {
+            Ok(name) => links.by_name(&name),
+            Err(_) => return told.line(&"no name"),
+        },
+    };
+    match found {
+        Some(link) => told.line(&link.cid),
+        None => told.line(&"none"),
+    }
+}
+
+fn show(links: &Links, call: &Call<'_>, told: &mut Told) {
+    let [first, second, ..] = call.numbers;
+    match call.what {
+        "server" => told.name(&links.server(first).map(|server| server.minor)),
+        "link" => {
+            let link = links.by_cid(first, second);
+            told.name(&link.map(|link| (link.state, link.rights, link.subscription)));
+        }
+        _ => told.name(&links.write(first, second)),
+    }
+    told.end();
+}
+
+fn give(links: &mut Links, call: &Call<'_>, told: &mut Told) {
+    let counter = match call.what {
+        "sid" => Counter::Sid,
+        "cid" => Counter::Cid,
+        "subscription" => Counter::Subscription,
+        _ => Counter::Write,
+    };
+    match links.give_out(counter) {
+        Some(number) => told.line(&number),
+        None => told.line(&"none"),
+    }
+}

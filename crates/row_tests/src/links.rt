@@ -1,0 +1,256 @@
+//! Tables of links that are filled and emptied.
+use crate::link_rows::tells;
+
+#[test]
+fn a_link_is_found_by_id_name_and_place(rt: HostRuntime) {
+    tells(
+        &rt,
+        rt.alloc(),
+        "\
+count links
+> 2
+find cid 1 2
+> 2
+find cid 2 2
+> none
+find cid 1 3
+> none
+find name T2
+> 2
+find name t2
+> none
+find place 0
+> 1
+find place 1
+> 2
+find place 2
+> none
+",
+    );
+}
+
+#[test]
+fn a_server_keeps_the_minor_version_that_it_said(rt: HostRuntime) {
+    tells(
+        &rt,
+        rt.alloc(),
+        "\
+show server 1
+> Some(0)
+put server 1 13
+put server 2 9
+show server 1
+> Some(13)
+show server 2
+> None
+",
+    );
+}
+
+#[test]
+fn a_link_keeps_its_state_and_its_rights(rt: HostRuntime) {
+    tells(
+        &rt,
+        rt.alloc(),
+        "\
+put link 1 2 101 5 1 3
+put unusable 2 1 3
+show link 1 2
+> Some((Connected { sid: 101, dtype: 5, count: 1 }, 3, None))
+show link 1 1
+> Some((Creating, 0, None))
+put unusable 1 1 2
+show link 1 1
+> Some((Unusable, 2, None))
+",
+    );
+}
+
+#[test]
+fn a_link_is_found_by_its_present_subscription(rt: HostRuntime) {
+    tells(
+        &rt,
+        rt.alloc(),
+        "\
+put sub 1 2 7 5 1 0
+find sub 1 7
+> 2
+find sub 2 7
+> none
+find sub 1 8
+> none
+show link 1 2
+> Some((Creating, 0, Some(Subscription { id: 7, mask: 5, count: 1, sent: 0 })))
+put none 1 2
+find sub 1 7
+> none
+put sub 1 3 7 5 1 0
+> Missing
+",
+    );
+}
+
+#[test]
+fn a_server_goes_with_its_links(rt: HostRuntime) {
+    tells(
+        &rt,
+        rt.alloc(),
+        "\
+remove link 1 1
+remove link 1 1
+count links
+> 1
+find place 0
+> 2
+remove server 2
+count links
+> 1
+remove server 1
+count links
+> 0
+show server 1
+> None
+add links 1 3 3
+> Missing
+",
+    );
+}
+
+#[test]
+fn no_row_is_added_past_its_limit(rt: HostRuntime) {
+    tells(
+        &rt,
+        rt.alloc(),
+        "\
+add servers 2 16
+add servers 17 17
+> Full
+add links 1 3 65536
+count links
+> 65536
+add links 1 65537 65537
+> Full
+count links
+> 65536
+find place 65535
+> 65536
+",
+    );
+}
+
+#[test]
+fn a_write_waits_until_it_is_removed(rt: HostRuntime) {
+    tells(
+        &rt,
+        rt.alloc(),
+        "\
+add writes 1 1 1 1 2
+add writes 1 2 2 1 3
+add writes 1 3 3 1 2
+count writes 1
+> 3
+count writes 2
+> 0
+show write 1 2
+> Some(WaitingWrite { server: 1, id: 2, session: 1, sid: 3, dtype: 5, count: 1, ioid: 43 })
+show write 2 2
+> None
+show write 1 43
+> None
+remove write 1 1
+remove write 2 3
+show write 1 1
+> None
+remove writes 1 2
+remove writes 2 3
+show write 1 3
+> None
+count writes 1
+> 1
+remove server 2
+count writes 1
+> 1
+remove server 1
+count writes 1
+> 0
+",
+    );
+}
+
+#[test]
+fn no_more_than_256_writes_of_a_session_wait(rt: HostRuntime) {
+    tells(
+        &rt,
+        rt.alloc(),
+        "\
+add writes 1 1 256 1 2
+add writes 1 257 257 1 2
+> Full
+add writes 2 257 257 1 2
+> Missing
+add writes 1 257 257 2 2
+count writes 1
+> 256
+remove write 1 1
+add writes 1 258 258 1 2
+",
+    );
+}
+
+#[test]
+fn each_counter_gives_its_own_numbers(rt: HostRuntime) {
+    tells(
+        &rt,
+        rt.alloc(),
+        "\
+empty from 1
+give sid
+> 1
+give sid
+> 2
+give cid
+> 1
+give subscription
+> 1
+give write
+> 1
+give sid
+> 3
+",
+    );
+}
+
+#[test]
+fn numbers_are_used_up_past_the_last(rt: HostRuntime) {
+    tells(
+        &rt,
+        rt.alloc(),
+        "\
+empty from 4294967294
+give cid
+> 4294967294
+give cid
+> none
+give cid
+> none
+give write
+> 4294967294
+",
+    );
+}
+
+/// The example at the head of the crate.
+#[test]
+fn a_link_names_a_server(rt: HostRuntime) {
+    tells(
+        &rt,
+        rt.alloc(),
+        "\
+empty from 1
+give cid
+> 1
+add links 1 1 1
+> Missing
+",
+    );
+}

@@ -1,0 +1,13 @@
+use Rattle.std.proofs.Common.{sym, ◌∙◌}
+use Rattle.script_player.proofs.ReplayLemmas.{IfBadLine-bad, OnOk-good}
+use Rattle.script_player.proofs.play.Goals as goal
+
+pub returns-in-Ok-clause-good : goal.returns-in-Ok-clause-good
+returns-in-Ok-clause-good g c = λ is.
+    OnOk-good c.play_script-ended.result (sym c.in-Ok.ensures.ok ∙ is) c.play_script-ended.ensures.good
+
+pub returns-in-Ok-clause-bad : goal.returns-in-Ok-clause-bad
+returns-in-Ok-clause-bad g c = λ is.
+    let held = g.W.Write.contents in
+    IfBadLine-bad c.play_script-ended.result (held c.play_script-ended.new.writer) (held c.report.new.writer) (sym c.in-Ok.ensures.ok ∙ is)
+    c.play_script-ended.ensures.bad (λ known. known c.play_script-ended.new.writer) c.in-Ok.ensures.printed

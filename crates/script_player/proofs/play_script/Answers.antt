@@ -1,0 +1,24 @@
+use Rattle.std.proofs.Common.{◌+◌, ap}
+use Rattle.std.specs.Prelude.{option_map}
+use Rattle.std.proofs.lemmas.Result.{on_ok_weaker}
+use Rattle.script_player.specs.Reading.{IsBadFrom, lines_left}
+use Rattle.script_player.specs.Script.{IsBadAt, lines_of}
+use Rattle.script_player.proofs.ReadingLemmas.{IsBadAt-from, IsGood-from}
+use Rattle.script_player.proofs.ReplayLemmas.{IfBadLine-weaker}
+use Rattle.script_player.proofs.play_script.Goals as goal
+
+pub returns-clause-good : goal.returns-clause-good
+returns-clause-good g c =
+    let script = c.in_ok-script.script in
+    on_ok_weaker c.play_entries.result
+    (IsGood-from (g.R.Read.remaining c.args.reader) script.number (lines_left g.R.Read.remaining script)
+    c.in_ok-script.ensures.start (ap (option_map lines_of) c.in_ok-script.ensures.left))
+    c.play_entries.ensures.good
+
+pub returns-clause-bad : goal.returns-clause-bad
+returns-clause-bad g c =
+    let script = c.in_ok-script.script in
+    IfBadLine-weaker c.play_entries.result (IsBadFrom (script.number + 1) (lines_left g.R.Read.remaining script)) (IsBadAt (g.R.Read.remaining c.args.reader))
+    (IsBadAt-from (g.R.Read.remaining c.args.reader) script.number (lines_left g.R.Read.remaining script)
+    c.in_ok-script.ensures.start (ap (option_map lines_of) c.in_ok-script.ensures.left))
+    c.play_entries.ensures.bad

@@ -1,0 +1,25 @@
+use Rattle.std.proofs.Common.{◌≡◌, ◌+◌, true, false, rules, arith}
+use Rattle.script_player.specs.Reading.{lines_left}
+use Rattle.script_player.proofs.ReadingLemmas.{AreMissing-here, TakesText-next}
+use Rattle.script_player.proofs.script.Script.text.Goals as goal
+
+pub returns-then-not-branch-clause-taken : goal.returns-then-not-branch-clause-taken
+returns-then-not-branch-clause-taken g c =
+    let left = lines_left g.R.Read.remaining in
+    let none : c.in_ok-next_line.field-0 ≡ false = search rules in
+    let takes = rw none at c.in_ok-next_line.ensures.taken in
+    AreMissing-here (left c.args.self.now) (left c.loop.self) (left c.next_line.new.self) c.loop.counter c.args.count
+    c.loop.text.items c.next_line.new.self.line.items (omega arith) c.loop.invariant.taken takes
+
+pub loop-preserved : goal.loop-preserved
+loop-preserved g c =
+    let left = lines_left g.R.Read.remaining in
+    let some : c.in_ok-next_line.field-0 ≡ true = search rules in
+    let takes = rw some at c.in_ok-next_line.ensures.taken in
+    let one = rw some at c.in_ok-next_line.ensures.counted in
+    record {
+      taken = rw (c.in_ok-add_line.ensures, c.deref.ensures.value)
+          (TakesText-next (left c.args.self.now) (left c.loop.self) (left c.next_line.new.self) c.loop.counter
+          c.loop.text.items c.next_line.new.self.line.items c.loop.invariant.taken takes);
+      counted = omega (arith, one, c.loop.invariant.counted);
+    }

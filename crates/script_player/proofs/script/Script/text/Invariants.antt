@@ -1,0 +1,10 @@
+use Rattle.std.proofs.Common.{◌≡◌, ◌+◌}
+use Rattle.script_player.specs.Reading.{TakesText, lines_left}
+use Rattle.script_player.proofs.script.Script.text.Given as goal
+
+-- the text so far is that of the lines that were taken
+abbrev pub invariant-loop : goal.invariant-loop
+invariant-loop g l = record {
+  taken : TakesText (lines_left g.R.Read.remaining l.initial.self) l.counter (lines_left g.R.Read.remaining l.self) l.text.items;
+  counted : l.self.number ≡ l.initial.self.number + l.counter;
+}

@@ -1,0 +1,114 @@
+//! A script, performed on a gateway that is there already.
+//!
+//! [`play`] takes a script from a reader, performs it line by line on an engine, with no network, and
+//! writes what the gateway sends to each connection. It returns the status that a program ends with, one
+//! of those in [`status`]. `replay` makes the engine that scripts begin with.
+//!
+//! ```rust
+//! let script = b"open s1 10.0.0.5\n".as_slice();
+//! let mut out = Vec::new(alloc);
+//! let ended = play(alloc, engine, script, &mut out);
+//! ```
+#![tactic(auto)]
+
+ghost use Rattle.std.specs.Prelude.{◌≡◌, ◌+◌, ℕ, IsSome, IfOk, OnOk};
+ghost use Rattle.std.specs.Io.KnownBytes.{Appends, Keeps};
+ghost use Rattle.script_player.specs.Replay.{EndsIn, IfBadLine, IsStatus, bad_line, last_line, status_at};
+ghost use Rattle.script_player.specs.Reading.{lines_left, IsBadFrom, IsGoodFrom};
+ghost use Rattle.script_player.specs.Script.{IsBadAt, IsGood};
+
+pub mod counted;
+mod entry;
+mod fault;
+mod player;
+mod script;
+pub mod status;
+
+use fault::{Fault, ReplayFault};
+use gateway_core::Engine;
+use player::Player;
+use script::Script;
+use std::alloc::Global;
+use std::io;
+use std::io::{Read, Write};
+
+/// Performs the script that the reader gives, one line after another, on the engine, and prints what the
+/// gateway sends to each connection. Returns the status that the program ends with: good only where every
+/// line of the script was performed, bad input only at the first line that is none of a script, of
+/// which the last line that is printed has the number. What a line prints is flushed before more of
+/// the script is waited for, and at the end.
+pub fn play<R: Read + Drop, W: Write>(
+    alloc: Global,
+    engine: Engine,
+    reader: R,
+    writer: &mut W,
+) -> u8
+    ensures among { IsStatus result }
+    ensures good { result ≡ 0 → IsGood (R.remaining reader) }
+    ensures bad { result ≡ 2 → (number : ℕ) × IsBadAt (R.remaining reader) number
+        × (((held : W) → IsSome (W.contents held)) → EndsIn (W.contents writer.new) (bad_line number)) }
+{
+    let ended = play_script(alloc, engine, reader, writer);
+    match report(ended, writer) {
+        Ok(status) => status,
+        Err(_) => status::STREAM_FAILED,
+    }
+}
+
+fn play_script<R: Read + Drop, W: Write>(
+    alloc: Global,
+    engine: Engine,
+    reader: R,
+    writer: &mut W,
+) -> Result<(), ReplayFault>
+    ensures good { OnOk result (IsGood (R.remaining reader)) }
+    ensures bad { IfBadLine result (IsBadAt (R.remaining reader)) }
+{
+    let mut player = Player::new(alloc, engine);
+    let mut script = Script::new(alloc, reader)?;
+    play_entries(&mut player, &mut script, writer)
+}
+
+fn play_entries<R: Read + Drop, W: Write>(
+    player: &mut Player,
+    script: &mut Script<R>,
+    writer: &mut W,
+) -> Result<(), ReplayFault>
+    ensures good { OnOk result (IsGoodFrom (script.old.number + 1) (lines_left R.remaining script.old)) }
+    ensures bad { IfBadLine result (IsBadFrom (script.old.number + 1) (lines_left R.remaining script.old)) }
+{
+    for _ in 0..u64::MAX {
+        let Some(entry) = script.next(writer)? else {
+            return Ok(());
+        };
+        player.play(entry, writer)?;
+    }
+    Err(ReplayFault::Halted(Fault::StreamFailed))
+}
+
+/// Prints how the script ended, where that is printed, and gives the program's status.
+fn report<W: Write>(ended: Result<(), ReplayFault>, writer: &mut W) -> io::Result<u8>
+    ensures ok { IfOk result (λ status. status ≡ status_at ended) }
+    ensures among { IfOk result IsStatus }
+    ensures printed { OnOk result (Appends (W.contents writer.old) (W.contents writer.new) (last_line ended)) }
+{
+    match ended {
+        Ok(()) => finish(status::GOOD, writer),
+        Err(fault) => {
+            match fault {
+                ReplayFault::BadLine(number) => writeln!(writer, "line {number}: bad")?,
+                ReplayFault::Halted(Fault::EngineFailed) => writer.write_all(b"failed\n")?,
+                ReplayFault::Halted(Fault::StreamFailed | Fault::OutOfMemory) => {}
+            }
+            finish(fault.status(), writer)
+        }
+    }
+}
+
+fn finish<W: Write>(status: u8, writer: &mut W) -> io::Result<u8>
+    ensures ok { IfOk result (λ s. s ≡ status) }
+    ensures same { OnOk result (Keeps (W.contents writer.old) (W.contents writer.new)) }
+{
+    writer.flush()?;
+    Ok(status)
+}
