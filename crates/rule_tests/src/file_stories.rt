@@ -1,9 +1,8 @@
 //! Rule files and group files, good and faulty.
 use crate::tell::tells;
-use std::test::Fail;
 
 #[test]
-fn good_rule_files_are_read(rt: HostRuntime) -> Result<(), Fail> {
+fn good_rule_files_are_read(rt: HostRuntime) {
     tells(
         &rt,
         rt.alloc(),
@@ -120,11 +119,11 @@ read «20»«09»«20»
 read # A ALLOW
 > 0 rows, ALLOW, DENY
 ",
-    )
+    );
 }
 
 #[test]
-fn the_first_faulty_line_is_told(rt: HostRuntime) -> Result<(), Fail> {
+fn the_first_faulty_line_is_told(rt: HostRuntime) {
     tells(
         &rt,
         rt.alloc(),
@@ -202,11 +201,11 @@ read [\(] ALIAS B\1
 read \\(A ALIAS B\1
 > line 1 BadReference
 ",
-    )
+    );
 }
 
 #[test]
-fn rule_files_have_limits(rt: HostRuntime) -> Result<(), Fail> {
+fn rule_files_have_limits(rt: HostRuntime) {
     tells(
         &rt,
         rt.alloc(),
@@ -241,11 +240,11 @@ read #
 read «4096*A DENY¶»[ DENY FROM
 > line 4098 TooManyLines
 ",
-    )
+    );
 }
 
 #[test]
-fn group_files_are_read(rt: HostRuntime) -> Result<(), Fail> {
+fn group_files_are_read(rt: HostRuntime) {
     tells(
         &rt,
         rt.alloc(),
@@ -298,5 +297,5 @@ groups-read «4096*a READ¶#¶»é
 groups-read «4096*a READ¶#¶»é«1023*#»
 > line 8193 LineTooLong
 ",
-    )
+    );
 }

@@ -6,22 +6,19 @@
 //! - `rows`: the rows of the policy, each with its regular expression and what it does;
 //! - `groups-read TEXT`: the same of a group file, answered only by its fault;
 //! - `bits`: the rights of a group by their words, as numbers.
+use crate::words::Told;
 use pv_name::Group;
 use pvlist::{GroupRight, Groups, Row, RuleFault, Rules, Verb, translate};
 use rule_desk::Policy;
 use std::alloc::Global;
 use std::fmt::Write;
-use std::test::Fail;
 
-pub(crate) fn call(
-    alloc: Global,
-    policy: &mut Policy,
-    verb: &str,
-    text: &str,
-    told: &mut String,
-) -> Result<(), Fail> {
+pub(crate) fn call(alloc: Global, policy: &mut Policy, verb: &str, text: &str, told: &mut Told) {
     match verb {
-        "translate" => tell_translated(alloc, text, told),
+        "translate" => match translate(alloc, text) {
+            Ok(text) => told.line(&text),
+            Err(fault) => told.line(&fault),
+        },
         "read" => read(Rules::read(alloc, text), policy, told),
         "groups-read" => read_groups(Groups::read(alloc, text), policy, told),
         "rows" => rows(policy.rules.rows(), told),
@@ -29,64 +26,52 @@ pub(crate) fn call(
     }
 }
 
-fn tell_translated(alloc: Global, pattern: &str, told: &mut String) -> Result<(), Fail> {
-    match translate(alloc, pattern) {
-        Ok(text) => writeln!(told, "{text}")?,
-        Err(fault) => writeln!(told, "{fault}")?,
-    }
-    Ok(())
-}
-
-fn read(
-    read: Result<Rules, RuleFault>,
-    policy: &mut Policy,
-    told: &mut String,
-) -> Result<(), Fail> {
+fn read(read: Result<Rules, RuleFault>, policy: &mut Policy, told: &mut Told) {
     match read {
         Ok(rules) => {
-            writeln!(told, "{} rows, {}", rules.rows().len(), rules.order())?;
+            let (rows, order) = (rules.rows().len(), rules.order());
+            let written = writeln!(told.text, "{rows} rows, {order}");
+            told.keep(written);
             policy.rules = rules;
         }
-        Err(fault) => writeln!(told, "{fault}")?,
+        Err(fault) => told.line(&fault),
     }
-    Ok(())
 }
 
-fn read_groups(
-    read: Result<Groups, RuleFault>,
-    policy: &mut Policy,
-    told: &mut String,
-) -> Result<(), Fail> {
+fn read_groups(read: Result<Groups, RuleFault>, policy: &mut Policy, told: &mut Told) {
     match read {
         Ok(groups) => policy.groups = groups,
-        Err(fault) => writeln!(told, "{fault}")?,
+        Err(fault) => told.line(&fault),
     }
-    Ok(())
 }
 
-fn rows(rows: &[Row], told: &mut String) -> Result<(), Fail> {
+fn rows(rows: &[Row], told: &mut Told) {
     for row in rows {
-        write!(told, "{} ", row.regex.as_str())?;
-        verb(&row.verb, told)?;
+        told.put(&row.regex.as_str());
+        verb(&row.verb, told);
     }
-    Ok(())
 }
 
-fn verb(verb: &Verb, told: &mut String) -> Result<(), Fail> {
+fn verb(verb: &Verb, told: &mut Told) {
     match verb {
-        Verb::Allow(group) => writeln!(told, "allow {}", group_text(group))?,
+        Verb::Allow(group) => {
+            let written = writeln!(told.text, " allow {}", group_text(group));
+            told.keep(written);
+        }
         Verb::Alias(real, group) => {
-            writeln!(told, "alias {} {}", real.text(), group_text(group))?;
+            let (real, group) = (real.text(), group_text(group));
+            let written = writeln!(told.text, " alias {real} {group}");
+            told.keep(written);
         }
         Verb::Deny(hosts) => {
-            told.push_str("deny")?;
+            told.put(&" deny");
             for host in hosts.as_slice() {
-                write!(told, " {}", host.text())?;
+                told.put(&' ');
+                told.put(&host.text());
             }
-            writeln!(told)?;
+            told.put(&'\n');
         }
     }
-    Ok(())
 }
 
 /// A group, or `-` where there is none.
@@ -97,8 +82,8 @@ pub(crate) fn group_text(group: &Option<Group>) -> &str {
     }
 }
 
-fn bits(told: &mut String) -> Result<(), Fail> {
+fn bits(told: &mut Told) {
     let (none, read) = (GroupRight::None.bits(), GroupRight::Read.bits());
-    writeln!(told, "{none} {read} {}", GroupRight::Write.bits())?;
-    Ok(())
+    let written = writeln!(told.text, "{none} {read} {}", GroupRight::Write.bits());
+    told.keep(written);
 }

@@ -1,9 +1,8 @@
 //! Where names lead, and the rights of groups.
 use crate::tell::tells;
-use std::test::Fail;
 
 #[test]
-fn names_lead_somewhere_or_nowhere(rt: HostRuntime) -> Result<(), Fail> {
+fn names_lead_somewhere_or_nowhere(rt: HostRuntime) {
     tells(
         &rt,
         rt.alloc(),
@@ -93,11 +92,11 @@ read A\|B ALLOW
 lead desk1 A, desk1 AB
 > A -, refused
 ",
-    )
+    );
 }
 
 #[test]
-fn references_are_replaced(rt: HostRuntime) -> Result<(), Fail> {
+fn references_are_replaced(rt: HostRuntime) {
     tells(
         &rt,
         rt.alloc(),
@@ -142,11 +141,11 @@ lead desk1 «63*x»
 lead desk1 «64*x»
 > refused
 ",
-    )
+    );
 }
 
 #[test]
-fn groups_have_rights(rt: HostRuntime) -> Result<(), Fail> {
+fn groups_have_rights(rt: HostRuntime) {
     tells(
         &rt,
         rt.alloc(),
@@ -173,5 +172,5 @@ rights Ops
 rights -
 > 3
 ",
-    )
+    );
 }

@@ -4,56 +4,62 @@
 //!   `refused`;
 //! - `rights GROUP`: the rights in the group file, and those that hold; of `-`, those without a group.
 use crate::files::group_text;
-use crate::words::two_words;
+use crate::words::{Told, two_words};
 use pv_alias::{group_rights, resolve};
 use pv_name::{Group, Host, Name};
 use pvlist::{Groups, Rules};
 use rule_desk::Policy;
 use std::alloc::Global;
 use std::fmt::Write;
-use std::test::Fail;
 
-pub(crate) fn call(
-    alloc: Global,
-    policy: &Policy,
-    verb: &str,
-    text: &str,
-    told: &mut String,
-) -> Result<(), Fail> {
+pub(crate) fn call(alloc: Global, policy: &Policy, verb: &str, text: &str, told: &mut Told) {
     match (verb, text) {
         ("lead", _) => leads(alloc, &policy.rules, text, told),
-        (_, "-") => Ok(writeln!(told, "{}", group_rights(&policy.groups, None))?),
-        _ => rights(&policy.groups, &Group::read(alloc, text.as_bytes())?, told),
+        (_, "-") => told.line(&group_rights(&policy.groups, None)),
+        _ => match Group::read(alloc, text.as_bytes()) {
+            Ok(group) => rights(&policy.groups, &group, told),
+            Err(fault) => told.line(&fault),
+        },
     }
 }
 
-fn leads(alloc: Global, rules: &Rules, text: &str, told: &mut String) -> Result<(), Fail> {
+fn leads(alloc: Global, rules: &Rules, text: &str, told: &mut Told) {
     for (place, asked) in text.split(", ").enumerate() {
         if place > 0 {
-            told.push_str(", ")?;
+            told.put(&", ");
         }
-        lead(alloc, rules, asked, told)?;
+        match asked_in(alloc, asked) {
+            Some((host, name)) => lead(alloc, rules, &host, &name, told),
+            None => told.put(&"no host and name"),
+        }
     }
-    told.push('\n')?;
-    Ok(())
+    told.put(&'\n');
 }
 
-fn lead(alloc: Global, rules: &Rules, text: &str, told: &mut String) -> Result<(), Fail> {
-    let (host, name) = two_words(text)?;
-    let host = Host::read(alloc, host.as_bytes())?;
-    let name = Name::read(alloc, name.as_bytes())?;
-    match resolve(alloc, rules, &host, &name)? {
-        Some(lead) => write!(told, "{} {}", lead.real.text(), group_text(&lead.group))?,
-        None => told.push_str("refused")?,
-    }
-    Ok(())
+/// A host and a name.
+fn asked_in(alloc: Global, text: &str) -> Option<(Host, Name)> {
+    let (host, name) = two_words(text);
+    let host = Host::read(alloc, host.as_bytes()).ok()?;
+    Some((host, Name::read(alloc, name.as_bytes()).ok()?))
 }
 
-fn rights(groups: &Groups, group: &Group, told: &mut String) -> Result<(), Fail> {
+fn lead(alloc: Global, rules: &Rules, host: &Host, name: &Name, told: &mut Told) {
+    match resolve(alloc, rules, host, name) {
+        Ok(Some(lead)) => {
+            let (real, group) = (lead.real.text(), group_text(&lead.group));
+            let written = write!(told.text, "{real} {group}");
+            told.keep(written);
+        }
+        Ok(None) => told.put(&"refused"),
+        Err(_) => told.put(&"out of memory"),
+    }
+}
+
+fn rights(groups: &Groups, group: &Group, told: &mut Told) {
     match groups.rights(group) {
-        Some(rights) => write!(told, "{rights} ")?,
-        None => told.push_str("none ")?,
+        Some(rights) => told.put(&rights),
+        None => told.put(&"none"),
     }
-    writeln!(told, "{}", group_rights(groups, Some(group)))?;
-    Ok(())
+    told.put(&' ');
+    told.line(&group_rights(groups, Some(group)));
 }

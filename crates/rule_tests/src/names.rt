@@ -4,80 +4,91 @@
 //!   is none; and whether it is a name, and a host;
 //! - `same HOST HOST`: whether these are the same, from either side;
 //! - `listed HOST HOST`: whether a list of the first has the second.
-use crate::words::two_words;
+use crate::words::{Told, two_words};
 use pv_name::{Group, Host, Name, NameFault, is_host, is_name, same_host};
 use pvlist::Hosts;
 use std::alloc::Global;
 use std::fmt::Write;
-use std::test::Fail;
 
-pub(crate) fn call(alloc: Global, verb: &str, text: &str, told: &mut String) -> Result<(), Fail> {
+pub(crate) fn call(alloc: Global, verb: &str, text: &str, told: &mut Told) {
     match verb {
         "name" => {
-            name(Name::read(alloc, text.as_bytes()), told)?;
-            host(Host::read(alloc, text.as_bytes()), told)?;
-            group(Group::read(alloc, text.as_bytes()), told)?;
+            name(Name::read(alloc, text.as_bytes()), told);
+            host(Host::read(alloc, text.as_bytes()), told);
+            group(Group::read(alloc, text.as_bytes()), told);
             let (name, host) = (is_name(text.as_bytes()), is_host(text.as_bytes()));
-            writeln!(told, "{name} {host}")?;
-            Ok(())
+            let written = writeln!(told.text, "{name} {host}");
+            told.keep(written);
         }
-        "same" => {
-            let (first, second) = two_words(text)?;
-            let first = Host::read(alloc, first.as_bytes())?;
-            same(&first, &Host::read(alloc, second.as_bytes())?, told)
-        }
-        _ => listed(alloc, text, told),
+        "same" => match two_hosts(alloc, text) {
+            Some((first, second)) => same(&first, &second, told),
+            None => told.line(&"no hosts"),
+        },
+        _ => match two_hosts(alloc, text) {
+            Some((first, second)) => listed(alloc, first, &second, told),
+            None => told.line(&"no hosts"),
+        },
     }
 }
 
-fn name(read: Result<Name, NameFault>, told: &mut String) -> Result<(), Fail> {
+fn two_hosts(alloc: Global, text: &str) -> Option<(Host, Host)> {
+    let (first, second) = two_words(text);
+    let first = Host::read(alloc, first.as_bytes()).ok()?;
+    Some((first, Host::read(alloc, second.as_bytes()).ok()?))
+}
+
+fn name(read: Result<Name, NameFault>, told: &mut Told) {
     match read {
-        Ok(name) => {
-            let copy = name.copy()?;
-            let equal = if copy == name { "" } else { " otherwise" };
-            writeln!(told, "{} {}{equal}", name.text(), copy.text())?;
-        }
-        Err(fault) => writeln!(told, "{fault}")?,
+        Ok(name) => match name.copy() {
+            Ok(copy) => tell(name.text(), copy.text(), copy == name, told),
+            Err(_) => told.line(&NameFault::OutOfMemory),
+        },
+        Err(fault) => told.line(&fault),
     }
-    Ok(())
 }
 
-fn host(read: Result<Host, NameFault>, told: &mut String) -> Result<(), Fail> {
+fn host(read: Result<Host, NameFault>, told: &mut Told) {
     match read {
-        Ok(host) => writeln!(told, "{} {}", host.text(), host.copy()?.text())?,
-        Err(fault) => writeln!(told, "{fault}")?,
+        Ok(host) => match host.copy() {
+            Ok(copy) => tell(host.text(), copy.text(), true, told),
+            Err(_) => told.line(&NameFault::OutOfMemory),
+        },
+        Err(fault) => told.line(&fault),
     }
-    Ok(())
 }
 
-fn group(read: Result<Group, NameFault>, told: &mut String) -> Result<(), Fail> {
+fn group(read: Result<Group, NameFault>, told: &mut Told) {
     match read {
-        Ok(group) => {
-            let copy = group.copy()?;
-            let equal = if copy == group { "" } else { " otherwise" };
-            writeln!(told, "{} {}{equal}", group.text(), copy.text())?;
-        }
-        Err(fault) => writeln!(told, "{fault}")?,
+        Ok(group) => match group.copy() {
+            Ok(copy) => tell(group.text(), copy.text(), copy == group, told),
+            Err(_) => told.line(&NameFault::OutOfMemory),
+        },
+        Err(fault) => told.line(&fault),
     }
-    Ok(())
 }
 
-fn same(first: &Host, second: &Host, told: &mut String) -> Result<(), Fail> {
-    writeln!(
-        told,
-        "{} {}",
-        same_host(first, second),
-        same_host(second, first)
-    )?;
-    Ok(())
+/// Tells what was read, and its copy.
+fn tell(text: &str, copy: &str, is_equal: bool, told: &mut Told) {
+    let equal = if is_equal { "" } else { " otherwise" };
+    let written = writeln!(told.text, "{text} {copy}{equal}");
+    told.keep(written);
 }
 
-fn listed(alloc: Global, text: &str, told: &mut String) -> Result<(), Fail> {
-    let (listed, host) = two_words(text)?;
+fn same(first: &Host, second: &Host, told: &mut Told) {
+    let (here, there) = (same_host(first, second), same_host(second, first));
+    let written = writeln!(told.text, "{here} {there}");
+    told.keep(written);
+}
+
+fn listed(alloc: Global, listed: Host, host: &Host, told: &mut Told) {
     let mut hosts = Vec::new(alloc);
-    hosts.push(Host::read(alloc, listed.as_bytes())?)?;
+    told.is_whole &= hosts.push(listed).is_ok();
     let hosts = Hosts::new(hosts);
-    let found = hosts.contains(&Host::read(alloc, host.as_bytes())?);
-    writeln!(told, "{found} of {}", hosts.as_slice().len())?;
-    Ok(())
+    let written = writeln!(
+        told.text,
+        "{} of {}",
+        hosts.contains(host),
+        hosts.as_slice().len()
+    );
+    told.keep(written);
 }

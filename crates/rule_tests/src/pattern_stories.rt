@@ -1,9 +1,8 @@
 //! Patterns of rule files, as regular expressions.
 use crate::tell::tells;
-use std::test::Fail;
 
 #[test]
-fn patterns_are_translated(rt: HostRuntime) -> Result<(), Fail> {
+fn patterns_are_translated(rt: HostRuntime) {
     tells(
         &rt,
         rt.alloc(),
@@ -87,5 +86,5 @@ translate [a\
 translate a[b-
 > bad pattern
 ",
-    )
+    );
 }

@@ -7,14 +7,13 @@
 //! - `rooms FIRST LAST`, `rooms FIRST LAST HOST NAME`: the status for each writer that takes so many
 //!   bytes and then fails;
 //! - `refusals`: what is told where memory is refused, of a name, a pattern, a file and an edit.
-use crate::words::two_words;
+use crate::words::{Told, two_words};
 use pv_name::{Host, Name, NameFault};
 use pvlist::{RuleFault, Rules, TranslateFault};
 use rule_check::{Asked, check};
 use rule_desk::{Desk, DeskFault, Policy};
 use std::alloc::Global;
 use std::fmt::Write;
-use std::test::Fail;
 use std::{io, str};
 
 /// The texts of a rule file and of a group file, where there are any.
@@ -47,79 +46,68 @@ impl Texts {
     }
 }
 
-pub(crate) fn call(
-    alloc: Global,
-    texts: &mut Texts,
-    verb: &str,
-    text: &str,
-    told: &mut String,
-) -> Result<(), Fail> {
+pub(crate) fn call(alloc: Global, texts: &mut Texts, verb: &str, text: &str, told: &mut Told) {
     match verb {
-        "rules" => texts.rules = Some(String::from_str(alloc, text)?),
-        "groups" => texts.groups = Some(String::from_str(alloc, text)?),
+        "rules" => texts.rules = copied(alloc, text, told),
+        "groups" => texts.groups = copied(alloc, text, told),
         "no-texts" => *texts = Texts::none(),
-        "check" => check_texts(alloc, texts, text, told)?,
-        "rooms" => rooms(alloc, texts, text, told)?,
-        _ => refusals(told)?,
+        "check" => check_texts(alloc, texts, text, told),
+        "rooms" => rooms(alloc, texts, text, told),
+        _ => refusals(told),
     }
-    Ok(())
 }
 
-pub(crate) fn edit(
-    desk: &mut Desk,
-    policy: &mut Policy,
-    texts: &Texts,
-    told: &mut String,
-) -> Result<(), Fail> {
+fn copied(alloc: Global, text: &str, told: &mut Told) -> Option<String> {
+    let copied = String::from_str(alloc, text).ok();
+    told.is_whole &= copied.is_some();
+    copied
+}
+
+pub(crate) fn edit(desk: &mut Desk, policy: &mut Policy, texts: &Texts, told: &mut Told) {
     match desk.edit(texts.rules(), texts.groups()) {
         Ok(edited) => *policy = edited,
-        Err(fault) => writeln!(told, "{fault}")?,
+        Err(fault) => told.line(&fault),
     }
-    Ok(())
 }
 
-pub(crate) fn show(desk: &Desk, rules: &Rules, told: &mut String) -> Result<(), Fail> {
+pub(crate) fn show(desk: &Desk, rules: &Rules, told: &mut Told) {
     let open = if rules.is_open() { "open" } else { "closed" };
-    let (rows, order) = (rules.rows().len(), rules.order());
-    writeln!(told, "{open}, {rows} rows, {order}, {} edits", desk.edits())?;
-    Ok(())
+    let (rows, order, edits) = (rules.rows().len(), rules.order(), desk.edits());
+    let written = writeln!(told.text, "{open}, {rows} rows, {order}, {edits} edits");
+    told.keep(written);
 }
 
-fn asked(alloc: Global, text: &str) -> Result<Option<Asked>, Fail> {
-    let Some((host, name)) = text.split_once(' ') else {
-        return Ok(None);
-    };
-    let host = Host::read(alloc, host.as_bytes())?;
-    let name = Name::read(alloc, name.as_bytes())?;
-    Ok(Some(Asked { name, host }))
+/// Who asks for what, nothing where that isn't said.
+fn asked(alloc: Global, text: &str) -> Option<Asked> {
+    let (host, name) = text.split_once(' ')?;
+    let host = Host::read(alloc, host.as_bytes()).ok()?;
+    let name = Name::read(alloc, name.as_bytes()).ok()?;
+    Some(Asked { name, host })
 }
 
-fn check_texts(alloc: Global, texts: &Texts, text: &str, told: &mut String) -> Result<(), Fail> {
-    let asked = asked(alloc, text)?;
-    let rules = texts.rules().ok_or("a rule file")?;
+fn check_texts(alloc: Global, texts: &Texts, text: &str, told: &mut Told) {
+    let asked = asked(alloc, text);
+    let rules = texts.rules().unwrap_or("");
     let mut out = Vec::new(alloc);
     let status = check(alloc, rules, texts.groups(), asked.as_ref(), &mut out);
-    writeln!(told, "{}status {status}", str::from_utf8(&out)?)?;
-    Ok(())
+    match str::from_utf8(&out) {
+        Ok(printed) => told.put(&printed),
+        Err(_) => told.line(&"no text"),
+    }
+    let written = writeln!(told.text, "status {status}");
+    told.keep(written);
 }
 
-fn rooms(alloc: Global, texts: &Texts, text: &str, told: &mut String) -> Result<(), Fail> {
-    let (first, text) = two_words(text)?;
-    let (last, text) = text.split_once(' ').unwrap_or((text, ""));
-    let asked = asked(alloc, text)?;
-    let rules = texts.rules().ok_or("a rule file")?;
-    for room in first.parse()?..=last.parse()? {
-        let status = check(
-            alloc,
-            rules,
-            texts.groups(),
-            asked.as_ref(),
-            &mut Narrow(room),
-        );
-        write!(told, "{status}")?;
+fn rooms(alloc: Global, texts: &Texts, text: &str, told: &mut Told) {
+    let (first, text) = two_words(text);
+    let (last, text) = two_words(text);
+    let asked = asked(alloc, text);
+    let rules = texts.rules().unwrap_or("");
+    for room in first.parse().unwrap_or(0)..=last.parse().unwrap_or(0) {
+        let out = &mut Narrow(room);
+        told.put(&check(alloc, rules, texts.groups(), asked.as_ref(), out));
     }
-    writeln!(told)?;
-    Ok(())
+    told.put(&'\n');
 }
 
 /// Takes so many bytes, and then fails; at last the flush.
@@ -144,10 +132,9 @@ impl io::Write for Narrow {
     }
 }
 
-fn refusals(told: &mut String) -> Result<(), Fail> {
-    writeln!(told, "{}", NameFault::OutOfMemory)?;
-    writeln!(told, "{}", TranslateFault::OutOfMemory)?;
-    writeln!(told, "{}", RuleFault::OutOfMemory)?;
-    writeln!(told, "{}", DeskFault::OutOfMemory)?;
-    Ok(())
+fn refusals(told: &mut Told) {
+    told.line(&NameFault::OutOfMemory);
+    told.line(&TranslateFault::OutOfMemory);
+    told.line(&RuleFault::OutOfMemory);
+    told.line(&DeskFault::OutOfMemory);
 }

@@ -1,9 +1,8 @@
 //! Policies from the texts of files, and what the check writes of them.
 use crate::tell::tells;
-use std::test::Fail;
 
 #[test]
-fn texts_become_a_policy(rt: HostRuntime) -> Result<(), Fail> {
+fn texts_become_a_policy(rt: HostRuntime) {
     tells(
         &rt,
         rt.alloc(),
@@ -89,11 +88,11 @@ shown
 rights ops
 > none 3
 ",
-    )
+    );
 }
 
 #[test]
-fn names_are_answered(rt: HostRuntime) -> Result<(), Fail> {
+fn names_are_answered(rt: HostRuntime) {
     tells(
         &rt,
         rt.alloc(),
@@ -180,11 +179,11 @@ check
 > ok 0 rows ALLOW, DENY
 > status 0
 ",
-    )
+    );
 }
 
 #[test]
-fn faults_are_told(rt: HostRuntime) -> Result<(), Fail> {
+fn faults_are_told(rt: HostRuntime) {
     tells(
         &rt,
         rt.alloc(),
@@ -299,5 +298,5 @@ groups ops
 rooms 0 25
 > «25*3»1
 ",
-    )
+    );
 }

@@ -1,9 +1,8 @@
 //! The rule file and the group file of a site. They are those of the folder `examples`.
 use crate::tell::tells;
-use std::test::Fail;
 
 #[test]
-fn a_site_is_answered(rt: HostRuntime) -> Result<(), Fail> {
+fn a_site_is_answered(rt: HostRuntime) {
     tells(
         &rt,
         rt.alloc(),
@@ -105,5 +104,5 @@ check desk1 S01:ILK:DOOR
 > refused
 > status 0
 ",
-    )
+    );
 }

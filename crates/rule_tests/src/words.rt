@@ -1,43 +1,86 @@
-//! Texts with repetitions and numbers of characters in them.
-use std::test::Fail;
+//! Texts with repetitions and numbers of characters in them, and what is told.
+use std::alloc::{AllocError, Global};
+use std::fmt::{Display, Write};
 
-/// Writes a text with what stands between `«` and `»` written out.
-pub(crate) fn write_out(text: &str, out: &mut String) -> Result<(), Fail> {
-    for part in text.split('«') {
-        match part.split_once('»') {
-            Some((repetition, rest)) => {
-                repeat(repetition, out)?;
-                out.push_str(rest)?;
-            }
-            None => out.push_str(part)?,
-        }
-    }
-    Ok(())
+/// What is told. The functions that make the calls return no error: what they tell would show one, and
+/// each way out of a function is dear to prove.
+#[derive(Drop)]
+pub(crate) struct Told {
+    pub(crate) text: String,
+    /// Memory was never refused, and each repetition could be written out.
+    pub(crate) is_whole: bool,
 }
 
-/// Writes `63*x`, with the end of a line for each `¶`; or the character with a number in two
-/// hexadecimal digits.
-fn repeat(repetition: &str, out: &mut String) -> Result<(), Fail> {
-    match repetition.split_once('*') {
-        Some((times, word)) => {
-            let times: u32 = times.parse()?;
-            for _ in 0..times {
-                write_lines(word, out)?;
+impl Told {
+    pub(crate) fn new(alloc: Global) -> Told {
+        Told {
+            text: String::new(alloc),
+            is_whole: true,
+        }
+    }
+
+    /// What became of a write to the text.
+    pub(crate) fn keep(&mut self, written: Result<(), AllocError>) {
+        self.is_whole &= written.is_ok();
+    }
+
+    pub(crate) fn put<T: Display>(&mut self, value: &T) {
+        let written = write!(self.text, "{value}");
+        self.keep(written);
+    }
+
+    pub(crate) fn line<T: Display>(&mut self, value: &T) {
+        let written = writeln!(self.text, "{value}");
+        self.keep(written);
+    }
+
+    /// A text with what stands between `«` and `»` written out.
+    pub(crate) fn write_out(&mut self, text: &str) {
+        for part in text.split('«') {
+            match part.split_once('»') {
+                Some((repetition, rest)) => {
+                    self.repeat(repetition);
+                    self.put(&rest);
+                }
+                None => self.put(&part),
             }
         }
-        None => out.push(char::from(u8::from_str_radix(repetition, 16)?))?,
     }
-    Ok(())
-}
 
-fn write_lines(text: &str, out: &mut String) -> Result<(), Fail> {
-    for letter in text.chars() {
-        out.push(if letter == '¶' { '\n' } else { letter })?;
+    /// Writes `63*x`, with the end of a line for each `¶`; or the character with a number in two
+    /// hexadecimal digits.
+    fn repeat(&mut self, repetition: &str) {
+        match repetition.split_once('*') {
+            Some((times, word)) => match times.parse() {
+                Ok(times) => self.write_times(times, word),
+                Err(_) => self.is_whole = false,
+            },
+            None => match u8::from_str_radix(repetition, 16) {
+                Ok(number) => self.put(&char::from(number)),
+                Err(_) => self.is_whole = false,
+            },
+        }
     }
-    Ok(())
+
+    fn write_times(&mut self, times: u32, word: &str) {
+        for _ in 0..times {
+            self.write_lines(word);
+        }
+    }
+
+    fn write_lines(&mut self, text: &str) {
+        for letter in text.chars() {
+            self.put(&(if letter == '¶' { '\n' } else { letter }));
+        }
+    }
+
+    pub(crate) fn write_line(&mut self, text: &str) {
+        self.write_out(text);
+        self.put(&'\n');
+    }
 }
 
 /// What stands before and behind the first blank.
-pub(crate) fn two_words(text: &str) -> Result<(&str, &str), Fail> {
-    Ok(text.split_once(' ').ok_or("a word more")?)
+pub(crate) fn two_words(text: &str) -> (&str, &str) {
+    text.split_once(' ').unwrap_or((text, ""))
 }
