@@ -19,11 +19,10 @@ ghost use Rattle.std.specs.Prelude.{◌≡◌, ℕ, IsSome};
 ghost use Rattle.script_player.specs.Replay.{EndsIn, IsStatus, bad_line};
 ghost use Rattle.script_player.specs.Script.{IsBadAt, IsGood};
 
-pub use script_player::status;
-
 use gateway_core::{Config, Engine, Policy};
 use pv_name::Name;
 use script_player::play;
+pub use script_player::status;
 use std::alloc::Global;
 use std::io::{Read, Write};
 
