@@ -3,8 +3,9 @@
 //! `hear_client` takes the rows of the gateway, the number of a client's connection and a message
 //! that came over it. It leaves the rows that `client_said` makes of the old ones: a request has the
 //! effect that its command has, a message that is no request is refused or ignored. What follows for
-//! others, as owed updates, isn't told here; the call answers what was touched (`request_touches`). A refusal leaves the rows half done; it says that
-//! numbers are used up only where the request would give out a number past the last one.
+//! others, as owed updates, isn't told here; the call answers what was touched (`request_touches`).
+//! A refusal leaves the rows half done; it says that numbers are used up only where the request would
+//! give out a number past the last one.
 #![tactic(auto)]
 
 mod clear_channel;

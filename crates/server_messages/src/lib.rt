@@ -4,11 +4,10 @@
 //! that came over it. It leaves the rows that `server_said` makes of the old ones: channels are made,
 //! refused or dropped, rights are kept, and an update under a present subscription becomes the last
 //! message, owed to those whom it concerns; how a write ended is told to the client that waits for it.
-//! Any other message is ignored. `find_at` makes a link for
-//! a variable that is wanted and has none (`found`). What follows for clients isn't told here; the call
-//! answers what was touched (`reply_touches`). A
-//! refusal leaves the rows half done; it says that numbers are used up only where the link would get
-//! a number past the last one.
+//! Any other message is ignored. `find_at` makes a link for a variable that is wanted and has none
+//! (`found`). What follows for clients isn't told here; `hear_server` answers what was touched
+//! (`reply_touches`). A refusal leaves the rows half done; it says that numbers are used up only where
+//! the link would get a number past the last one.
 #![tactic(auto)]
 
 mod channels;
