@@ -1,5 +1,5 @@
 -- Rows of channels.
-use Rattle.std.specs.Prelude.{ℕ, Bool, not, ◌&&◌, ◌==◌}
+use Rattle.std.specs.Prelude.{ℕ, List, Bool, false, not, ◌&&◌, ◌==◌, bytes_eq, Option, Some, None}
 use Rattle.channel_table.specs.declared.channels.Channel.{Channel}
 
 -- the session's channel of this ID
@@ -21,3 +21,12 @@ is_not_channel_of session channel = not (is_channel_of session channel)
 -- the channel with its reach and the rights last told
 abbrev pub with_reach_and_rights : ℕ → ℕ → Channel → Channel
 with_reach_and_rights reach rights channel = record channel { reach = reach; rights = rights }
+
+-- a channel on this real name
+abbrev pub is_on : List ℕ → Channel → Bool
+is_on name channel = bytes_eq channel.real name
+
+-- the same of what was looked up: where no channel stands, none is on it
+abbrev pub is_channel_on : List ℕ → Option Channel → Bool
+is_channel_on name None = false
+is_channel_on name (Some channel) = is_on name channel

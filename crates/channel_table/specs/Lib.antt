@@ -1,5 +1,6 @@
 pub mod Channels
 pub mod ClientRows
+pub mod Indexes
 pub mod Reads
 pub mod Sessions
 pub mod Subs

@@ -1,11 +1,18 @@
 //! Rows of channels.
-ghost use Rattle.std.specs.Prelude.{◌≡◌};
-ghost use Rattle.std.specs.List.{list_any, filter, find, position, count_by};
+ghost use Rattle.std.specs.Prelude.{◌≡◌, ◌-◌, [], ◌∷◌, ◌++◌, false, length, map, slice_get, IfOk, OnOk, OnErr};
+ghost use Rattle.std.specs.List.{list_any, filter, find, count_by};
 ghost use Rattle.std.specs.Option.{option_copied};
 ghost use Rattle.rows.specs.Rows.{change_first};
-ghost use Rattle.channel_table.specs.Channels.{is_channel, is_not_channel, is_channel_of, is_not_channel_of, with_reach_and_rights};
+ghost use Rattle.row_index.specs.Lists.{SameLists};
+ghost use Rattle.row_index.specs.Rows.{has_key, value_at};
+ghost use Rattle.channel_table.specs.Channels.{is_channel, is_not_channel, is_channel_of, is_on, with_reach_and_rights};
+ghost use Rattle.channel_table.specs.Indexes.{changed_by, IsListedOn, IsUnlistedOn};
 
+use crate::keys::nth_key;
 use pv_name::Name;
+use row_index::{Key, NameLists, RowMap};
+use std::alloc::{AllocError, Global};
+use std::marker::Model;
 
 /// A client's channel.
 #[derive(Debug, Drop)]
@@ -26,52 +33,172 @@ pub struct Channel {
     pub rights: u32,
 }
 
-pub(crate) fn stands(rows: &[Channel], session: u32, sid: u32) -> bool
-    ensures { result ≡ list_any (is_channel session sid) rows.now }
-{
-    rows.iter()
-        .any(|row| row.session == session && row.sid == sid)
+/// All channels, found by their IDs and by their real names.
+#[derive(Drop)]
+pub(crate) struct Channels {
+    rows: RowMap<Channel>,
+    on: NameLists,
 }
 
-pub(crate) fn find(rows: &[Channel], session: u32, sid: u32) -> Option<&Channel>
-    ensures { option_copied result ≡ find (is_channel session sid) rows.now }
-{
-    rows.iter()
-        .find(|row| row.session == session && row.sid == sid)
+impl Model for Channels {
+    ghost use Rattle.std.specs.Prelude.{List, map};
+    ghost use Rattle.row_index.specs.Rows.{row_of};
+    ghost use Rattle.channel_table.specs.declared.channels.Channel.{Channel};
+    ghost use Rattle.channel_table.specs.Indexes.{IsChannelIndex};
+
+    ghost Value = { List Channel };
+
+    ghost view = { λ c. map row_of c.rows };
+
+    ghost invariant = { λ c. IsChannelIndex c.rows c.on };
 }
 
-pub(crate) fn count(rows: &[Channel], session: u32) -> usize
-    ensures { result ≡ count_by (is_channel_of session) rows.now }
-{
-    rows.iter().filter(|row| row.session == session).count()
+impl Channels {
+    pub(crate) fn new(alloc: Global) -> Channels
+        ensures { result ≡ [] }
+    {
+        Channels {
+            rows: RowMap::new(alloc),
+            on: NameLists::new(alloc),
+        }
+    }
+
+    pub(crate) fn all(&self, alloc: Global) -> Result<Vec<&Channel>, AllocError>
+        ensures { IfOk result (λ rows. map (λ row. row.now) rows.items ≡ self.now) }
+    {
+        self.rows.rows(alloc)
+    }
+
+    pub(crate) fn get(&self, session: u32, sid: u32) -> Option<&Channel>
+        ensures { option_copied result ≡ find (is_channel session sid) self.now }
+    {
+        let key = Key {
+            owner: session,
+            id: sid,
+        };
+        self.rows.get(key)
+    }
+
+    pub(crate) fn contains(&self, session: u32, sid: u32) -> bool
+        ensures { result ≡ list_any (is_channel session sid) self.now }
+    {
+        let key = Key {
+            owner: session,
+            id: sid,
+        };
+        self.rows.contains(key)
+    }
+
+    pub(crate) fn count_of(&self, session: u32) -> usize
+        ensures { result ≡ count_by (is_channel_of session) self.now }
+    {
+        self.rows.count_of(session)
+    }
+
+    pub(crate) fn nth_of(&self, session: u32, n: usize) -> Option<&Channel>
+        ensures { option_copied result ≡ slice_get (filter (is_channel_of session) self.now) n }
+    {
+        self.rows.of(session, n)
+    }
+
+    /// The session's last channel.
+    pub(crate) fn last_of(&self, session: u32) -> Option<&Channel>
+        ensures { option_copied result ≡
+            slice_get (filter (is_channel_of session) self.now) (count_by (is_channel_of session) self.now - 1) }
+    {
+        self.nth_of(session, self.count_of(session).saturating_sub(1))
+    }
+
+    pub(crate) fn is_used(&self, name: &Name) -> bool
+        ensures { result ≡ list_any (is_on name.now) self.now }
+    {
+        self.count_on(name) > 0
+    }
+
+    pub(crate) fn count_on(&self, name: &Name) -> usize
+        ensures { result ≡ length (filter (is_on name.now) self.now) }
+    {
+        self.on.of(name).len()
+    }
+
+    pub(crate) fn nth_on(&self, name: &Name, n: usize) -> Option<&Channel>
+        ensures { option_copied result ≡ slice_get (filter (is_on name.now) self.now) n }
+    {
+        self.rows.has_keys_apart();
+        match nth_key(&self.on, name, n) {
+            Some(key) => self.rows.get(key),
+            None => None,
+        }
+    }
+
+    /// Adds a channel. At an error it is let go, and the others are as before.
+    pub(crate) fn add(&mut self, channel: Channel) -> Result<(), AllocError>
+        requires new { list_any (is_channel channel.session channel.sid) self.old ≡ false }
+        ensures ok { OnOk result (self.new ≡ self.old ++ channel ∷ []) }
+        ensures err { OnErr result (self.new ≡ self.old) }
+    {
+        let key = Key {
+            owner: channel.session,
+            id: channel.sid,
+        };
+        self.rows.add(key, channel)?;
+        match list(&self.rows, &mut self.on, key) {
+            Ok(()) => Ok(()),
+            Err(e) => {
+                self.rows.remove(key);
+                Err(e)
+            }
+        }
+    }
+
+    pub(crate) fn put(&mut self, session: u32, sid: u32, reach: u32, rights: u32)
+        ensures { self.new ≡
+            change_first (is_channel session sid) (with_reach_and_rights reach rights) self.old }
+    {
+        let key = Key {
+            owner: session,
+            id: sid,
+        };
+        put(&mut self.rows, key, reach, rights);
+    }
+
+    pub(crate) fn remove(&mut self, session: u32, sid: u32)
+        ensures { self.new ≡ filter (is_not_channel session sid) self.old }
+    {
+        let key = Key {
+            owner: session,
+            id: sid,
+        };
+        self.rows.has_keys_apart();
+        unlist(&self.rows, &mut self.on, key);
+        self.rows.remove(key);
+    }
 }
 
-pub(crate) fn remove(rows: &mut Vec<Channel>, session: u32, sid: u32)
-    ensures { rows.new.items ≡ filter (is_not_channel session sid) rows.old.items }
+/// Lists a channel that stands under its real name.
+fn list(rows: &RowMap<Channel>, on: &mut NameLists, key: Key) -> Result<(), AllocError>
+    ensures ok { OnOk result (IsListedOn (value_at key rows.now) key on.old on.new) }
+    ensures err { OnErr result (SameLists on.old on.new) }
 {
-    rows.retain(|row| !(row.session == session && row.sid == sid));
+    match rows.get(key) {
+        Some(channel) => on.add(&channel.real, key),
+        None => Ok(()),
+    }
 }
 
-pub(crate) fn remove_of(rows: &mut Vec<Channel>, session: u32)
-    ensures { rows.new.items ≡ filter (is_not_channel_of session) rows.old.items }
+/// Takes a channel off the list of its real name.
+fn unlist(rows: &RowMap<Channel>, on: &mut NameLists, key: Key)
+    ensures { IsUnlistedOn (value_at key rows.now) key on.old on.new }
 {
-    rows.retain(|row| row.session != session);
+    if let Some(channel) = rows.get(key) {
+        on.remove(&channel.real, key);
+    }
 }
 
-fn place_of(rows: &[Channel], session: u32, sid: u32) -> Option<usize>
-    ensures { result ≡ position (is_channel session sid) rows.now }
+fn put(rows: &mut RowMap<Channel>, key: Key, reach: u32, rights: u32)
+    ensures { rows.new ≡ change_first (has_key key) (changed_by (with_reach_and_rights reach rights)) rows.old }
 {
-    rows.iter()
-        .position(|row| row.session == session && row.sid == sid)
-}
-
-#[tactic(auto, using(rows::proofs::RowLemmas::set_is_change_first, rows::proofs::RowLemmas::change_first_none))]
-pub(crate) fn put(rows: &mut Vec<Channel>, session: u32, sid: u32, reach: u32, rights: u32)
-    ensures { rows.new.items ≡
-        change_first (is_channel session sid) (with_reach_and_rights reach rights) rows.old.items }
-{
-    if let Some(place) = place_of(rows, session, sid) {
-        let row = &mut rows[place];
+    if let Some(row) = rows.get_mut(key) {
         row.reach = reach;
         row.rights = rights;
     }

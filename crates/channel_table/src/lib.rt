@@ -3,10 +3,16 @@
 //!
 //! - `add_session`, `add_channel`, `add_sub` and `add_read` put a row last. They refuse one whose
 //!   session or channel doesn't stand, and one past its limit ([`TableFault`]).
-//! - `session`, `channel` and `sub` find a row by its IDs; `sessions`, `channels`, `subs` and `reads`
-//!   are all rows in the order of adding, and `channel_count` and the like count those of a session.
+//! - `session`, `channel` and `sub` find a row by its IDs; `channels`, `subs` and `reads` are all rows
+//!   in the order of adding, and `channel_count` and the like count those of a session.
+//! - `channel_of` and `sub_of` give the rows of a session one by one, and `channel_on`, `sub_on` and
+//!   `read_on` those of a real name: of the channels on it, and of what hangs on these.
 //! - `put_session`, `put_channel` and `put_sub` change a row that stands.
 //! - `remove_session` and `remove_channel` take the rows that name theirs along.
+//!
+//! Channels and subscriptions are kept under their IDs, and their keys in lists by real name, so that
+//! a look-up costs the same beside many rows as beside few. A removal walks what is on the same name,
+//! and the rows of its own session; that of a session or a channel walks the waiting reads too.
 //!
 //! A contract sees a `Table` as four lists. Each call changes the rows that it names alone, a refused
 //! one none, and a limit refuses exactly where it is reached; limits are in `laws::numbers_are_these`.
@@ -31,6 +37,7 @@
 #![tactic(auto)]
 
 mod channels;
+mod keys;
 pub mod laws;
 mod reads;
 mod sessions;

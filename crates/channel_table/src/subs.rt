@@ -1,9 +1,18 @@
 //! Rows of clients' subscriptions.
-ghost use Rattle.std.specs.Prelude.{◌≡◌};
-ghost use Rattle.std.specs.List.{filter, find, position, count_by};
+ghost use Rattle.std.specs.Prelude.{◌≡◌, ℕ, List, [], ◌∷◌, ◌++◌, false, length, map, slice_get, IfOk, OnOk, OnErr};
+ghost use Rattle.std.specs.List.{filter, filter_map, find, count_by, list_any};
 ghost use Rattle.std.specs.Option.{option_copied};
 ghost use Rattle.rows.specs.Rows.{change_first};
-ghost use Rattle.channel_table.specs.Subs.{is_sub, is_not_sub, is_sub_of, is_not_sub_of, is_not_sub_on, with_owed};
+ghost use Rattle.row_index.specs.Lists.{of, AddsTo, RemovesFrom, SameLists};
+ghost use Rattle.row_index.specs.Rows.{has_key, value_at};
+ghost use Rattle.channel_table.specs.Indexes.{changed_by, sub_key, row_at, rows_at, IsApart};
+ghost use Rattle.channel_table.specs.Subs.{is_sub, is_not_sub, is_sub_of, is_sub_on, with_owed};
+
+use crate::keys::nth_key;
+use pv_name::Name;
+use row_index::{Key, NameLists, RowMap};
+use std::alloc::{AllocError, Global};
+use std::marker::Model;
 
 /// A client's subscription to the updates of a channel.
 #[derive(Clone, Copy, Debug, PartialEq, Eq)]
@@ -24,50 +33,144 @@ pub struct ClientSub {
     pub owed: bool,
 }
 
-pub(crate) fn find(rows: &[ClientSub], session: u32, id: u32) -> Option<&ClientSub>
-    ensures { option_copied result ≡ find (is_sub session id) rows.now }
-{
-    rows.iter()
-        .find(|row| row.session == session && row.id == id)
+/// All subscriptions, found by their IDs and by the real names that they lead to.
+#[derive(Drop)]
+pub(crate) struct Subs {
+    rows: RowMap<ClientSub>,
+    on: NameLists,
 }
 
-pub(crate) fn count(rows: &[ClientSub], session: u32) -> usize
-    ensures { result ≡ count_by (is_sub_of session) rows.now }
-{
-    rows.iter().filter(|row| row.session == session).count()
+impl Model for Subs {
+    ghost use Rattle.std.specs.Prelude.{map};
+    ghost use Rattle.row_index.specs.Rows.{row_of};
+    ghost use Rattle.channel_table.specs.Indexes.{SubRows, IsSubIndex};
+
+    ghost Value = { SubRows };
+
+    ghost view = { λ s. record { rows = map row_of s.rows; on = s.on } };
+
+    ghost invariant = { λ s. IsSubIndex s.rows };
 }
 
-pub(crate) fn remove(rows: &mut Vec<ClientSub>, session: u32, id: u32)
-    ensures { rows.new.items ≡ filter (is_not_sub session id) rows.old.items }
-{
-    rows.retain(|row| !(row.session == session && row.id == id));
+impl Subs {
+    pub(crate) fn new(alloc: Global) -> Subs
+        ensures rows { result.rows ≡ [] }
+        ensures on { (name : List ℕ) → of result.on name ≡ [] }
+    {
+        Subs {
+            rows: RowMap::new(alloc),
+            on: NameLists::new(alloc),
+        }
+    }
+
+    /// Does nothing. Its contract is a law: no two subscriptions have the same IDs.
+    pub(crate) fn are_apart(&self)
+        ensures { IsApart sub_key self.now.rows }
+    {
+        self.rows.has_keys_apart();
+    }
+
+    pub(crate) fn all(&self, alloc: Global) -> Result<Vec<&ClientSub>, AllocError>
+        ensures { IfOk result (λ rows. map (λ row. row.now) rows.items ≡ self.now.rows) }
+    {
+        self.rows.rows(alloc)
+    }
+
+    pub(crate) fn get(&self, session: u32, id: u32) -> Option<&ClientSub>
+        ensures { option_copied result ≡ find (is_sub session id) self.now.rows }
+    {
+        let key = Key { owner: session, id };
+        self.rows.get(key)
+    }
+
+    pub(crate) fn count_of(&self, session: u32) -> usize
+        ensures { result ≡ count_by (is_sub_of session) self.now.rows }
+    {
+        self.rows.count_of(session)
+    }
+
+    pub(crate) fn nth_of(&self, session: u32, n: usize) -> Option<&ClientSub>
+        ensures { option_copied result ≡ slice_get (filter (is_sub_of session) self.now.rows) n }
+    {
+        self.rows.of(session, n)
+    }
+
+    pub(crate) fn count_on(&self, name: &Name) -> usize
+        ensures { result ≡ length (of self.now.on name.now) }
+    {
+        self.on.of(name).len()
+    }
+
+    pub(crate) fn nth_on(&self, name: &Name, n: usize) -> Option<&ClientSub>
+        ensures { option_copied result ≡ row_at sub_key self.now.rows (slice_get (of self.now.on name.now) n) }
+    {
+        match nth_key(&self.on, name, n) {
+            Some(key) => self.rows.get(key),
+            None => None,
+        }
+    }
+
+    /// The first subscription on a channel, among those that lead to its real name.
+    pub(crate) fn first_on(&self, name: &Name, session: u32, sid: u32) -> Option<ClientSub>
+        ensures { result ≡ find (is_sub_on session sid) (rows_at sub_key self.now.rows (of self.now.on name.now)) }
+    {
+        first(&self.rows, self.on.of(name), session, sid)
+    }
+
+    /// Adds a subscription that leads to this real name. At an error nothing changes.
+    pub(crate) fn add(&mut self, name: &Name, sub: ClientSub) -> Result<(), AllocError>
+        requires new { list_any (is_sub sub.session sub.id) self.old.rows ≡ false }
+        ensures ok_rows { OnOk result (self.new.rows ≡ self.old.rows ++ sub ∷ []) }
+        ensures ok_on { OnOk result (AddsTo name.now (sub_key sub) self.old.on self.new.on) }
+        ensures err_rows { OnErr result (self.new.rows ≡ self.old.rows) }
+        ensures err_on { OnErr result (SameLists self.old.on self.new.on) }
+    {
+        let key = Key {
+            owner: sub.session,
+            id: sub.id,
+        };
+        self.rows.add(key, sub)?;
+        match self.on.add(name, key) {
+            Ok(()) => Ok(()),
+            Err(e) => {
+                self.rows.remove(key);
+                Err(e)
+            }
+        }
+    }
+
+    pub(crate) fn put(&mut self, session: u32, id: u32, owed: bool)
+        ensures rows { self.new.rows ≡ change_first (is_sub session id) (with_owed owed) self.old.rows }
+        ensures on { self.new.on ≡ self.old.on }
+    {
+        let key = Key { owner: session, id };
+        put(&mut self.rows, key, owed);
+    }
+
+    /// Removes a subscription that leads to this real name.
+    pub(crate) fn remove(&mut self, name: &Name, session: u32, id: u32)
+        ensures rows { self.new.rows ≡ filter (is_not_sub session id) self.old.rows }
+        ensures on { RemovesFrom name.now (record { owner = session; id = id }) self.old.on self.new.on }
+    {
+        let key = Key { owner: session, id };
+        self.on.remove(name, key);
+        self.rows.remove(key);
+    }
 }
 
-pub(crate) fn remove_of(rows: &mut Vec<ClientSub>, session: u32)
-    ensures { rows.new.items ≡ filter (is_not_sub_of session) rows.old.items }
+/// The first of these rows that is on a channel.
+fn first(rows: &RowMap<ClientSub>, keys: &[Key], session: u32, sid: u32) -> Option<ClientSub>
+    ensures { result ≡ find (is_sub_on session sid) (filter_map (λ key. value_at key rows.now) keys.now) }
 {
-    rows.retain(|row| row.session != session);
+    keys.iter()
+        .filter_map(|key| rows.get(*key).copied())
+        .find(|row| row.session == session && row.sid == sid)
 }
 
-pub(crate) fn remove_on(rows: &mut Vec<ClientSub>, session: u32, sid: u32)
-    ensures { rows.new.items ≡ filter (is_not_sub_on session sid) rows.old.items }
+fn put(rows: &mut RowMap<ClientSub>, key: Key, owed: bool)
+    ensures { rows.new ≡ change_first (has_key key) (changed_by (with_owed owed)) rows.old }
 {
-    rows.retain(|row| !(row.session == session && row.sid == sid));
-}
-
-fn place_of(rows: &[ClientSub], session: u32, id: u32) -> Option<usize>
-    ensures { result ≡ position (is_sub session id) rows.now }
-{
-    rows.iter()
-        .position(|row| row.session == session && row.id == id)
-}
-
-#[tactic(auto, using(rows::proofs::RowLemmas::set_is_change_first, rows::proofs::RowLemmas::change_first_none))]
-pub(crate) fn put(rows: &mut Vec<ClientSub>, session: u32, id: u32, owed: bool)
-    ensures { rows.new.items ≡ change_first (is_sub session id) (with_owed owed) rows.old.items }
-{
-    if let Some(place) = place_of(rows, session, id) {
-        let row = &mut rows[place];
+    if let Some(row) = rows.get_mut(key) {
         row.owed = owed;
     }
 }

@@ -1,19 +1,19 @@
 //! The table of clients.
-ghost use Rattle.std.specs.Prelude.{◌≡◌, ◌≢◌, ◌≤◌, ◌<◌, ◌↔◌, [], ◌∷◌, ◌++◌, length, true, false, Err, OnOk, OnErr, IsErrOf};
-ghost use Rattle.std.specs.List.{filter, find};
+ghost use Rattle.std.specs.Prelude.{◌≡◌, ◌≢◌, ◌≤◌, ◌<◌, ◌↔◌, [], ◌∷◌, ◌++◌, length, map, slice_get, true, false, Err, OnOk, OnErr, IfOk, IsErrOf, IsTrue};
+ghost use Rattle.std.specs.List.{filter, find, list_any};
 ghost use Rattle.std.specs.Option.{option_copied};
 ghost use Rattle.rows.specs.Rows.{change_first, remove_first};
-ghost use Rattle.channel_table.specs.Channels.{is_channel, is_not_channel, is_not_channel_of, with_reach_and_rights};
-ghost use Rattle.channel_table.specs.ClientRows.{has_session, has_channel, channel_count, sub_count, read_count};
+ghost use Rattle.channel_table.specs.Channels.{is_channel, is_not_channel, is_channel_of, is_not_channel_of, is_on, is_channel_on, with_reach_and_rights};
+ghost use Rattle.channel_table.specs.ClientRows.{has_session, has_channel, has_sub, channel_count, sub_count, read_count, is_sub_to, is_read_for};
 ghost use Rattle.channel_table.specs.Reads.{same_read, is_not_read_of, is_not_read_on};
 ghost use Rattle.channel_table.specs.Sessions.{is_numbered, is_not_numbered, with_host_and_pause};
-ghost use Rattle.channel_table.specs.Subs.{is_sub, is_not_sub, is_not_sub_of, is_not_sub_on, with_owed};
+ghost use Rattle.channel_table.specs.Subs.{is_sub, is_not_sub, is_sub_of, is_not_sub_of, is_sub_on, is_not_sub_on, with_owed};
 
-use crate::channels::{self, Channel};
+use crate::channels::{Channel, Channels};
 use crate::reads::{self, WaitingRead};
 use crate::sessions::{self, Session};
-use crate::subs::{self, ClientSub};
-use pv_name::Host;
+use crate::subs::{ClientSub, Subs};
+use pv_name::{Host, Name};
 use std::alloc::{AllocError, Global};
 use std::marker::Model;
 
@@ -41,25 +41,28 @@ pub enum TableFault {
 }
 
 /// The rows of clients, each list in the order in which they were added.
-#[derive(Debug, Drop)]
+#[derive(Drop)]
 pub struct Table {
     sessions: Vec<Session>,
-    channels: Vec<Channel>,
-    subs: Vec<ClientSub>,
+    channels: Channels,
+    subs: Subs,
     reads: Vec<WaitingRead>,
 }
 
 impl Model for Table {
     ghost use Rattle.channel_table.specs.ClientRows.{ClientRows};
+    ghost use Rattle.channel_table.specs.Indexes.{FollowChannels};
 
     ghost Value = { ClientRows };
 
     ghost view = { λ t. record {
       sessions = t.sessions.items;
-      channels = t.channels.items;
-      subs = t.subs.items;
+      channels = t.channels;
+      subs = t.subs.rows;
       reads = t.reads.items;
     } };
+
+    ghost invariant = { λ t. FollowChannels t.channels t.subs };
 }
 
 impl Table {
@@ -69,31 +72,24 @@ impl Table {
     {
         Table {
             sessions: Vec::new(alloc),
-            channels: Vec::new(alloc),
-            subs: Vec::new(alloc),
+            channels: Channels::new(alloc),
+            subs: Subs::new(alloc),
             reads: Vec::new(alloc),
         }
     }
 
-    /// All sessions, in the order in which they were added.
-    pub fn sessions(&self) -> &[Session]
-        ensures { result.now ≡ self.now.sessions }
-    {
-        &self.sessions
-    }
-
     /// All channels, in the order in which they were added.
-    pub fn channels(&self) -> &[Channel]
-        ensures { result.now ≡ self.now.channels }
+    pub fn channels(&self, alloc: Global) -> Result<Vec<&Channel>, AllocError>
+        ensures { IfOk result (λ rows. map (λ row. row.now) rows.items ≡ self.now.channels) }
     {
-        &self.channels
+        self.channels.all(alloc)
     }
 
     /// All subscriptions, in the order in which they were added.
-    pub fn subs(&self) -> &[ClientSub]
-        ensures { result.now ≡ self.now.subs }
+    pub fn subs(&self, alloc: Global) -> Result<Vec<&ClientSub>, AllocError>
+        ensures { IfOk result (λ rows. map (λ row. row.now) rows.items ≡ self.now.subs) }
     {
-        &self.subs
+        self.subs.all(alloc)
     }
 
     /// All waiting reads, in the order in which they were added.
@@ -114,28 +110,28 @@ impl Table {
     pub fn channel(&self, session: u32, sid: u32) -> Option<&Channel>
         ensures { option_copied result ≡ find (is_channel session sid) self.now.channels }
     {
-        channels::find(&self.channels, session, sid)
+        self.channels.get(session, sid)
     }
 
     /// The session's subscription of this ID.
     pub fn sub(&self, session: u32, id: u32) -> Option<&ClientSub>
         ensures { option_copied result ≡ find (is_sub session id) self.now.subs }
     {
-        subs::find(&self.subs, session, id)
+        self.subs.get(session, id)
     }
 
     /// How many channels of the session stand.
     pub fn channel_count(&self, session: u32) -> usize
         ensures { result ≡ channel_count session self.now }
     {
-        channels::count(&self.channels, session)
+        self.channels.count_of(session)
     }
 
     /// How many subscriptions of the session stand.
     pub fn sub_count(&self, session: u32) -> usize
         ensures { result ≡ sub_count session self.now }
     {
-        subs::count(&self.subs, session)
+        self.subs.count_of(session)
     }
 
     /// How many reads of the session wait.
@@ -143,6 +139,77 @@ impl Table {
         ensures { result ≡ read_count session self.now }
     {
         reads::count(&self.reads, session)
+    }
+
+    /// The session's nth channel, counted from 0 in the order in which they were added.
+    pub fn channel_of(&self, session: u32, n: usize) -> Option<&Channel>
+        ensures { option_copied result ≡ slice_get (filter (is_channel_of session) self.now.channels) n }
+    {
+        self.channels.nth_of(session, n)
+    }
+
+    /// The session's nth subscription.
+    pub fn sub_of(&self, session: u32, n: usize) -> Option<&ClientSub>
+        ensures { option_copied result ≡ slice_get (filter (is_sub_of session) self.now.subs) n }
+    {
+        self.subs.nth_of(session, n)
+    }
+
+    /// Whether a channel is on this real name.
+    pub fn is_used(&self, name: &Name) -> bool
+        ensures { result ≡ list_any (is_on name.now) self.now.channels }
+    {
+        self.channels.is_used(name)
+    }
+
+    /// How many channels are on this real name.
+    pub fn channels_on(&self, name: &Name) -> usize
+        ensures { result ≡ length (filter (is_on name.now) self.now.channels) }
+    {
+        self.channels.count_on(name)
+    }
+
+    /// The nth channel on this real name, counted from 0 in the order in which they were added.
+    pub fn channel_on(&self, name: &Name, n: usize) -> Option<&Channel>
+        ensures { option_copied result ≡ slice_get (filter (is_on name.now) self.now.channels) n }
+    {
+        self.channels.nth_on(name, n)
+    }
+
+    /// How many subscriptions are to channels on this real name.
+    pub fn subs_on(&self, name: &Name) -> usize
+        ensures { result ≡ length (filter (is_sub_to self.now name.now) self.now.subs) }
+    {
+        self.subs.count_on(name)
+    }
+
+    /// The nth subscription to a channel on this real name.
+    pub fn sub_on(&self, name: &Name, n: usize) -> Option<&ClientSub>
+        ensures { option_copied result ≡ slice_get (filter (is_sub_to self.now name.now) self.now.subs) n }
+    {
+        self.subs.are_apart();
+        self.subs.nth_on(name, n)
+    }
+
+    /// How many reads wait on channels on this real name.
+    pub fn reads_on(&self, name: &Name) -> usize
+        ensures { result ≡ length (filter (is_read_for self.now name.now) self.now.reads) }
+    {
+        self.reads
+            .iter()
+            .filter(|row| self.leads_to(row.session, row.sid, name))
+            .count()
+    }
+
+    /// The nth read that waits on a channel on this real name.
+    pub fn read_on(&self, name: &Name, n: usize) -> Option<WaitingRead>
+        ensures { result ≡ slice_get (filter (is_read_for self.now name.now) self.now.reads) n }
+    {
+        self.reads
+            .iter()
+            .filter(|row| self.leads_to(row.session, row.sid, name))
+            .nth(n)
+            .copied()
     }
 
     /// Adds a session. The caller sees to it that none of its number stands.
@@ -165,6 +232,7 @@ impl Table {
     /// Adds a channel to the session that it names. The caller sees to it that none of its ID stands
     /// there.
     pub fn add_channel(&mut self, channel: Channel) -> Result<(), TableFault>
+        requires new { has_channel channel.session channel.sid self.old ≡ false }
         ensures ok { OnOk result (self.new ≡ record self.old { channels = self.old.channels ++ channel ∷ [] }) }
         ensures there { OnOk result (has_session channel.session self.old ≡ true) }
         ensures room { OnOk result (channel_count channel.session self.old < CHANNEL_LIMIT) }
@@ -178,10 +246,10 @@ impl Table {
         if !sessions::stands(&self.sessions, channel.session) {
             return Err(TableFault::Missing);
         }
-        if channels::count(&self.channels, channel.session) >= CHANNEL_LIMIT {
+        if self.channels.count_of(channel.session) >= CHANNEL_LIMIT {
             return Err(TableFault::Full);
         }
-        match self.channels.push(channel) {
+        match self.channels.add(channel) {
             Ok(()) => Ok(()),
             Err(_) => Err(TableFault::OutOfMemory),
         }
@@ -190,6 +258,7 @@ impl Table {
     /// Adds a subscription to the channel that it names. The caller sees to it that none of its ID
     /// stands in the session.
     pub fn add_sub(&mut self, sub: ClientSub) -> Result<(), TableFault>
+        requires new { has_sub sub.session sub.id self.old ≡ false }
         ensures ok { OnOk result (self.new ≡ record self.old { subs = self.old.subs ++ sub ∷ [] }) }
         ensures there { OnOk result (has_channel sub.session sub.sid self.old ≡ true) }
         ensures room { OnOk result (sub_count sub.session self.old < SUB_LIMIT) }
@@ -200,13 +269,13 @@ impl Table {
             × (SUB_LIMIT ≤ sub_count sub.session self.old)) }
         ensures err { OnErr result (self.new ≡ self.old) }
     {
-        if !channels::stands(&self.channels, sub.session, sub.sid) {
+        let Some(channel) = self.channels.get(sub.session, sub.sid) else {
             return Err(TableFault::Missing);
-        }
-        if subs::count(&self.subs, sub.session) >= SUB_LIMIT {
+        };
+        if self.subs.count_of(sub.session) >= SUB_LIMIT {
             return Err(TableFault::Full);
         }
-        match self.subs.push(sub) {
+        match self.subs.add(&channel.real, sub) {
             Ok(()) => Ok(()),
             Err(_) => Err(TableFault::OutOfMemory),
         }
@@ -224,7 +293,7 @@ impl Table {
             × (READ_LIMIT ≤ read_count read.session self.old)) }
         ensures err { OnErr result (self.new ≡ self.old) }
     {
-        if !channels::stands(&self.channels, read.session, read.sid) {
+        if !self.channels.contains(read.session, read.sid) {
             return Err(TableFault::Missing);
         }
         if reads::count(&self.reads, read.session) >= READ_LIMIT {
@@ -263,7 +332,7 @@ impl Table {
               (is_channel session sid) (with_reach_and_rights reach rights) self.old.channels;
         } }
     {
-        channels::put(&mut self.channels, session, sid, reach, rights);
+        self.channels.put(session, sid, reach, rights);
     }
 
     /// Changes a subscription that stands: whether an update is owed.
@@ -272,7 +341,7 @@ impl Table {
           subs = change_first (is_sub session id) (with_owed owed) self.old.subs;
         } }
     {
-        subs::put(&mut self.subs, session, id, owed);
+        self.subs.put(session, id, owed);
     }
 
     /// Removes a session with its channels, subscriptions and reads.
@@ -284,10 +353,8 @@ impl Table {
           reads = filter (is_not_read_of number) self.old.reads;
         } }
     {
-        sessions::remove(&mut self.sessions, number);
-        channels::remove_of(&mut self.channels, number);
-        subs::remove_of(&mut self.subs, number);
-        reads::remove_of(&mut self.reads, number);
+        while self.remove_channel_of(number) {}
+        self.remove_bare_session(number);
     }
 
     /// Removes a channel with its subscriptions and reads.
@@ -298,16 +365,21 @@ impl Table {
           reads = filter (is_not_read_on session sid) self.old.reads;
         } }
     {
-        channels::remove(&mut self.channels, session, sid);
-        subs::remove_on(&mut self.subs, session, sid);
-        reads::remove_on(&mut self.reads, session, sid);
+        while self.remove_sub_on(session, sid) {}
+        self.remove_bare_channel(session, sid);
     }
 
     /// Removes the session's subscription of this ID.
     pub fn remove_sub(&mut self, session: u32, id: u32)
         ensures { self.new ≡ record self.old { subs = filter (is_not_sub session id) self.old.subs } }
     {
-        subs::remove(&mut self.subs, session, id);
+        let Some(sub) = self.subs.get(session, id).copied() else {
+            return;
+        };
+        self.subs.are_apart();
+        if let Some(channel) = self.channels.get(sub.session, sub.sid) {
+            self.subs.remove(&channel.real, session, id);
+        }
     }
 
     /// Removes a read, the first of those that are equal.
@@ -315,5 +387,81 @@ impl Table {
         ensures { self.new ≡ record self.old { reads = remove_first (same_read read.now) self.old.reads } }
     {
         reads::remove(&mut self.reads, read);
+    }
+
+    /// Whether the session's channel of this ID stands, on this real name.
+    fn leads_to(&self, session: u32, sid: u32, name: &Name) -> bool
+        ensures { result ≡ is_channel_on name.now (find (is_channel session sid) self.now.channels) }
+    {
+        match self.channels.get(session, sid) {
+            Some(channel) => channel.real == *name,
+            None => false,
+        }
+    }
+
+    /// Removes the first subscription on a channel, and tells whether there was one.
+    fn remove_sub_on(&mut self, session: u32, sid: u32) -> bool
+        ensures others { self.new ≡ record self.old { subs = self.new.subs } }
+        ensures elsewhere { filter (is_not_sub_on session sid) self.new.subs ≡
+            filter (is_not_sub_on session sid) self.old.subs }
+        ensures one { IsTrue result → length self.new.subs < length self.old.subs }
+        ensures none { result ≡ false → list_any (is_sub_on session sid) self.new.subs ≡ false }
+    {
+        let Some(channel) = self.channels.get(session, sid) else {
+            return false;
+        };
+        self.subs.are_apart();
+        match self.subs.first_on(&channel.real, session, sid) {
+            Some(sub) => {
+                self.subs.remove(&channel.real, session, sub.id);
+                true
+            }
+            None => false,
+        }
+    }
+
+    /// Removes a channel on which there is no subscription, with its reads.
+    fn remove_bare_channel(&mut self, session: u32, sid: u32)
+        requires bare { list_any (is_sub_on session sid) self.old.subs ≡ false }
+        ensures { self.new ≡ record self.old {
+          channels = filter (is_not_channel session sid) self.old.channels;
+          reads = filter (is_not_read_on session sid) self.old.reads;
+        } }
+    {
+        self.channels.remove(session, sid);
+        reads::remove_on(&mut self.reads, session, sid);
+    }
+
+    /// Removes the last channel of a session with what hangs on it, and tells whether there was one.
+    /// The last goes without a walk.
+    fn remove_channel_of(&mut self, number: u32) -> bool
+        ensures others { self.new.sessions ≡ self.old.sessions }
+        ensures channels { filter (is_not_channel_of number) self.new.channels ≡
+            filter (is_not_channel_of number) self.old.channels }
+        ensures subs { filter (is_not_sub_of number) self.new.subs ≡ filter (is_not_sub_of number) self.old.subs }
+        ensures reads { filter (is_not_read_of number) self.new.reads ≡ filter (is_not_read_of number) self.old.reads }
+        ensures one { IsTrue result → length self.new.channels < length self.old.channels }
+        ensures none { result ≡ false → list_any (is_channel_of number) self.new.channels ≡ false }
+    {
+        let Some(channel) = self.channels.last_of(number) else {
+            return false;
+        };
+        let sid = channel.sid;
+        self.remove_channel(number, sid);
+        true
+    }
+
+    /// Removes a session that has no channel, with its reads.
+    fn remove_bare_session(&mut self, number: u32)
+        requires bare { list_any (is_channel_of number) self.old.channels ≡ false }
+        ensures { self.new ≡ record {
+          sessions = filter (is_not_numbered number) self.old.sessions;
+          channels = filter (is_not_channel_of number) self.old.channels;
+          subs = filter (is_not_sub_of number) self.old.subs;
+          reads = filter (is_not_read_of number) self.old.reads;
+        } }
+    {
+        sessions::remove(&mut self.sessions, number);
+        reads::remove_of(&mut self.reads, number);
     }
 }

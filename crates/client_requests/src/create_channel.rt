@@ -2,6 +2,7 @@
 ghost use Rattle.std.specs.Prelude.{◌≡◌, true, OnOk, IfOk, IsErrOf};
 ghost use Rattle.gateway_state.specs.Numbers.{is_past_numbers};
 ghost use Rattle.gateway_state.specs.Clients.{remembered_by, with_channel, created, created_with, created_on_native, created_on, created_as, creation_failed, not_connected, channel_asked, rights_on};
+ghost use Rattle.gateway_state.specs.Settled.{HasSidsInOrder};
 ghost use Rattle.gateway_state.specs.Variables.{link_of};
 ghost use Rattle.std.specs.List.{find};
 ghost use Rattle.channel_table.specs.Sessions.{is_numbered};
@@ -41,7 +42,7 @@ fn leave_unconnected(rows: &mut Rows, number: u32, cid: u32, name: &Name) -> Res
 }
 
 /// Adds a channel, which nothing was read on yet.
-#[tactic(auto, unfolding(gateway_state::specs::Numbers::is_past_numbers))]
+#[tactic(auto, using(gateway_state::proofs::NewNumbers::new_sid), unfolding(gateway_state::specs::Numbers::is_past_numbers))]
 fn add_channel(
     rows: &mut Rows,
     number: u32,
@@ -50,6 +51,7 @@ fn add_channel(
     real: Name,
     rights: u32,
 ) -> Result<u32, Refusal>
+    requires order { HasSidsInOrder rows.old }
     ensures ok { OnOk result (rows.new ≡ with_channel number cid asked real rights rows.old) }
     ensures sid { IfOk result (λ sid. sid ≡ rows.old.upstream.counters.sid) }
     ensures used_up { IsErrOf result Refusal.NumbersUsedUp → is_past_numbers (with_channel number cid asked real rights rows.old) ≡ true }
@@ -82,6 +84,7 @@ fn create_on(
     rights: u32,
     native: Native,
 ) -> Result<(), Refusal>
+    requires order { HasSidsInOrder rows.old }
     ensures ok { OnOk result (rows.new ≡ created_with number cid asked real rights native rows.old) }
     ensures used_up { IsErrOf result Refusal.NumbersUsedUp → is_past_numbers (created_with number cid asked real rights native rows.old) ≡ true }
 {
@@ -103,7 +106,7 @@ fn create_on(
 fn rights_on(rows: &Rows, lead: &Lead, link: &Link) -> u32
     ensures { result ≡ rights_on rows.now lead.now link.now }
 {
-    link.rights & group_rights(&rows.policy.groups, lead.group.as_ref())
+    link.rights & group_rights(&rows.searches.policy().groups, lead.group.as_ref())
 }
 
 fn create_as(
@@ -113,6 +116,7 @@ fn create_as(
     asked: &Name,
     lead: Lead,
 ) -> Result<(), Refusal>
+    requires order { HasSidsInOrder rows.old }
     ensures ok { OnOk result (rows.new ≡ created_on number cid asked.now lead (link_of rows.old lead.real) rows.old) }
     ensures used_up { IsErrOf result Refusal.NumbersUsedUp → is_past_numbers (created_on number cid asked.now lead (link_of rows.old lead.real) rows.old) ≡ true }
 {
@@ -136,6 +140,7 @@ pub(crate) fn create_channel(
     cid: u32,
     name: &Name,
 ) -> Result<(), Refusal>
+    requires order { HasSidsInOrder rows.old }
     ensures ok { OnOk result (rows.new ≡ channel_asked number cid name.now rows.old) }
     ensures used_up { IsErrOf result Refusal.NumbersUsedUp → is_past_numbers (channel_asked number cid name.now rows.old) ≡ true }
 {

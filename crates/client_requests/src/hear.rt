@@ -4,6 +4,7 @@ ghost use Rattle.ca_message.specs.ClientRequest.{request_of};
 ghost use Rattle.gateway_state.specs.Numbers.{is_past_numbers};
 ghost use Rattle.gateway_state.specs.Clients.{versioned};
 ghost use Rattle.gateway_state.specs.Requests.{client_said, requested, unreadable};
+ghost use Rattle.gateway_state.specs.Settled.{HasSidsInOrder};
 ghost use Rattle.gateway_state.specs.Telling.{told};
 ghost use Rattle.touched_rows.specs.Touches.{request_touches};
 
@@ -28,6 +29,7 @@ use touched_rows::Touched;
 
 /// A client sent a message.
 pub fn hear_client(rows: &mut Rows, number: u32, message: Message) -> Result<Touched, Refusal>
+    requires order { HasSidsInOrder rows.old }
     ensures ok { OnOk result (rows.new ≡ client_said rows.old number message) }
     ensures touched { IfOk result (λ touched. touched ≡ request_touches rows.old number (request_of message.head message.payload)) }
     ensures used_up { IsErrOf result Refusal.NumbersUsedUp → is_past_numbers (client_said rows.old number message) ≡ true }
@@ -48,6 +50,7 @@ fn hear_request(
     request: ClientRequest<'_>,
     message: &Message,
 ) -> Result<Touched, Refusal>
+    requires order { HasSidsInOrder rows.old }
     ensures ok { OnOk result (rows.new ≡ requested rows.old number message.now (Ok request.entry)) }
     ensures touched { IfOk result (λ touched. touched ≡ request_touches rows.old number (Ok request.entry)) }
     ensures used_up { IsErrOf result Refusal.NumbersUsedUp → is_past_numbers (requested rows.old number message.now (Ok request.entry)) ≡ true }
@@ -127,8 +130,7 @@ fn hear_request(
         ClientRequest::ClientName(_) => Ok(Touched::Nothing),
         ClientRequest::HostName(host) => {
             let host = host.to_host(rows.alloc)?;
-            name_host(rows, number, host)?;
-            Ok(Touched::All)
+            Ok(name_host(rows, number, host)?)
         }
         ClientRequest::Echo => {
             echo(rows, number, message)?;

@@ -1,10 +1,12 @@
 //! HOST_NAME.
-ghost use Rattle.std.specs.Prelude.{◌≡◌, OnOk};
+ghost use Rattle.std.specs.Prelude.{◌≡◌, OnOk, IfOk};
 ghost use Rattle.gateway_state.specs.Clients.{with_host_fixed, host_named};
+ghost use Rattle.touched_rows.specs.Touches.{host_touches};
 
 use gateway_rows::Rows;
 use pv_name::Host;
 use std::alloc::AllocError;
+use touched_rows::Touched;
 
 /// The session's host can no longer change.
 #[tactic(auto, using(rows::proofs::RowLemmas::change_first_as, rows::proofs::RowLemmas::change_first_unfound))]
@@ -19,16 +21,25 @@ pub(crate) fn fix_host(rows: &mut Rows, number: u32) -> Result<(), AllocError>
     Ok(())
 }
 
-/// A client said where it is, which counts until its host is fixed.
+/// A client said where it is, which counts until its host is fixed. Names may lead elsewhere from there,
+/// for a client that has channels.
 #[tactic(auto, using(rows::proofs::RowLemmas::change_first_as, rows::proofs::RowLemmas::change_first_unfound, rows::proofs::RowLemmas::change_first_kept))]
-pub(crate) fn name_host(rows: &mut Rows, number: u32, host: Host) -> Result<(), AllocError>
-    ensures { OnOk result (rows.new ≡ host_named number host rows.old) }
+pub(crate) fn name_host(rows: &mut Rows, number: u32, host: Host) -> Result<Touched, AllocError>
+    ensures ok { OnOk result (rows.new ≡ host_named number host rows.old) }
+    ensures touched { IfOk result (λ touched. touched ≡ host_touches rows.old number) }
 {
-    if let Some(session) = rows.clients.session(number) {
-        if !session.host_fixed {
-            let paused = session.paused;
-            rows.clients.put_session(number, host, false, paused);
-        }
+    let has_channels = rows.clients.channel_count(number) > 0;
+    let Some(session) = rows.clients.session(number) else {
+        return Ok(Touched::Nothing);
+    };
+    if session.host_fixed {
+        return Ok(Touched::Nothing);
     }
-    Ok(())
+    let paused = session.paused;
+    rows.clients.put_session(number, host, false, paused);
+    if has_channels {
+        Ok(Touched::All)
+    } else {
+        Ok(Touched::Nothing)
+    }
 }

@@ -1,5 +1,6 @@
 //! EVENT_ADD.
-ghost use Rattle.std.specs.Prelude.{◌≡◌, Some, OnOk, IfOk};
+ghost use Rattle.std.specs.Prelude.{◌≡◌, Some, false, OnOk, IfOk};
+ghost use Rattle.channel_table.specs.ClientRows.{has_sub};
 ghost use Rattle.gateway_state.specs.Rights.{channel_of};
 ghost use Rattle.gateway_state.specs.Subscribing.{new_sub, sub_verdict, sub_verdict_natively, subscription_asked, subscription_limit, subscription_refusal, with_sub};
 ghost use Rattle.touched_rows.specs.Touches.{made_touches, sub_touches};
@@ -91,6 +92,7 @@ fn sub_verdict(rows: &Rows, sub: ClientSub) -> SubVerdict
 }
 
 fn add_sub(rows: &mut Rows, sub: ClientSub) -> Result<(), AllocError>
+    requires new { has_sub sub.session sub.id rows.old.clients ≡ false }
     ensures { OnOk result (rows.new ≡ with_sub sub rows.old) }
 {
     match rows.clients.add_sub(sub) {
@@ -100,6 +102,7 @@ fn add_sub(rows: &mut Rows, sub: ClientSub) -> Result<(), AllocError>
 }
 
 /// A client wants updates.
+#[tactic(auto, using(gateway_state::proofs::KeptByClients::accepted_is_new))]
 pub(crate) fn subscribe_client(
     rows: &mut Rows,
     sub: ClientSub,

@@ -1,1 +1,1 @@
-pub mod DrainSteps
+pub mod Named

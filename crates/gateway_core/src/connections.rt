@@ -1,14 +1,18 @@
 //! Connections that come and go.
-ghost use Rattle.std.specs.Prelude.{◌≡◌, OnOk};
+ghost use Rattle.std.specs.Prelude.{◌≡◌, filter, OnOk, IfOk};
+ghost use Rattle.channel_table.specs.Channels.{is_channel_of};
 ghost use Rattle.gateway_state.specs.Sessions.{opened, lost, introduced, up_opened, up_lost};
+ghost use Rattle.gateway_state.specs.Variables.{channel_names};
+ghost use Rattle.touched_rows.specs.Touches.{names_of};
 
 use ca_message::{NameText, ToClient, ToServer};
-use channel_table::{Session, TableFault};
+use channel_table::{Session, Table, TableFault};
 use gateway_rows::Rows;
 use gateway_state::Dest;
 use link_table::{Server, TableFault as LinkFault};
 use pv_name::Host;
-use std::alloc::AllocError;
+use std::alloc::{AllocError, Global};
+use touched_rows::Names;
 
 /// A client connected from an address.
 pub(crate) fn open_session(rows: &mut Rows, number: u32, host: Host) -> Result<(), AllocError>
@@ -33,13 +37,30 @@ pub(crate) fn open_session(rows: &mut Rows, number: u32, host: Host) -> Result<(
     }
 }
 
-/// A client's connection is gone.
-pub(crate) fn lose_session(rows: &mut Rows, number: u32)
-    ensures { rows.new ≡ lost rows.old number }
+/// The variables of a session's channels, in the order of adding.
+#[tactic(auto, using(crate::proofs::Named::named_next, crate::proofs::Named::named_past))]
+fn names_of(alloc: Global, clients: &Table, number: u32) -> Result<Names, AllocError>
+    ensures { IfOk result (λ names. names ≡ channel_names (filter (is_channel_of number) clients.now.channels)) }
 {
+    let mut names = Names::new(alloc);
+    for n in 0..clients.channel_count(number) {
+        if let Some(channel) = clients.channel_of(number, n) {
+            names.push(channel.real.copy()?)?;
+        }
+    }
+    Ok(names)
+}
+
+/// A client's connection is gone. It answers the variables of its channels.
+pub(crate) fn lose_session(rows: &mut Rows, number: u32) -> Result<Names, AllocError>
+    ensures ok { OnOk result (rows.new ≡ lost rows.old number) }
+    ensures names { IfOk result (λ names. names ≡ names_of rows.old number) }
+{
+    let names = names_of(rows.alloc, &rows.clients, number)?;
     rows.connections.remove(Dest::Session(number));
     rows.clients.remove_session(number);
     rows.upstream.remove_writes_of(number);
+    Ok(names)
 }
 
 /// A server is connected.

@@ -3,6 +3,7 @@ ghost use Rattle.std.specs.Prelude.{◌≡◌, true, false, OnOk, IfOk, IsErrOf}
 ghost use Rattle.gateway_state.specs.Numbers.{is_past_numbers};
 ghost use Rattle.gateway_state.specs.Direct.{direct_effect, searched};
 ghost use Rattle.gateway_state.specs.Reached.{IsReached};
+ghost use Rattle.gateway_state.specs.Settled.{HasCidsInOrder, HasSidsInOrder};
 ghost use Rattle.gateway_state.specs.Step.{step, taken};
 ghost use Rattle.touched_rows.specs.Touches.{drain_touches, event_touches};
 
@@ -18,7 +19,7 @@ use std::alloc::AllocError;
 use touched_rows::Touched;
 
 /// Performs one event, in a state that a run reaches.
-#[tactic(auto, using(gateway_state::proofs::NumberLemmas::consequences_past, touched_rows::proofs::ToldAlone::step_alone), unfolding(gateway_state::specs::Step::step))]
+#[tactic(auto, using(gateway_state::proofs::NumberLemmas::consequences_past, gateway_state::proofs::OrderKept::reached_sids, gateway_state::proofs::OrderKept::reached_cids, touched_rows::proofs::ToldAlone::step_alone), unfolding(gateway_state::specs::Step::step))]
 pub(crate) fn step(rows: &mut Rows, event: Event) -> Result<(), Refusal>
     requires reached { IsReached rows.old }
     ensures ok { OnOk result (rows.new ≡ step rows.old event) }
@@ -58,6 +59,8 @@ fn drain_touches(dest: Dest) -> Touched
 
 /// What the event does by itself. It answers what was touched.
 fn perform(rows: &mut Rows, event: Event) -> Result<Touched, Refusal>
+    requires sids { HasSidsInOrder rows.old }
+    requires cids { HasCidsInOrder rows.old }
     ensures ok { OnOk result (rows.new ≡ direct_effect rows.old event) }
     ensures touched { IfOk result (λ touched. touched ≡ event_touches rows.old event) }
     ensures used_up { IsErrOf result Refusal.NumbersUsedUp → is_past_numbers (direct_effect rows.old event) ≡ true }
@@ -65,11 +68,11 @@ fn perform(rows: &mut Rows, event: Event) -> Result<Touched, Refusal>
     match event {
         Event::Opened(number, host) => {
             open_session(rows, number, host)?;
-            Ok(Touched::All)
+            Ok(Touched::Nothing)
         }
         Event::Lost(number) => {
-            lose_session(rows, number);
-            Ok(Touched::All)
+            let names = lose_session(rows, number)?;
+            Ok(Touched::Links(names))
         }
         Event::Client(number, message) => {
             if rows.acts(Dest::Session(number)) {
@@ -80,7 +83,7 @@ fn perform(rows: &mut Rows, event: Event) -> Result<Touched, Refusal>
         }
         Event::UpOpened(number) => {
             open_server(rows, number)?;
-            Ok(Touched::All)
+            Ok(Touched::Nothing)
         }
         Event::UpLost(number) => {
             lose_server(rows, number);
@@ -102,7 +105,7 @@ fn perform(rows: &mut Rows, event: Event) -> Result<Touched, Refusal>
             Ok(Touched::Nothing)
         }
         Event::Edit(policy) => {
-            rows.set_policy(policy);
+            rows.set_policy(policy)?;
             Ok(Touched::All)
         }
         Event::Sweep => {

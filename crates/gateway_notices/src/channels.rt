@@ -37,7 +37,7 @@ fn channel_notices(rows: &Rows) -> Result<Vec<ChannelNotice>, AllocError>
     ensures { IfOk result (λ notices. notices.items ≡ channel_notices rows.now) }
 {
     let mut notices = Vec::new(rows.alloc);
-    for channel in rows.clients.channels() {
+    for channel in rows.clients.channels(rows.alloc)? {
         if let Some(notice) = channel_notice(rows, channel)? {
             notices.push(notice)?;
         }

@@ -5,13 +5,15 @@
 //! passes, over channels (`channels_told`), updates that are withheld from now on (`updates_withheld`),
 //! links (`links_told`), reads that wait (`reads_told`) and updates that are due (`updates_told`). Each
 //! pass makes its list of notices from the rows as it begins, and then gives them one by one. Else the
-//! same is done for one variable, session, read or subscription alone. A refusal leaves the rows half
-//! done; it says that numbers are used up only where a number past the last one would be given out.
+//! same is done for one variable, session, read or subscription alone, or for the links of several
+//! variables. A refusal leaves the rows half done; it says that numbers are used up only where a number
+//! past the last one would be given out.
 #![tactic(auto)]
 
 mod channels;
 mod consequences;
 mod links;
+mod lookup;
 mod reads;
 mod updates;
 

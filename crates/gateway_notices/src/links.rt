@@ -1,10 +1,14 @@
 //! What servers are owed about links.
-ghost use Rattle.std.specs.Prelude.{◌≡◌, ◌++◌, true, fold, OnOk, IfOk, IsErrOf};
+ghost use Rattle.std.specs.Prelude.{◌≡◌, ◌++◌, true, false, fold, OnOk, IfOk, IfSome, IsErrOf};
+ghost use Rattle.std.specs.List.{list_any};
+ghost use Rattle.link_table.specs.Links.{has_subscription};
 ghost use Rattle.gateway_state.specs.Numbers.{is_past_numbers};
 ghost use Rattle.gateway_state.specs.Notices.{dropped, interest_notices, link_notices, link_notices_of, link_told, links_told, subscribed_to, with_subscription_of};
-ghost use Rattle.gateway_state.specs.Variables.{is_wanted, link_of};
-ghost use Rattle.touched_rows.specs.Touched.{interest_notices_over, interest_told, link_notices_over, link_told_on};
+ghost use Rattle.gateway_state.specs.Settled.{AreInOrder};
+ghost use Rattle.gateway_state.specs.Variables.{link_of};
+ghost use Rattle.touched_rows.specs.Touched.{interest_notices_over, interest_told, link_notices_among, link_notices_over, link_told_on, links_told_among};
 
+use crate::lookup::{is_known, look_up};
 use ca_message::ToServer;
 use gateway_rows::{Refusal, Rows, is_for, sent_count, time_of};
 use gateway_state::LinkNotice;
@@ -12,6 +16,7 @@ use link_table::{Counter, Link, LinkState, Subscription, TableFault};
 use mask_merge::Want;
 use pv_name::Name;
 use std::alloc::AllocError;
+use touched_rows::Names;
 
 /// What a server is owed because of what the readers of a connected link's variable want.
 fn add_interest_notices(
@@ -54,15 +59,13 @@ fn add_interest_notices(
 
 fn add_link_notices(
     rows: &Rows,
-    wanted: bool,
     notices: &mut Vec<LinkNotice>,
     link: &Link,
 ) -> Result<(), AllocError>
-    requires { wanted ≡ is_wanted rows.now link.now.name }
     ensures { OnOk result (notices.new.items ≡ notices.old.items ++ link_notices_of rows.now link.now) }
 {
     add_interest_notices(rows, notices, link)?;
-    if !wanted {
+    if !rows.is_wanted(&link.name) {
         notices.push(LinkNotice::Dropped {
             server: link.server,
             cid: link.cid,
@@ -75,11 +78,9 @@ fn add_link_notices(
 fn link_notices(rows: &Rows) -> Result<Vec<LinkNotice>, AllocError>
     ensures { IfOk result (λ notices. notices.items ≡ link_notices rows.now) }
 {
-    let searched = rows.searched_names()?;
     let mut notices = Vec::new(rows.alloc);
-    for link in rows.upstream.links() {
-        let wanted = rows.is_wanted_by(&searched, &link.name);
-        add_link_notices(rows, wanted, &mut notices, link)?;
+    for link in rows.upstream.links(rows.alloc)? {
+        add_link_notices(rows, &mut notices, link)?;
     }
     Ok(notices)
 }
@@ -93,6 +94,7 @@ fn set_subscription(
     cid: u32,
     subscription: Option<Subscription>,
 ) -> Result<(), AllocError>
+    requires new { IfSome subscription (λ s. list_any (has_subscription server s.id) rows.old.upstream.links ≡ false) }
     ensures { OnOk result (rows.new ≡ with_subscription_of server cid subscription rows.old) }
 {
     match rows.upstream.set_sub(server, cid, subscription) {
@@ -102,7 +104,7 @@ fn set_subscription(
     }
 }
 
-#[tactic(auto, unfolding(gateway_state::specs::Telling::sent, gateway_state::specs::Numbers::is_past_numbers))]
+#[tactic(auto, using(gateway_state::proofs::NewNumbers::new_id), unfolding(gateway_state::specs::Telling::sent, gateway_state::specs::Numbers::is_past_numbers))]
 fn subscribe(
     rows: &mut Rows,
     server: u32,
@@ -112,6 +114,7 @@ fn subscribe(
     want: Want,
     sent: u32,
 ) -> Result<(), Refusal>
+    requires order { AreInOrder rows.old }
     ensures ok { OnOk result (rows.new ≡ subscribed_to server cid sid dtype want sent rows.old) }
     ensures used_up { IsErrOf result Refusal.NumbersUsedUp → is_past_numbers (subscribed_to server cid sid dtype want sent rows.old) ≡ true }
 {
@@ -152,6 +155,7 @@ fn drop_link(rows: &mut Rows, server: u32, cid: u32, state: LinkState) -> Result
 }
 
 fn tell_link(rows: &mut Rows, notice: LinkNotice) -> Result<(), Refusal>
+    requires order { AreInOrder rows.old }
     ensures ok { OnOk result (rows.new ≡ link_told rows.old notice) }
     ensures used_up { IsErrOf result Refusal.NumbersUsedUp → is_past_numbers (link_told rows.old notice) ≡ true }
 {
@@ -192,7 +196,9 @@ fn tell_link(rows: &mut Rows, notice: LinkNotice) -> Result<(), Refusal>
     }
 }
 
+#[tactic(auto, using(gateway_state::proofs::OrderKept::order_told))]
 fn tell_each(rows: &mut Rows, notices: &[LinkNotice]) -> Result<(), Refusal>
+    requires order { AreInOrder rows.old }
     ensures ok { OnOk result (rows.new ≡ fold link_told rows.old notices.now) }
     ensures used_up { IsErrOf result Refusal.NumbersUsedUp → is_past_numbers (fold link_told rows.old notices.now) ≡ true }
 {
@@ -204,6 +210,7 @@ fn tell_each(rows: &mut Rows, notices: &[LinkNotice]) -> Result<(), Refusal>
 
 /// Asks servers for what is wanted of each variable, and drops links that are no longer wanted.
 pub(crate) fn tell_links(rows: &mut Rows) -> Result<(), Refusal>
+    requires order { AreInOrder rows.old }
     ensures ok { OnOk result (rows.new ≡ links_told rows.old) }
     ensures used_up { IsErrOf result Refusal.NumbersUsedUp → is_past_numbers (links_told rows.old) ≡ true }
 {
@@ -223,6 +230,7 @@ fn interest_notices_on(rows: &Rows, name: &Name) -> Result<Vec<LinkNotice>, Allo
 
 /// Asks one variable's server for what is wanted of it.
 pub(crate) fn tell_interest(rows: &mut Rows, name: &Name) -> Result<(), Refusal>
+    requires order { AreInOrder rows.old }
     ensures ok { OnOk result (rows.new ≡ interest_told name.now rows.old) }
     ensures used_up { IsErrOf result Refusal.NumbersUsedUp → is_past_numbers (interest_told name.now rows.old) ≡ true }
 {
@@ -235,17 +243,41 @@ fn link_notices_on(rows: &Rows, name: &Name) -> Result<Vec<LinkNotice>, AllocErr
 {
     let mut notices = Vec::new(rows.alloc);
     if let Some(link) = rows.link_of(name) {
-        let wanted = rows.is_wanted(&link.name)?;
-        add_link_notices(rows, wanted, &mut notices, link)?;
+        add_link_notices(rows, &mut notices, link)?;
     }
     Ok(notices)
 }
 
 /// The same, and drops its link where it is no longer wanted.
 pub(crate) fn tell_link_on(rows: &mut Rows, name: &Name) -> Result<(), Refusal>
+    requires order { AreInOrder rows.old }
     ensures ok { OnOk result (rows.new ≡ link_told_on name.now rows.old) }
     ensures used_up { IsErrOf result Refusal.NumbersUsedUp → is_past_numbers (link_told_on name.now rows.old) ≡ true }
 {
     let notices = link_notices_on(rows, name)?;
+    tell_each(rows, &notices)
+}
+
+/// The notices on the links of these variables.
+fn link_notices_among(rows: &Rows, names: &Names) -> Result<Vec<LinkNotice>, AllocError>
+    ensures { IfOk result (λ notices. notices.items ≡ link_notices_among names.now rows.now) }
+{
+    let known = look_up(rows.alloc, names.as_slice())?;
+    let mut notices = Vec::new(rows.alloc);
+    for link in rows.upstream.links(rows.alloc)? {
+        if is_known(&known, &link.name) {
+            add_link_notices(rows, &mut notices, link)?;
+        }
+    }
+    Ok(notices)
+}
+
+/// The same of each of these variables, in the order of their links.
+pub(crate) fn tell_links_among(rows: &mut Rows, names: &Names) -> Result<(), Refusal>
+    requires order { AreInOrder rows.old }
+    ensures ok { OnOk result (rows.new ≡ links_told_among names.now rows.old) }
+    ensures used_up { IsErrOf result Refusal.NumbersUsedUp → is_past_numbers (links_told_among names.now rows.old) ≡ true }
+{
+    let notices = link_notices_among(rows, names)?;
     tell_each(rows, &notices)
 }

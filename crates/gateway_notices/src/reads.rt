@@ -64,10 +64,8 @@ fn read_notices_on(rows: &Rows, name: &Name) -> Result<VecDeque<ReadNotice>, All
     ensures { IfOk result (λ notices. notices.items ≡ read_notices_on name.now rows.now) }
 {
     let mut notices = VecDeque::new(rows.alloc);
-    for read in rows.clients.reads() {
-        if rows.waits_for(name, *read)
-            && let Some(notice) = read_notice(rows, *read)?
-        {
+    for read in &rows.reads_for(name)? {
+        if let Some(notice) = read_notice(rows, *read)? {
             notices.push_back(notice)?;
         }
     }

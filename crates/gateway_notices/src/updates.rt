@@ -34,7 +34,7 @@ fn withheld(rows: &Rows) -> Result<Vec<ClientSub>, AllocError>
     ensures { IfOk result (λ subs. subs.items ≡ withheld rows.now) }
 {
     let mut subs = Vec::new(rows.alloc);
-    for sub in rows.clients.subs() {
+    for sub in rows.clients.subs(rows.alloc)? {
         if is_withheld(rows, sub)? {
             subs.push(*sub)?;
         }
@@ -132,7 +132,7 @@ fn update_notices(rows: &Rows) -> Result<VecDeque<UpdateNotice>, AllocError>
     ensures { IfOk result (λ notices. notices.items ≡ update_notices rows.now) }
 {
     let mut notices = VecDeque::new(rows.alloc);
-    for sub in rows.clients.subs() {
+    for sub in rows.clients.subs(rows.alloc)? {
         if let Some(notice) = update_notice(rows, *sub)? {
             notices.push_back(notice)?;
         }
@@ -145,10 +145,8 @@ fn update_notices_on(rows: &Rows, name: &Name) -> Result<VecDeque<UpdateNotice>,
     ensures { IfOk result (λ notices. notices.items ≡ update_notices_on name.now rows.now) }
 {
     let mut notices = VecDeque::new(rows.alloc);
-    for sub in rows.clients.subs() {
-        if rows.is_sub_to(name, sub)
-            && let Some(notice) = update_notice(rows, *sub)?
-        {
+    for sub in &rows.subs_on(name)? {
+        if let Some(notice) = update_notice(rows, *sub)? {
             notices.push_back(notice)?;
         }
     }
@@ -160,10 +158,8 @@ fn update_notices_to(rows: &Rows, number: u32) -> Result<VecDeque<UpdateNotice>,
     ensures { IfOk result (λ notices. notices.items ≡ update_notices_to number rows.now) }
 {
     let mut notices = VecDeque::new(rows.alloc);
-    for sub in rows.clients.subs() {
-        if sub.session == number
-            && let Some(notice) = update_notice(rows, *sub)?
-        {
+    for sub in &rows.subs_of(number)? {
+        if let Some(notice) = update_notice(rows, *sub)? {
             notices.push_back(notice)?;
         }
     }

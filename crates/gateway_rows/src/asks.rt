@@ -22,7 +22,7 @@ impl Rows {
     fn add_channel_names(&self, names: &mut Vec<Name>) -> Result<(), AllocError>
         ensures { OnOk result (names.new.items ≡ fold (with_unlinked self.now) names.old.items (channel_names self.now.clients.channels)) }
     {
-        for channel in self.clients.channels() {
+        for channel in self.clients.channels(self.alloc)? {
             self.add_unlinked(names, &channel.real)?;
         }
         Ok(())
@@ -31,8 +31,7 @@ impl Rows {
     fn add_search_names(&self, names: &mut Vec<Name>) -> Result<(), AllocError>
         ensures { OnOk result (names.new.items ≡ fold (with_unlinked self.now) names.old.items (search_names self.now.policy self.now.searches)) }
     {
-        let searched = self.searched_names()?;
-        for name in &searched {
+        for name in self.searches.names() {
             self.add_unlinked(names, name)?;
         }
         Ok(())

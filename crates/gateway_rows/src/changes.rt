@@ -75,14 +75,14 @@ impl Rows {
         }
         let host = host.copy()?;
         let name = name.copy()?;
-        self.searches.add(Search { host, name })
+        self.searches.add(self.alloc, Search { host, name })
     }
 
     /// From now on another policy holds.
-    pub fn set_policy(&mut self, policy: Policy)
-        ensures { self.new ≡ edited policy self.old }
+    pub fn set_policy(&mut self, policy: Policy) -> Result<(), AllocError>
+        ensures { OnOk result (self.new ≡ edited policy self.old) }
     {
-        self.policy = policy;
+        self.searches.set_policy(self.alloc, policy)
     }
 
     /// Forgets all searches.

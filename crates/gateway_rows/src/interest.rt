@@ -36,10 +36,11 @@ impl Rows {
         }
     }
 
+    #[tactic(auto, using(crate::proofs::Readers::subscribers_are_on))]
     fn add_subscribers(&self, tally: &mut Tally, name: &Name, native: u32) -> Result<(), AllocError>
         ensures { OnOk result (tally.new ≡ tally.old ++ map (sub_want native) (filter (is_subscriber self.now name.now) self.now.clients.subs)) }
     {
-        for sub in self.clients.subs() {
+        for sub in &self.subs_on(name)? {
             if self.is_subscriber(name, sub)? {
                 tally.add(sub.mask, meant_count(native, sub.count))?;
             }
@@ -47,10 +48,11 @@ impl Rows {
         Ok(())
     }
 
+    #[tactic(auto, using(crate::proofs::Readers::readers_are_on))]
     fn add_readers(&self, tally: &mut Tally, name: &Name) -> Result<(), AllocError>
         ensures { OnOk result (tally.new ≡ tally.old ++ map channel_want (filter (is_reader self.now name.now) self.now.clients.channels)) }
     {
-        for channel in self.clients.channels() {
+        for channel in self.channels_on(name)? {
             if self.is_reader(name, channel)? {
                 tally.add(READ_EVENTS, channel.reach)?;
             }

@@ -1,9 +1,8 @@
 //! What the policy says of names. Each question of the policy is asked here and nowhere else, and takes
-//! memory.
+//! memory; what remembered searches lead to is kept beside them.
 ghost use Rattle.std.specs.Prelude.{◌≡◌, IfOk};
 ghost use Rattle.gateway_state.specs.Resolution.{lead_of};
 ghost use Rattle.gateway_state.specs.Rights.{lead_in};
-ghost use Rattle.gateway_state.specs.Variables.{search_names};
 
 use crate::state::Rows;
 use gateway_state::lead_of;
@@ -16,7 +15,7 @@ impl Rows {
     pub fn lead_of(&self, host: &Host, name: &Name) -> Result<Option<Lead>, AllocError>
         ensures { IfOk result (λ lead. lead ≡ lead_of self.now.policy host.now name.now) }
     {
-        lead_of(self.alloc, &self.policy, host, name)
+        lead_of(self.alloc, self.searches.policy(), host, name)
     }
 
     /// The same for the host of a session; nothing where there is no such session.
@@ -27,12 +26,5 @@ impl Rows {
             Some(session) => self.lead_of(&session.host, name),
             None => Ok(None),
         }
-    }
-
-    /// The real names that the remembered searches lead to, in order.
-    pub fn searched_names(&self) -> Result<Vec<Name>, AllocError>
-        ensures { IfOk result (λ names. names.items ≡ search_names self.now.policy self.now.searches) }
-    {
-        self.searches.names(self.alloc, &self.policy)
     }
 }

@@ -30,7 +30,7 @@ impl Rows {
     pub fn rights_by(&self, channel: &Channel, lead: Option<&Lead>) -> u32
         ensures { result ≡ bit_and (link_rights (link_of self.now channel.now.real)) (rights_left self.now.policy (option_copied lead.entry)) }
     {
-        self.link_rights(&channel.real) & rights_left(&self.policy, lead)
+        self.link_rights(&channel.real) & rights_left(self.searches.policy(), lead)
     }
 
     /// The rights of a channel.

@@ -10,12 +10,9 @@ use std::alloc::Global;
 use std::marker::Model;
 
 /// What the gateway knows. A call that fails may leave the work half done.
-#[derive(Drop)]
 pub struct Rows {
     pub alloc: Global,
     pub config: Config,
-    /// The rules and the rights of groups.
-    pub policy: Policy,
     /// The connections that stand, with their outboxes.
     pub connections: Connections,
     /// Clients' sessions, channels, reads that wait, and subscriptions.
@@ -24,7 +21,7 @@ pub struct Rows {
     pub upstream: Links,
     /// The last message of each link.
     pub cache: Cache,
-    /// The searches that are remembered.
+    /// The policy that holds, and the searches that are remembered.
     pub searches: Searches,
 }
 
@@ -37,7 +34,28 @@ impl Model for Rows {
 
     ghost coded = { Prim.hlevel (codes, the_policy.the_row.coded) };
 
-    ghost view = { λ r. record { config = r.config; policy = r.policy; connections = r.connections; clients = r.clients; upstream = r.upstream; cache = r.cache; searches = r.searches } };
+    ghost view = { λ r. record { config = r.config; policy = r.searches.policy; connections = r.connections; clients = r.clients; upstream = r.upstream; cache = r.cache; searches = r.searches.rows } };
+}
+
+// A function of its own, so that who drops the rows need not know of the drops of all their parts.
+impl Drop for Rows {
+    fn drop(self) {
+        let Rows {
+            config,
+            connections,
+            clients,
+            upstream,
+            cache,
+            searches,
+            alloc: _,
+        } = self;
+        drop(config);
+        drop(connections);
+        drop(clients);
+        drop(upstream);
+        drop(cache);
+        drop(searches);
+    }
 }
 
 impl Rows {
@@ -49,12 +67,11 @@ impl Rows {
         Rows {
             alloc,
             config,
-            policy,
             connections: Connections::new(alloc),
             clients: Table::new(alloc),
             upstream: Links::new(alloc, first),
             cache: Cache::new(alloc),
-            searches: Searches::new(alloc),
+            searches: Searches::new(alloc, policy),
         }
     }
 

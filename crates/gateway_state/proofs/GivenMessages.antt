@@ -126,7 +126,6 @@ module _ (x : Gateway) (dest : Dest) where
     cache = λ rows w grown. grown;
     searches = λ rows w grown. grown;
     policy = λ policy w grown. grown;
-    next_subscription = λ next w grown. grown;
     channel_added = λ session cid name real rights w grown. grown;
     channel_changed = λ session sid reach rights w grown. grown;
     channel_removed = λ session sid w grown. grown;
@@ -138,7 +137,8 @@ module _ (x : Gateway) (dest : Dest) where
     write_added = λ write w there grown. grown;
     write_removed = λ server id w grown. grown;
     link_changed = λ server cid state rights w grown. grown;
-    subscription_changed = λ server cid sub w grown. grown;
+    subscription_made = λ server cid mask count sent w grown. grown;
+    subscription_ended = λ server cid w grown. grown;
     link_removed = λ server cid w grown. grown;
   }
 

@@ -1,5 +1,5 @@
 -- What every state of a run has, if each change of rows keeps it.
-use Rattle.std.proofs.Common.{◌≡◌, ℕ, ◌+◌, List, [], ◌∷◌, ◌++◌, Bool, true, false, cond, Option, None, refl}
+use Rattle.std.proofs.Common.{◌≡◌, ℕ, ◌+◌, List, [], ◌∷◌, ◌++◌, Bool, true, false, cond, Some, None, refl}
 use Rattle.std.specs.Prelude.{is_some}
 use Rattle.std.specs.List.{list_any}
 use Rattle.rows.specs.Rows.{change_first}
@@ -12,7 +12,6 @@ use Rattle.channel_table.specs.declared.subs.ClientSub.{ClientSub}
 use Rattle.channel_table.specs.Channels.{is_channel}
 use Rattle.link_table.specs.declared.links.LinkState.{LinkState}
 use Rattle.link_table.specs.declared.links.LinkState.TheVariants.{Creating}
-use Rattle.link_table.specs.declared.links.Subscription.{Subscription}
 use Rattle.link_table.specs.declared.servers.Server.{Server}
 use Rattle.link_table.specs.declared.writes.WaitingWrite.{WaitingWrite}
 use Rattle.gateway_state.specs.declared.cached.LastMessage.{LastMessage}
@@ -65,6 +64,12 @@ with_policy policy w = record w { policy = policy }
 abbrev pub with_next_subscription : ℕ → Gateway → Gateway
 with_next_subscription next w = record w { upstream = record w.upstream { counters = record w.upstream.counters { subscription = next } } }
 
+-- a link gets the subscription of the next number
+abbrev pub with_new_subscription : ℕ → ℕ → ℕ → ℕ → ℕ → Gateway → Gateway
+with_new_subscription server cid mask count sent w =
+    let id = w.upstream.counters.subscription in
+    with_subscription_of server cid (Some (record { id = id; mask = mask; count = count; sent = sent })) (with_next_subscription (id + 1) w)
+
 -- rows that are added and removed
 abbrev pub with_read : WaitingRead → Gateway → Gateway
 with_read read w = record w { clients = record w.clients { reads = w.clients.reads ++ read ∷ [] } }
@@ -112,7 +117,6 @@ pub record KeepsRows (P : Gateway → Type 0) : Type 0 where
   pub cache : (rows : List LastMessage) (w : Gateway) → P w → P (with_cache rows w)
   pub searches : (rows : List Search) (w : Gateway) → P w → P (with_searches rows w)
   pub policy : (policy : Policy) (w : Gateway) → P w → P (with_policy policy w)
-  pub next_subscription : (next : ℕ) (w : Gateway) → P w → P (with_next_subscription next w)
   pub channel_added : (session cid : ℕ) (name real : List ℕ) (rights : ℕ) (w : Gateway) → P w → P (with_channel session cid name real rights w)
   pub channel_changed : (session sid reach rights : ℕ) (w : Gateway) → P w → P (with_reach session sid reach rights w)
   pub channel_removed : (session sid : ℕ) (w : Gateway) → P w → P (without_channel session sid w)
@@ -125,7 +129,8 @@ pub record KeepsRows (P : Gateway → Type 0) : Type 0 where
   pub write_added : (write : WaitingWrite) (w : Gateway) → is_write_on_link w write ≡ true → P w → P (with_write write w)
   pub write_removed : (server id : ℕ) (w : Gateway) → P w → P (without_write server id w)
   pub link_changed : (server cid : ℕ) (state : LinkState) (rights : ℕ) (w : Gateway) → P w → P (with_link_state server cid state rights w)
-  pub subscription_changed : (server cid : ℕ) (sub : Option Subscription) (w : Gateway) → P w → P (with_subscription_of server cid sub w)
+  pub subscription_made : (server cid mask count sent : ℕ) (w : Gateway) → P w → P (with_new_subscription server cid mask count sent w)
+  pub subscription_ended : (server cid : ℕ) (w : Gateway) → P w → P (with_subscription_of server cid None w)
   pub link_removed : (server cid : ℕ) (w : Gateway) → P w → P (without_link server cid w)
 
 -- and what is drained and what goes with a connection keep it

@@ -31,6 +31,8 @@ use Rattle.link_table.specs.declared.table.TheConstants.{WRITE_LIMIT}
 use Rattle.link_table.specs.declared.writes.WaitingWrite.{WaitingWrite}
 use Rattle.link_table.specs.LinkRows.{write_count}
 use Rattle.gateway_state.specs.declared.event.Dest.TheVariants.{Session as ToSession}
+use Rattle.channel_table.specs.ClientRows.{has_sub}
+use Rattle.channel_table.specs.Subs.{is_sub}
 use Rattle.gateway_state.specs.declared.limits.TheConstants.{LOWEST_MINOR, SEARCH_LIMIT}
 use Rattle.gateway_state.specs.declared.notice.ReadVerdict.{ReadVerdict}
 use Rattle.gateway_state.specs.declared.notice.ReadVerdict.TheVariants.{NoChannel, Ignored, Refused, Accepted}
@@ -55,6 +57,7 @@ use Rattle.gateway_state.specs.Subscribing.{cancelled_on, cid_in, is_on_sid, lim
 use Rattle.gateway_state.specs.Telling.{marked, told}
 use Rattle.gateway_state.specs.Variables.{link_of}
 use Rattle.gateway_state.specs.Writing.{may_write, new_write, notified_by, with_write, write_answered, write_handed_on, write_judged, write_verdict, write_verdict_in, write_verdict_on, write_verdict_over, write_waits, written_by}
+use Rattle.gateway_state.proofs.RowTests.{none_found}
 use Rattle.gateway_state.proofs.Kept.{KeepsRows, kept_either, with_connections, with_read, with_searches}
 
 -- there is a row where the first that passes is found
@@ -100,6 +103,9 @@ free_on w sub e = by (channel_of w sub.session sub.sid) refl e
     by : (found : Option Channel) → channel_of w sub.session sub.sid ≡ found → sub_verdict_on w sub found ≡ SubVerdicts.Accepted → IsFree w sub
     by None is e = absurd cc
     by (Some c) is e = record { free = free_over w sub c (link_of w c.real) e; on = found_there (is_channel sub.session sub.sid) w.clients.channels c is }
+
+pub accepted_is_new : (w : Gateway) (sub : ClientSub) → sub_verdict w sub ≡ SubVerdicts.Accepted → has_sub sub.session sub.id w.clients ≡ false
+accepted_is_new w sub e = none_found (is_sub sub.session sub.id) w.clients.subs (free_on w sub e).free
 
 -- a write is accepted to the server of its channel's link
 judged_server : (w : Gateway) (c : Channel) (at sid : ℕ) (value : Result Written WriteFault) (server upstream_sid : ℕ) (handed : Written)

@@ -1,11 +1,10 @@
 -- What each change of rows keeps, every run keeps.
-use Rattle.std.proofs.Common.{ℕ, ◌+◌, List, [], ◌∷◌, Option, Some, None, false}
+use Rattle.std.proofs.Common.{ℕ, List, [], ◌∷◌, None, false}
 use Rattle.std.specs.Prelude.{filter, is_some}
 use Rattle.std.specs.List.{fold}
 use Rattle.ca_message.specs.declared.to_client.ToClient.TheVariants as replies
 use Rattle.ca_message.specs.declared.to_server.ToServer.TheVariants as requests
 use Rattle.link_table.specs.declared.links.LinkState.TheVariants.{Creating, Connected, Unusable}
-use Rattle.link_table.specs.declared.links.Subscription.{Subscription}
 use Rattle.gateway_state.specs.declared.event.Dest.TheVariants as dests
 use Rattle.gateway_state.specs.declared.event.Event.{Event}
 use Rattle.gateway_state.specs.declared.event.Event.TheVariants.{Opened, Lost, Client, UpOpened, UpLost, Server, Found, Search, Sweep, Edit, Drain}
@@ -29,7 +28,7 @@ use Rattle.gateway_state.specs.Servers.{found, server_said, without_link}
 use Rattle.gateway_state.specs.Step.{consequences, run, step}
 use Rattle.gateway_state.specs.Telling.{told}
 use Rattle.gateway_state.specs.Updates.{is_taking, update_notices, update_told, updates_withheld, with_owed_of, withheld}
-use Rattle.gateway_state.proofs.Kept.{IsKept, KeepsLinks, KeepsRows, kept_either, kept_owed_to_all, with_next_subscription}
+use Rattle.gateway_state.proofs.Kept.{IsKept, KeepsLinks, KeepsRows, kept_either, kept_owed_to_all, with_new_subscription}
 use Rattle.gateway_state.proofs.KeptByClients.{kept_client_said, kept_opened, kept_remembered}
 use Rattle.gateway_state.proofs.KeptByServers.{kept_found, kept_server_said, kept_up_opened}
 
@@ -67,16 +66,14 @@ module _ (P : Gateway → Type 0) (kept : KeepsRows P) where
   pub kept_channels_told : (w : Gateway) → P w → P (channels_told w)
   kept_channels_told w holds = kept_channels (channel_notices w) w holds
 
-  kept_link_told : (w : Gateway) (notice : LinkNotice) → P w → P (link_told w notice)
+  pub kept_link_told : (w : Gateway) (notice : LinkNotice) → P w → P (link_told w notice)
   kept_link_told w (Cancelled server cid sid dtype sub) holds =
-      kept.messages.asking server (requests.EventCancel sid sub.id dtype sub.sent) (with_subscription_of server cid None w) (kept.subscription_changed server cid None w holds)
+      kept.messages.asking server (requests.EventCancel sid sub.id dtype sub.sent) (with_subscription_of server cid None w) (kept.subscription_ended server cid w holds)
   kept_link_told w (Unread cid) holds = kept.cache (filter (is_cached_elsewhere cid) w.cache) w holds
   kept_link_told w (Subscribed server cid sid dtype want sent) holds =
       let id : ℕ = w.upstream.counters.subscription in
-      let sub : Option Subscription = Some (record { id = id; mask = want.mask; count = want.count; sent = sent }) in
-      let first : Gateway = with_next_subscription (id + 1) w in
-      kept.messages.asking server (requests.EventAdd sid id dtype sent want.mask) (with_subscription_of server cid sub first)
-      (kept.subscription_changed server cid sub first (kept.next_subscription (id + 1) w holds))
+      kept.messages.asking server (requests.EventAdd sid id dtype sent want.mask) (with_new_subscription server cid want.mask want.count sent w)
+      (kept.subscription_made server cid want.mask want.count sent w holds)
   kept_link_told w (Dropped server cid Creating) holds = kept.link_removed server cid w holds
   kept_link_told w (Dropped server cid Unusable) holds = kept.link_removed server cid w holds
   kept_link_told w (Dropped server cid (Connected sid dtype native)) holds =

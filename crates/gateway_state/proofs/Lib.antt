@@ -7,8 +7,10 @@ pub mod KeptByServers
 pub mod LinkNotices
 pub mod LinksApart
 pub mod LinksOnServers
+pub mod NewNumbers
 pub mod NumberLemmas
 pub mod OnChannels
+pub mod OrderKept
 pub mod ReachedStates
 pub mod RisingRows
 pub mod RowTests
@@ -25,3 +27,5 @@ pub mod SettledUpdates
 pub mod SettledWithheld
 pub mod SubsApart
 pub mod WritesOnLinks
+pub mod LatestLemmas
+pub mod ListedLemmas

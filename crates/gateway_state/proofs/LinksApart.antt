@@ -99,7 +99,6 @@ links_apart_kept = record {
     cache = λ rows w apart. apart;
     searches = λ rows w apart. apart;
     policy = λ policy w apart. apart;
-    next_subscription = λ next w apart. apart;
     channel_added = λ session cid name real rights w apart. apart;
     channel_changed = λ session sid reach rights w apart. apart;
     channel_removed = λ session sid w apart. apart;
@@ -111,7 +110,9 @@ links_apart_kept = record {
     write_added = λ write w on apart. apart;
     write_removed = λ server id w apart. apart;
     link_changed = λ server cid state rights w apart. apart_changed w.upstream.links (is_link server cid) (with_state state rights) (λ name link. refl) apart;
-    subscription_changed = λ server cid sub w apart. apart_changed w.upstream.links (is_link server cid) (with_subscription sub) (λ name link. refl) apart;
+    subscription_made = λ server cid mask count sent w apart.
+        apart_changed w.upstream.links (is_link server cid) (with_subscription (Some (record { id = w.upstream.counters.subscription; mask = mask; count = count; sent = sent }))) (λ name link. refl) apart;
+    subscription_ended = λ server cid w apart. apart_changed w.upstream.links (is_link server cid) (with_subscription None) (λ name link. refl) apart;
     link_removed = λ server cid w apart. apart_filtered w.upstream.links (is_not_link server cid) apart;
   };
   connection_drained = λ dest count w apart. apart;

@@ -1,5 +1,5 @@
 -- Every link belongs to a server that stands.
-use Rattle.std.proofs.Common.{◌≡◌, ℕ, List, [], ◌∷◌, ◌++◌, Bool, true, not, eqb, refl, ap, ◌∙◌}
+use Rattle.std.proofs.Common.{◌≡◌, ℕ, List, [], ◌∷◌, ◌++◌, Bool, true, not, eqb, Some, None, refl, ap, ◌∙◌}
 use Rattle.std.specs.Prelude.{filter}
 use Rattle.std.specs.List.{list_all, list_any}
 use Rattle.std.proofs.lemmas.Bool.{eqb-true}
@@ -72,7 +72,6 @@ links_on_servers_kept = record {
     cache = λ rows w on. on;
     searches = λ rows w on. on;
     policy = λ policy w on. on;
-    next_subscription = λ next w on. on;
     channel_added = λ session cid name real rights w on. on;
     channel_changed = λ session sid reach rights w on. on;
     channel_removed = λ session sid w on. on;
@@ -84,7 +83,9 @@ links_on_servers_kept = record {
     write_added = λ write w there on. on;
     write_removed = λ server id w on. on;
     link_changed = λ server cid state rights w on. all_changed (is_on_server w) (is_link server cid) (with_state state rights) w.upstream.links (λ link. refl) ∙ on;
-    subscription_changed = λ server cid sub w on. all_changed (is_on_server w) (is_link server cid) (with_subscription sub) w.upstream.links (λ link. refl) ∙ on;
+    subscription_made = λ server cid mask count sent w on.
+        all_changed (is_on_server w) (is_link server cid) (with_subscription (Some (record { id = w.upstream.counters.subscription; mask = mask; count = count; sent = sent }))) w.upstream.links (λ link. refl) ∙ on;
+    subscription_ended = λ server cid w on. all_changed (is_on_server w) (is_link server cid) (with_subscription None) w.upstream.links (λ link. refl) ∙ on;
     link_removed = λ server cid w on. all_filtered (is_on_server w) (is_not_link server cid) w.upstream.links on;
   };
   connection_drained = λ dest count w on. outboxes_changed dest (without_first count) w on;

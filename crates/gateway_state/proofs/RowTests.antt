@@ -1,6 +1,6 @@
 -- Tests over rows.
 use Rattle.std.proofs.Common.{◌≡◌, List, [], ◌∷◌, Bool, true, false, cond, ◌||◌, ◌&&◌, Some, refl, sym, ap, subst, ◌∙◌}
-use Rattle.std.specs.Prelude.{filter}
+use Rattle.std.specs.Prelude.{filter, is_some}
 use Rattle.std.specs.List.{All, find, list_all, list_any}
 use Rattle.std.proofs.lemmas.Bool.{and_from, and_parts, true≢false}
 use Rattle.std.proofs.lemmas.List.Elements.{All-head, All-tail}
@@ -76,3 +76,10 @@ all_changed test other change (row ∷ rows) unseen =
       | true ↦ ap (λ (t : Bool). t && list_all test rows) (unseen row)
       | false ↦ ap (λ (t : Bool). test row && t) (all_changed test other change rows unseen)
     ]
+
+-- what isn't found is nowhere
+pub none_found : {A : Type 0} (test : A → Bool) (rows : List A) → is_some (find test rows) ≡ false → list_any test rows ≡ false
+none_found test [] none = refl
+none_found test (row ∷ rows) none =
+    elim (test row) as (λ t. is_some (cond t (Some row) (find test rows)) ≡ false → (t || list_any test rows) ≡ false)
+    [ true ↦ λ h. cc | false ↦ λ h. none_found test rows h ] none

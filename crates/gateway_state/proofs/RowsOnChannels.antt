@@ -43,7 +43,6 @@ rows_on_channels_kept = record {
     cache = λ rows w on. record { reads = on.reads; subs = on.subs };
     searches = λ rows w on. record { reads = on.reads; subs = on.subs };
     policy = λ policy w on. record { reads = on.reads; subs = on.subs };
-    next_subscription = λ next w on. record { reads = on.reads; subs = on.subs };
     channel_added = λ session cid name real rights w on. record {
       reads = on_more read_session read_sid w.clients.channels (new_channel session cid name real rights w) w.clients.reads on.reads;
       subs = on_more sub_session sub_sid w.clients.channels (new_channel session cid name real rights w) w.clients.subs on.subs;
@@ -75,7 +74,8 @@ rows_on_channels_kept = record {
     write_added = λ write w there on. record { reads = on.reads; subs = on.subs };
     write_removed = λ server id w on. record { reads = on.reads; subs = on.subs };
     link_changed = λ server cid state rights w on. record { reads = on.reads; subs = on.subs };
-    subscription_changed = λ server cid sub w on. record { reads = on.reads; subs = on.subs };
+    subscription_made = λ server cid mask count sent w on. record { reads = on.reads; subs = on.subs };
+    subscription_ended = λ server cid w on. record { reads = on.reads; subs = on.subs };
     link_removed = λ server cid w on. record { reads = on.reads; subs = on.subs };
   };
   connection_drained = λ dest count w on. record { reads = on.reads; subs = on.subs };

@@ -80,7 +80,6 @@ subs_apart_kept = record {
     cache = λ rows w apart. apart;
     searches = λ rows w apart. apart;
     policy = λ policy w apart. apart;
-    next_subscription = λ next w apart. apart;
     channel_added = λ session cid name real rights w apart. apart;
     channel_changed = λ session sid reach rights w apart. apart;
     channel_removed = λ session sid w apart. apart_filtered (is_not_sub_on session sid) w.clients.subs apart;
@@ -92,7 +91,8 @@ subs_apart_kept = record {
     write_added = λ write w on apart. apart;
     write_removed = λ server id w apart. apart;
     link_changed = λ server cid state rights w apart. apart;
-    subscription_changed = λ server cid sub w apart. apart;
+    subscription_made = λ server cid mask count sent w apart. apart;
+    subscription_ended = λ server cid w apart. apart;
     link_removed = λ server cid w apart. apart;
   };
   connection_drained = λ dest count w apart. apart;

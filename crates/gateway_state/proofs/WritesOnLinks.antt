@@ -10,6 +10,7 @@ use Rattle.rows.specs.Rows.{change_first}
 use Rattle.channel_table.specs.declared.channels.Channel.{Channel}
 use Rattle.channel_table.specs.Channels.{is_channel, is_not_channel, is_not_channel_of, with_reach_and_rights}
 use Rattle.link_table.specs.declared.links.Link.{Link}
+use Rattle.link_table.specs.declared.links.Subscription.{Subscription}
 use Rattle.link_table.specs.declared.links.LinkState.TheVariants.{Creating}
 use Rattle.link_table.specs.declared.writes.WaitingWrite.{WaitingWrite}
 use Rattle.link_table.specs.Links.{is_link, is_named, is_not_link, is_not_of, with_state, with_subscription}
@@ -182,6 +183,12 @@ module _ (w : Gateway) where
       all_weaker (fits channels links) (fits channels others) writes
       (λ write there. fits_links_kept links others write.server (name_of channels write.session write.sid) (same write.server) there) fit
 
+  fit_subscribed : (server cid : ℕ) (sub : Option Subscription) → list_all (fits channels links) writes ≡ true
+      → list_all (fits channels (change_first (is_link server cid) (with_subscription sub) links)) writes ≡ true
+  fit_subscribed server cid sub fit =
+      fit_over (change_first (is_link server cid) (with_subscription sub) links)
+      (λ of name right. all_changed (is_right of name) (is_link server cid) (with_subscription sub) links (λ link. refl) ∙ right) fit
+
   -- a write that is accepted fits
   fits_new : (write : WaitingWrite) → HasLinksApart w → is_write_on_link w write ≡ true → fits channels links write ≡ true
   fits_new write apart on = by (channel_of w write.session write.sid) on
@@ -213,7 +220,6 @@ writes_fit_kept = record {
     cache = λ rows w on. record { apart = on.apart; fit = on.fit };
     searches = λ rows w on. record { apart = on.apart; fit = on.fit };
     policy = λ policy w on. record { apart = on.apart; fit = on.fit };
-    next_subscription = λ next w on. record { apart = on.apart; fit = on.fit };
     channel_added = λ session cid name real rights w on. record { apart = on.apart; fit = fit_more w (new_channel session cid name real rights w) on.fit };
     channel_changed = λ session sid reach rights w on. record { apart = on.apart; fit = fit_changed w session sid reach rights on.fit };
     channel_removed = λ session sid w on. record {
@@ -238,10 +244,13 @@ writes_fit_kept = record {
       fit = fit_over w (change_first (is_link server cid) (with_state state rights) w.upstream.links)
           (λ of name right. all_changed (is_right of name) (is_link server cid) (with_state state rights) w.upstream.links (λ link. refl) ∙ right) on.fit;
     };
-    subscription_changed = λ server cid sub w on. record {
-      apart = links_apart_kept.rows.subscription_changed server cid sub w on.apart;
-      fit = fit_over w (change_first (is_link server cid) (with_subscription sub) w.upstream.links)
-          (λ of name right. all_changed (is_right of name) (is_link server cid) (with_subscription sub) w.upstream.links (λ link. refl) ∙ right) on.fit;
+    subscription_made = λ server cid mask count sent w on. record {
+      apart = links_apart_kept.rows.subscription_made server cid mask count sent w on.apart;
+      fit = fit_subscribed w server cid (Some (record { id = w.upstream.counters.subscription; mask = mask; count = count; sent = sent })) on.fit;
+    };
+    subscription_ended = λ server cid w on. record {
+      apart = links_apart_kept.rows.subscription_ended server cid w on.apart;
+      fit = fit_subscribed w server cid None on.fit;
     };
     link_removed = λ server cid w on. record {
       apart = links_apart_kept.rows.link_removed server cid w on.apart;

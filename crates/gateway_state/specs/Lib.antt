@@ -23,3 +23,4 @@ pub mod Telling
 pub mod Updates
 pub mod Variables
 pub mod Writing
+pub mod LatestRows

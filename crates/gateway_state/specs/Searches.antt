@@ -5,9 +5,14 @@ use Rattle.rule_desk.specs.declared.policy.Policy.{Policy}
 use Rattle.gateway_state.specs.declared.search.Search.{Search}
 use Rattle.gateway_state.specs.Resolution.{is_real, lead_of}
 
+-- the policy that holds, and the searches that are remembered
+pub record SearchRows : Type 0 where
+  pub policy : Policy
+  pub rows : List Search
+
 -- a search for this name by this host; hosts are alike but for case
 abbrev pub same_search : List ℕ → List ℕ → Search → Bool
-same_search host name row = same_host row.host host && bytes_eq row.name name
+same_search host name row = bytes_eq row.name name && same_host row.host host
 
 -- the search leads to this real name now
 abbrev pub leads_to : Policy → List ℕ → Search → Bool

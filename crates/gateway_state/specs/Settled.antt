@@ -1,5 +1,5 @@
 -- What every state that a run reaches has: nobody is owed anything.
-use Rattle.std.specs.Prelude.{◌≡◌, ℕ, ◌+◌, ◌≤◌, List, [], ◌∷◌, length, filter, Bool, true, false, ◌==◌, Option, Some, None, option_map}
+use Rattle.std.specs.Prelude.{◌≡◌, ℕ, ◌+◌, ◌≤◌, List, [], ◌∷◌, length, filter, Bool, true, false, ◌==◌, nat_lt, Option, Some, None, option_map}
 use Rattle.std.specs.List.{list_all, list_any}
 use Rattle.channel_table.specs.declared.channels.Channel.{Channel}
 use Rattle.channel_table.specs.declared.reads.WaitingRead.{WaitingRead}
@@ -45,10 +45,31 @@ sid_of c = c.sid
 abbrev pub cid_of : Link → ℕ
 cid_of link = link.cid
 
--- channels and links stand in the order of their numbers, each number once and below the counter
+abbrev pub is_below : ℕ → Option Subscription → Bool
+is_below next None = true
+is_below next (Some sub) = nat_lt sub.id next
+
+-- the link's subscription has an ID below this one
+abbrev pub has_id_below : ℕ → Link → Bool
+has_id_below next link = is_below next link.subscription
+
+-- channels stand in the order of their numbers, each number once and below the counter
+abbrev pub HasSidsInOrder : Gateway → Type 0
+HasSidsInOrder w = AreRising sid_of 0 w.clients.channels w.upstream.counters.sid
+
+-- the same of links
+abbrev pub HasCidsInOrder : Gateway → Type 0
+HasCidsInOrder w = AreRising cid_of 0 w.upstream.links w.upstream.counters.cid
+
+-- each subscription upstream has an ID below the counter
+abbrev pub HasIdsBelow : Gateway → Type 0
+HasIdsBelow w = list_all (has_id_below w.upstream.counters.subscription) w.upstream.links ≡ true
+
+-- numbers are in order
 pub record AreInOrder (w : Gateway) : Type 0 where
-  pub channels : AreRising sid_of 0 w.clients.channels w.upstream.counters.sid
-  pub links : AreRising cid_of 0 w.upstream.links w.upstream.counters.cid
+  pub channels : HasSidsInOrder w
+  pub links : HasCidsInOrder w
+  pub ids : HasIdsBelow w
 
 -- no name has two links
 abbrev pub HasLinksApart : Gateway → Type 0

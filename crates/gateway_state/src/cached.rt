@@ -1,9 +1,14 @@
 //! The last messages of variables.
-ghost use Rattle.std.specs.Prelude.{◌≡◌, ◌≤◌, [], vec_len, vec_capacity, OnOk, OnErr};
-ghost use Rattle.std.specs.List.{find, filter};
+ghost use Rattle.std.specs.Prelude.{◌≡◌, true, false, is_some, [], OnOk, OnErr, IfSome, IsNone};
+ghost use Rattle.std.specs.List.{find, filter, list_any};
 ghost use Rattle.std.specs.Option.{option_copied};
+ghost use Rattle.row_index.specs.Rows.{is_owned_by, value_at};
 ghost use Rattle.gateway_state.specs.CachedRows.{is_cached_of, is_cached_elsewhere, is_cached_by_another, with_row};
+ghost use Rattle.link_table.specs.LinkIndex.{key};
+ghost use Rattle.gateway_state.specs.LatestRows.{HoldIds, StillListed};
 
+use crate::latest::Latest;
+use row_index::{Key, RowMap};
 use std::alloc::{AllocError, Global};
 use std::marker::Model;
 use value_cache::Cached;
@@ -20,18 +25,23 @@ pub struct LastMessage {
 }
 
 /// The last messages that are kept, at most one of a link.
-#[derive(Debug, Drop)]
+#[derive(Drop)]
 pub struct Cache {
-    rows: Vec<LastMessage>,
+    latest: Latest,
+    /// The CIDs of the messages under their servers.
+    listed: RowMap<u32>,
 }
 
 impl Model for Cache {
     ghost use Rattle.std.specs.Prelude.{List};
     ghost use Rattle.gateway_state.specs.declared.cached.LastMessage.{LastMessage};
+    ghost use Rattle.gateway_state.specs.LatestRows.{AreListed};
 
     ghost Value = { List LastMessage };
 
-    ghost view = { λ c. c.rows.items };
+    ghost view = { λ c. c.latest };
+
+    ghost invariant = { λ c. AreListed c.latest c.listed };
 }
 
 impl Cache {
@@ -40,7 +50,8 @@ impl Cache {
         ensures { result ≡ [] }
     {
         Cache {
-            rows: Vec::new(alloc),
+            latest: Latest::new(alloc),
+            listed: RowMap::new(alloc),
         }
     }
 
@@ -48,7 +59,7 @@ impl Cache {
     pub fn get(&self, cid: u32) -> Option<&LastMessage>
         ensures { option_copied result ≡ find (is_cached_of cid) self.now }
     {
-        find(&self.rows, cid)
+        self.latest.get(cid)
     }
 
     /// Keeps a message in place of the one that its link had.
@@ -56,50 +67,66 @@ impl Cache {
         ensures ok { OnOk result (self.new ≡ with_row row self.old) }
         ensures err { OnErr result (self.new ≡ self.old) }
     {
-        put(&mut self.rows, row)
+        list(&mut self.listed, row.server, row.cid)?;
+        self.latest.put(row)
     }
 
     /// Forgets a link's last message.
     pub fn remove(&mut self, cid: u32)
         ensures { self.new ≡ filter (is_cached_elsewhere cid) self.old }
     {
-        remove(&mut self.rows, cid);
+        if let Some(row) = self.latest.get(cid) {
+            self.listed.remove(Key {
+                owner: row.server,
+                id: cid,
+            });
+            self.latest.remove(cid);
+        }
     }
 
     /// Forgets the last messages of a server's links.
     pub fn remove_by(&mut self, server: u32)
         ensures { self.new ≡ filter (is_cached_by_another server) self.old }
     {
-        remove_by(&mut self.rows, server);
+        while let Some(cid) = last_listed(&self.listed, server) {
+            self.listed.remove(Key {
+                owner: server,
+                id: cid,
+            });
+            self.latest.remove_from(server, cid);
+        }
     }
 }
 
-fn find(rows: &[LastMessage], cid: u32) -> Option<&LastMessage>
-    ensures { option_copied result ≡ find (is_cached_of cid) rows.now }
+// Lists a CID under its server, if it isn't yet.
+fn list(listed: &mut RowMap<u32>, server: u32, cid: u32) -> Result<(), AllocError>
+    requires { HoldIds listed.old }
+    ensures ids { HoldIds listed.new }
+    ensures still { StillListed listed.old listed.new }
+    ensures there { OnOk result (is_some (value_at (key server cid) listed.new) ≡ true) }
 {
-    rows.iter().find(|row| row.cid == cid)
-}
-
-fn put(rows: &mut Vec<LastMessage>, row: LastMessage) -> Result<(), AllocError>
-    ensures ok { OnOk result (rows.new.items ≡ with_row row rows.old.items) }
-    ensures err { OnErr result (rows.new.items ≡ rows.old.items) }
-{
-    rows.reserve(1)?;
-    remove(rows, row.cid);
-    rows.push_reserved(row);
+    let key = Key {
+        owner: server,
+        id: cid,
+    };
+    if !listed.contains(key) {
+        listed.add(key, cid)?;
+    }
     Ok(())
 }
 
-fn remove(rows: &mut Vec<LastMessage>, cid: u32)
-    ensures kept { rows.new.items ≡ filter (is_cached_elsewhere cid) rows.old.items }
-    ensures bound { vec_len rows.new ≤ vec_len rows.old }
-    ensures capacity { vec_capacity rows.new ≡ vec_capacity rows.old }
+// The CID that was listed last under a server.
+fn last_listed(listed: &RowMap<u32>, server: u32) -> Option<u32>
+    requires { HoldIds listed.now }
+    ensures found { IfSome result (λ cid. is_some (value_at (key server cid) listed.now) ≡ true) }
+    ensures none { IsNone result → list_any (is_owned_by server) listed.now ≡ false }
 {
-    rows.retain(|row| row.cid != cid);
-}
-
-fn remove_by(rows: &mut Vec<LastMessage>, server: u32)
-    ensures { rows.new.items ≡ filter (is_cached_by_another server) rows.old.items }
-{
-    rows.retain(|row| row.server != server);
+    let count = listed.count_of(server);
+    if count == 0 {
+        return None;
+    }
+    match listed.of(server, count - 1) {
+        Some(cid) => Some(*cid),
+        None => None,
+    }
 }

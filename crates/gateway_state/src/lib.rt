@@ -10,10 +10,12 @@ mod config;
 mod connections;
 mod event;
 mod interest;
+mod latest;
 pub mod laws;
 mod limits;
 mod notice;
 mod reading;
+mod reals;
 mod resolution;
 mod search;
 

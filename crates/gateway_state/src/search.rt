@@ -1,10 +1,13 @@
 //! Searches that are remembered.
 ghost use Rattle.std.specs.Prelude.{◌≡◌, [], ◌∷◌, ◌++◌, length, IfOk, OnOk, OnErr};
-ghost use Rattle.std.specs.List.{list_any};
-ghost use Rattle.gateway_state.specs.Searches.{same_search};
+ghost use Rattle.std.specs.List.{cons_option, list_any};
+ghost use Rattle.gateway_state.specs.Resolution.{real_in};
+ghost use Rattle.gateway_state.specs.Searches.{leads_to, same_search};
 ghost use Rattle.gateway_state.specs.Variables.{search_names};
 
+use crate::reals::Reals;
 use crate::resolution::lead_of;
+use pv_alias::Lead;
 use pv_name::{Host, Name, same_host};
 use rule_desk::Policy;
 use std::alloc::{AllocError, Global};
@@ -17,72 +20,120 @@ pub struct Search {
     pub name: Name,
 }
 
-/// The searches that are remembered, in the order in which they came.
-#[derive(Debug, Drop)]
+/// The policy that holds, and the searches that are remembered, in the order in which they came. The
+/// real names that they lead to under it are kept beside them, so that a look at them asks no policy.
+#[derive(Drop)]
 pub struct Searches {
+    policy: Policy,
     rows: Vec<Search>,
+    /// What the rows lead to, in their order, without those that lead nowhere.
+    reals: Reals,
 }
 
 impl Model for Searches {
-    ghost use Rattle.std.specs.Prelude.{List};
-    ghost use Rattle.gateway_state.specs.declared.search.Search.{Search};
+    ghost use Rattle.gateway_state.specs.Searches.{SearchRows};
+    ghost use Rattle.gateway_state.specs.Variables.{search_names};
+    ghost use Rattle.rule_desk.specs.contracts.policy.Policy as the_policy;
+    ghost use Rattle.std.specs.Coded.{codes};
+    ghost use Rattle.std.specs.Prelude.{◌≡◌};
 
-    ghost Value = { List Search };
+    ghost Value = { SearchRows };
 
-    ghost view = { λ s. s.rows.items };
+    ghost coded = { Prim.hlevel (codes, the_policy.the_row.coded) };
+
+    ghost view = { λ s. record { policy = s.policy; rows = s.rows.items } };
+
+    ghost invariant = { λ s. s.reals ≡ search_names s.policy s.rows.items };
 }
 
 impl Searches {
-    /// Nothing is remembered.
-    pub fn new(alloc: Global) -> Searches
-        ensures { result ≡ [] }
+    /// Nothing is remembered under this policy.
+    pub fn new(alloc: Global, policy: Policy) -> Searches
+        ensures { result ≡ record { policy = policy; rows = [] } }
     {
         Searches {
+            policy,
             rows: Vec::new(alloc),
+            reals: Reals::new(alloc),
         }
     }
 
+    /// The policy that holds.
+    pub fn policy(&self) -> &Policy
+        ensures { result.now ≡ self.now.policy }
+    {
+        &self.policy
+    }
+
     pub fn len(&self) -> usize
-        ensures { result ≡ length self.now }
+        ensures { result ≡ length self.now.rows }
     {
         self.rows.len()
     }
 
-    /// All of them.
-    pub fn as_slice(&self) -> &[Search]
-        ensures { result.now ≡ self.now }
-    {
-        self.rows.as_slice()
-    }
-
     /// Whether the host's search for the name is remembered.
     pub fn contains(&self, host: &Host, name: &Name) -> bool
-        ensures { result ≡ list_any (same_search host.now name.now) self.now }
+        ensures { result ≡ list_any (same_search host.now name.now) self.now.rows }
     {
         contains(&self.rows, host, name)
     }
 
-    /// The real names that they lead to under a policy, in order.
-    pub fn names(&self, alloc: Global, policy: &Policy) -> Result<Vec<Name>, AllocError>
-        ensures { IfOk result (λ names. names.items ≡ search_names policy.now self.now) }
+    /// Whether one of them leads to this real name.
+    #[tactic(auto, using(crate::proofs::SearchedNames::searched_is_among))]
+    pub fn leads_to(&self, name: &Name) -> bool
+        ensures { result ≡ list_any (leads_to self.now.policy name.now) self.now.rows }
     {
-        names(&self.rows, alloc, policy)
+        self.reals.has(name)
+    }
+
+    /// The real names that they lead to, in order.
+    pub fn names(&self) -> &[Name]
+        ensures { result.now ≡ search_names self.now.policy self.now.rows }
+    {
+        self.reals.as_slice()
     }
 
     /// Remembers one more.
-    pub fn add(&mut self, search: Search) -> Result<(), AllocError>
-        ensures ok { OnOk result (self.new ≡ self.old ++ search ∷ []) }
+    #[tactic(auto, using(crate::proofs::SearchedNames::names_with_one_more))]
+    pub fn add(&mut self, alloc: Global, search: Search) -> Result<(), AllocError>
+        ensures ok { OnOk result (self.new ≡ record self.old { rows = self.old.rows ++ search ∷ [] }) }
         ensures err { OnErr result (self.new ≡ self.old) }
     {
-        self.rows.push(search)?;
+        let lead = lead_of(alloc, &self.policy, &search.host, &search.name)?;
+        self.rows.reserve(1)?;
+        add_real(&mut self.reals, lead)?;
+        self.rows.push_reserved(search);
+        Ok(())
+    }
+
+    /// From now on another policy holds.
+    pub fn set_policy(&mut self, alloc: Global, policy: Policy) -> Result<(), AllocError>
+        ensures ok { OnOk result (self.new ≡ record self.old { policy = policy }) }
+        ensures err { OnErr result (self.new ≡ self.old) }
+    {
+        let reals = names(&self.rows, alloc, &policy)?;
+        self.policy = policy;
+        self.reals = reals;
         Ok(())
     }
 
     /// Forgets all of them.
     pub fn clear(&mut self)
-        ensures { self.new ≡ [] }
+        ensures { self.new ≡ record self.old { rows = [] } }
     {
         self.rows.clear();
+        self.reals.clear();
+    }
+}
+
+/// Adds the name that a search leads to, if to any.
+fn add_real(reals: &mut Reals, lead: Option<Lead>) -> Result<(), AllocError>
+    ensures ok { OnOk result (reals.new ≡ reals.old ++ cons_option (real_in lead) []) }
+    ensures err { OnErr result (reals.new ≡ reals.old) }
+{
+    match lead {
+        Some(lead) => { reals.add(lead.real) }
+        None => Ok(()),
     }
 }
 
@@ -90,16 +141,16 @@ fn contains(rows: &[Search], host: &Host, name: &Name) -> bool
     ensures { result ≡ list_any (same_search host.now name.now) rows.now }
 {
     rows.iter()
-        .any(|row| same_host(&row.host, host) && row.name == *name)
+        .any(|row| row.name == *name && same_host(&row.host, host))
 }
 
-fn names(rows: &[Search], alloc: Global, policy: &Policy) -> Result<Vec<Name>, AllocError>
-    ensures { IfOk result (λ names. names.items ≡ search_names policy.now rows.now) }
+fn names(rows: &[Search], alloc: Global, policy: &Policy) -> Result<Reals, AllocError>
+    ensures { IfOk result (λ names. names ≡ search_names policy.now rows.now) }
 {
-    let mut names = Vec::new(alloc);
+    let mut names = Reals::new(alloc);
     for row in rows {
         if let Some(lead) = lead_of(alloc, policy, &row.host, &row.name)? {
-            names.push(lead.real)?;
+            names.add(lead.real)?;
         }
     }
     Ok(names)

@@ -3,3 +3,4 @@ pub mod LinkRows
 pub mod Links
 pub mod Servers
 pub mod Writes
+pub mod LinkIndex

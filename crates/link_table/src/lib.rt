@@ -31,6 +31,7 @@
 
 mod counter;
 pub mod laws;
+mod link_set;
 mod links;
 mod servers;
 mod table;

@@ -1,6 +1,6 @@
 //! The table of servers, links and waiting writes.
-ghost use Rattle.std.specs.Prelude.{◌≡◌, ◌≢◌, ◌≤◌, ◌<◌, ◌↔◌, [], ◌∷◌, ◌++◌, length, true, false, Err, slice_get, OnOk, OnErr, OnSome, IsErrOf, IsNone, IfSome, IfNone};
-ghost use Rattle.std.specs.List.{filter, find};
+ghost use Rattle.std.specs.Prelude.{◌≡◌, ◌≢◌, ◌≤◌, ◌<◌, ◌↔◌, [], ◌∷◌, ◌++◌, length, map, true, false, Err, slice_get, OnOk, OnErr, OnSome, IfOk, IsErrOf, IsNone, IfSome, IfNone};
+ghost use Rattle.std.specs.List.{filter, find, list_any};
 ghost use Rattle.std.specs.Option.{option_copied};
 ghost use Rattle.rows.specs.Rows.{change_first};
 ghost use Rattle.link_table.specs.declared.counter.TheConstants.{LAST_NUMBER};
@@ -11,11 +11,12 @@ ghost use Rattle.link_table.specs.Writes.{is_write, is_not_write, is_not_write_o
 ghost use Rattle.link_table.specs.Counters.{all_at, are_over, counter_of, raised};
 
 use crate::counter::{Counter, NextNumbers};
-use crate::links::{self, Link, LinkState, Subscription};
+use crate::link_set::LinkSet;
+use crate::links::{Link, LinkState, Subscription};
 use crate::servers::{self, Server};
 use crate::writes::{self, WaitingWrite};
 use pv_name::Name;
-use std::alloc::Global;
+use std::alloc::{AllocError, Global};
 use std::marker::Model;
 
 /// How many servers stand at most.
@@ -40,10 +41,10 @@ pub enum TableFault {
 
 /// Servers, links and waiting writes, each list in the order in which they were added, and the next
 /// numbers.
-#[derive(Debug, Drop)]
+#[derive(Drop)]
 pub struct Links {
     servers: Vec<Server>,
-    links: Vec<Link>,
+    links: LinkSet,
     writes: Vec<WaitingWrite>,
     next: NextNumbers,
 }
@@ -55,7 +56,7 @@ impl Model for Links {
 
     ghost view = { λ l. record {
       servers = l.servers.items;
-      links = l.links.items;
+      links = l.links;
       writes = l.writes.items;
       counters = l.next;
     } };
@@ -68,7 +69,7 @@ impl Links {
     {
         Links {
             servers: Vec::new(alloc),
-            links: Vec::new(alloc),
+            links: LinkSet::new(alloc),
             writes: Vec::new(alloc),
             next: NextNumbers::new(first),
         }
@@ -85,35 +86,39 @@ impl Links {
     pub fn by_cid(&self, server: u32, cid: u32) -> Option<&Link>
         ensures { option_copied result ≡ find (is_link server cid) self.now.links }
     {
-        links::by_cid(&self.links, server, cid)
+        self.links.by_cid(server, cid)
     }
 
     /// The link for the variable of this name.
     pub fn by_name(&self, name: &Name) -> Option<&Link>
         ensures { option_copied result ≡ find (is_named name.now) self.now.links }
     {
-        links::by_name(&self.links, name)
+        self.links.by_name(name)
     }
 
     /// The link of this server whose present subscription has this ID.
     pub fn by_sub(&self, server: u32, id: u32) -> Option<&Link>
         ensures { option_copied result ≡ find (has_subscription server id) self.now.links }
     {
-        links::by_sub(&self.links, server, id)
+        self.links.by_sub(server, id)
     }
 
     /// The n-th link, counted from 0 in the order of adding. Since CIDs rise, this is their order.
     pub fn link(&self, n: usize) -> Option<&Link>
         ensures { option_copied result ≡ slice_get self.now.links n }
     {
-        self.links.get(n)
+        self.links.link(n)
     }
 
     /// All links, in the order of adding, which is that of their CIDs.
-    pub fn links(&self) -> &[Link]
-        ensures { result.now ≡ self.now.links }
+    ///
+    /// # Errors
+    ///
+    /// Memory for the list was refused.
+    pub fn links(&self, alloc: Global) -> Result<Vec<&Link>, AllocError>
+        ensures { IfOk result (λ links. map (λ link. link.now) links.items ≡ self.now.links) }
     {
-        self.links.as_slice()
+        self.links.links(alloc)
     }
 
     /// How many links stand.
@@ -154,8 +159,12 @@ impl Links {
         }
     }
 
-    /// Adds a link. The caller sees to it that none of its CID and none for its name stands.
+    /// Adds a link. The caller sees to it that none of its CID and none for its name stands, and
+    /// that none has a subscription of the ID that it brings, if it brings one.
     pub fn add_link(&mut self, link: Link) -> Result<(), TableFault>
+        requires new_id { has_link link.server link.cid self.old ≡ false }
+        requires new_name { list_any (is_named link.name) self.old.links ≡ false }
+        requires new_sub { IfSome link.subscription (λ s. list_any (has_subscription link.server s.id) self.old.links ≡ false) }
         ensures ok { OnOk result (self.new ≡ record self.old { links = self.old.links ++ link ∷ [] }) }
         ensures there { OnOk result (has_server link.server self.old ≡ true) }
         ensures room { OnOk result (length self.old.links < LINK_LIMIT) }
@@ -170,7 +179,7 @@ impl Links {
         if self.links.len() >= LINK_LIMIT {
             return Err(TableFault::Full);
         }
-        match self.links.push(link) {
+        match self.links.add(link) {
             Ok(()) => Ok(()),
             Err(_) => Err(TableFault::OutOfMemory),
         }
@@ -212,7 +221,7 @@ impl Links {
         ensures { self.new ≡
             record self.old { links = change_first (is_link server cid) (with_state state rights) self.old.links } }
     {
-        links::put(&mut self.links, server, cid, state, rights);
+        self.links.put(server, cid, state, rights);
     }
 
     /// Keeps the present subscription of a link, or that it has none. The caller sees to it that
@@ -223,6 +232,7 @@ impl Links {
         cid: u32,
         subscription: Option<Subscription>,
     ) -> Result<(), TableFault>
+        requires new_id { IfSome subscription (λ s. list_any (has_subscription server s.id) self.old.links ≡ false) }
         ensures ok { OnOk result (self.new ≡
             record self.old { links = change_first (is_link server cid) (with_subscription subscription) self.old.links }) }
         ensures there { OnOk result (has_link server cid self.old ≡ true) }
@@ -230,11 +240,13 @@ impl Links {
         ensures full { result ≢ Err TableFault.Full }
         ensures err { OnErr result (self.new ≡ self.old) }
     {
-        if !links::stands(&self.links, server, cid) {
+        if !self.links.contains(server, cid) {
             return Err(TableFault::Missing);
         }
-        links::set_sub(&mut self.links, server, cid, subscription);
-        Ok(())
+        match self.links.set_sub(server, cid, subscription) {
+            Ok(()) => Ok(()),
+            Err(_) => Err(TableFault::OutOfMemory),
+        }
     }
 
     /// Removes a server with its links and the writes to it.
@@ -246,7 +258,7 @@ impl Links {
         } }
     {
         servers::remove(&mut self.servers, number);
-        links::remove_of(&mut self.links, number);
+        self.links.remove_of(number);
         writes::remove_to(&mut self.writes, number);
     }
 
@@ -254,7 +266,7 @@ impl Links {
     pub fn remove_link(&mut self, server: u32, cid: u32)
         ensures { self.new ≡ record self.old { links = filter (is_not_link server cid) self.old.links } }
     {
-        links::remove(&mut self.links, server, cid);
+        self.links.remove(server, cid);
     }
 
     /// Removes the write to this server with this ID.

@@ -3,14 +3,18 @@
 //! A story is a text. Its lines are calls on a table that is empty at first, and behind `> ` stands
 //! what they answer:
 //!
-//! - `session N`, `channel S SID`, `sub S SID ID`, `read S SID IOID`: a row is added. The last number
-//!   may be a range, as `0-1023`, which adds so many. An answer is given where a row is refused;
+//! - `session N`, `channel S SID`, `sub S SID ID`, `read S SID IOID`: a row is added, but no channel
+//!   and no subscription that stands. The last number may be a range, as `0-1023`, which adds so many.
+//!   An answer is given where a row is refused;
 //! - `put session N HOST`, `put channel S SID REACH RIGHTS`, `put sub S ID`: the session counts as
 //!   one of that host, which is fixed, and is paused; the subscription is owed nothing;
 //! - `find session N`, `find channel S SID`, `find sub S ID`: the row, or `none`;
 //! - `remove` before what a row is named by;
 //! - `count S`: how many channels, subscriptions and reads the session has;
-//! - `show`: all rows.
+//! - `on NAME`: whether a channel is on the variable, how many channels, subscriptions and reads are,
+//!   and these one by one. Channels 50 to 99 are on B:SP, others on A:SP;
+//! - `of S`: the channels and subscriptions of the session, one by one;
+//! - `show`: all rows, of sessions those below 10.
 use channel_table::{Channel, ClientSub, Session, Table, TableFault, WaitingRead};
 use pv_name::{Host, Name};
 use std::alloc::Global;
@@ -46,7 +50,9 @@ fn call(alloc: Global, table: &mut Table, line: &str, told: &mut String) -> Resu
         "find" => find(table, line, told),
         "remove" => remove(table, line),
         "count" => count(table, number(line, 1)?, told),
-        "show" => show(table, told),
+        "show" => show(alloc, table, told),
+        "on" => show_on(table, &Name::read(alloc, word(line, 1)?.as_bytes())?, told),
+        "of" => show_of(table, number(line, 1)?, told),
         _ => add(alloc, table, line, told),
     }
 }
@@ -84,8 +90,8 @@ fn add_one(
 ) -> Result<(), Fail> {
     let added = match word(line, 0)? {
         "session" => table.add_session(session(alloc, last)?),
-        "channel" => table.add_channel(channel(alloc, number(line, 1)?, last)?),
-        "sub" => table.add_sub(sub(number(line, 1)?, number(line, 2)?, last)),
+        "channel" => add_channel(table, channel(alloc, number(line, 1)?, last)?),
+        "sub" => add_sub(table, sub(number(line, 1)?, number(line, 2)?, last)),
         _ => table.add_read(read(number(line, 1)?, number(line, 2)?, last)),
     };
     match added {
@@ -95,6 +101,24 @@ fn add_one(
         Err(TableFault::OutOfMemory) => return Err("out of memory".into()),
     }
     Ok(())
+}
+
+/// Adds a channel, but none that stands already.
+#[tactic(auto, using(channel_table::proofs::Lists::unfound_is_absent))]
+fn add_channel(table: &mut Table, channel: Channel) -> Result<(), TableFault> {
+    match table.channel(channel.session, channel.sid) {
+        Some(_) => Ok(()),
+        None => table.add_channel(channel),
+    }
+}
+
+/// Adds a subscription, but none that stands already.
+#[tactic(auto, using(channel_table::proofs::Lists::unfound_is_absent))]
+fn add_sub(table: &mut Table, sub: ClientSub) -> Result<(), TableFault> {
+    match table.sub(sub.session, sub.id) {
+        Some(_) => Ok(()),
+        None => table.add_sub(sub),
+    }
 }
 
 fn session(alloc: Global, number: u32) -> Result<Session, Fail> {
@@ -112,10 +136,19 @@ fn channel(alloc: Global, session: u32, sid: u32) -> Result<Channel, Fail> {
         sid,
         cid: 7,
         asked: Name::read(alloc, b"A:SET")?,
-        real: Name::read(alloc, b"A:SP")?,
+        real: Name::read(alloc, real_name(sid).as_bytes())?,
         reach: 0,
         rights: 3,
     })
+}
+
+/// The variable that a channel is on.
+fn real_name(sid: u32) -> &'static str {
+    if sid >= 50 && sid < 100 {
+        "B:SP"
+    } else {
+        "A:SP"
+    }
 }
 
 fn sub(session: u32, sid: u32, id: u32) -> ClientSub {
@@ -196,18 +229,59 @@ fn count(table: &Table, session: u32, told: &mut String) -> Result<(), Fail> {
     Ok(())
 }
 
-fn show(table: &Table, told: &mut String) -> Result<(), Fail> {
-    for row in table.sessions() {
-        show_session(row, told)?;
+fn show(alloc: Global, table: &Table, told: &mut String) -> Result<(), Fail> {
+    for number in 0..10 {
+        if let Some(row) = table.session(number) {
+            show_session(row, told)?;
+        }
     }
-    for row in table.channels() {
+    for row in table.channels(alloc)? {
         show_channel(row, told)?;
     }
-    for row in table.subs() {
+    for row in table.subs(alloc)? {
         show_sub(row, told)?;
     }
     for row in table.reads() {
-        writeln!(told, "read {} {} {}", row.session, row.sid, row.ioid)?;
+        show_read(*row, told)?;
+    }
+    Ok(())
+}
+
+/// The rows on a variable, one by one, and how many there are.
+fn show_on(table: &Table, name: &Name, told: &mut String) -> Result<(), Fail> {
+    let channels = table.channels_on(name);
+    let subs = table.subs_on(name);
+    let reads = table.reads_on(name);
+    writeln!(told, "{} {channels} {subs} {reads}", table.is_used(name))?;
+    for n in 0..=channels {
+        if let Some(row) = table.channel_on(name, n) {
+            show_channel(row, told)?;
+        }
+    }
+    for n in 0..=subs {
+        if let Some(row) = table.sub_on(name, n) {
+            show_sub(row, told)?;
+        }
+    }
+    for n in 0..=reads {
+        if let Some(row) = table.read_on(name, n) {
+            show_read(row, told)?;
+        }
+    }
+    Ok(())
+}
+
+/// The channels and subscriptions of a session, one by one.
+fn show_of(table: &Table, session: u32, told: &mut String) -> Result<(), Fail> {
+    for n in 0..=table.channel_count(session) {
+        if let Some(row) = table.channel_of(session, n) {
+            show_channel(row, told)?;
+        }
+    }
+    for n in 0..=table.sub_count(session) {
+        if let Some(row) = table.sub_of(session, n) {
+            show_sub(row, told)?;
+        }
     }
     Ok(())
 }
@@ -231,6 +305,11 @@ fn show_channel(row: &Channel, told: &mut String) -> Result<(), Fail> {
         row.sid,
         row.real.text()
     )?;
+    Ok(())
+}
+
+fn show_read(row: WaitingRead, told: &mut String) -> Result<(), Fail> {
+    writeln!(told, "read {} {} {}", row.session, row.sid, row.ioid)?;
     Ok(())
 }
 

@@ -208,6 +208,95 @@ count 2
     )
 }
 
+#[test]
+fn rows_are_found_by_the_variable_that_they_are_on(rt: HostRuntime) -> Result<(), Fail> {
+    tells(
+        &rt,
+        rt.alloc(),
+        TWO_CLIENTS,
+        "\
+channel 2 51
+sub 2 51 7-8
+read 2 51 71
+sub 1 12 9
+on B:SP
+> true 1 2 1
+> channel 2 51 B:SP reach 0 rights 3
+> sub 2 51 7 owed
+> sub 2 51 8 owed
+> read 2 51 71
+on C:SP
+> false 0 0 0
+remove channel 2 51
+on B:SP
+> false 0 0 0
+remove sub 1 6
+remove channel 1 11
+on A:SP
+> true 2 2 2
+> channel 1 12 A:SP reach 0 rights 3
+> channel 2 21 A:SP reach 0 rights 3
+> sub 2 21 5 owed
+> sub 1 12 9 owed
+> read 1 12 12
+> read 2 21 21
+of 1
+> channel 1 12 A:SP reach 0 rights 3
+> sub 1 12 9 owed
+remove session 1
+on A:SP
+> true 1 1 1
+> channel 2 21 A:SP reach 0 rights 3
+> sub 2 21 5 owed
+> read 2 21 21
+",
+    )
+}
+
+#[test]
+fn rows_stay_in_their_order_while_others_come_and_go(rt: HostRuntime) -> Result<(), Fail> {
+    tells(
+        &rt,
+        rt.alloc(),
+        "session 1-2\nchannel 1 200-299\nchannel 2 20\nchannel 2 60\nsub 2 60 3\nsub 2 20 4",
+        "\
+remove session 1
+session 1
+channel 1 300-399
+remove session 1
+session 1
+channel 1 10
+channel 2 61
+sub 1 10 1
+show
+> session 1 10.0.0.5
+> session 2 10.0.0.5
+> channel 2 20 A:SP reach 0 rights 3
+> channel 2 60 B:SP reach 0 rights 3
+> channel 1 10 A:SP reach 0 rights 3
+> channel 2 61 B:SP reach 0 rights 3
+> sub 2 60 3 owed
+> sub 2 20 4 owed
+> sub 1 10 1 owed
+on B:SP
+> true 2 1 0
+> channel 2 60 B:SP reach 0 rights 3
+> channel 2 61 B:SP reach 0 rights 3
+> sub 2 60 3 owed
+of 2
+> channel 2 20 A:SP reach 0 rights 3
+> channel 2 60 B:SP reach 0 rights 3
+> channel 2 61 B:SP reach 0 rights 3
+> sub 2 60 3 owed
+> sub 2 20 4 owed
+find channel 1 250
+> none
+find channel 1 10
+> channel 1 10 A:SP reach 0 rights 3
+",
+    )
+}
+
 /// The example at the head of the crate.
 #[test]
 fn a_read_names_a_channel(rt: HostRuntime) -> Result<(), Fail> {

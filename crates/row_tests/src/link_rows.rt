@@ -85,19 +85,38 @@ fn refused(done: Result<(), TableFault>, told: &mut Told) {
 
 fn add_link(alloc: Global, links: &mut Links, server: u32, cid: u32, told: &mut Told) {
     match name_of(alloc, cid) {
-        Some(name) => refused(
-            links.add_link(Link {
-                cid,
-                server,
-                name,
-                state: LinkState::Creating,
-                rights: 0,
-                subscription: None,
-            }),
-            told,
-        ),
+        Some(name) => add_new_link(links, server, cid, name, told),
         None => told.line(&"out of memory"),
     }
+}
+
+/// Adds a link, but none whose CID or name stands already.
+#[tactic(auto, using(channel_table::proofs::Lists::unfound_is_absent))]
+fn add_new_link(links: &mut Links, server: u32, cid: u32, name: Name, told: &mut Told) {
+    if let Some(_) = links.by_cid(server, cid) {
+        return;
+    }
+    if let Some(_) = links.by_name(&name) {
+        return;
+    }
+    let link = Link {
+        cid,
+        server,
+        name,
+        state: LinkState::Creating,
+        rights: 0,
+        subscription: None,
+    };
+    refused(links.add_link(link), told);
+}
+
+/// Keeps a link's subscription, but none whose ID the server has already.
+#[tactic(auto, using(channel_table::proofs::Lists::unfound_is_absent))]
+fn set_sub(links: &mut Links, server: u32, cid: u32, subscription: Subscription, told: &mut Told) {
+    if let Some(_) = links.by_sub(server, subscription.id) {
+        return;
+    }
+    refused(links.set_sub(server, cid, Some(subscription)), told);
 }
 
 fn name_of(alloc: Global, cid: u32) -> Option<Name> {
@@ -137,7 +156,7 @@ fn put(links: &mut Links, call: &Call<'_>, told: &mut Told) {
                 count: fifth,
                 sent: sixth,
             };
-            refused(links.set_sub(server, cid, Some(subscription)), told);
+            set_sub(links, server, cid, subscription, told);
         }
         _ => refused(links.set_sub(server, cid, None), told),
     }

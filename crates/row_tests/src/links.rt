@@ -239,6 +239,50 @@ give write
     );
 }
 
+#[test]
+fn links_are_found_while_others_come_and_go(rt: HostRuntime) {
+    tells(
+        &rt,
+        rt.alloc(),
+        "\
+add servers 2 2
+add links 2 3 202
+put sub 2 100 9 5 1 0
+put sub 1 2 9 5 1 0
+remove server 2
+count links
+> 2
+find sub 2 9
+> none
+find sub 1 9
+> 2
+find name T100
+> none
+add servers 2 2
+add links 2 300 303
+remove link 1 1
+add links 1 400 400
+find place 0
+> 2
+find place 1
+> 300
+find place 5
+> 400
+find place 6
+> none
+find name T303
+> 303
+find cid 2 302
+> 302
+put sub 1 2 10 5 1 0
+find sub 1 9
+> none
+find sub 1 10
+> 2
+",
+    );
+}
+
 /// The example at the head of the crate.
 #[test]
 fn a_link_names_a_server(rt: HostRuntime) {

@@ -2,10 +2,10 @@
 ghost use Rattle.std.specs.Prelude.{◌≡◌, OnOk, IfOk};
 ghost use Rattle.gateway_state.specs.Servers.{is_usable, channel_made, answered_creating, channel_returned, rights_said, creation_refused, channel_dropped, with_link_state};
 ghost use Rattle.dbr_layout.specs.Dbr.{dbr_of};
-ghost use Rattle.touched_rows.specs.Touches.{created_touches, rights_touches};
+ghost use Rattle.touched_rows.specs.Touches.{created_touches, gone_touches, rights_touches};
 
 use ca_message::ToServer;
-use gateway_rows::{Rows, fits_payload, is_creating, time_of};
+use gateway_rows::{Rows, fits_payload, is_connected, is_creating, time_of};
 use gateway_state::PLAIN_TYPES;
 use link_table::LinkState;
 use std::alloc::AllocError;
@@ -83,7 +83,7 @@ pub(crate) fn hear_rights(
     Ok(touched)
 }
 
-/// A server didn't make a channel.
+/// A server didn't make a channel. No client has a channel on it.
 pub(crate) fn hear_refusal(rows: &mut Rows, server: u32, cid: u32)
     ensures { rows.new ≡ creation_refused rows.old server cid }
 {
@@ -94,12 +94,20 @@ pub(crate) fn hear_refusal(rows: &mut Rows, server: u32, cid: u32)
     }
 }
 
-/// A server dropped a channel.
-pub(crate) fn hear_disconnect(rows: &mut Rows, server: u32, cid: u32)
-    ensures { rows.new ≡ channel_dropped rows.old server cid }
+/// A server dropped a channel. Clients may have channels on a variable that was connected.
+pub(crate) fn hear_disconnect(rows: &mut Rows, server: u32, cid: u32) -> Touched
+    ensures effect { rows.new ≡ channel_dropped rows.old server cid }
+    ensures touched { result ≡ gone_touches rows.old server cid }
 {
-    if let Some(_) = rows.upstream.by_cid(server, cid) {
-        rows.remove_link(server, cid);
+    let Some(link) = rows.upstream.by_cid(server, cid) else {
+        return Touched::Nothing;
+    };
+    let was_connected = is_connected(link.state);
+    rows.remove_link(server, cid);
+    if was_connected {
+        Touched::All
+    } else {
+        Touched::Nothing
     }
 }
 

@@ -1,7 +1,9 @@
 //! Variables that servers have.
-ghost use Rattle.std.specs.Prelude.{◌≡◌, true, OnOk, IsErrOf};
+ghost use Rattle.std.specs.Prelude.{◌≡◌, true, false, OnOk, IsErrOf};
 ghost use Rattle.gateway_state.specs.Numbers.{is_past_numbers};
 ghost use Rattle.gateway_state.specs.Servers.{found, linked};
+ghost use Rattle.gateway_state.specs.Settled.{HasCidsInOrder};
+ghost use Rattle.gateway_state.specs.Variables.{is_linked};
 
 use ca_message::{NameText, ToServer};
 use gateway_rows::{Refusal, Rows};
@@ -11,10 +13,11 @@ use pv_name::Name;
 
 /// A server has a variable.
 pub fn find_at(rows: &mut Rows, name: Name, server: u32) -> Result<(), Refusal>
+    requires order { HasCidsInOrder rows.old }
     ensures ok { OnOk result (rows.new ≡ found rows.old name server) }
     ensures used_up { IsErrOf result Refusal.NumbersUsedUp → is_past_numbers (found rows.old name server) ≡ true }
 {
-    if rows.is_missing(&name)?
+    if rows.is_missing(&name)
         && rows.acts(Dest::Upstream(server))
         && rows.upstream.link_count() < LINK_LIMIT
     {
@@ -25,8 +28,10 @@ pub fn find_at(rows: &mut Rows, name: Name, server: u32) -> Result<(), Refusal>
 }
 
 /// Makes a link, and asks the server for a channel.
-#[tactic(auto, unfolding(gateway_state::specs::Telling::sent, gateway_state::specs::Numbers::is_past_numbers))]
+#[tactic(auto, using(gateway_state::proofs::NewNumbers::new_cid, gateway_state::proofs::NewNumbers::unlinked), unfolding(gateway_state::specs::Telling::sent, gateway_state::specs::Numbers::is_past_numbers))]
 fn make_link(rows: &mut Rows, server: u32, name: Name) -> Result<(), Refusal>
+    requires order { HasCidsInOrder rows.old }
+    requires unlinked { is_linked rows.old name ≡ false }
     ensures ok { OnOk result (rows.new ≡ linked rows.old server name) }
     ensures used_up { IsErrOf result Refusal.NumbersUsedUp → is_past_numbers (linked rows.old server name) ≡ true }
 {

@@ -46,12 +46,9 @@ pub fn hear_server(rows: &mut Rows, server: u32, message: Message) -> Result<Tou
         Ok(ServerReply::AccessRights { cid, rights }) => hear_rights(rows, server, cid, rights),
         Ok(ServerReply::CreateChannelFail { cid }) => {
             hear_refusal(rows, server, cid);
-            Ok(Touched::All)
+            Ok(Touched::Nothing)
         }
-        Ok(ServerReply::ServerDisconnect { cid }) => {
-            hear_disconnect(rows, server, cid);
-            Ok(Touched::All)
-        }
+        Ok(ServerReply::ServerDisconnect { cid }) => Ok(hear_disconnect(rows, server, cid)),
         Ok(ServerReply::WriteNotify { ioid, status }) => {
             end_write(rows, server, ioid, status)?;
             Ok(Touched::Nothing)

@@ -48,12 +48,13 @@ fn keep_value(rows: &mut Rows, row: LastMessage) -> Result<(), AllocError>
 }
 
 /// The subscriptions to a variable that an update of it concerns.
+#[tactic(auto, using(crate::proofs::Concerned::concerned_are_on))]
 fn concerned(rows: &Rows, name: &Name, differs: bool) -> Result<Vec<ClientSub>, AllocError>
     ensures { IfOk result (λ subs. subs.items ≡ concerned rows.now name.now differs) }
 {
     let mut subs = Vec::new(rows.alloc);
-    for sub in rows.clients.subs() {
-        if is_concerned(sub, differs) && rows.is_sub_to(name, sub) {
+    for sub in &rows.subs_on(name)? {
+        if is_concerned(sub, differs) {
             subs.push(*sub)?;
         }
     }

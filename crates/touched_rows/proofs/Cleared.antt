@@ -17,6 +17,7 @@ use Rattle.fanout.specs.declared.outbox.Out.{Out}
 use Rattle.mask_merge.specs.Merged.{merged}
 use Rattle.gateway_state.specs.declared.connections.Connection.{Connection}
 use Rattle.gateway_state.specs.declared.event.Dest.{Dest}
+use Rattle.gateway_state.specs.declared.notice.LinkNotice.{LinkNotice}
 use Rattle.gateway_state.specs.Clients.{without_channel}
 use Rattle.gateway_state.specs.Connections.{given, is_to}
 use Rattle.gateway_state.specs.Gateway.{Gateway}
@@ -28,26 +29,26 @@ use Rattle.gateway_state.specs.Settled.{AreInOrder, HasLinksApart, IsSettled, si
 use Rattle.gateway_state.specs.Step.{consequences}
 use Rattle.gateway_state.specs.Telling.{sent}
 use Rattle.gateway_state.specs.Updates.{is_unreadable, is_withheld, update_notice, update_notices, update_on, updates_told, withheld}
-use Rattle.gateway_state.specs.Variables.{is_on, is_wanted}
+use Rattle.gateway_state.specs.Variables.{is_on, is_wanted, link_of}
 use Rattle.gateway_state.proofs.SettledMeaning.{none_told}
 use Rattle.gateway_state.proofs.SettledSteps.{found_is_on, reads_stay, updates_stay}
-use Rattle.touched_rows.specs.Touched.{link_told_on}
+use Rattle.touched_rows.specs.Touched.{link_notices_over, link_told_on}
 use Rattle.touched_rows.proofs.Connections.{HasNoMoreRoom, no_more_room_given}
 use Rattle.touched_rows.proofs.LessGiven.{read_on-stays, update_if_open, update_on-stays}
 use Rattle.touched_rows.proofs.Numbered.{one_of_number}
-use Rattle.touched_rows.proofs.OneLink.{IsBesideOthers, link_told_clients, links_alone}
+use Rattle.touched_rows.proofs.OneLink.{IsBesideOthers, is_name, link_told_clients, links_alone}
 use Rattle.touched_rows.proofs.Passes.{from_links}
 use Rattle.touched_rows.proofs.ReadersOf.{any_left, found_left, none_of_left, not_not, other_name, passing_left, passing_of_left}
 use Rattle.touched_rows.proofs.Tellings.{less_connections}
 use Rattle.touched_rows.proofs.TouchedAlone.{found_passes, none_planned}
-use Rattle.touched_rows.proofs.WantedLinks.{open_no_more, values_no_more, wanted_link_kept, wanted_rights_kept}
+use Rattle.touched_rows.proofs.WantedLinks.{SparesWanted, one_spares, open_no_more, values_no_more, wanted_link_kept, wanted_rights_kept}
 
-not_so : (t : Bool) → not t ≡ true → t ≡ false
+pub not_so : (t : Bool) → not t ≡ true → t ≡ false
 not_so true e = absurd (true≢false (sym e))
 not_so false e = refl
 
 -- all rows of a list that pass a test have what passing gives
-left_have : {A : Type 0} (P Q : A → Type 0) (stays : A → Bool) → ((row : A) → stays row ≡ true → P row → Q row) → (rows : List A) → All P rows → All Q (filter stays rows)
+pub left_have : {A : Type 0} (P Q : A → Type 0) (stays : A → Bool) → ((row : A) → stays row ≡ true → P row → Q row) → (rows : List A) → All P rows → All Q (filter stays rows)
 left_have {A = A} P Q stays gives rows all = both (filter stays rows) (filter_passes stays rows) (All-filter stays P rows all)
   where
     both : (left : List A) → All (λ (row : A). stays row ≡ true) left → All P left → All Q left
@@ -119,7 +120,7 @@ module _ (w : Gateway) (settled : IsSettled w) (order : AreInOrder w) (links_apa
       All-weaker (λ (row : Channel). is_not_channel session sid row ≡ false → row ≡ c) (λ (row : Channel). is_not_channel session sid row ≡ false → is_on other row ≡ false)
       (λ row one gone. ap (is_on other) (one gone) ∙ other_name other c.real differ) w.clients.channels one_channel
 
-  beside : IsBesideOthers w fewer c.real
+  beside : IsBesideOthers w fewer (is_name c.real)
   beside = record {
     links = refl;
     minors = λ server. refl;
@@ -137,8 +138,14 @@ module _ (w : Gateway) (settled : IsSettled w) (order : AreInOrder w) (links_apa
 
   -- ---- what the notices on its link leave
 
+  abbrev notices : List LinkNotice
+  notices = link_notices_over fewer (link_of fewer c.real)
+
   abbrev after : Gateway
   after = link_told_on c.real fewer
+
+  spares : SparesWanted fewer notices
+  spares = one_spares fewer w.upstream.counters.cid order.links c.real
 
   clients_same : after.clients ≡ fewer.clients
   clients_same = link_told_clients fewer c.real
@@ -157,8 +164,8 @@ module _ (w : Gateway) (settled : IsSettled w) (order : AreInOrder w) (links_apa
       by None is none = refl
       by (Some row) is none =
           let there = wanted_there read.session read.sid row is in
-          read_on-stays fewer after (values_no_more fewer w.upstream.counters.cid order.links c.real) row
-          (wanted_rights_kept fewer w.upstream.counters.cid order.links c.real row there) (wanted_link_kept fewer w.upstream.counters.cid order.links c.real row.real there) read none
+          read_on-stays fewer after (values_no_more notices fewer) row
+          (wanted_rights_kept fewer notices spares row there) (wanted_link_kept fewer notices spares row.real there) read none
 
   reads_quiet : read_notices after ≡ []
   reads_quiet =
@@ -174,7 +181,7 @@ module _ (w : Gateway) (settled : IsSettled w) (order : AreInOrder w) (links_apa
 
   update_left : (sub : ClientSub) → is_not_sub_on session sid sub ≡ true → update_notice w sub ≡ None → update_notice after sub ≡ None
   update_left sub stays none =
-      update_if_open fewer after sub (open_no_more fewer w.upstream.counters.cid order.links c.real sub.session)
+      update_if_open fewer after sub (open_no_more notices fewer sub.session)
       (λ unsaid. ap (λ (rows : ClientRows). update_on after sub (find (is_channel sub.session sub.sid) rows.channels)) clients_same
       ∙ by (channel_of fewer sub.session sub.sid) refl unsaid)
       (update_between sub stays none)
@@ -183,8 +190,8 @@ module _ (w : Gateway) (settled : IsSettled w) (order : AreInOrder w) (links_apa
       by None is none = refl
       by (Some row) is none =
           let there = wanted_there sub.session sub.sid row is in
-          update_on-stays fewer after (values_no_more fewer w.upstream.counters.cid order.links c.real) row
-          (wanted_rights_kept fewer w.upstream.counters.cid order.links c.real row there) (wanted_link_kept fewer w.upstream.counters.cid order.links c.real row.real there) sub none
+          update_on-stays fewer after (values_no_more notices fewer) row
+          (wanted_rights_kept fewer notices spares row there) (wanted_link_kept fewer notices spares row.real there) sub none
 
   updates_quiet : update_notices after ≡ []
   updates_quiet =

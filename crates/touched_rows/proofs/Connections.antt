@@ -1,5 +1,5 @@
 -- Outboxes that take no more updates than before.
-use Rattle.std.proofs.Common.{◌≡◌, ℕ, List, [], ◌∷◌, Bool, true, false, cond, Some, refl, sym, ap, ◌∙◌}
+use Rattle.std.proofs.Common.{◌≡◌, ℕ, List, [], ◌∷◌, ◌++◌, Bool, true, false, cond, Some, None, refl, sym, ap, ◌∙◌}
 use Rattle.std.specs.List.{find}
 use Rattle.std.proofs.lemmas.Bool.{true≢false}
 use Rattle.rows.specs.Rows.{change_first}
@@ -7,7 +7,7 @@ use Rattle.fanout.specs.declared.outbox.Out.{Out}
 use Rattle.gateway_state.specs.declared.connections.Connection.{Connection}
 use Rattle.gateway_state.specs.declared.event.Dest.{Dest}
 use Rattle.gateway_state.specs.declared.event.Dest.TheVariants.{Session as ToSession}
-use Rattle.gateway_state.specs.Connections.{given, is_to, marked_now, outbox_in, outbox_of}
+use Rattle.gateway_state.specs.Connections.{empty, fresh, given, is_to, marked_now, outbox_in, outbox_of}
 use Rattle.gateway_state.specs.Updates.{takes_updates}
 use Rattle.gateway_state.proofs.SettledUpdates.{box_taking}
 
@@ -48,3 +48,14 @@ no_more_room_given dest out rows number e =
 -- a mark
 pub no_more_room_marked : (dest : Dest) (rows : List Connection) → HasNoMoreRoom rows (change_first (is_to dest) marked_now rows)
 no_more_room_marked dest rows number e = taking_before number dest marked_now (λ row. refl) (λ row here sought taking. absurd (true≢false (sym taking))) rows e
+
+-- a connection that is added, for which nothing waits
+waiting_as_before : (dest new : Dest) (rows : List Connection) → outbox_of dest (rows ++ fresh new ∷ []) ≡ outbox_of dest rows
+waiting_as_before dest new [] = elim (is_to dest (fresh new)) as (λ t. outbox_in (cond t (Some (fresh new)) None) ≡ empty) [ true ↦ refl | false ↦ refl ]
+waiting_as_before dest new (row ∷ rows) =
+    let rest = waiting_as_before dest new rows in
+    elim (is_to dest row) as (λ t. outbox_in (cond t (Some row) (find (is_to dest) (rows ++ fresh new ∷ []))) ≡ outbox_in (cond t (Some row) (find (is_to dest) rows)))
+    [ true ↦ refl | false ↦ rest ]
+
+pub no_more_room_added : (dest : Dest) (rows : List Connection) → HasNoMoreRoom rows (rows ++ fresh dest ∷ [])
+no_more_room_added dest rows number e = ap takes_updates (sym (waiting_as_before (ToSession number) dest rows)) ∙ e

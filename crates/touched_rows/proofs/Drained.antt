@@ -26,7 +26,7 @@ use Rattle.touched_rows.proofs.Nothing.{settled_connections}
 use Rattle.touched_rows.proofs.Passes.{from_updates}
 use Rattle.touched_rows.proofs.TouchedAlone.{touched_alone}
 
-other_session : (dest : Dest) (number other : ℕ) → eqb other number ≡ false → same_dest dest (ToSession number) ≡ true → same_dest dest (ToSession other) ≡ false
+pub other_session : (dest : Dest) (number other : ℕ) → eqb other number ≡ false → same_dest dest (ToSession number) ≡ true → same_dest dest (ToSession other) ≡ false
 other_session (ToSession a) number other differ same =
     elim (eqb a other) as (λ t. eqb a other ≡ t → t ≡ false) [
       | true ↦ λ is. absurd (true≢false (sym (eq-eqb other number (sym (eqb-true a other is) ∙ eqb-true a number same)) ∙ differ))

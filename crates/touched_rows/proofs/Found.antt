@@ -9,7 +9,6 @@ use Rattle.std.proofs.lemmas.List.Elements.{All-weaker}
 use Rattle.std.proofs.lemmas.List.Folds.{find-append}
 use Rattle.rows.specs.Rows.{change_first}
 use Rattle.ca_message.specs.declared.to_server.ToServer.TheVariants as requests
-use Rattle.channel_table.specs.declared.channels.Channel.{Channel}
 use Rattle.link_table.specs.declared.links.Link.{Link}
 use Rattle.link_table.specs.declared.links.LinkState.TheVariants.{Creating}
 use Rattle.link_table.specs.declared.table.TheConstants.{LINK_LIMIT}
@@ -32,7 +31,8 @@ use Rattle.gateway_state.proofs.SettledMeaning.{all_up_to_date}
 use Rattle.gateway_state.proofs.SettledSteps.{settled_stays}
 use Rattle.touched_rows.proofs.Connections.{HasNoMoreRoom, no_more_room_given}
 use Rattle.touched_rows.proofs.LinksQuiet.{links_quiet}
-use Rattle.touched_rows.proofs.UnseenLinks.{interest_unseen, relinked, settled_unseen}
+use Rattle.touched_rows.proofs.Tellings.{less_connections}
+use Rattle.touched_rows.proofs.UnseenRows.{IsUnseen, changed, interest_unseen, settled_unseen}
 
 -- the link of a channel is found before a new one
 found_first : (over other : Option Link) → link_connected over ≡ true → option_or over other ≡ over
@@ -44,24 +44,25 @@ module _ (w : Gateway) (settled : IsSettled w) (new : Link) (state : new.state �
   abbrev links : List Link
   links = w.upstream.links ++ new ∷ []
 
-  unseen : All (λ (c : Channel). find (is_named c.real) links ≡ link_of w c.real) w.clients.channels
+  unseen : All (IsUnseen w w.clients.sessions links) w.clients.channels
   unseen =
-      All-weaker (IsUpToDate w) (λ (c : Channel). find (is_named c.real) links ≡ link_of w c.real)
-      (λ c up. find-append (is_named c.real) w.upstream.links (new ∷ [])
-      ∙ found_first (link_of w c.real) (find (is_named c.real) (new ∷ [])) (and_parts (is_real (lead_in w c.session c.asked) c.real) (link_connected (link_of w c.real)) up.served).1)
+      All-weaker (IsUpToDate w) (IsUnseen w w.clients.sessions links)
+      (λ c up.
+      let connected = (and_parts (is_real (lead_in w c.session c.asked) c.real) (link_connected (link_of w c.real)) up.served).1 in
+      (refl, find-append (is_named c.real) w.upstream.links (new ∷ []) ∙ found_first (link_of w c.real) (find (is_named c.real) (new ∷ [])) connected))
       w.clients.channels (all_up_to_date w settled)
 
   abbrev x : Gateway
-  x = relinked w settled connections room links counters unseen
+  x = changed w settled connections w.clients.sessions links counters unseen
 
   new_quiet : link_notices_of x new ≡ []
   new_quiet = rw (state, wanted) refl
 
   settled_link_added : IsSettled x
   settled_link_added =
-      settled_unseen w settled connections room links counters unseen
+      settled_unseen w settled connections w.clients.sessions links counters unseen (less_connections w connections room).sessions
       (flat_map-append (link_notices_of x) w.upstream.links (new ∷ [])
-      ∙ (λ i. links_quiet w x (interest_unseen w settled connections room links counters unseen) (λ name there. there) settled i ++ (new_quiet i ++ [])))
+      ∙ (λ i. links_quiet w x (interest_unseen w settled connections w.clients.sessions links counters unseen) (λ name there. there) settled i ++ (new_quiet i ++ [])))
 
 settled_linked : (w : Gateway) → IsSettled w → (server : ℕ) (name : List ℕ) → is_wanted w name ≡ true → IsSettled (linked w server name)
 unfolding sent

@@ -41,7 +41,7 @@ same_number number low high one other (row ∷ rows) a b rising is_a is_b number
         absurd (omega arith)
     by false false is_a is_b rest above_a above_b = rest is_a is_b
 
-all_above : {A : Type 0} (number : A → ℕ) (low high : ℕ) (rows : List A) → AreRising number low rows high → All (λ (row : A). low ≤ number row) rows
+pub all_above : {A : Type 0} (number : A → ℕ) (low high : ℕ) (rows : List A) → AreRising number low rows high → All (λ (row : A). low ≤ number row) rows
 all_above {A = A} number low high [] rising = All-nil (λ (row : A). low ≤ number row)
 all_above {A = A} number low high (row ∷ rows) rising =
     All-cons (λ (x : A). low ≤ number x) row rows rising.0

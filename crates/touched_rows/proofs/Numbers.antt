@@ -1,5 +1,5 @@
 -- What is told of one read or subscription takes no number back.
-use Rattle.std.proofs.Common.{◌≡◌, Bool, true, Option, Some, None}
+use Rattle.std.proofs.Common.{◌≡◌, true, Option, Some, None}
 use Rattle.channel_table.specs.declared.reads.WaitingRead.{WaitingRead}
 use Rattle.channel_table.specs.declared.subs.ClientSub.{ClientSub}
 use Rattle.gateway_state.specs.declared.notice.ReadNotice.{ReadNotice}

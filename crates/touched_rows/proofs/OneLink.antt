@@ -55,15 +55,19 @@ over_is : (x : Gateway) (found : Option Link) → planned_over (link_notices_of 
 over_is x None = refl
 over_is x (Some link) = refl
 
--- the readers of the other variables want what they wanted, and those are wanted as before
-pub record IsBesideOthers (w x : Gateway) (name : List ℕ) : Type 0 where
+-- the name is this one
+abbrev pub is_name : List ℕ → List ℕ → Bool
+is_name name other = bytes_eq other name
+
+-- the readers of variables that weren't touched want what they wanted, and those are wanted as before
+pub record IsBesideOthers (w x : Gateway) (touched : List ℕ → Bool) : Type 0 where
   pub links : x.upstream.links ≡ w.upstream.links
   pub minors : (server : ℕ) → minor_of x server ≡ minor_of w server
-  pub interest : (other : List ℕ) (native : ℕ) → bytes_eq other name ≡ false → interest_of x other native ≡ interest_of w other native
-  pub wanted : (other : List ℕ) → bytes_eq other name ≡ false → is_wanted x other ≡ is_wanted w other
+  pub interest : (other : List ℕ) (native : ℕ) → touched other ≡ false → interest_of x other native ≡ interest_of w other native
+  pub wanted : (other : List ℕ) → touched other ≡ false → is_wanted x other ≡ is_wanted w other
 
-module _ (w x : Gateway) (name : List ℕ) (beside : IsBesideOthers w x name) where
-  interest_beside : (link : Link) (state : LinkState) → bytes_eq link.name name ≡ false → interest_notices x link state ≡ interest_notices w link state
+module _ (w x : Gateway) (touched : List ℕ → Bool) (beside : IsBesideOthers w x touched) where
+  interest_beside : (link : Link) (state : LinkState) → touched link.name ≡ false → interest_notices x link state ≡ interest_notices w link state
   interest_beside link Creating other = refl
   interest_beside link Unusable other = refl
   interest_beside link (Connected sid dtype native) other =
@@ -71,22 +75,29 @@ module _ (w x : Gateway) (name : List ℕ) (beside : IsBesideOthers w x name) wh
       let minor = beside.minors link.server in
       λ i. cond (is_for (want i) link.subscription) [] (cancelled link sid dtype link.subscription ++ subscribed (minor i) link sid dtype native (want i))
 
-  link_beside : (link : Link) → bytes_eq link.name name ≡ false → link_notices_of x link ≡ link_notices_of w link
+  link_beside : (link : Link) → touched link.name ≡ false → link_notices_of x link ≡ link_notices_of w link
   link_beside link other =
       let first = interest_beside link link.state other in
       let wanted = beside.wanted link.name other in
       λ i. first i ++ cond (wanted i) [] (Dropped link.server link.cid link.state ∷ [])
 
-  module _ (settled : IsSettled w) (apart : HasLinksApart w) where
-    others_quiet : All (λ (link : Link). is_named name link ≡ false → link_notices_of x link ≡ []) w.upstream.links
-    others_quiet =
-        All-weaker (λ (link : Link). link_notices_of w link ≡ []) (λ (link : Link). is_named name link ≡ false → link_notices_of x link ≡ [])
-        (λ link none other. link_beside link other ∙ none) w.upstream.links (nothing_told (link_notices_of w) w.upstream.links settled.links)
+  -- links of variables that weren't touched have no notice
+  pub others_quiet : IsSettled w → All (λ (link : Link). touched link.name ≡ false → link_notices_of x link ≡ []) w.upstream.links
+  others_quiet settled =
+      All-weaker (λ (link : Link). link_notices_of w link ≡ []) (λ (link : Link). touched link.name ≡ false → link_notices_of x link ≡ [])
+      (λ link none other. link_beside link other ∙ none) w.upstream.links (nothing_told (link_notices_of w) w.upstream.links settled.links)
 
+  pub links_touched : IsSettled w → link_notices x ≡ flat_map (link_notices_of x) (filter (λ (link : Link). touched link.name) x.upstream.links)
+  links_touched settled =
+      touched_alone_flat (link_notices_of x) (λ (link : Link). touched link.name) x.upstream.links
+      (subst (λ (links : List Link). All (λ (link : Link). touched link.name ≡ false → link_notices_of x link ≡ []) links) (sym beside.links) (others_quiet settled))
+
+module _ (w x : Gateway) (name : List ℕ) (beside : IsBesideOthers w x (is_name name)) where
+  module _ (settled : IsSettled w) (apart : HasLinksApart w) where
     one_link : link_notices x ≡ link_notices_over x (link_of x name)
     one_link =
         ap (λ (links : List Link). flat_map (link_notices_of x) links) beside.links
-        ∙ touched_alone_flat (link_notices_of x) (is_named name) w.upstream.links others_quiet
+        ∙ touched_alone_flat (link_notices_of x) (is_named name) w.upstream.links (others_quiet w x (is_name name) beside settled)
         ∙ plan_of_one (link_notices_of x) (is_named name) w.upstream.links (apart name)
         ∙ over_is x (find (is_named name) w.upstream.links)
         ∙ sym (ap (λ (links : List Link). link_notices_over x (find (is_named name) links)) beside.links)

@@ -30,7 +30,7 @@ use Rattle.gateway_state.proofs.SettledSteps.{updates_stay}
 use Rattle.touched_rows.specs.Touched.{interest_told, one_read_told, read_told_if}
 use Rattle.touched_rows.proofs.Blanked.{found_blanked, passing_changed}
 use Rattle.touched_rows.proofs.LessGiven.{GivesNoMore, gives_no_more, gives_the_same, plain}
-use Rattle.touched_rows.proofs.OneLink.{IsBesideOthers, interest_alone, interest_told_clients, less_interest_told}
+use Rattle.touched_rows.proofs.OneLink.{IsBesideOthers, interest_alone, interest_told_clients, is_name, less_interest_told}
 use Rattle.touched_rows.proofs.Passes.{each_read_stays, from_links, no_updates}
 use Rattle.touched_rows.proofs.ReadersOf.{other_name}
 use Rattle.touched_rows.proofs.Tellings.{less_read_told}
@@ -125,7 +125,7 @@ module _ (w : Gateway) (settled : IsSettled w) (links_apart : HasLinksApart w) (
       ap (λ (t : Bool). t || list_any (leads_to w.policy name) w.searches)
       (any_changed (is_on name) (is_channel session sid) (change w session sid reach c.rights) w.clients.channels (λ row. refl))
 
-  beside : IsBesideOthers w x c.real
+  beside : IsBesideOthers w x (is_name c.real)
   beside = record {
     links = refl;
     minors = λ server. refl;

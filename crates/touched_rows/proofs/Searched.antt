@@ -3,6 +3,9 @@ use Rattle.std.proofs.Common.{◌≡◌, ℕ, List, [], ◌∷◌, ◌++◌, Boo
 use Rattle.std.specs.Prelude.{length, nat_le, is_some}
 use Rattle.std.specs.List.{list_any}
 use Rattle.std.proofs.lemmas.List.Folds.{list_any-append}
+use Rattle.link_table.specs.declared.servers.Server.{Server}
+use Rattle.link_table.specs.Servers.{is_server, with_minor}
+use Rattle.rows.specs.Rows.{change_first}
 use Rattle.gateway_state.specs.declared.limits.TheConstants.{SEARCH_LIMIT}
 use Rattle.gateway_state.specs.declared.search.Search.{Search}
 use Rattle.gateway_state.specs.Clients.{remembered}
@@ -59,15 +62,17 @@ nothing_after_search host name w settled = settled_stays (searched host name w) 
 
 -- ---- a server's version
 
-pub settled_versioned : (w : Gateway) (server minor : ℕ) → IsSettled w → IsSettled (server_versioned w server minor)
+-- links don't depend on what servers said of themselves
+pub settled_servers : (servers : List Server) (w : Gateway) → IsSettled w → IsSettled (record w { upstream = record w.upstream { servers = servers } })
 unfolding update_notice
-settled_versioned w server minor settled = record {
+settled_servers servers w settled = record {
   channels = settled.channels;
   held_back = settled.held_back;
-  links = links_quiet w (server_versioned w server minor) (λ name native. refl) (λ name there. there) settled;
+  links = links_quiet w (record w { upstream = record w.upstream { servers = servers } }) (λ name native. refl) (λ name there. there) settled;
   reads = settled.reads;
   updates = settled.updates;
 }
 
 pub nothing_after_server_version : (w : Gateway) (server minor : ℕ) → IsSettled w → consequences (server_versioned w server minor) ≡ server_versioned w server minor
-nothing_after_server_version w server minor settled = settled_stays (server_versioned w server minor) (settled_versioned w server minor settled)
+nothing_after_server_version w server minor settled =
+    settled_stays (server_versioned w server minor) (settled_servers (change_first (is_server server) (with_minor minor) w.upstream.servers) w settled)

@@ -19,7 +19,7 @@ use Rattle.gateway_state.specs.Updates.{is_unreadable, is_withheld, update_notic
 use Rattle.gateway_state.proofs.SettledSteps.{reads_stay}
 use Rattle.touched_rows.specs.Touched.{interest_told, one_update_told, update_told_if}
 use Rattle.touched_rows.proofs.LessGiven.{GivesNoMore, gives_no_more}
-use Rattle.touched_rows.proofs.OneLink.{IsBesideOthers, interest_alone, interest_told_clients, less_interest_told}
+use Rattle.touched_rows.proofs.OneLink.{IsBesideOthers, interest_alone, interest_told_clients, is_name, less_interest_told}
 use Rattle.touched_rows.proofs.Passes.{each_update_stays, from_links, no_reads}
 use Rattle.touched_rows.proofs.ReadersOf.{other_name, passing_pushed}
 use Rattle.touched_rows.proofs.Tellings.{less_beside}
@@ -41,7 +41,7 @@ module _ (w : Gateway) (settled : IsSettled w) (links_apart : HasLinksApart w) (
   elsewhere : (other : List ℕ) → bytes_eq other c.real ≡ false → is_subscriber w other sub ≡ false
   elsewhere other differ = ap (is_read_through w other) on ∙ ap (λ (t : Bool). t && may_read (rights_of w c)) (other_name other c.real differ)
 
-  beside : IsBesideOthers w x c.real
+  beside : IsBesideOthers w x (is_name c.real)
   beside = record {
     links = refl;
     minors = λ server. refl;

@@ -17,20 +17,22 @@ use Rattle.touched_rows.specs.declared.touched.Touched.TheVariants.{Nothing}
 use Rattle.touched_rows.specs.Touches.{event_touches, follows, reply_touches, request_touches}
 use Rattle.touched_rows.proofs.Drained.{nothing_after_server_drain, told_after_drain}
 use Rattle.touched_rows.proofs.Found.{nothing_after_found}
+use Rattle.touched_rows.proofs.Lost.{told_after_losing}
+use Rattle.touched_rows.proofs.Opened.{nothing_after_opening, nothing_after_server_opening}
 use Rattle.touched_rows.proofs.Searched.{nothing_after_search}
 use Rattle.touched_rows.proofs.Tidy.{IsTidy, reached_tidy}
 use Rattle.touched_rows.proofs.ToldClients.{told_request}
 use Rattle.touched_rows.proofs.ToldServers.{told_reply}
 
 told_event : (w : Gateway) (event : Event) → IsTidy w → consequences (direct_effect w event) ≡ follows (event_touches w event) (direct_effect w event)
-told_event w (Opened number host) tidy = refl
-told_event w (Lost number) tidy = refl
+told_event w (Opened number host) tidy = nothing_after_opening w number host tidy.settled
+told_event w (Lost number) tidy = told_after_losing w tidy.settled tidy.order number
 told_event w (Client number message) tidy =
     elim (acts w (ToSession number))
     as (λ t. consequences (cond t (client_said w number message) w)
     ≡ follows (cond t (request_touches w number (request_of message.head message.payload)) Nothing) (cond t (client_said w number message) w))
     [ true ↦ told_request w tidy number message (request_of message.head message.payload) | false ↦ settled_stays w tidy.settled ]
-told_event w (UpOpened number) tidy = refl
+told_event w (UpOpened number) tidy = nothing_after_server_opening w number tidy.settled
 told_event w (UpLost number) tidy = refl
 told_event w (Server number message) tidy =
     elim (acts w (Upstream number))

@@ -30,6 +30,7 @@ use Rattle.touched_rows.specs.Touches.{created_touches, created_touches_over, fo
 use Rattle.touched_rows.specs.Touched.{interest_told}
 use Rattle.touched_rows.proofs.Connecting.{told_after_connecting}
 use Rattle.touched_rows.proofs.Connections.{no_more_room_given}
+use Rattle.touched_rows.proofs.Failed.{nothing_after_refusal, told_after_dropping}
 use Rattle.touched_rows.proofs.Nothing.{nothing_after_failure, nothing_after_reply}
 use Rattle.touched_rows.proofs.Searched.{nothing_after_server_version}
 use Rattle.touched_rows.proofs.Tidy.{IsTidy}
@@ -119,6 +120,6 @@ module _ (w : Gateway) (tidy : IsTidy w) where
   told_reply server (Ok (says.CreateChannel cid sid dtype count)) = told_made server cid sid dtype count
   told_reply server (Ok (says.WriteNotify ioid status)) = settled_stays _ (settled_ended w tidy.settled server ioid status (find (is_write server ioid) w.upstream.writes))
   told_reply server (Ok (says.AccessRights cid rights)) = told_rights server cid rights
-  told_reply server (Ok (says.CreateChannelFail cid)) = refl
-  told_reply server (Ok (says.ServerDisconnect cid)) = refl
+  told_reply server (Ok (says.CreateChannelFail cid)) = nothing_after_refusal w tidy.settled tidy.order tidy.links_apart server cid
+  told_reply server (Ok (says.ServerDisconnect cid)) = told_after_dropping w tidy.settled tidy.order tidy.links_apart server cid
   told_reply server (Err fault) = settled_stays w tidy.settled

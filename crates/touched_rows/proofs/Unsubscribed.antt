@@ -27,7 +27,7 @@ use Rattle.gateway_state.proofs.SettledSteps.{reads_stay, updates_stay}
 use Rattle.touched_rows.specs.Touched.{interest_told}
 use Rattle.touched_rows.proofs.Connections.{HasNoMoreRoom, no_more_room_given}
 use Rattle.touched_rows.proofs.LessGiven.{GivesNoMore, gives_no_more}
-use Rattle.touched_rows.proofs.OneLink.{IsBesideOthers, interest_alone, interest_told_clients, less_interest_told}
+use Rattle.touched_rows.proofs.OneLink.{IsBesideOthers, interest_alone, interest_told_clients, is_name, less_interest_told}
 use Rattle.touched_rows.proofs.Passes.{each_update_stays, from_links, no_reads}
 use Rattle.touched_rows.proofs.ReadersOf.{none_left, not_not, other_name, passing_left}
 use Rattle.touched_rows.proofs.Tellings.{less_beside, less_connections}
@@ -85,7 +85,7 @@ module _ (w : Gateway) (settled : IsSettled w) (links_apart : HasLinksApart w) (
       (λ row one gone. ap (is_subscriber w other) (one (not_not (is_sub session id row) gone)) ∙ elsewhere other differ) w.clients.subs
       (one_of_id session id w.clients.subs sub subs_apart found)
 
-  beside : IsBesideOthers w fewer c.real
+  beside : IsBesideOthers w fewer (is_name c.real)
   beside = record {
     links = refl;
     minors = λ server. refl;

@@ -1,10 +1,11 @@
--- What is told about one link leaves the links of variables that are wanted.
-use Rattle.std.proofs.Common.{◌≡◌, ℕ, List, [], ◌∷◌, Bool, true, false, cond, eqb, Option, Some, None, refl, sym, ap, ◌∙◌}
-use Rattle.std.specs.Prelude.{bit_and, filter, option_map}
-use Rattle.std.specs.List.{All, find, fold, list_all}
+-- What is told about links leaves the links of variables that are wanted.
+use Rattle.std.proofs.Common.{◌≡◌, ℕ, ◌+◌, ◌≤◌, List, [], ◌∷◌, ◌++◌, Bool, true, false, cond, eqb, ◌&&◌, ◌||◌, Option, Some, None, get_or, refl, sym, ap, subst, ◌∙◌, arith}
+use Rattle.std.specs.Prelude.{bit_and, filter, flat_map, option_map}
+use Rattle.std.specs.List.{All, find, fold, list_all, list_any}
 use Rattle.std.proofs.lemmas.Bool.{and_parts, eqb-true, true≢false}
-use Rattle.std.proofs.lemmas.List.Elements.{All-weaker}
-use Rattle.std.proofs.lemmas.List.Sums.{fold-append}
+use Rattle.std.proofs.lemmas.List.Elements.{All-cons, All-filter, All-head, All-nil, All-tail, All-weaker}
+use Rattle.std.proofs.lemmas.List.Folds.{list_any-append}
+use Rattle.std.proofs.lemmas.Slice.Eq.{bytes_eq-Decides}
 use Rattle.ca_message.specs.declared.to_server.ToServer.TheVariants as requests
 use Rattle.channel_table.specs.declared.channels.Channel.{Channel}
 use Rattle.link_table.specs.declared.links.Link.{Link}
@@ -28,33 +29,17 @@ use Rattle.gateway_state.specs.Servers.{without_link}
 use Rattle.gateway_state.specs.Settled.{AreRising, cid_of}
 use Rattle.gateway_state.specs.Telling.{outgoing_upstream, sent}
 use Rattle.gateway_state.specs.Variables.{is_wanted, link_of}
-use Rattle.gateway_state.proofs.SettledLinks.{unwanted}
-use Rattle.touched_rows.specs.Touched.{link_notices_over, link_told_on}
-use Rattle.touched_rows.proofs.LessGiven.{GivesNoMore, bare, is_open}
-use Rattle.touched_rows.proofs.Numbered.{one_of_number}
+use Rattle.touched_rows.specs.Touched.{link_notices_over}
+use Rattle.touched_rows.proofs.LessGiven.{bare, is_open}
+use Rattle.touched_rows.proofs.Numbered.{all_above, one_of_number}
 use Rattle.touched_rows.proofs.ReadersOf.{found_left, not_not}
 use Rattle.touched_rows.proofs.Shapes.{links_told_shape, with_links}
-use Rattle.touched_rows.proofs.Tellings.{interest_keeps, keeps_links, less_links_told, less_sent, less_without_cached, rights_bare}
+use Rattle.touched_rows.proofs.Tellings.{interest_keeps, keeps_links, less_link_told, less_sent, less_without_cached, rights_bare}
 use Rattle.touched_rows.proofs.TouchedAlone.{all_with_changed}
 
--- ---- what holds of links whatever their subscriptions
-
-module _ (P : Link → Type 0) (stays : (sub : Option Subscription) (row : Link) → P row → P (with_subscription sub row)) where
-  link_holds : (w : Gateway) (notice : LinkNotice) → keeps_links notice ≡ true → All P w.upstream.links → All P (link_told w notice).upstream.links
-  unfolding sent
-  link_holds w (Cancelled server cid sid dtype sub) keeps all =
-      all_with_changed P (is_link server cid) (with_subscription None) w.upstream.links all (λ row found holds. stays None row holds)
-  link_holds w (Unread cid) keeps all = all
-  link_holds w (Subscribed server cid sid dtype want asked) keeps all =
-      let sub : Option Subscription = Some (record { id = w.upstream.counters.subscription; mask = want.mask; count = want.count; sent = asked }) in
-      all_with_changed P (is_link server cid) (with_subscription sub) w.upstream.links all (λ row found holds. stays sub row holds)
-  link_holds w (Dropped server cid state) keeps all = absurd (true≢false (sym keeps))
-
-  links_hold : (notices : List LinkNotice) (w : Gateway) → list_all keeps_links notices ≡ true → All P w.upstream.links → All P (fold link_told w notices).upstream.links
-  links_hold [] w keep all = all
-  links_hold (notice ∷ notices) w keep all =
-      let parts = and_parts (keeps_links notice) (list_all keeps_links notices) keep in
-      links_hold notices (link_told w notice) parts.1 (link_holds w notice parts.0 all)
+pub neither : (a b : Bool) → (a || b) ≡ false → (a ≡ false) × (b ≡ false)
+neither true b none = absurd (true≢false none)
+neither false b none = (refl, none)
 
 -- ---- a link that goes
 
@@ -76,80 +61,101 @@ dropped_open server cid (Connected sid dtype count) v number open_to =
     (less_sent (Upstream server) (outgoing_upstream (requests.ClearChannel sid cid)) (without_link server cid v)).sessions number open_to
 dropped_open server cid Unusable v number open_to = open_to
 
--- ---- the notices on one link
+-- ---- no value is had after, and no session takes updates, that wasn't or didn't before
 
-module _ (x : Gateway) (high : ℕ) (order : AreRising cid_of 0 x.upstream.links high) (name : List ℕ) where
-  -- behind what its readers want comes whether it goes
-  module _ (link : Link) (is : link_of x name ≡ Some link) where
-    abbrev first : Gateway
-    first = fold link_told x (interest_notices x link link.state)
+value_after : (v : Gateway) (notice : LinkNotice) (cid native dtype count : ℕ) → cached_value v cid native dtype count ≡ None → cached_value (link_told v notice) cid native dtype count ≡ None
+value_after v (Cancelled server of sid as_type sub) cid native dtype count none = (less_link_told v (Cancelled server of sid as_type sub) refl).values cid native dtype count none
+value_after v (Unread of) cid native dtype count none = (less_link_told v (Unread of) refl).values cid native dtype count none
+value_after v (Subscribed server of sid as_type want asked) cid native dtype count none =
+    (less_link_told v (Subscribed server of sid as_type want asked) refl).values cid native dtype count none
+value_after v (Dropped server of state) cid native dtype count none =
+    ap (λ (rows : List LastMessage). cached_as native dtype count (find (is_cached_of cid) rows)) (dropped_cache server of state v)
+    ∙ (less_without_cached of v).values cid native dtype count none
 
-    less : GivesNoMore x first
-    less = less_links_told (interest_notices x link link.state) x (interest_keeps x link link.state)
+open_after : (v : Gateway) (notice : LinkNotice) (number : ℕ) → is_open (link_told v notice) number ≡ true → is_open v number ≡ true
+open_after v (Cancelled server cid sid dtype sub) number open_to = (less_link_told v (Cancelled server cid sid dtype sub) refl).sessions number open_to
+open_after v (Unread cid) number open_to = (less_link_told v (Unread cid) refl).sessions number open_to
+open_after v (Subscribed server cid sid dtype want asked) number open_to = (less_link_told v (Subscribed server cid sid dtype want asked) refl).sessions number open_to
+open_after v (Dropped server cid state) number open_to = dropped_open server cid state v number open_to
 
-    abbrev last : Bool → Gateway
-    last wanted = fold link_told first (cond wanted [] (Dropped link.server link.cid link.state ∷ []))
+pub values_no_more : (notices : List LinkNotice) (v : Gateway) (cid native dtype count : ℕ) → cached_value v cid native dtype count ≡ None
+    → cached_value (fold link_told v notices) cid native dtype count ≡ None
+values_no_more [] v cid native dtype count none = none
+values_no_more (notice ∷ notices) v cid native dtype count none = values_no_more notices (link_told v notice) cid native dtype count (value_after v notice cid native dtype count none)
 
-    in_turn : fold link_told x (link_notices_of x link) ≡ last (is_wanted x link.name)
-    in_turn = fold-append link_told x (interest_notices x link link.state) (cond (is_wanted x link.name) [] (Dropped link.server link.cid link.state ∷ []))
+pub open_no_more : (notices : List LinkNotice) (v : Gateway) (number : ℕ) → is_open (fold link_told v notices) number ≡ true → is_open v number ≡ true
+open_no_more [] v number open_to = open_to
+open_no_more (notice ∷ notices) v number open_to = open_after v notice number (open_no_more notices (link_told v notice) number open_to)
 
-    -- no link of another name goes
-    abbrev IsOther : List ℕ → Link → Type 0
-    IsOther other row = is_not_link link.server link.cid row ≡ false → is_named other row ≡ false
+-- ---- links that no notice drops
 
-    others_first : (other : List ℕ) → is_named other link ≡ false → All (IsOther other) first.upstream.links
-    others_first other unnamed =
-        links_hold (IsOther other) (λ sub row holds. holds) (interest_notices x link link.state) x (interest_keeps x link link.state)
-        (All-weaker (λ (row : Link). cid_of row ≡ cid_of link → row ≡ link) (IsOther other)
-        (λ row one gone.
-        let parts = and_parts (eqb row.server link.server) (eqb row.cid link.cid) (not_not (is_link link.server link.cid row) gone) in
-        ap (is_named other) (one (eqb-true row.cid link.cid parts.1)) ∙ unnamed)
-        x.upstream.links (one_of_number cid_of 0 high (is_named name) x.upstream.links link order is))
+-- the notice drops the link of these numbers
+abbrev pub drops : ℕ → ℕ → LinkNotice → Bool
+drops server cid (Cancelled of_server of_cid sid dtype sub) = false
+drops server cid (Unread of_cid) = false
+drops server cid (Subscribed of_server of_cid sid dtype want asked) = false
+drops server cid (Dropped of_server of_cid state) = eqb server of_server && eqb cid of_cid
 
-    link_left : (other : List ℕ) (wanted : Bool) → is_wanted x link.name ≡ wanted → is_wanted x other ≡ true → option_map bare (link_of (last wanted) other) ≡ option_map bare (link_of x other)
-    link_left other true is_wanted_so there = less.links other
-    link_left other false is_wanted_so there =
-        ap (λ (links : List Link). option_map bare (find (is_named other) links)) (dropped_links link.server link.cid link.state first)
-        ∙ ap (option_map bare)
-        (found_left (is_named other) (is_not_link link.server link.cid) first.upstream.links (others_first other (unwanted x link other is_wanted_so there)))
-        ∙ less.links other
+-- where the link is the variable's, no notice drops it
+abbrev pub IsSpared : List ℕ → List LinkNotice → Link → Type 0
+IsSpared name notices row = is_named name row ≡ true → list_any (drops row.server row.cid) notices ≡ false
 
-    values_left : (wanted : Bool) (cid native dtype count : ℕ) → cached_value x cid native dtype count ≡ None → cached_value (last wanted) cid native dtype count ≡ None
-    values_left true cid native dtype count none = less.values cid native dtype count none
-    values_left false cid native dtype count none =
-        ap (λ (rows : List LastMessage). cached_as native dtype count (find (is_cached_of cid) rows)) (dropped_cache link.server link.cid link.state first)
-        ∙ (less_without_cached link.cid first).values cid native dtype count (less.values cid native dtype count none)
+module _ (name : List ℕ) (notices : List LinkNotice) where
+  later : (notice : LinkNotice) (rows : List Link) → All (IsSpared name (notice ∷ notices)) rows → All (IsSpared name notices) rows
+  later notice rows all =
+      All-weaker (IsSpared name (notice ∷ notices)) (IsSpared name notices)
+      (λ row spared named. (neither (drops row.server row.cid notice) (list_any (drops row.server row.cid) notices) (spared named)).1) rows all
 
-    open_left : (wanted : Bool) (number : ℕ) → is_open (last wanted) number ≡ true → is_open x number ≡ true
-    open_left true number open_to = less.sessions number open_to
-    open_left false number open_to = less.sessions number (dropped_open link.server link.cid link.state first number open_to)
+  spared_after : (v : Gateway) (notice : LinkNotice) → All (IsSpared name (notice ∷ notices)) v.upstream.links → All (IsSpared name notices) (link_told v notice).upstream.links
+  unfolding sent
+  spared_after v (Cancelled server cid sid dtype sub) all =
+      all_with_changed (IsSpared name notices) (is_link server cid) (with_subscription None) v.upstream.links
+      (later (Cancelled server cid sid dtype sub) v.upstream.links all) (λ row found holds. holds)
+  spared_after v (Unread cid) all = later (Unread cid) v.upstream.links all
+  spared_after v (Subscribed server cid sid dtype want asked) all =
+      let sub : Option Subscription = Some (record { id = v.upstream.counters.subscription; mask = want.mask; count = want.count; sent = asked }) in
+      all_with_changed (IsSpared name notices) (is_link server cid) (with_subscription sub) v.upstream.links
+      (later (Subscribed server cid sid dtype want asked) v.upstream.links all) (λ row found holds. holds)
+  spared_after v (Dropped server cid state) all =
+      subst (All (IsSpared name notices)) (sym (dropped_links server cid state v))
+      (All-filter (is_not_link server cid) (IsSpared name notices) v.upstream.links (later (Dropped server cid state) v.upstream.links all))
 
+  unnamed : (server cid : ℕ) (state : LinkState) (row : Link) → IsSpared name (Dropped server cid state ∷ notices) row → is_not_link server cid row ≡ false → is_named name row ≡ false
+  unnamed server cid state row spared gone = by (is_named name row) refl
+    where
+      by : (named : Bool) → is_named name row ≡ named → named ≡ false
+      by true named =
+          absurd (true≢false (sym (not_not (is_link server cid row) gone) ∙ (neither (is_link server cid row) (list_any (drops row.server row.cid) notices) (spared named)).0))
+      by false named = refl
+
+  link_after : (v : Gateway) (notice : LinkNotice) → All (IsSpared name (notice ∷ notices)) v.upstream.links
+      → option_map bare (link_of (link_told v notice) name) ≡ option_map bare (link_of v name)
+  link_after v (Cancelled server cid sid dtype sub) all = (less_link_told v (Cancelled server cid sid dtype sub) refl).links name
+  link_after v (Unread cid) all = (less_link_told v (Unread cid) refl).links name
+  link_after v (Subscribed server cid sid dtype want asked) all = (less_link_told v (Subscribed server cid sid dtype want asked) refl).links name
+  link_after v (Dropped server cid state) all =
+      ap (λ (links : List Link). option_map bare (find (is_named name) links)) (dropped_links server cid state v)
+      ∙ ap (option_map bare)
+      (found_left (is_named name) (is_not_link server cid) v.upstream.links
+      (All-weaker (IsSpared name (Dropped server cid state ∷ notices)) (λ (row : Link). is_not_link server cid row ≡ false → is_named name row ≡ false)
+      (unnamed server cid state) v.upstream.links all))
+
+spared_link_kept : (name : List ℕ) (notices : List LinkNotice) (v : Gateway) → All (IsSpared name notices) v.upstream.links
+    → option_map bare (link_of (fold link_told v notices) name) ≡ option_map bare (link_of v name)
+spared_link_kept name [] v all = refl
+spared_link_kept name (notice ∷ notices) v all =
+    spared_link_kept name notices (link_told v notice) (spared_after name notices v notice all) ∙ link_after name notices v notice all
+
+-- the links of wanted variables are spared
+abbrev pub SparesWanted : Gateway → List LinkNotice → Type 0
+SparesWanted x notices = (name : List ℕ) → is_wanted x name ≡ true → All (IsSpared name notices) x.upstream.links
+
+module _ (x : Gateway) (notices : List LinkNotice) (spares : SparesWanted x notices) where
   abbrev after : Gateway
-  after = link_told_on name x
+  after = fold link_told x notices
 
-  pub wanted_link_kept : (other : List ℕ) → is_wanted x other ≡ true → option_map bare (link_of after other) ≡ option_map bare (link_of x other)
-  wanted_link_kept other there = by (link_of x name) refl
-    where
-      by : (found : Option Link) → link_of x name ≡ found → option_map bare (link_of (fold link_told x (link_notices_over x found)) other) ≡ option_map bare (link_of x other)
-      by None is = refl
-      by (Some link) is =
-          ap (λ (v : Gateway). option_map bare (link_of v other)) (in_turn link is) ∙ link_left link is other (is_wanted x link.name) refl there
-
-  pub values_no_more : (cid native dtype count : ℕ) → cached_value x cid native dtype count ≡ None → cached_value after cid native dtype count ≡ None
-  values_no_more cid native dtype count none = by (link_of x name) refl
-    where
-      by : (found : Option Link) → link_of x name ≡ found → cached_value (fold link_told x (link_notices_over x found)) cid native dtype count ≡ None
-      by None is = none
-      by (Some link) is =
-          ap (λ (v : Gateway). cached_value v cid native dtype count) (in_turn link is) ∙ values_left link is (is_wanted x link.name) cid native dtype count none
-
-  pub open_no_more : (number : ℕ) → is_open after number ≡ true → is_open x number ≡ true
-  open_no_more number open_to = by (link_of x name) refl open_to
-    where
-      by : (found : Option Link) → link_of x name ≡ found → is_open (fold link_told x (link_notices_over x found)) number ≡ true → is_open x number ≡ true
-      by None is open_to = open_to
-      by (Some link) is open_to =
-          open_left link is (is_wanted x link.name) number (sym (ap (λ (v : Gateway). is_open v number) (in_turn link is)) ∙ open_to)
+  pub wanted_link_kept : (name : List ℕ) → is_wanted x name ≡ true → option_map bare (link_of after name) ≡ option_map bare (link_of x name)
+  wanted_link_kept name wanted = spared_link_kept name notices x (spares name wanted)
 
   rights_over : (connections : List Connection) (cache : List LastMessage) (upstream : LinkRows) (c : Channel)
       → option_map bare (find (is_named c.real) upstream.links) ≡ option_map bare (link_of x c.real) → rights_of (with_links x connections cache upstream) c ≡ rights_of x c
@@ -158,6 +164,85 @@ module _ (x : Gateway) (high : ℕ) (order : AreRising cid_of 0 x.upstream.links
       (rights_bare (find (is_named c.real) upstream.links) ∙ ap link_rights same ∙ sym (rights_bare (link_of x c.real)))
 
   pub wanted_rights_kept : (c : Channel) → is_wanted x c.real ≡ true → rights_of after c ≡ rights_of x c
-  wanted_rights_kept c there =
-      let shape = links_told_shape (link_notices_over x (link_of x name)) x in
-      ap (λ (v : Gateway). rights_of v c) shape ∙ rights_over after.connections after.cache after.upstream c (wanted_link_kept c.real there)
+  wanted_rights_kept c wanted =
+      ap (λ (v : Gateway). rights_of v c) (links_told_shape notices x) ∙ rights_over after.connections after.cache after.upstream c (wanted_link_kept c.real wanted)
+
+-- ---- the notices on links drop none that is wanted
+
+kept_spares : (server cid : ℕ) (notices : List LinkNotice) → list_all keeps_links notices ≡ true → list_any (drops server cid) notices ≡ false
+kept_spares server cid [] keep = refl
+kept_spares server cid (Cancelled of_server of_cid sid dtype sub ∷ notices) keep = kept_spares server cid notices keep
+kept_spares server cid (Unread of_cid ∷ notices) keep = kept_spares server cid notices keep
+kept_spares server cid (Subscribed of_server of_cid sid dtype want asked ∷ notices) keep = kept_spares server cid notices keep
+kept_spares server cid (Dropped of_server of_cid state ∷ notices) keep = absurd (true≢false (sym keep))
+
+-- no other row has the numbers of this link
+abbrev IsAlone : List Link → Link → Type 0
+IsAlone rows link = All (λ (row : Link). is_link link.server link.cid row ≡ true → row ≡ link) rows
+
+module _ (x : Gateway) where
+  spared_by : (link row : Link) → (is_link link.server link.cid row ≡ true → row ≡ link) → is_wanted x row.name ≡ true → list_any (drops row.server row.cid) (link_notices_of x link) ≡ false
+  spared_by link row one wanted =
+      list_any-append (drops row.server row.cid) (interest_notices x link link.state) (cond (is_wanted x link.name) [] (Dropped link.server link.cid link.state ∷ []))
+      ∙ rw (kept_spares row.server row.cid (interest_notices x link link.state) (interest_keeps x link link.state)) (by (is_wanted x link.name) (is_link link.server link.cid row) refl refl)
+    where
+      by : (is_so here : Bool) → is_wanted x link.name ≡ is_so → is_link link.server link.cid row ≡ here
+          → list_any (drops row.server row.cid) (cond is_so [] (Dropped link.server link.cid link.state ∷ [])) ≡ false
+      by true here e is = refl
+      by false true e is = absurd (true≢false (sym wanted ∙ ap (λ (l : Link). is_wanted x l.name) (one is) ∙ e))
+      by false false e is = rw is refl
+
+  spared_each : (name : List ℕ) → is_wanted x name ≡ true → (link : Link) (rows : List Link) → IsAlone rows link → All (IsSpared name (link_notices_of x link)) rows
+  spared_each name wanted link rows alone =
+      All-weaker (λ (row : Link). is_link link.server link.cid row ≡ true → row ≡ link) (IsSpared name (link_notices_of x link))
+      (λ row one named. spared_by link row one (ap (is_wanted x) ((bytes_eq-Decides row.name name).0 named) ∙ wanted)) rows alone
+
+  both_spared : (name : List ℕ) (first more : List LinkNotice) (rows : List Link) → All (IsSpared name first) rows → All (IsSpared name more) rows → All (IsSpared name (first ++ more)) rows
+  both_spared name first more rows here rest k d within named =
+      let row : Link = get_or rows k d in
+      list_any-append (drops row.server row.cid) first more ∙ rw (here k d within named, rest k d within named) refl
+
+  spared_all : (name : List ℕ) → is_wanted x name ≡ true → (links rows : List Link) → All (IsAlone rows) links → All (IsSpared name (flat_map (link_notices_of x) links)) rows
+  spared_all name wanted [] rows alone = λ k d within. λ named. refl
+  spared_all name wanted (link ∷ links) rows alone =
+      both_spared name (link_notices_of x link) (flat_map (link_notices_of x) links) rows
+      (spared_each name wanted link rows (All-head (IsAlone rows) link links alone)) (spared_all name wanted links rows (All-tail (IsAlone rows) link links alone))
+
+-- those on one variable's link
+pub one_spares : (x : Gateway) (high : ℕ) → AreRising cid_of 0 x.upstream.links high → (name : List ℕ) → SparesWanted x (link_notices_over x (link_of x name))
+one_spares x high order name other wanted = by (link_of x name) refl
+  where
+    by : (found : Option Link) → link_of x name ≡ found → All (IsSpared other (link_notices_over x found)) x.upstream.links
+    by None is = λ k d within. λ named. refl
+    by (Some link) is =
+        spared_each x other wanted link x.upstream.links
+        (All-weaker (λ (row : Link). cid_of row ≡ cid_of link → row ≡ link) (λ (row : Link). is_link link.server link.cid row ≡ true → row ≡ link)
+        (λ row one same. one (eqb-true row.cid link.cid (and_parts (eqb row.server link.server) (eqb row.cid link.cid) same).1))
+        x.upstream.links (one_of_number cid_of 0 high (is_named name) x.upstream.links link order is))
+
+-- ---- links of rising numbers
+
+each_alone : (low high : ℕ) (rows : List Link) → AreRising cid_of low rows high → All (λ (link : Link). All (λ (row : Link). row.cid ≡ link.cid → row ≡ link) rows) rows
+each_alone low high [] rising = All-nil (λ (link : Link). All (λ (row : Link). row.cid ≡ link.cid → row ≡ link) [])
+each_alone low high (first ∷ rows) rising =
+    All-cons (λ (link : Link). All (λ (row : Link). row.cid ≡ link.cid → row ≡ link) (first ∷ rows)) first rows
+    (All-cons (λ (row : Link). row.cid ≡ first.cid → row ≡ first) first rows (λ _. refl)
+    (All-weaker (λ (row : Link). first.cid + 1 ≤ row.cid) (λ (row : Link). row.cid ≡ first.cid → row ≡ first) (λ row above same. absurd (omega arith)) rows above_first))
+    (λ k d within.
+    let link : Link = get_or rows k d in
+    let above : first.cid + 1 ≤ link.cid = above_first k d within in
+    All-cons (λ (row : Link). row.cid ≡ link.cid → row ≡ link) first rows (λ same. absurd (omega arith)) (each_alone (first.cid + 1) high rows rising.1 k d within))
+  where
+    above_first : All (λ (row : Link). first.cid + 1 ≤ row.cid) rows
+    above_first = all_above cid_of (first.cid + 1) high rows rising.1
+
+-- those on any of the links
+pub some_spare : (x : Gateway) (high : ℕ) → AreRising cid_of 0 x.upstream.links high → (touched : Link → Bool) → SparesWanted x (flat_map (link_notices_of x) (filter touched x.upstream.links))
+some_spare x high order touched name wanted =
+    let rows : List Link = x.upstream.links in
+    spared_all x name wanted (filter touched rows) rows
+    (All-filter touched (IsAlone rows) rows
+    (All-weaker (λ (link : Link). All (λ (row : Link). row.cid ≡ link.cid → row ≡ link) rows) (IsAlone rows)
+    (λ link one. All-weaker (λ (row : Link). row.cid ≡ link.cid → row ≡ link) (λ (row : Link). is_link link.server link.cid row ≡ true → row ≡ link)
+    (λ row same is. same (eqb-true row.cid link.cid (and_parts (eqb row.server link.server) (eqb row.cid link.cid) is).1)) rows one)
+    rows (each_alone 0 high rows order)))

@@ -1,5 +1,5 @@
 -- Nothing follows from a write, nor from its end.
-use Rattle.std.proofs.Common.{◌≡◌, ℕ, List, Bool, true, false, cond, leb, Option, Some, None}
+use Rattle.std.proofs.Common.{ℕ, List, true, false, cond, leb, Option, Some, None}
 use Rattle.ca_header.specs.declared.header.Header.{Header}
 use Rattle.ca_message.specs.declared.codes.TheConstants.{ECA_BADCHID, ECA_PUTFAIL}
 use Rattle.ca_message.specs.declared.commands.TheConstants.{NO_CHANNEL}

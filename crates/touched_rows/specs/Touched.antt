@@ -1,5 +1,5 @@
 -- What is told on one variable, to one session, on one link, read or subscription alone.
-use Rattle.std.specs.Prelude.{ℕ, List, [], filter, filter_map, Option, Some, None}
+use Rattle.std.specs.Prelude.{ℕ, List, [], Bool, filter, filter_map, flat_map, Option, Some, None}
 use Rattle.std.specs.List.{fold}
 use Rattle.channel_table.specs.declared.reads.WaitingRead.{WaitingRead}
 use Rattle.channel_table.specs.declared.subs.ClientSub.{ClientSub}
@@ -12,7 +12,7 @@ use Rattle.gateway_state.specs.Gateway.{Gateway}
 use Rattle.gateway_state.specs.Notices.{interest_notices, link_notices_of, link_told, read_notice, read_told}
 use Rattle.gateway_state.specs.Servers.{waits_for}
 use Rattle.gateway_state.specs.Updates.{is_sub_to, update_notice, update_told}
-use Rattle.gateway_state.specs.Variables.{link_of}
+use Rattle.gateway_state.specs.Variables.{is_among, link_of}
 
 -- LINKS
 
@@ -31,6 +31,16 @@ link_notices_over w (Some link) = link_notices_of w link
 -- the same, and the link goes where nobody wants it
 abbrev pub link_told_on : List ℕ → Gateway → Gateway
 link_told_on name w = fold link_told w (link_notices_over w (link_of w name))
+
+abbrev pub is_link_among : List (List ℕ) → Link → Bool
+is_link_among names link = is_among names link.name
+
+abbrev pub link_notices_among : List (List ℕ) → Gateway → List LinkNotice
+link_notices_among names w = flat_map (link_notices_of w) (filter (is_link_among names) w.upstream.links)
+
+-- the same of the links of several variables, in the order of links
+abbrev pub links_told_among : List (List ℕ) → Gateway → Gateway
+links_told_among names w = fold link_told w (link_notices_among names w)
 
 -- READS that wait
 

@@ -1,5 +1,5 @@
 -- What each event touches.
-use Rattle.std.specs.Prelude.{ℕ, List, ◌==◌, if◌then◌else◌, Option, Some, None, Result, Ok, Err}
+use Rattle.std.specs.Prelude.{ℕ, List, filter, ◌==◌, ◌||◌, if◌then◌else◌, Option, Some, None, Result, Ok, Err}
 use Rattle.std.specs.List.{find}
 use Rattle.ca_message.specs.declared.codes.TheConstants.{ECA_NORMAL}
 use Rattle.ca_message.specs.declared.reply.ReplyFault.{ReplyFault}
@@ -12,7 +12,11 @@ use Rattle.ca_message.specs.ClientRequest.{request_of}
 use Rattle.ca_message.specs.ServerReply.{reply_of}
 use Rattle.channel_table.specs.declared.channels.Channel.{Channel}
 use Rattle.channel_table.specs.declared.reads.WaitingRead.{WaitingRead}
+use Rattle.channel_table.specs.declared.sessions.Session.{Session as SessionRow}
 use Rattle.channel_table.specs.declared.subs.ClientSub.{ClientSub}
+use Rattle.channel_table.specs.Channels.{is_channel_of}
+use Rattle.channel_table.specs.ClientRows.{channel_count}
+use Rattle.channel_table.specs.Sessions.{is_numbered}
 use Rattle.link_table.specs.declared.links.Link.{Link}
 use Rattle.link_table.specs.declared.links.LinkState.{LinkState}
 use Rattle.link_table.specs.declared.links.LinkState.TheVariants.{Creating, Connected, Unusable}
@@ -33,10 +37,10 @@ use Rattle.gateway_state.specs.Rights.{channel_of}
 use Rattle.gateway_state.specs.Servers.{is_value}
 use Rattle.gateway_state.specs.Step.{consequences}
 use Rattle.gateway_state.specs.Subscribing.{is_on_sid, new_sub, sub_of, sub_verdict}
-use Rattle.gateway_state.specs.Variables.{is_creating}
+use Rattle.gateway_state.specs.Variables.{channel_names, is_connected, is_creating}
 use Rattle.touched_rows.specs.declared.touched.Touched.{Touched}
-use Rattle.touched_rows.specs.declared.touched.Touched.TheVariants.{All, Nothing, Session, Value, Interest, Link as LinkOf, Read, Subscription as SubscriptionTo}
-use Rattle.touched_rows.specs.Touched.{interest_told, link_told_on, one_read_told, one_update_told, reads_told_on, updates_told_on, updates_told_to}
+use Rattle.touched_rows.specs.declared.touched.Touched.TheVariants.{All, Nothing, Session, Value, Interest, Link as LinkOf, Links, Read, Subscription as SubscriptionTo}
+use Rattle.touched_rows.specs.Touched.{interest_told, link_told_on, links_told_among, one_read_told, one_update_told, reads_told_on, updates_told_on, updates_told_to}
 
 -- what follows where no more than this was touched
 abbrev pub follows : Touched → Gateway → Gateway
@@ -46,6 +50,7 @@ follows (Session number) w = updates_told_to number w
 follows (Value name) w = updates_told_on name (reads_told_on name w)
 follows (Interest name) w = interest_told name w
 follows (LinkOf name) w = link_told_on name w
+follows (Links names) w = links_told_among names w
 follows (Read name read) w = one_read_told read (interest_told name w)
 follows (SubscriptionTo name sub) w = one_update_told sub (interest_told name w)
 
@@ -99,6 +104,14 @@ clear_touches_by (Some c) = LinkOf c.real
 abbrev pub clear_touches : Gateway → ℕ → ℕ → Touched
 clear_touches w number sid = clear_touches_by (channel_of w number sid)
 
+abbrev pub host_touches_over : ℕ → Option SessionRow → Touched
+host_touches_over channels None = Nothing
+host_touches_over channels (Some row) = if row.host_fixed || channels == 0 then Nothing else All
+
+-- another host, from which the names of a session's channels may lead elsewhere. One that is fixed stays
+abbrev pub host_touches : Gateway → ℕ → Touched
+host_touches w number = host_touches_over (channel_count number w.clients) (find (is_numbered number) w.clients.sessions)
+
 abbrev pub request_touches : Gateway → ℕ → Result ClientRequest RequestFault → Touched
 request_touches w number (Ok (requests.Version minor)) = Nothing
 request_touches w number (Ok (requests.EventAdd sid id dtype count mask)) = sub_touches w (new_sub number sid id dtype count mask)
@@ -111,7 +124,7 @@ request_touches w number (Ok (requests.ReadNotify sid ioid dtype count)) = read_
 request_touches w number (Ok (requests.CreateChannel cid minor name)) = Nothing
 request_touches w number (Ok (requests.WriteNotify sid ioid dtype count value)) = Nothing
 request_touches w number (Ok (requests.ClientName name)) = Nothing
-request_touches w number (Ok (requests.HostName host)) = All
+request_touches w number (Ok (requests.HostName host)) = host_touches w number
 request_touches w number (Ok requests.Echo) = Nothing
 request_touches w number (Err fault) = Nothing
 
@@ -150,14 +163,22 @@ rights_touches_over (Some link) = if is_creating link.state then Interest link.n
 abbrev pub rights_touches : Gateway → ℕ → ℕ → Touched
 rights_touches w server cid = rights_touches_over (find (is_link server cid) w.upstream.links)
 
+abbrev pub gone_touches_over : Option Link → Touched
+gone_touches_over None = Nothing
+gone_touches_over (Some link) = if is_connected link.state then All else Nothing
+
+-- a channel that a server drops concerns all who use it, where it was connected
+abbrev pub gone_touches : Gateway → ℕ → ℕ → Touched
+gone_touches w server cid = gone_touches_over (find (is_link server cid) w.upstream.links)
+
 abbrev pub reply_touches : Gateway → ℕ → Result ServerReply ReplyFault → Touched
 reply_touches w server (Ok (says.Version minor)) = Nothing
 reply_touches w server (Ok (says.EventAdd id status dtype count value)) = update_touches w server id status dtype count value
 reply_touches w server (Ok (says.CreateChannel cid sid dtype count)) = created_touches w server cid
 reply_touches w server (Ok (says.WriteNotify ioid status)) = Nothing
 reply_touches w server (Ok (says.AccessRights cid rights)) = rights_touches w server cid
-reply_touches w server (Ok (says.CreateChannelFail cid)) = All
-reply_touches w server (Ok (says.ServerDisconnect cid)) = All
+reply_touches w server (Ok (says.CreateChannelFail cid)) = Nothing
+reply_touches w server (Ok (says.ServerDisconnect cid)) = gone_touches w server cid
 reply_touches w server (Err fault) = Nothing
 
 -- EVENTS
@@ -166,12 +187,16 @@ abbrev pub drain_touches : Dest → Touched
 drain_touches (dests.Session number) = Session number
 drain_touches (dests.Upstream number) = Nothing
 
+-- the variables of a session's channels, in the order of adding
+abbrev pub names_of : Gateway → ℕ → List (List ℕ)
+names_of w number = channel_names (filter (is_channel_of number) w.clients.channels)
+
 abbrev pub event_touches : Gateway → Event → Touched
-event_touches w (events.Opened number host) = All
-event_touches w (events.Lost number) = All
+event_touches w (events.Opened number host) = Nothing
+event_touches w (events.Lost number) = Links (names_of w number)
 event_touches w (events.Client number message) =
     if acts w (dests.Session number) then request_touches w number (request_of message.head message.payload) else Nothing
-event_touches w (events.UpOpened number) = All
+event_touches w (events.UpOpened number) = Nothing
 event_touches w (events.UpLost number) = All
 event_touches w (events.Server number message) =
     if acts w (dests.Upstream number) then reply_touches w number (reply_of message.head message.payload) else Nothing

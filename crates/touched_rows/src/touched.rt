@@ -1,4 +1,5 @@
 //! What an event touches.
+use crate::names::Names;
 use channel_table::{ClientSub, WaitingRead};
 use pv_name::Name;
 
@@ -17,6 +18,8 @@ pub enum Touched {
     Interest(Name),
     /// The same, or that the variable isn't wanted any more.
     Link(Name),
+    /// The same of each of these variables, in the order of their links.
+    Links(Names),
     /// What the readers of this variable want together, and then the answer to this read.
     Read(Name, WaitingRead),
     /// What the readers of this variable want together, and then an update to this subscription.

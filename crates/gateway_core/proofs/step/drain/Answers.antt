@@ -1,9 +1,11 @@
-use Rattle.std.proofs.Common.{◌≡◌, sym, ap, ◌∙◌}
+use Rattle.std.proofs.Common.{sym, ap, subst, ◌∙◌}
 use Rattle.std.proofs.lemmas.Result.{err_from_is_err_and}
-use Rattle.gateway_state.specs.Gateway.{Gateway}
+use Rattle.gateway_state.specs.declared.event.Event.TheVariants.{Drain}
 use Rattle.gateway_state.specs.Numbers.{is_past_numbers}
+use Rattle.gateway_state.specs.Settled.{AreInOrder}
+use Rattle.gateway_state.proofs.OrderKept.{order_after_effect}
 use Rattle.touched_rows.specs.Touches.{follows}
-use Rattle.gateway_core.proofs.DrainSteps.{drain_alone}
+use Rattle.touched_rows.proofs.ToldAlone.{step_alone}
 use Rattle.gateway_core.proofs.step.drain.Goals as goal
 
 -- what was refused is what follows from the drain
@@ -13,7 +15,7 @@ returns-in_err-follow-clause-used_up c = λ e.
     let returned = refused.1 in
     let converted = refused.2 in
     let was = c.in_err-follow.was in
-    ap is_past_numbers (drain_alone c.args.rows.now c.args.dest c.args.count c.requires.reached)
+    ap is_past_numbers (step_alone c.args.rows.now (Drain c.args.dest c.args.count) c.requires.reached)
     ∙ (λ i. is_past_numbers (follows (sym c.drain_touches.ensures i) (sym c.in_ok-outs.ensures.ok i)))
     ∙ c.follow.ensures.used_up cc
 
@@ -21,4 +23,9 @@ pub returns-clause-ok : goal.returns-clause-ok
 returns-clause-ok c =
     c.in_ok-follow.ensures.ok
     ∙ (λ i. follows (c.drain_touches.ensures i) (c.in_ok-outs.ensures.ok i))
-    ∙ sym (drain_alone c.args.rows.now c.args.dest c.args.count c.requires.reached)
+    ∙ sym (step_alone c.args.rows.now (Drain c.args.dest c.args.count) c.requires.reached)
+
+-- numbers are in order after a drain
+pub follow-requires : goal.follow-requires
+follow-requires c =
+    record { order = subst AreInOrder (sym c.in_ok-outs.ensures.ok) (order_after_effect c.args.rows.now (Drain c.args.dest c.args.count) c.requires.reached) }

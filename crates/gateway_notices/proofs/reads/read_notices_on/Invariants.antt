@@ -1,12 +1,10 @@
 use Rattle.std.proofs.Common.{◌≡◌, ◌++◌, drop}
-use Rattle.std.specs.Prelude.{filter}
 use Rattle.std.specs.List.{filter_map}
 use Rattle.gateway_state.specs.Notices.{read_notice}
-use Rattle.gateway_state.specs.Servers.{waits_for}
 use Rattle.touched_rows.specs.Touched.{read_notices_on}
 use Rattle.gateway_notices.proofs.reads.read_notices_on.Given as goal
 
 -- the notices so far and those on the reads that are left are all
 abbrev pub invariant-loop-read : goal.invariant-loop-read
 invariant-loop-read l =
-    l.notices.items ++ filter_map (read_notice l.rows) (filter (waits_for l.rows l.name) (drop l.read-index l.read-items)) ≡ read_notices_on l.name l.rows
+    l.notices.items ++ filter_map (read_notice l.rows) (drop l.read-index l.read-items) ≡ read_notices_on l.name l.rows

@@ -4,4 +4,4 @@ use Rattle.gateway_state.proofs.search.names.Given as goal
 
 -- the names so far and those that the searches which are left lead to are all
 abbrev pub invariant-loop-row : goal.invariant-loop-row
-invariant-loop-row l = l.names.items ++ search_names l.policy (drop l.row-index l.rows) ≡ search_names l.policy l.rows
+invariant-loop-row l = l.names ++ search_names l.policy (drop l.row-index l.rows) ≡ search_names l.policy l.rows

@@ -1,0 +1,49 @@
+use Rattle.std.proofs.Common.{◌≡◌, true, false, Ok, Err, OnOk, refl, sym, ap, ◌∙◌, arith, true≢false}
+use Rattle.channel_table.specs.Channels.{is_channel}
+use Rattle.channel_table.specs.ClientRows.{has_channel, sub_count}
+use Rattle.channel_table.proofs.Following.{follow_added, follow_same}
+use Rattle.channel_table.proofs.Lists.{found_is_there, unfound_is_absent}
+use Rattle.channel_table.proofs.table.Table.add_sub.Goals.{in-Ok, in-Err}
+use Rattle.channel_table.proofs.table.Table.add_sub.Goals as goal
+
+pub returns-in_default-clause-missing : goal.returns-in_default-clause-missing
+returns-in_default-clause-missing c =
+    let gone : has_channel c.args.sub.session c.args.sub.sid c.args.self.now ≡ false = ap (has_channel c.args.sub.session c.args.sub.sid) (sym c.self.view_is) ∙ unfound_is_absent (is_channel c.args.sub.session c.args.sub.sid) c.self.inside.channels (sym c.in_default.ensures) in
+    (λ _. gone, λ _. refl)
+
+pub returns-in_default-clause-full : goal.returns-in_default-clause-full
+returns-in_default-clause-full c =
+    let gone : has_channel c.args.sub.session c.args.sub.sid c.args.self.now ≡ false = ap (has_channel c.args.sub.session c.args.sub.sid) (sym c.self.view_is) ∙ unfound_is_absent (is_channel c.args.sub.session c.args.sub.sid) c.self.inside.channels (sym c.in_default.ensures) in
+    (λ e. cc, λ h. absurd (true≢false (sym h.0 ∙ gone)))
+
+pub returns-then-count_of-ge-SUB_LIMIT-clause-missing : goal.returns-then-count_of-ge-SUB_LIMIT-clause-missing
+returns-then-count_of-ge-SUB_LIMIT-clause-missing c =
+    let there : has_channel c.args.sub.session c.args.sub.sid c.args.self.now ≡ true = ap (has_channel c.args.sub.session c.args.sub.sid) (sym c.self.view_is) ∙ found_is_there (is_channel c.args.sub.session c.args.sub.sid) c.self.inside.channels c.in-Some.channel.now (sym c.in-Some.ensures) in
+    (λ e. cc, λ h. absurd (true≢false (sym there ∙ h)))
+
+pub returns-then-count_of-ge-SUB_LIMIT-clause-full : goal.returns-then-count_of-ge-SUB_LIMIT-clause-full
+returns-then-count_of-ge-SUB_LIMIT-clause-full c =
+    let there : has_channel c.args.sub.session c.args.sub.sid c.args.self.now ≡ true = ap (has_channel c.args.sub.session c.args.sub.sid) (sym c.self.view_is) ∙ found_is_there (is_channel c.args.sub.session c.args.sub.sid) c.self.inside.channels c.in-Some.channel.now (sym c.in-Some.ensures) in
+    let count = c.count_of.ensures ∙ ap (sub_count c.args.sub.session) c.self.view_is in
+    (λ e. (there, omega arith), λ h. refl)
+
+-- listed under the real name of its channel
+pub invariant_of-self : goal.invariant_of-self
+invariant_of-self c =
+    elim c.match-add.branch [
+      | in-Ok w ↦ follow_added _ _ _ c.args.sub c.in-Some.channel.now (sym c.in-Some.ensures) w.in-Ok.ensures.ok_rows w.in-Ok.ensures.ok_on c.self.invariant
+      | in-Err w ↦ follow_same _ _ _ w.in-Err.ensures.err_rows w.in-Err.ensures.err_on c.self.invariant
+    ]
+
+pub returns-clause-there : goal.returns-clause-there
+returns-clause-there c =
+    let there : has_channel c.args.sub.session c.args.sub.sid c.args.self.now ≡ true = ap (has_channel c.args.sub.session c.args.sub.sid) (sym c.self.view_is) ∙ found_is_there (is_channel c.args.sub.session c.args.sub.sid) c.self.inside.channels c.in-Some.channel.now (sym c.in-Some.ensures) in
+    elim c.match-add.result as (λ r. OnOk r (has_channel c.args.sub.session c.args.sub.sid c.args.self.now ≡ true)) [ Ok _ ↦ there | Err _ ↦ tt ]
+
+pub returns-clause-missing : goal.returns-clause-missing
+returns-clause-missing c =
+    let there : has_channel c.args.sub.session c.args.sub.sid c.args.self.now ≡ true = ap (has_channel c.args.sub.session c.args.sub.sid) (sym c.self.view_is) ∙ found_is_there (is_channel c.args.sub.session c.args.sub.sid) c.self.inside.channels c.in-Some.channel.now (sym c.in-Some.ensures) in
+    elim c.match-add.branch [
+      | in-Ok w ↦ (λ e. cc (e, w.result-is), λ h. absurd (true≢false (sym there ∙ h)))
+      | in-Err w ↦ (λ e. cc (e, w.result-is), λ h. absurd (true≢false (sym there ∙ h)))
+    ]

@@ -1,0 +1,20 @@
+use Rattle.std.proofs.Common.{sym, ap, ◌∙◌}
+use Rattle.std.specs.List.{filter, list_any}
+use Rattle.channel_table.specs.Channels.{is_channel_of, is_not_channel_of}
+use Rattle.channel_table.specs.Subs.{is_sub_of, is_not_sub_of}
+use Rattle.channel_table.specs.Reads.{is_not_read_of}
+use Rattle.channel_table.specs.Sessions.{is_not_numbered}
+use Rattle.channel_table.specs.ClientRows.{ClientRows}
+use Rattle.channel_table.proofs.Following.{none_without}
+use Rattle.channel_table.proofs.Lists.{none_dropped}
+use Rattle.channel_table.proofs.table.Table.remove_bare_session.Goals as goal
+
+-- with no channel there is no subscription
+pub returns : goal.returns
+returns c =
+    let bare = ap (λ (t : ClientRows). list_any (is_channel_of c.args.number) t.channels) c.self.view_is ∙ c.requires.bare in
+    let sessions = c.remove.ensures ∙ ap (λ (t : ClientRows). filter (is_not_numbered c.args.number) t.sessions) c.self.view_is in
+    let channels = sym (none_dropped (is_channel_of c.args.number) c.self.inside.channels bare) ∙ ap (λ (t : ClientRows). filter (is_not_channel_of c.args.number) t.channels) c.self.view_is in
+    let subs = sym (none_dropped (is_sub_of c.args.number) c.self.inside.subs.rows (none_without c.self.inside.channels c.self.inside.subs c.args.number bare c.self.invariant)) ∙ ap (λ (t : ClientRows). filter (is_not_sub_of c.args.number) t.subs) c.self.view_is in
+    let reads = c.remove_of.ensures ∙ ap (λ (t : ClientRows). filter (is_not_read_of c.args.number) t.reads) c.self.view_is in
+    (λ i. record { sessions = sessions i; channels = channels i; subs = subs i; reads = reads i })

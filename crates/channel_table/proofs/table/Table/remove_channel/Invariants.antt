@@ -1,0 +1,13 @@
+use Rattle.std.proofs.Common.{◌≡◌, length}
+use Rattle.std.specs.List.{filter}
+use Rattle.channel_table.specs.Subs.{is_not_sub_on}
+use Rattle.channel_table.proofs.table.Table.remove_channel.Given as goal
+
+-- subscriptions go alone, and none that is on another channel
+abbrev pub invariant-loop : goal.invariant-loop
+invariant-loop l =
+    (l.self ≡ record l.initial.self { subs = l.self.subs })
+    × (filter (is_not_sub_on l.session l.sid) l.self.subs ≡ filter (is_not_sub_on l.session l.sid) l.initial.self.subs)
+
+abbrev pub decreases-loop : goal.decreases-loop
+decreases-loop l = length l.self.subs

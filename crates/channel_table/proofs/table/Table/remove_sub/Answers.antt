@@ -1,0 +1,23 @@
+use Rattle.std.proofs.Common.{◌≡◌, None, sym, ap, ◌∙◌, true≢false}
+use Rattle.std.specs.List.{find}
+use Rattle.channel_table.specs.Channels.{is_channel}
+use Rattle.channel_table.specs.Subs.{is_sub}
+use Rattle.channel_table.specs.ClientRows.{ClientRows}
+use Rattle.channel_table.proofs.Following.{follow_removed, stands_of}
+use Rattle.channel_table.proofs.Lists.{none_dropped, unfound_is_absent}
+use Rattle.channel_table.proofs.table.Table.remove_sub.Goals as goal
+
+-- no subscription of these IDs
+pub returns-in_default : goal.returns-in_default
+returns-in_default c =
+    let none : find (is_sub c.args.session c.args.id) c.args.self.now.subs ≡ None = ap (λ (t : ClientRows). find (is_sub c.args.session c.args.id) t.subs) (sym c.self.view_is) ∙ sym c.get.ensures ∙ sym c.in_default.ensures in
+    ap (λ rows. record c.args.self.now { subs = rows }) (sym (none_dropped (is_sub c.args.session c.args.id) c.args.self.now.subs (unfound_is_absent (is_sub c.args.session c.args.id) c.args.self.now.subs none)))
+
+pub invariant_of-self : goal.invariant_of-self
+invariant_of-self c =
+    follow_removed _ _ _ c.args.session c.args.id c.in-Some.sub c.in-Some-get.channel.now c.are_apart.ensures (sym c.get.ensures ∙ sym c.in-Some.ensures) (sym c.in-Some-get.ensures) c.remove.ensures.rows c.remove.ensures.on c.self.invariant
+
+-- its channel stands
+pub returns-in_default-get : goal.returns-in_default-get
+returns-in_default-get c =
+    absurd (true≢false (sym (stands_of c.self.inside.channels c.self.inside.subs c.args.session c.args.id c.in-Some.sub (sym c.get.ensures ∙ sym c.in-Some.ensures) c.self.invariant) ∙ unfound_is_absent (is_channel c.in-Some.sub.session c.in-Some.sub.sid) c.self.inside.channels (sym c.in_default-get.ensures)))

@@ -1,0 +1,11 @@
+use Rattle.std.proofs.Common.{sym, ap, subst, ◌∙◌}
+use Rattle.gateway_state.specs.Settled.{AreInOrder}
+use Rattle.gateway_state.specs.Updates.{updates_withheld}
+use Rattle.gateway_state.proofs.OrderKept.{order_before_links}
+use Rattle.gateway_notices.proofs.consequences.follow_all.Goals as goal
+
+-- the passes before leave numbers in order
+pub tell_links-requires : goal.tell_links-requires
+tell_links-requires c = record {
+  order = subst AreInOrder (sym (c.in_ok-withhold_updates.ensures ∙ ap updates_withheld c.in_ok-tell_channels.ensures)) (order_before_links c.args.rows.now c.requires.order);
+}

@@ -1,0 +1,12 @@
+use Rattle.std.proofs.Common.{◌≡◌, arith}
+use Rattle.std.specs.Prelude.{count_by}
+use Rattle.channel_table.specs.Subs.{is_sub_of}
+use Rattle.gateway_rows.proofs.Counted.{all_taken}
+use Rattle.gateway_rows.proofs.own.subs_of.Goals as goal
+
+-- the loop goes as far as the session has subscriptions
+pub returns : goal.returns
+returns c =
+    let counted : c.sub_count-n-end.result ≡ count_by (is_sub_of c.args.session) c.args.clients.now.subs = c.sub_count-n-end.ensures in
+    all_taken (is_sub_of c.args.session) c.args.clients.now.subs c.loop-n.subs.items c.loop-n.n
+    (omega (arith, c.loop-n-test.false, counted)) c.loop-n.invariant

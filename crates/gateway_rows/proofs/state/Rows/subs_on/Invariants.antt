@@ -1,0 +1,7 @@
+use Rattle.std.proofs.Common.{◌≡◌, ◌++◌, filter, drop}
+use Rattle.gateway_state.specs.Updates.{is_sub_to}
+use Rattle.gateway_rows.proofs.state.Rows.subs_on.Given as goal
+
+-- those taken so far and those that are left are all
+abbrev pub invariant-loop-n : goal.invariant-loop-n
+invariant-loop-n l = l.subs.items ++ drop l.n (filter (is_sub_to l.self l.name) l.self.clients.subs) ≡ filter (is_sub_to l.self l.name) l.self.clients.subs

@@ -1,0 +1,98 @@
+-- The next numbers are new: no row has them.
+use Rattle.std.proofs.Common.{◌≡◌, ℕ, ◌+◌, ◌<◌, ◌≤◌, List, [], ◌∷◌, Bool, true, false, cond, ◌||◌, ◌&&◌, Option, Some, None, refl, arith}
+use Rattle.std.proofs.lemmas.Bool.{and_from, and_parts, lt-ltb, ltb-true, ne_eqb}
+use Rattle.std.specs.Prelude.{◌==◌}
+use Rattle.std.specs.List.{list_all, list_any}
+use Rattle.rows.specs.Rows.{change_first}
+use Rattle.channel_table.specs.Channels.{is_channel}
+use Rattle.channel_table.specs.ClientRows.{has_channel}
+use Rattle.link_table.specs.declared.links.Link.{Link}
+use Rattle.link_table.specs.declared.links.Subscription.{Subscription}
+use Rattle.link_table.specs.LinkRows.{has_link}
+use Rattle.link_table.specs.Links.{has_id, has_subscription, is_link, is_named, is_of, with_subscription}
+use Rattle.gateway_state.specs.Gateway.{Gateway}
+use Rattle.gateway_state.specs.Settled.{AreInOrder, AreRising, HasCidsInOrder, HasSidsInOrder, cid_of, has_id_below, is_below, sid_of}
+use Rattle.gateway_state.specs.Variables.{is_linked}
+use Rattle.gateway_state.proofs.RowTests.{all_weaker, none_found}
+
+-- IDS of subscriptions
+
+below_more : (next : ℕ) (sub : Option Subscription) → is_below next sub ≡ true → is_below (next + 1) sub ≡ true
+below_more next None below = refl
+below_more next (Some sub) below = let less : sub.id < next = ltb-true sub.id next below in lt-ltb sub.id (next + 1) (omega (arith, less))
+
+all_below_more : (next : ℕ) (links : List Link) → list_all (has_id_below next) links ≡ true → list_all (has_id_below (next + 1)) links ≡ true
+all_below_more next links below = all_weaker (has_id_below next) (has_id_below (next + 1)) links (λ link. below_more next link.subscription) below
+
+-- a link gets the subscription of the next ID
+pub ids_of_new : (links : List Link) (test : Link → Bool) (next : ℕ) (new : Subscription) → new.id ≡ next → list_all (has_id_below next) links ≡ true
+    → list_all (has_id_below (next + 1)) (change_first test (with_subscription (Some new)) links) ≡ true
+ids_of_new [] test next new is below = refl
+ids_of_new (link ∷ links) test next new is below =
+    let parts = and_parts (has_id_below next link) (list_all (has_id_below next) links) below in
+    elim (test link) as (λ t. list_all (has_id_below (next + 1)) (cond t (with_subscription (Some new) link ∷ links) (link ∷ change_first test (with_subscription (Some new)) links)) ≡ true) [
+      | true ↦
+          and_from (is_below (next + 1) (Some new)) (list_all (has_id_below (next + 1)) links) (lt-ltb new.id (next + 1) (omega (arith, is))) (all_below_more next links parts.1)
+      | false ↦
+          and_from (has_id_below (next + 1) link) (list_all (has_id_below (next + 1)) (change_first test (with_subscription (Some new)) links))
+          (below_more next link.subscription parts.0) (ids_of_new links test next new is parts.1)
+    ]
+
+-- a link loses its subscription
+pub ids_of_fewer : (links : List Link) (test : Link → Bool) (next : ℕ) → list_all (has_id_below next) links ≡ true
+    → list_all (has_id_below next) (change_first test (with_subscription None) links) ≡ true
+ids_of_fewer [] test next below = refl
+ids_of_fewer (link ∷ links) test next below =
+    let parts = and_parts (has_id_below next link) (list_all (has_id_below next) links) below in
+    elim (test link) as (λ t. list_all (has_id_below next) (cond t (with_subscription None link ∷ links) (link ∷ change_first test (with_subscription None) links)) ≡ true) [
+      | true ↦ parts.1
+      | false ↦
+          and_from (has_id_below next link) (list_all (has_id_below next) (change_first test (with_subscription None) links)) parts.0 (ids_of_fewer links test next parts.1)
+    ]
+
+no_id_above : (next : ℕ) (sub : Option Subscription) → is_below next sub ≡ true → has_id next sub ≡ false
+no_id_above next None below = refl
+no_id_above next (Some sub) below = let less : sub.id < next = ltb-true sub.id next below in ne_eqb sub.id next (λ same. omega (arith, less, same))
+
+new_id_among : (server next : ℕ) (links : List Link) → list_all (has_id_below next) links ≡ true → list_any (has_subscription server next) links ≡ false
+new_id_among server next [] below = refl
+new_id_among server next (link ∷ links) below =
+    let parts = and_parts (has_id_below next link) (list_all (has_id_below next) links) below in
+    rw (no_id_above next link.subscription parts.0, new_id_among server next links parts.1)
+    (elim (is_of server link) as (λ t. ((t && false) || false) ≡ false) [ true ↦ refl | false ↦ refl ])
+
+-- no link has a subscription of the next ID
+pub new_id : (w : Gateway) (server : ℕ) → AreInOrder w → list_any (has_subscription server w.upstream.counters.subscription) w.upstream.links ≡ false
+new_id w server order = new_id_among server w.upstream.counters.subscription w.upstream.links order.ids
+
+-- CHANNELS AND LINKS
+
+-- rows that rise from one number to another
+rises : {A : Type 0} (number : A → ℕ) (low high : ℕ) (rows : List A) → AreRising number low rows high → low ≤ high
+rises number low high [] rising = rising
+rises number low high (row ∷ rows) rising = omega (arith, rising.0, rises number (number row + 1) high rows rising.1)
+
+-- no row has the number that comes next
+none_next : {A : Type 0} (number : A → ℕ) (test : A → Bool) (low high : ℕ) (rows : List A) → ((row : A) → number row < high → test row ≡ false)
+    → AreRising number low rows high → list_any test rows ≡ false
+none_next number test low high [] other rising = refl
+none_next number test low high (row ∷ rows) other rising =
+    rw (other row (omega (arith, rises number (number row + 1) high rows rising.1))) (none_next number test (number row + 1) high rows other rising.1)
+
+-- no channel has the next number
+pub new_sid : (w : Gateway) (session : ℕ) → HasSidsInOrder w → has_channel session w.upstream.counters.sid w.clients ≡ false
+new_sid w session rising =
+    let next : ℕ = w.upstream.counters.sid in
+    none_next sid_of (is_channel session next) 0 next w.clients.channels
+    (λ c below. rw (ne_eqb c.sid next (λ same. omega (arith, below, same))) (elim (c.session == session) as (λ t. (t && false) ≡ false) [ true ↦ refl | false ↦ refl ])) rising
+
+-- no link has
+pub new_cid : (w : Gateway) (server : ℕ) → HasCidsInOrder w → has_link server w.upstream.counters.cid w.upstream ≡ false
+new_cid w server rising =
+    let next : ℕ = w.upstream.counters.cid in
+    none_next cid_of (is_link server next) 0 next w.upstream.links
+    (λ link below. rw (ne_eqb link.cid next (λ same. omega (arith, below, same))) (elim (is_of server link) as (λ t. (t && false) ≡ false) [ true ↦ refl | false ↦ refl ])) rising
+
+-- a name without a link
+pub unlinked : (w : Gateway) (name : List ℕ) → is_linked w name ≡ false → list_any (is_named name) w.upstream.links ≡ false
+unlinked w name none = none_found (is_named name) w.upstream.links none

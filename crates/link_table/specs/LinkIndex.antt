@@ -1,0 +1,73 @@
+-- How links are found: the key of each, and what leads from a name or a subscription to it.
+use Rattle.std.specs.Prelude.{◌≡◌, ℕ, List, [], ◌∷◌, ◌++◌, Option, Some, None, map, slice_get, IfSome}
+use Rattle.std.specs.List.{filter}
+use Rattle.std.specs.Option.{option_and_then, option_to_list}
+use Rattle.row_index.specs.declared.key.Key.{Key}
+use Rattle.row_index.specs.Lists.{of}
+use Rattle.row_index.specs.Rows.{row_of, value_at, lacks_key, HasKeysApart}
+use Rattle.link_table.specs.declared.links.Link.{Link}
+use Rattle.link_table.specs.declared.links.Subscription.{Subscription}
+
+-- the key of a row of this owner with this ID
+abbrev pub key : ℕ → ℕ → Key
+key owner id = record { owner = owner; id = id }
+
+-- the key of a link: its server and its ID
+abbrev pub key_of : Link → Key
+key_of row = key row.server row.cid
+
+-- a link under its key
+abbrev pub entry_of : Link → Key × Link
+entry_of row = (key_of row, row)
+
+-- the name of a link
+abbrev pub name_of : Link → Option (List ℕ)
+name_of row = Some row.name
+
+-- the key of a subscription on this server, if there is one: its ID and the server
+abbrev pub sub_key : ℕ → Option Subscription → Option Key
+sub_key server None = None
+sub_key server (Some s) = Some (key s.id server)
+
+-- the key of the present subscription of a link
+abbrev pub sub_of : Link → Option Key
+sub_of row = sub_key row.server row.subscription
+
+-- with this entry, if there is one
+abbrev pub with_led : Option Key → Key → List (Key × Key) → List (Key × Key)
+with_led None to entries = entries
+with_led (Some from) to entries = entries ++ (from, to) ∷ []
+
+-- without the entry of this key, if there is a key
+abbrev pub without_led : Option Key → List (Key × Key) → List (Key × Key)
+without_led None entries = entries
+without_led (Some from) entries = filter (lacks_key from) entries
+
+-- the key, if there is one, leads nowhere
+abbrev pub IsFree : Option Key → List (Key × Key) → Type 0
+IsFree from entries = IfSome from (λ k. value_at k entries ≡ None)
+
+-- what f leads to leads back by g
+abbrev pub LeadsBack : {A B : Type 0} → (A → Option B) → (B → Option A) → Type 0
+LeadsBack {A} {B} f g = (a : A) (b : B) → f a ≡ Some b → g b ≡ Some a
+
+-- what the link under a key has of this kind
+abbrev pub told_at : {B : Type 0} → (Link → Option B) → List (Key × Link) → Key → Option B
+told_at told links k = option_and_then told (value_at k links)
+
+-- the key that stands first under a name
+abbrev pub first_of : List (List ℕ × List Key) → List ℕ → Option Key
+first_of names name = slice_get (of names name) 0
+
+-- each of two partial functions leads back where the other came from
+pub record LeadEachWay {A B : Type 0} (f : A → Option B) (g : B → Option A) : Type 0 where
+  pub leads : LeadsBack f g
+  pub is_led_to : LeadsBack g f
+
+-- each link stands under its key, and its name and its subscription lead to it and to none else
+pub record AreIndexed (links : List (Key × Link)) (names : List (List ℕ × List Key)) (subs : List (Key × Key)) : Type 0 where
+  pub apart : HasKeysApart links
+  pub keyed : links ≡ map entry_of (map row_of links)
+  pub single : (name : List ℕ) → of names name ≡ option_to_list (first_of names name)
+  pub by_name : LeadEachWay (told_at name_of links) (first_of names)
+  pub by_sub : LeadEachWay (told_at sub_of links) (λ k. value_at k subs)

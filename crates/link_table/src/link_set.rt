@@ -1,0 +1,276 @@
+//! Links, found by their IDs, names and subscriptions.
+ghost use Rattle.std.specs.Prelude.{◌≡◌, [], ◌∷◌, ◌++◌, length, map, true, false, None, slice_get, OnOk, OnErr, IfOk, IfSome, IsNone};
+ghost use Rattle.std.specs.List.{filter, find, list_any};
+ghost use Rattle.std.specs.Option.{option_copied};
+ghost use Rattle.rows.specs.Rows.{change_first};
+ghost use Rattle.row_index.specs.Lists.{of, AddsTo, SameLists};
+ghost use Rattle.link_table.specs.Links.{is_link, is_not_link, is_of, is_not_of, is_named, has_subscription, with_state, with_subscription};
+ghost use Rattle.link_table.specs.LinkIndex.{key, key_of, sub_key, sub_of, with_led, without_led, IsFree};
+
+use crate::links::{Link, LinkState, Subscription};
+use pv_name::Name;
+use row_index::{Key, NameLists, RowMap};
+use std::alloc::{AllocError, Global};
+use std::marker::Model;
+
+/// Links in the order of adding. No two have the same key, name or subscription, so each of these
+/// leads to one link.
+#[derive(Drop)]
+pub(crate) struct LinkSet {
+    rows: RowMap<Link>,
+    /// The key of the link for a name.
+    by_name: NameLists,
+    /// The key of the link that has a subscription.
+    by_sub: RowMap<Key>,
+}
+
+impl Model for LinkSet {
+    ghost use Rattle.std.specs.Prelude.{List, map};
+    ghost use Rattle.link_table.specs.declared.links.Link.{Link};
+    ghost use Rattle.row_index.specs.Rows.{row_of};
+    ghost use Rattle.link_table.specs.LinkIndex.{AreIndexed};
+
+    ghost Value = { List Link };
+
+    ghost view = { λ s. map row_of s.rows };
+
+    ghost invariant = { λ s. AreIndexed s.rows s.by_name s.by_sub };
+}
+
+impl LinkSet {
+    /// No link. This takes no memory.
+    pub(crate) fn new(alloc: Global) -> LinkSet
+        ensures { result ≡ [] }
+    {
+        LinkSet {
+            rows: RowMap::new(alloc),
+            by_name: NameLists::new(alloc),
+            by_sub: RowMap::new(alloc),
+        }
+    }
+
+    pub(crate) fn len(&self) -> usize
+        ensures { result ≡ length self.now }
+    {
+        self.rows.len()
+    }
+
+    pub(crate) fn contains(&self, server: u32, cid: u32) -> bool
+        ensures { result ≡ list_any (is_link server cid) self.now }
+    {
+        self.rows.contains(Key {
+            owner: server,
+            id: cid,
+        })
+    }
+
+    pub(crate) fn by_cid(&self, server: u32, cid: u32) -> Option<&Link>
+        ensures { option_copied result ≡ find (is_link server cid) self.now }
+    {
+        self.rows.get(Key {
+            owner: server,
+            id: cid,
+        })
+    }
+
+    pub(crate) fn by_name(&self, name: &Name) -> Option<&Link>
+        ensures { option_copied result ≡ find (is_named name.now) self.now }
+    {
+        match self.by_name.of(name).first() {
+            Some(key) => self.rows.get(*key),
+            None => None,
+        }
+    }
+
+    pub(crate) fn by_sub(&self, server: u32, id: u32) -> Option<&Link>
+        ensures { option_copied result ≡ find (has_subscription server id) self.now }
+    {
+        match self.by_sub.get(Key {
+            owner: id,
+            id: server,
+        }) {
+            Some(key) => self.rows.get(*key),
+            None => None,
+        }
+    }
+
+    pub(crate) fn link(&self, n: usize) -> Option<&Link>
+        ensures { option_copied result ≡ slice_get self.now n }
+    {
+        self.rows.row(n)
+    }
+
+    pub(crate) fn links(&self, alloc: Global) -> Result<Vec<&Link>, AllocError>
+        ensures { IfOk result (λ links. map (λ link. link.now) links.items ≡ self.now) }
+    {
+        self.rows.rows(alloc)
+    }
+
+    /// Adds a link. At an error none is added.
+    pub(crate) fn add(&mut self, link: Link) -> Result<(), AllocError>
+        requires new_id { list_any (is_link link.server link.cid) self.old ≡ false }
+        requires new_name { list_any (is_named link.name) self.old ≡ false }
+        requires new_sub { IfSome link.subscription (λ s. list_any (has_subscription link.server s.id) self.old ≡ false) }
+        ensures ok { OnOk result (self.new ≡ self.old ++ link ∷ []) }
+        ensures err { OnErr result (self.new ≡ self.old) }
+    {
+        let key = Key {
+            owner: link.server,
+            id: link.cid,
+        };
+        self.rows.add(key, link)?;
+        let Some(link) = self.rows.get(key) else {
+            return Ok(());
+        };
+        match lead_to(link, key, &mut self.by_name, &mut self.by_sub) {
+            Ok(()) => Ok(()),
+            Err(refused) => {
+                self.rows.remove(key);
+                Err(refused)
+            }
+        }
+    }
+
+    /// Keeps how far a link has come, and its access rights.
+    pub(crate) fn put(&mut self, server: u32, cid: u32, state: LinkState, rights: u32)
+        ensures { self.new ≡ change_first (is_link server cid) (with_state state rights) self.old }
+    {
+        if let Some(row) = self.rows.get_mut(Key {
+            owner: server,
+            id: cid,
+        }) {
+            row.state = state;
+            row.rights = rights;
+        }
+    }
+
+    /// Keeps the present subscription of a link, or that it has none. At an error it has the one
+    /// that it had.
+    pub(crate) fn set_sub(
+        &mut self,
+        server: u32,
+        cid: u32,
+        subscription: Option<Subscription>,
+    ) -> Result<(), AllocError>
+        requires { IfSome subscription (λ s. list_any (has_subscription server s.id) self.old ≡ false) }
+        ensures ok { OnOk result (self.new ≡ change_first (is_link server cid) (with_subscription subscription) self.old) }
+        ensures err { OnErr result (self.new ≡ self.old) }
+    {
+        let key = Key {
+            owner: server,
+            id: cid,
+        };
+        let Some(link) = self.rows.get(key) else {
+            return Ok(());
+        };
+        let was = sub_key(server, link.subscription);
+        move_sub(&mut self.by_sub, was, sub_key(server, subscription), key)?;
+        if let Some(row) = self.rows.get_mut(key) {
+            row.subscription = subscription;
+        }
+        Ok(())
+    }
+
+    pub(crate) fn remove(&mut self, server: u32, cid: u32)
+        ensures { self.new ≡ filter (is_not_link server cid) self.old }
+    {
+        let key = Key {
+            owner: server,
+            id: cid,
+        };
+        let Some(link) = self.rows.get(key) else {
+            return;
+        };
+        self.by_name.remove(&link.name, key);
+        forget_sub(&mut self.by_sub, sub_key(server, link.subscription));
+        self.rows.remove(key);
+    }
+
+    /// Removes all links of a server.
+    pub(crate) fn remove_of(&mut self, server: u32)
+        ensures { self.new ≡ filter (is_not_of server) self.old }
+    {
+        while let Some(cid) = self.last_of(server) {
+            self.remove(server, cid);
+        }
+    }
+
+    // The CID of the link of a server that was added last.
+    fn last_of(&self, server: u32) -> Option<u32>
+        ensures found { IfSome result (λ cid. list_any (is_link server cid) self.now ≡ true) }
+        ensures none { IsNone result → list_any (is_of server) self.now ≡ false }
+    {
+        let count = self.rows.count_of(server);
+        if count == 0 {
+            return None;
+        }
+        match self.rows.of(server, count - 1) {
+            Some(link) => Some(link.cid),
+            None => None,
+        }
+    }
+}
+
+// The key under which a subscription leads to its link. The subscription's ID is the owner, so that
+// no owner has many.
+fn sub_key(server: u32, subscription: Option<Subscription>) -> Option<Key>
+    ensures { result ≡ sub_key server subscription }
+{
+    match subscription {
+        Some(subscription) => Some(Key {
+            owner: subscription.id,
+            id: server,
+        }),
+        None => None,
+    }
+}
+
+/// Lets the name and the subscription of a link lead to its key. At an error they lead nowhere,
+/// as before.
+fn lead_to(
+    link: &Link,
+    key: Key,
+    by_name: &mut NameLists,
+    by_sub: &mut RowMap<Key>,
+) -> Result<(), AllocError>
+    requires { IsFree (sub_of link.now) by_sub.old }
+    ensures names { OnOk result (AddsTo link.now.name key by_name.old by_name.new) }
+    ensures subs { OnOk result (by_sub.new ≡ with_led (sub_of link.now) key by_sub.old) }
+    ensures same_names { OnErr result (SameLists by_name.old by_name.new) }
+    ensures same_subs { OnErr result (by_sub.new ≡ by_sub.old) }
+{
+    let led = sub_key(link.server, link.subscription);
+    move_sub(by_sub, None, led, key)?;
+    if by_name.add(&link.name, key).is_err() {
+        forget_sub(by_sub, led);
+        return Err(AllocError);
+    }
+    Ok(())
+}
+
+/// Lets another subscription lead to a key, in place of the one that did. At an error that one
+/// still does.
+fn move_sub(
+    by_sub: &mut RowMap<Key>,
+    was: Option<Key>,
+    led: Option<Key>,
+    to: Key,
+) -> Result<(), AllocError>
+    requires { IsFree led by_sub.old }
+    ensures ok { OnOk result (by_sub.new ≡ without_led was (with_led led to by_sub.old)) }
+    ensures err { OnErr result (by_sub.new ≡ by_sub.old) }
+{
+    if let Some(led) = led {
+        by_sub.add(led, to)?;
+    }
+    forget_sub(by_sub, was);
+    Ok(())
+}
+
+fn forget_sub(by_sub: &mut RowMap<Key>, led: Option<Key>)
+    ensures { by_sub.new ≡ without_led led by_sub.old }
+{
+    if let Some(led) = led {
+        by_sub.remove(led);
+    }
+}

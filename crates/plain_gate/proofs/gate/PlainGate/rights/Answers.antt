@@ -1,0 +1,13 @@
+use Rattle.std.proofs.Common.{◌≡◌, Some, sym, ap, ◌∙◌}
+use Rattle.std.specs.Option.{option_map}
+use Rattle.gateway_state.specs.Gateway.{Gateway}
+use Rattle.gateway_state.specs.Rights.{rights_asked}
+use Rattle.gateway_state.proofs.ReachedStates.{told_rights_hold}
+use Rattle.plain_gate.proofs.gate.PlainGate.rights.Goals as goal
+
+-- what the client was last told is what holds
+pub returns-clause-found : goal.returns-clause-found
+returns-clause-found c =
+    let told = told_rights_hold c.in-Some.rows c.args.session c.args.sid (c.self.invariant c.in-Some.rows c.in-Some.is) in
+    let held : Some c.in-Some.rows ≡ c.args.self.now = sym c.in-Some.is ∙ c.self.view_is in
+    ap Some (c.rights_told.ensures ∙ told) ∙ ap (option_map (λ (w : Gateway). rights_asked w c.args.session c.args.sid)) held

@@ -1,0 +1,13 @@
+use Rattle.std.proofs.Common.{arith}
+use Rattle.std.proofs.lemmas.Result.{err_from_is_err_and}
+use Rattle.gateway_state.proofs.NumberLemmas.{notices_told_past_at}
+use Rattle.plain_gate.proofs.links_pass.tell_each.Goals as goal
+
+-- what was refused is the notice at the place that the loop came to
+pub returns-in_err-tell_link-clause-used_up : goal.returns-in_err-tell_link-clause-used_up
+returns-in_err-tell_link-clause-used_up c = λ e.
+    let refused = err_from_is_err_and c.from_residual.result c.from_residual.ensures.1 in
+    let returned = refused.1 in
+    let converted = refused.2 in
+    let was = c.in_err-tell_link.was in
+    notices_told_past_at c.loop-notice.rows _ _ c.loop-notice.notice-index _ (omega (arith, c.loop-notice-test.true)) c.loop-notice.invariant (c.tell_link.ensures.used_up cc)

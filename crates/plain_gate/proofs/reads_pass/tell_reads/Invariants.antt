@@ -1,0 +1,10 @@
+use Rattle.std.proofs.Common.{◌≡◌, fold, length}
+use Rattle.gateway_state.specs.Notices.{read_told, reads_told}
+use Rattle.plain_gate.proofs.reads_pass.tell_reads.Given as goal
+
+-- giving the notices that are left leads from here to where giving all leads
+abbrev pub invariant-loop-notice : goal.invariant-loop-notice
+invariant-loop-notice l = fold read_told l.rows l.notices.items ≡ reads_told l.fn.rows
+
+abbrev pub decreases-loop-notice : goal.decreases-loop-notice
+decreases-loop-notice l = length l.notices.items

@@ -1,0 +1,9 @@
+use Rattle.std.proofs.Common.{◌≡◌, ◌++◌, drop}
+use Rattle.std.specs.List.{filter_map}
+use Rattle.gateway_state.specs.Updates.{update_notice, update_notices}
+use Rattle.plain_gate.proofs.updates_pass.update_notices.Given as goal
+
+-- the notices so far and those on the subscriptions that are left are all
+abbrev pub invariant-loop-sub : goal.invariant-loop-sub
+invariant-loop-sub l =
+    l.notices.items ++ filter_map (update_notice l.rows) (drop l.sub-index l.sub-items) ≡ update_notices l.rows

@@ -1,0 +1,7 @@
+use Rattle.std.proofs.Common.{◌≡◌, ◌++◌, filter, drop}
+use Rattle.gateway_state.specs.Updates.{is_withheld, withheld}
+use Rattle.plain_gate.proofs.updates_pass.withheld.Given as goal
+
+-- those found so far and those among the subscriptions that are left are all
+abbrev pub invariant-loop-sub : goal.invariant-loop-sub
+invariant-loop-sub l = l.subs.items ++ filter (is_withheld l.rows) (drop l.sub-index l.sub-items) ≡ withheld l.rows

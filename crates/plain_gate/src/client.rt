@@ -1,0 +1,199 @@
+//! What a client's message does by itself.
+ghost use Rattle.std.specs.Prelude.{◌≡◌, true, Ok, IsErrOf, OnOk};
+ghost use Rattle.gateway_state.specs.Clients.{channel_cleared, versioned};
+ghost use Rattle.gateway_state.specs.Numbers.{is_past_numbers};
+ghost use Rattle.gateway_state.specs.Requests.{client_said, requested, unreadable};
+ghost use Rattle.gateway_state.specs.Telling.{told};
+
+use crate::clients::{fix_host, name_host, pause};
+use crate::connections::mark;
+use crate::create_channel::{create_channel, fail_creation};
+use crate::numbers::Refusal;
+use crate::read::hear_read;
+use crate::state::Rows;
+use crate::subscribe::{cancel_subscription, refuse_short, subscribe_client};
+use crate::write::{Write, hear_write, hear_write_notify};
+use ca_header::{Header, Message};
+use ca_message::codes::{ECA_BADCHID, ECA_INTERNAL};
+use ca_message::commands::{
+    CA_PROTO_CLIENT_NAME, CA_PROTO_CREATE_CHAN, CA_PROTO_EVENT_ADD, CA_PROTO_HOST_NAME, NO_CHANNEL,
+};
+use ca_message::{ClientRequest, ToClient, read_request};
+use channel_table::{ClientSub, WaitingRead};
+use gateway_state::{Dest, LOWEST_MINOR};
+use std::alloc::AllocError;
+
+/// A client sent a message.
+pub(crate) fn hear_client(rows: &mut Rows, number: u32, message: Message) -> Result<(), Refusal>
+    ensures ok { OnOk result (rows.new ≡ client_said rows.old number message) }
+    ensures used_up { IsErrOf result Refusal.NumbersUsedUp → is_past_numbers (client_said rows.old number message) ≡ true }
+{
+    match read_request(&message.head, &message.payload) {
+        Ok(request) => hear_request(rows, number, request, &message),
+        Err(_) => Ok(hear_unreadable(rows, number, &message.head)?),
+    }
+}
+
+/// A client asked for something.
+fn hear_request(
+    rows: &mut Rows,
+    number: u32,
+    request: ClientRequest<'_>,
+    message: &Message,
+) -> Result<(), Refusal>
+    ensures ok { OnOk result (rows.new ≡ requested rows.old number message.now (Ok request.entry)) }
+    ensures used_up { IsErrOf result Refusal.NumbersUsedUp → is_past_numbers (requested rows.old number message.now (Ok request.entry)) ≡ true }
+{
+    let head = &message.head;
+    match request {
+        ClientRequest::Version { minor } => {
+            hear_version(rows, number, minor);
+            Ok(())
+        }
+        ClientRequest::EventAdd {
+            sid,
+            id,
+            dtype,
+            count,
+            mask,
+        } => {
+            let sub = ClientSub {
+                session: number,
+                id,
+                sid,
+                dtype,
+                count,
+                mask,
+                owed: true,
+            };
+            Ok(subscribe_client(rows, sub, head)?)
+        }
+        ClientRequest::EventCancel {
+            sid,
+            id,
+            dtype,
+            count,
+        } => Ok(cancel_subscription(rows, number, sid, id, dtype, count, head)?),
+        ClientRequest::Write {
+            sid,
+            dtype,
+            count,
+            value,
+        } => {
+            let write = Write {
+                session: number,
+                sid,
+                dtype,
+                count,
+            };
+            Ok(hear_write(rows, write, value.as_slice(), head)?)
+        }
+        ClientRequest::EventsOff => {
+            pause(&mut rows.sessions, number, true);
+            Ok(())
+        }
+        ClientRequest::EventsOn => {
+            pause(&mut rows.sessions, number, false);
+            Ok(())
+        }
+        ClientRequest::ClearChannel { sid, cid } => {
+            Ok(clear_channel(rows, number, sid, cid, head)?)
+        }
+        ClientRequest::ReadNotify {
+            sid,
+            ioid,
+            dtype,
+            count,
+        } => {
+            let read = WaitingRead {
+                session: number,
+                sid,
+                dtype,
+                count,
+                ioid,
+            };
+            Ok(hear_read(rows, read, head)?)
+        }
+        ClientRequest::CreateChannel { cid, name, .. } => {
+            let name = name.to_name(rows.alloc)?;
+            create_channel(rows, number, cid, &name)
+        }
+        ClientRequest::WriteNotify {
+            sid,
+            ioid,
+            dtype,
+            count,
+            value,
+        } => {
+            let write = Write {
+                session: number,
+                sid,
+                dtype,
+                count,
+            };
+            hear_write_notify(rows, write, ioid, value.as_slice(), head)
+        }
+        ClientRequest::ClientName(_) => Ok(()),
+        ClientRequest::HostName(host) => {
+            let host = host.to_host(rows.alloc)?;
+            name_host(&mut rows.sessions, number, host);
+            Ok(())
+        }
+        ClientRequest::Echo => Ok(echo(rows, number, message)?),
+    }
+}
+
+/// A client gets its own message back.
+fn echo(rows: &mut Rows, number: u32, message: &Message) -> Result<(), AllocError>
+    ensures { OnOk result (rows.new ≡ told number (ToClient.Echo message.now) rows.old) }
+{
+    let payload = message.payload.slice(..)?;
+    let said = ToClient::Echo(Message {
+        head: message.head,
+        payload,
+    });
+    rows.tell(number, &said)
+}
+
+/// A client said which minor version it speaks.
+fn hear_version(rows: &mut Rows, number: u32, minor: u32)
+    ensures { rows.new ≡ versioned rows.old number minor }
+{
+    if minor < LOWEST_MINOR {
+        mark(&mut rows.connections, Dest::Session(number));
+    }
+}
+
+/// A client gives up a channel.
+fn clear_channel(
+    rows: &mut Rows,
+    number: u32,
+    sid: u32,
+    cid: u32,
+    head: &Header,
+) -> Result<(), AllocError>
+    ensures { OnOk result (rows.new ≡ channel_cleared number sid cid head.now rows.old) }
+{
+    if rows.channel_of(number, sid).is_none() {
+        return rows.refuse(number, NO_CHANNEL, ECA_BADCHID, head);
+    }
+    rows.remove_channel(number, sid);
+    rows.tell(number, &ToClient::ClearChannel { sid, cid })
+}
+
+/// A message that is no request: texts that can't be read are ignored, but a CREATE_CHAN fails;
+/// a short EVENT_ADD is refused over its channel.
+fn hear_unreadable(rows: &mut Rows, number: u32, head: &Header) -> Result<(), AllocError>
+    ensures { OnOk result (rows.new ≡ unreadable rows.old number head.now) }
+{
+    if head.command == CA_PROTO_CREATE_CHAN {
+        fix_host(&mut rows.sessions, number);
+        fail_creation(rows, number, head.p1)
+    } else if head.command == CA_PROTO_CLIENT_NAME || head.command == CA_PROTO_HOST_NAME {
+        Ok(())
+    } else if head.command == CA_PROTO_EVENT_ADD {
+        refuse_short(rows, number, head)
+    } else {
+        rows.refuse(number, NO_CHANNEL, ECA_INTERNAL, head)
+    }
+}

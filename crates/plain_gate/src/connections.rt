@@ -1,0 +1,167 @@
+//! Connections: what is said to them, and what waits for them.
+ghost use Rattle.std.specs.Prelude.{◌≡◌, take, OnOk, IfOk};
+ghost use Rattle.std.specs.List.{filter, find, position};
+ghost use Rattle.std.specs.Option.{option_copied};
+ghost use Rattle.rows.specs.Rows.{change_first};
+ghost use Rattle.gateway_state.specs.Asked.{acts, ends, queued, stands};
+ghost use Rattle.gateway_state.specs.Clients.{read_refused};
+ghost use Rattle.gateway_state.specs.Connections.{given, is_not_to, is_to, marked_now, outbox_of, relieved};
+ghost use Rattle.gateway_state.specs.Subscribing.{request_refused};
+ghost use Rattle.gateway_state.specs.Telling.{asked, told};
+
+use crate::state::Rows;
+use ca_header::{Header, write_head};
+use ca_message::{ToClient, ToServer};
+use channel_table::WaitingRead;
+use fanout::{AppendFault, Out};
+use gateway_state::{Connection, Dest};
+use std::alloc::{AllocError, Global};
+
+fn find(rows: &[Connection], dest: Dest) -> Option<&Connection>
+    ensures { option_copied result ≡ find (is_to dest) rows.now }
+{
+    rows.iter().find(|row| row.dest == dest)
+}
+
+fn place_of(rows: &[Connection], dest: Dest) -> Option<usize>
+    ensures { result ≡ position (is_to dest) rows.now }
+{
+    rows.iter().position(|row| row.dest == dest)
+}
+
+pub(crate) fn remove(rows: &mut Vec<Connection>, dest: Dest)
+    ensures { rows.new.items ≡ filter (is_not_to dest) rows.old.items }
+{
+    rows.retain(|row| row.dest != dest);
+}
+
+/// Gives a message to a connection, where it stands and isn't marked.
+#[tactic(auto, using(rows::proofs::RowLemmas::set_is_change_first, rows::proofs::RowLemmas::change_first_none))]
+fn give(rows: &mut Vec<Connection>, dest: Dest, out: Out) -> Result<(), AllocError>
+    ensures { OnOk result (rows.new.items ≡ change_first (is_to dest) (given out) rows.old.items) }
+{
+    if let Some(place) = place_of(rows, dest) {
+        let row = &mut rows[place];
+        match row.outbox.append(out) {
+            Ok(()) | Err(AppendFault::Marked(_)) => Ok(()),
+            Err(AppendFault::OutOfMemory(_)) => Err(AllocError),
+        }
+    } else {
+        Ok(())
+    }
+}
+
+/// Marks a connection to end.
+#[tactic(auto, using(rows::proofs::RowLemmas::set_is_change_first, rows::proofs::RowLemmas::change_first_none))]
+pub(crate) fn mark(rows: &mut Vec<Connection>, dest: Dest)
+    ensures { rows.new.items ≡ change_first (is_to dest) marked_now rows.old.items }
+{
+    if let Some(place) = place_of(rows, dest) {
+        let row = &mut rows[place];
+        row.outbox.mark();
+    }
+}
+
+/// Takes the oldest messages of an outbox, in order.
+#[tactic(auto, using(rows::proofs::RowLemmas::set_is_change_first, rows::proofs::RowLemmas::change_first_none, rows::proofs::RowLemmas::find_is_there, rows::proofs::RowLemmas::find_none))]
+pub(crate) fn take(
+    rows: &mut Vec<Connection>,
+    alloc: Global,
+    dest: Dest,
+    count: usize,
+) -> Result<Vec<Out>, AllocError>
+    ensures ok { OnOk result (rows.new.items ≡ change_first (is_to dest) (relieved count) rows.old.items) }
+    ensures found { IfOk result (λ outs. outs.items ≡ take count (outbox_of dest rows.old.items).messages) }
+{
+    if let Some(place) = place_of(rows, dest) {
+        let row = &mut rows[place];
+        row.outbox.take(alloc, count)
+    } else {
+        Ok(Vec::new(alloc))
+    }
+}
+
+impl Rows {
+    /// Whether a connection stands.
+    pub(crate) fn stands(&self, dest: Dest) -> bool
+        ensures { result ≡ stands self.now dest }
+    {
+        self.connections.iter().any(|row| row.dest == dest)
+    }
+
+    /// Whether a connection stands and must end.
+    pub(crate) fn ends(&self, dest: Dest) -> bool
+        ensures { result ≡ ends self.now dest }
+    {
+        match find(&self.connections, dest) {
+            Some(connection) => connection.outbox.marked(),
+            None => false,
+        }
+    }
+
+    /// How many messages wait for a connection, 0 where it doesn't stand.
+    pub(crate) fn queued(&self, dest: Dest) -> usize
+        ensures { result ≡ queued self.now dest }
+    {
+        match find(&self.connections, dest) {
+            Some(connection) => connection.outbox.len(),
+            None => 0,
+        }
+    }
+
+    /// Whether a message from the connection has an effect.
+    pub(crate) fn acts(&self, dest: Dest) -> bool
+        ensures { result ≡ acts self.now dest }
+    {
+        self.stands(dest) && !self.ends(dest)
+    }
+
+    /// Tells a client something.
+    #[tactic(auto, unfolding(gateway_state::specs::Telling::sent, gateway_state::specs::Telling::outgoing))]
+    pub(crate) fn tell(&mut self, number: u32, said: &ToClient) -> Result<(), AllocError>
+        ensures { OnOk result (self.new ≡ told number said.now self.old) }
+    {
+        let payload = said.payload(self.alloc)?;
+        let head = write_head(&said.head());
+        let out = Out { head, payload };
+        give(&mut self.connections, Dest::Session(number), out)
+    }
+
+    /// Asks a server for something.
+    #[tactic(auto, unfolding(gateway_state::specs::Telling::sent, gateway_state::specs::Telling::outgoing_upstream))]
+    pub(crate) fn ask(&mut self, number: u32, said: &ToServer<'_>) -> Result<(), AllocError>
+        ensures { OnOk result (self.new ≡ asked number said.now self.old) }
+    {
+        let payload = said.payload(self.alloc)?;
+        let head = write_head(&said.head());
+        let out = Out { head, payload };
+        give(&mut self.connections, Dest::Upstream(number), out)
+    }
+
+    /// Refuses a client's request about a channel, by the ID that the client gave it.
+    pub(crate) fn refuse(
+        &mut self,
+        number: u32,
+        cid: u32,
+        code: u32,
+        head: &Header,
+    ) -> Result<(), AllocError>
+        ensures { OnOk result (self.new ≡ request_refused number cid code head.now self.old) }
+    {
+        let request = *head;
+        self.tell(number, &ToClient::Error { cid, code, request })
+    }
+
+    /// Tells a client that its read is refused.
+    pub(crate) fn refuse_read(&mut self, read: WaitingRead, code: u32) -> Result<(), AllocError>
+        ensures { OnOk result (self.new ≡ read_refused read.session read.ioid read.dtype read.count code self.old) }
+    {
+        let said = ToClient::ReadNotifyRefused {
+            ioid: read.ioid,
+            dtype: read.dtype,
+            count: read.count,
+            code,
+        };
+        self.tell(read.session, &said)
+    }
+}

@@ -1,0 +1,116 @@
+//! CREATE_CHAN.
+ghost use Rattle.std.specs.Prelude.{◌≡◌, true, IsErrOf, OnOk};
+ghost use Rattle.gateway_state.specs.Clients.{channel_asked, created_on, created_with, creation_failed, not_connected};
+ghost use Rattle.gateway_state.specs.Numbers.{is_past_numbers};
+ghost use Rattle.gateway_state.specs.Variables.{link_of};
+
+use crate::clients::{channel_count, find_session, fix_host};
+use crate::names::native_in;
+use crate::numbers::Refusal;
+use crate::state::Rows;
+use ca_message::ToClient;
+use channel_table::{CHANNEL_LIMIT, Channel};
+use gateway_state::Native;
+use link_table::Counter;
+use pv_alias::{Lead, group_rights};
+use pv_name::Name;
+use std::alloc::AllocError;
+
+pub(crate) fn fail_creation(rows: &mut Rows, number: u32, cid: u32) -> Result<(), AllocError>
+    ensures { OnOk result (rows.new ≡ creation_failed number cid rows.old) }
+{
+    rows.tell(number, &ToClient::CreateChannelFail { cid })
+}
+
+/// No connected variable was found: the session's host looks for the name.
+fn leave_unconnected(rows: &mut Rows, number: u32, cid: u32, name: &Name) -> Result<(), AllocError>
+    ensures { OnOk result (rows.new ≡ not_connected number cid name.now rows.old) }
+{
+    if let Some(session) = find_session(&rows.sessions, number) {
+        let host = session.host.copy()?;
+        rows.remember(&host, name)?;
+    }
+    fail_creation(rows, number, cid)
+}
+
+/// Makes a channel, which nothing was read on yet.
+#[tactic(auto, unfolding(gateway_state::specs::Telling::sent, gateway_state::specs::Numbers::is_past_numbers))]
+fn create_on(
+    rows: &mut Rows,
+    number: u32,
+    cid: u32,
+    asked: Name,
+    real: Name,
+    rights: u32,
+    native: Native,
+) -> Result<(), Refusal>
+    ensures ok { OnOk result (rows.new ≡ created_with number cid asked real rights native rows.old) }
+    ensures used_up { IsErrOf result Refusal.NumbersUsedUp → is_past_numbers (created_with number cid asked real rights native rows.old) ≡ true }
+{
+    let Some(sid) = rows.numbers.give_out(Counter::Sid) else {
+        return Err(Refusal::NumbersUsedUp);
+    };
+    let channel = Channel {
+        session: number,
+        sid,
+        cid,
+        asked,
+        real,
+        reach: 0,
+        rights,
+    };
+    if rows.channels.push(channel).is_err() {
+        return Err(Refusal::OutOfMemory);
+    }
+    let Native { dtype, count } = native;
+    rows.tell(number, &ToClient::AccessRights { cid, rights })?;
+    let said = ToClient::CreateChannel {
+        cid,
+        sid,
+        dtype,
+        count,
+    };
+    Ok(rows.tell(number, &said)?)
+}
+
+fn create_as(
+    rows: &mut Rows,
+    number: u32,
+    cid: u32,
+    asked: &Name,
+    lead: Lead,
+) -> Result<(), Refusal>
+    ensures ok { OnOk result (rows.new ≡ created_on number cid asked.now lead (link_of rows.old lead.real) rows.old) }
+    ensures used_up { IsErrOf result Refusal.NumbersUsedUp → is_past_numbers (created_on number cid asked.now lead (link_of rows.old lead.real) rows.old) ≡ true }
+{
+    let Some(link) = rows.link_of(&lead.real) else {
+        return Ok(leave_unconnected(rows, number, cid, asked)?);
+    };
+    let Some(native) = native_in(link.state) else {
+        return Ok(leave_unconnected(rows, number, cid, asked)?);
+    };
+    let rights = link.rights & group_rights(&rows.policy.groups, lead.group.as_ref());
+    let asked = asked.copy()?;
+    create_on(rows, number, cid, asked, lead.real, rights, native)
+}
+
+/// A client wants a channel on a name.
+pub(crate) fn create_channel(
+    rows: &mut Rows,
+    number: u32,
+    cid: u32,
+    name: &Name,
+) -> Result<(), Refusal>
+    ensures ok { OnOk result (rows.new ≡ channel_asked number cid name.now rows.old) }
+    ensures used_up { IsErrOf result Refusal.NumbersUsedUp → is_past_numbers (channel_asked number cid name.now rows.old) ≡ true }
+{
+    let lead = rows.lead_in(number, name)?;
+    fix_host(&mut rows.sessions, number);
+    let Some(lead) = lead else {
+        return Ok(fail_creation(rows, number, cid)?);
+    };
+    if channel_count(&rows.channels, number) >= CHANNEL_LIMIT {
+        return Ok(fail_creation(rows, number, cid)?);
+    }
+    create_as(rows, number, cid, name, lead)
+}

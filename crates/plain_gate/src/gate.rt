@@ -1,0 +1,253 @@
+//! The plain gateway: the rows, until a step is refused.
+ghost use Rattle.std.specs.Prelude.{◌≡◌, ◌≢◌, ◌≤◌, ◌<◌, ◌↔◌, Some, None, IsSome, IsNone, true, false, OnOk, OnErr, IfOk, IfSome, IsErrOf, IsOk};
+ghost use Rattle.std.specs.Option.{option_map};
+ghost use Rattle.gateway_state.specs.Gateway.{initial};
+ghost use Rattle.gateway_state.specs.declared.config.TheConstants.{LAST_FIRST};
+ghost use Rattle.gateway_state.specs.Numbers.{is_past_numbers, runs_out};
+ghost use Rattle.gateway_state.specs.Step.{step, run, taken};
+ghost use Rattle.gateway_state.specs.Answer.{reading};
+ghost use Rattle.gateway_state.specs.Asked.{stands, ends, queued};
+ghost use Rattle.gateway_state.specs.Interest.{subscription_of};
+ghost use Rattle.gateway_state.specs.Rights.{rights_asked};
+ghost use Rattle.gateway_state.specs.Variables.{asks};
+ghost use Rattle.gateway_core.specs.Searching.{IsSearched};
+
+use crate::numbers::Refusal;
+use crate::state::Rows;
+use crate::step::{drain, step};
+use fanout::Out;
+use gateway_core::{AskFault, Failed, NoMemory, StepFault};
+use gateway_state::{Config, Dest, Event, Policy, Reading, Sub};
+use pv_name::{Host, Name};
+use pv_search::{SearchAnswer, answer};
+use std::alloc::{AllocError, Global};
+use std::collections::VecDeque;
+use std::marker::Model;
+
+/// The gateway over plain lists, one event at a time. A refused step leaves it failed for good.
+#[derive(Drop)]
+pub struct PlainGate {
+    rows: Option<Rows>,
+}
+
+impl Model for PlainGate {
+    ghost use Rattle.std.specs.Prelude.{Option};
+    ghost use Rattle.gateway_state.specs.Gateway.{Gateway};
+    ghost use Rattle.rule_desk.specs.contracts.policy.Policy as the_policy;
+    ghost use Rattle.std.specs.Coded.{codes};
+
+    ghost Value = { Option Gateway };
+
+    ghost coded = { Prim.hlevel (codes, the_policy.the_row.coded) };
+
+    ghost view = { λ e. e.rows };
+
+    ghost use Rattle.std.specs.Option.{ForSome};
+    ghost use Rattle.gateway_state.specs.Reached.{IsReached};
+
+    // Whatever happened, the rows are those that a run of events reaches.
+    ghost invariant = { λ e. ForSome e.rows IsReached };
+}
+
+impl PlainGate {
+    /// A gateway to which nothing happened yet.
+    pub fn new(alloc: Global, config: Config, policy: Policy) -> Result<PlainGate, NoMemory>
+        requires lowest { 0 < config.first }
+        requires highest { config.first ≤ LAST_FIRST }
+        ensures { IfOk result (λ gate. gate ≡ Some (initial config policy)) }
+    {
+        Ok(PlainGate {
+            rows: Some(Rows::new(alloc, config, policy)),
+        })
+    }
+
+    /// Performs one event.
+    pub fn step(&mut self, event: Event) -> Result<(), StepFault>
+        ensures ok { OnOk result (self.new ≡ option_map (λ w. step w event) self.old) }
+        ensures used_up { IsErrOf result StepFault.NumbersUsedUp → option_map (λ w. is_past_numbers (step w event)) self.old ≡ Some true }
+        ensures in_range { OnOk result (option_map (λ w. is_past_numbers (step w event)) self.old ≡ Some false) }
+        ensures failed { IsErrOf result StepFault.Failed ↔ IsNone self.old }
+        ensures err { OnErr result (self.new ≡ None) }
+    {
+        let Some(rows) = &mut self.rows else {
+            return Err(StepFault::Failed);
+        };
+        match step(rows, event) {
+            Ok(()) => Ok(()),
+            Err(refusal) => Err(give_up(&mut self.rows, refusal)),
+        }
+    }
+
+    /// Performs events in order, up to the first that is refused.
+    #[tactic(auto, unfolding(gateway_state::specs::Step::run, gateway_state::specs::Numbers::runs_out))]
+    pub fn run(&mut self, events: Vec<Event>) -> Result<(), StepFault>
+        ensures ok { OnOk result (self.new ≡ option_map (λ w. run w events.items) self.old) }
+        ensures used_up { IsErrOf result StepFault.NumbersUsedUp → option_map (λ w. runs_out w events.items) self.old ≡ Some true }
+        ensures in_range { OnOk result (option_map (λ w. runs_out w events.items) self.old ≡ Some false) }
+        ensures failed { IsErrOf result StepFault.Failed ↔ IsNone self.old }
+        ensures err { OnErr result (self.new ≡ None) }
+    {
+        if self.rows.is_none() {
+            return Err(StepFault::Failed);
+        }
+        let mut left = VecDeque::from(events);
+        while let Some(event) = left.pop_front() {
+            self.step(event)?;
+        }
+        Ok(())
+    }
+
+    /// Takes the first `count` messages of an outbox, or all, and hands them out in order.
+    pub fn drain(&mut self, dest: Dest, count: usize) -> Result<Vec<Out>, StepFault>
+        ensures ok { OnOk result (self.new ≡ option_map (λ w. step w (Event.Drain dest count)) self.old) }
+        ensures used_up { IsErrOf result StepFault.NumbersUsedUp → option_map (λ w. is_past_numbers (step w (Event.Drain dest count))) self.old ≡ Some true }
+        ensures in_range { OnOk result (option_map (λ w. is_past_numbers (step w (Event.Drain dest count))) self.old ≡ Some false) }
+        ensures found { IfOk result (λ outs. Some outs.items ≡ option_map (λ w. taken w (Event.Drain dest count) dest) self.old) }
+        ensures failed { IsErrOf result StepFault.Failed ↔ IsNone self.old }
+        ensures err { OnErr result (self.new ≡ None) }
+    {
+        let Some(rows) = &mut self.rows else {
+            return Err(StepFault::Failed);
+        };
+        match drain(rows, dest, count) {
+            Ok(outs) => Ok(outs),
+            Err(refusal) => Err(give_up(&mut self.rows, refusal)),
+        }
+    }
+
+    /// Whether the connection stands.
+    pub fn is_open(&mut self, dest: Dest) -> Result<bool, Failed>
+        ensures found { IfOk result (λ answer. Some answer ≡ option_map (λ w. stands w dest) self.old) }
+        ensures failed { IsOk result ↔ IsSome self.old }
+        ensures same { self.new ≡ self.old }
+    {
+        match &self.rows {
+            Some(rows) => Ok(rows.stands(dest)),
+            None => Err(Failed),
+        }
+    }
+
+    /// Whether the connection stands and must end.
+    pub fn must_end(&mut self, dest: Dest) -> Result<bool, Failed>
+        ensures found { IfOk result (λ answer. Some answer ≡ option_map (λ w. ends w dest) self.old) }
+        ensures failed { IsOk result ↔ IsSome self.old }
+        ensures same { self.new ≡ self.old }
+    {
+        match &self.rows {
+            Some(rows) => Ok(rows.ends(dest)),
+            None => Err(Failed),
+        }
+    }
+
+    /// How many messages wait for the connection, 0 where it doesn't stand.
+    pub fn queued(&mut self, dest: Dest) -> Result<usize, Failed>
+        ensures found { IfOk result (λ answer. Some answer ≡ option_map (λ w. queued w dest) self.old) }
+        ensures failed { IsOk result ↔ IsSome self.old }
+        ensures same { self.new ≡ self.old }
+    {
+        match &self.rows {
+            Some(rows) => Ok(rows.queued(dest)),
+            None => Err(Failed),
+        }
+    }
+
+    /// The present subscription of a variable upstream, nothing where there is none.
+    pub fn subscription(&mut self, name: &Name) -> Result<Option<Sub>, Failed>
+        ensures found { IfOk result (λ answer. Some answer ≡ option_map (λ w. subscription_of w name.now) self.old) }
+        ensures failed { IsOk result ↔ IsSome self.old }
+        ensures same { self.new ≡ self.old }
+    {
+        match &self.rows {
+            Some(rows) => Ok(rows.subscription_of(name)),
+            None => Err(Failed),
+        }
+    }
+
+    /// What a client may do with its channel (1: read, 2: write), nothing where it has no such channel.
+    pub fn rights(&mut self, session: u32, sid: u32) -> Result<Option<u32>, Failed>
+        ensures found { IfOk result (λ answer. Some answer ≡ option_map (λ w. rights_asked w session sid) self.old) }
+        ensures failed { IsOk result ↔ IsSome self.old }
+        ensures same { self.new ≡ self.old }
+    {
+        let Some(rows) = &self.rows else {
+            return Err(Failed);
+        };
+        // Whatever happened, a client was told of the rights that it has.
+        Ok(rows.rights_told(session, sid))
+    }
+
+    /// What a READ_NOTIFY would be answered now. The limit of reads that wait isn't part of it.
+    pub fn read(
+        &mut self,
+        session: u32,
+        sid: u32,
+        dtype: u16,
+        count: u32,
+    ) -> Result<Reading, AskFault>
+        ensures found { IfOk result (λ answer. Some answer ≡ option_map (λ w. reading w session sid dtype count) self.old) }
+        ensures failed { IsErrOf result AskFault.Failed ↔ IsNone self.old }
+        ensures same { self.new ≡ self.old }
+    {
+        match &self.rows {
+            Some(rows) => match rows.reading(session, sid, dtype, count) {
+                Ok(answer) => Ok(answer),
+                Err(_) => Err(AskFault::OutOfMemory),
+            },
+            None => Err(AskFault::Failed),
+        }
+    }
+
+    /// The names to ask servers for: wanted, without a link, by rising bytes, each once.
+    pub fn asks(&mut self) -> Result<Vec<Name>, AskFault>
+        ensures found { IfOk result (λ names. Some names.items ≡ option_map asks self.old) }
+        ensures failed { IsErrOf result AskFault.Failed ↔ IsNone self.old }
+        ensures same { self.new ≡ self.old }
+    {
+        match &self.rows {
+            Some(rows) => match rows.asks() {
+                Ok(names) => Ok(names),
+                Err(_) => Err(AskFault::OutOfMemory),
+            },
+            None => Err(AskFault::Failed),
+        }
+    }
+
+    /// What a client's datagram from this host comes to: the names that it searches for, and the datagram
+    /// to send back for those that lead to connected variables.
+    pub fn search(&mut self, host: &Host, datagram: &[u8]) -> Result<SearchAnswer, AskFault>
+        ensures found { IfOk result (λ answer. IfSome self.old (λ w. IsSearched w host.now datagram.now answer)) }
+        ensures failed { IsErrOf result AskFault.Failed ↔ IsNone self.old }
+        ensures same { self.new ≡ self.old }
+    {
+        match &self.rows {
+            Some(rows) => match search(rows, host, datagram) {
+                Ok(answer) => Ok(answer),
+                Err(_) => Err(AskFault::OutOfMemory),
+            },
+            None => Err(AskFault::Failed),
+        }
+    }
+}
+
+/// What a host's datagram comes to: those names pass that lead to connected variables.
+fn search(rows: &Rows, host: &Host, datagram: &[u8]) -> Result<SearchAnswer, AllocError>
+    ensures { IfOk result (λ answer. IsSearched rows.now host.now datagram.now answer) }
+{
+    let is_found = |name: &Name| rows.is_found(host, name);
+    let found = answer(rows.alloc, datagram, rows.config.port, is_found)?;
+    Ok(found)
+}
+
+/// Gives up for good: a step was refused, and is half done.
+fn give_up(rows: &mut Option<Rows>, refusal: Refusal) -> StepFault
+    ensures cause { result ≢ StepFault.Failed }
+    ensures used_up { result ≡ StepFault.NumbersUsedUp ↔ refusal ≡ Refusal.NumbersUsedUp }
+    ensures out_of_memory { result ≡ StepFault.OutOfMemory ↔ refusal ≡ Refusal.OutOfMemory }
+    ensures failed { rows.new ≡ None }
+{
+    *rows = None;
+    match refusal {
+        Refusal::OutOfMemory => StepFault::OutOfMemory,
+        Refusal::NumbersUsedUp => StepFault::NumbersUsedUp,
+    }
+}

@@ -1,0 +1,185 @@
+//! The pass over links: what servers are owed about them.
+ghost use Rattle.std.specs.Prelude.{◌≡◌, ◌++◌, true, fold, IfOk, IsErrOf, OnOk};
+ghost use Rattle.gateway_state.specs.Notices.{dropped, interest_notices, link_notices, link_notices_of, link_told, links_told, subscribed_to};
+ghost use Rattle.gateway_state.specs.Numbers.{is_past_numbers};
+
+use crate::interest::{is_for, sent_count};
+use crate::numbers::Refusal;
+use crate::state::Rows;
+use crate::upstream::{put_subscription, remove_message};
+use crate::values::time_of;
+use ca_message::ToServer;
+use gateway_state::LinkNotice;
+use link_table::{Counter, Link, LinkState, Subscription};
+use mask_merge::Want;
+use std::alloc::AllocError;
+
+/// What a server is owed because of what the readers of a connected link's variable want.
+fn add_interest_notices(
+    rows: &Rows,
+    notices: &mut Vec<LinkNotice>,
+    link: &Link,
+) -> Result<(), AllocError>
+    ensures { OnOk result (notices.new.items ≡ notices.old.items ++ interest_notices rows.now link.now link.now.state) }
+{
+    let LinkState::Connected { sid, dtype, count } = link.state else {
+        return Ok(());
+    };
+    let want = rows.interest_of(&link.name, count)?;
+    if is_for(want, link.subscription) {
+        return Ok(());
+    }
+    if let Some(subscription) = link.subscription {
+        notices.push(LinkNotice::Cancelled {
+            server: link.server,
+            cid: link.cid,
+            sid,
+            dtype: time_of(dtype),
+            subscription,
+        })?;
+    }
+    let notice = match want {
+        None => LinkNotice::Unread { cid: link.cid },
+        Some(want) => LinkNotice::Subscribed {
+            server: link.server,
+            cid: link.cid,
+            sid,
+            dtype: time_of(dtype),
+            want,
+            sent: sent_count(rows.minor_of(link.server), count, want.count),
+        },
+    };
+    notices.push(notice)?;
+    Ok(())
+}
+
+fn add_link_notices(
+    rows: &Rows,
+    notices: &mut Vec<LinkNotice>,
+    link: &Link,
+) -> Result<(), AllocError>
+    ensures { OnOk result (notices.new.items ≡ notices.old.items ++ link_notices_of rows.now link.now) }
+{
+    add_interest_notices(rows, notices, link)?;
+    if !rows.is_wanted(&link.name)? {
+        notices.push(LinkNotice::Dropped {
+            server: link.server,
+            cid: link.cid,
+            state: link.state,
+        })?;
+    }
+    Ok(())
+}
+
+fn link_notices(rows: &Rows) -> Result<Vec<LinkNotice>, AllocError>
+    ensures { IfOk result (λ notices. notices.items ≡ link_notices rows.now) }
+{
+    let mut notices = Vec::new(rows.alloc);
+    for link in &rows.links {
+        add_link_notices(rows, &mut notices, link)?;
+    }
+    Ok(notices)
+}
+
+#[tactic(auto, unfolding(gateway_state::specs::Telling::sent, gateway_state::specs::Numbers::is_past_numbers))]
+fn subscribe(
+    rows: &mut Rows,
+    server: u32,
+    cid: u32,
+    sid: u32,
+    dtype: u16,
+    want: Want,
+    sent: u32,
+) -> Result<(), Refusal>
+    ensures ok { OnOk result (rows.new ≡ subscribed_to server cid sid dtype want sent rows.old) }
+    ensures used_up { IsErrOf result Refusal.NumbersUsedUp → is_past_numbers (subscribed_to server cid sid dtype want sent rows.old) ≡ true }
+{
+    let Some(id) = rows.numbers.give_out(Counter::Subscription) else {
+        return Err(Refusal::NumbersUsedUp);
+    };
+    let Want { mask, count } = want;
+    let subscription = Subscription {
+        id,
+        mask,
+        count,
+        sent,
+    };
+    put_subscription(&mut rows.links, server, cid, Some(subscription));
+    let said = ToServer::EventAdd {
+        sid,
+        id,
+        dtype,
+        count: sent,
+        mask,
+    };
+    rows.ask(server, &said)?;
+    Ok(())
+}
+
+fn drop_link(rows: &mut Rows, server: u32, cid: u32, state: LinkState) -> Result<(), AllocError>
+    ensures { OnOk result (rows.new ≡ dropped server cid state rows.old) }
+{
+    rows.remove_link(server, cid);
+    match state {
+        LinkState::Creating | LinkState::Unusable => Ok(()),
+        LinkState::Connected { sid, .. } => {
+            rows.ask(server, &ToServer::ClearChannel { sid, cid })
+        }
+    }
+}
+
+fn tell_link(rows: &mut Rows, notice: LinkNotice) -> Result<(), Refusal>
+    ensures ok { OnOk result (rows.new ≡ link_told rows.old notice) }
+    ensures used_up { IsErrOf result Refusal.NumbersUsedUp → is_past_numbers (link_told rows.old notice) ≡ true }
+{
+    match notice {
+        LinkNotice::Cancelled {
+            server,
+            cid,
+            sid,
+            dtype,
+            subscription,
+        } => {
+            put_subscription(&mut rows.links, server, cid, None);
+            let said = ToServer::EventCancel {
+                sid,
+                id: subscription.id,
+                dtype,
+                count: subscription.sent,
+            };
+            Ok(rows.ask(server, &said)?)
+        }
+        LinkNotice::Unread { cid } => {
+            remove_message(&mut rows.cache, cid);
+            Ok(())
+        }
+        LinkNotice::Subscribed {
+            server,
+            cid,
+            sid,
+            dtype,
+            want,
+            sent,
+        } => subscribe(rows, server, cid, sid, dtype, want, sent),
+        LinkNotice::Dropped { server, cid, state } => Ok(drop_link(rows, server, cid, state)?),
+    }
+}
+
+fn tell_each(rows: &mut Rows, notices: &[LinkNotice]) -> Result<(), Refusal>
+    ensures ok { OnOk result (rows.new ≡ fold link_told rows.old notices.now) }
+    ensures used_up { IsErrOf result Refusal.NumbersUsedUp → is_past_numbers (fold link_told rows.old notices.now) ≡ true }
+{
+    for notice in notices {
+        tell_link(rows, *notice)?;
+    }
+    Ok(())
+}
+
+/// Asks servers for what is wanted of each variable, and drops links that are no longer wanted.
+pub(crate) fn tell_links(rows: &mut Rows) -> Result<(), Refusal>
+    ensures ok { OnOk result (rows.new ≡ links_told rows.old) }
+    ensures used_up { IsErrOf result Refusal.NumbersUsedUp → is_past_numbers (links_told rows.old) ≡ true }
+{
+    let notices = link_notices(rows)?;
+    tell_each(rows, &notices)
+}

@@ -1,0 +1,270 @@
+//! Names: where they lead, their links, the rights of their channels, and which are wanted.
+ghost use Rattle.std.specs.Prelude.{◌≡◌, fold, IfOk, OnOk};
+ghost use Rattle.std.specs.List.{list_any};
+ghost use Rattle.std.specs.Option.{option_copied};
+ghost use Rattle.gateway_state.specs.Answer.{native_in};
+ghost use Rattle.gateway_state.specs.Clients.{remembered};
+ghost use Rattle.gateway_state.specs.Reached.{rights_told};
+ghost use Rattle.gateway_state.specs.Rights.{channel_of, is_found, is_served, lead_in, link_connected, link_rights, may_read, rights_of};
+ghost use Rattle.gateway_state.specs.Searches.{leads_to, same_search};
+ghost use Rattle.gateway_state.specs.Variables.{asks, channel_names, is_channel_on, is_connected, is_creating, is_linked, is_missing, is_on, is_wanted, link_of, search_names, with_name, with_unlinked};
+
+use crate::clients::find_session;
+use crate::state::Rows;
+use ca_message::commands::CA_PROTO_ACCESS_RIGHT_READ;
+use channel_table::Channel;
+use gateway_state::{Native, SEARCH_LIMIT, Search, is_real, lead_of, rights_left};
+use link_table::{Link, LinkState};
+use pv_alias::Lead;
+use pv_name::{Host, Name, same_host};
+use std::alloc::AllocError;
+use std::cmp::Ordering;
+
+impl Rows {
+    /// Where the name leads that a session asks for; nothing where it is refused, or where there is no
+    /// such session.
+    pub(crate) fn lead_in(&self, number: u32, name: &Name) -> Result<Option<Lead>, AllocError>
+        ensures { IfOk result (λ lead. lead ≡ lead_in self.now number name.now) }
+    {
+        match find_session(&self.sessions, number) {
+            Some(session) => lead_of(self.alloc, &self.policy, &session.host, name),
+            None => Ok(None),
+        }
+    }
+
+    /// The link of a real name.
+    pub(crate) fn link_of(&self, name: &Name) -> Option<&Link>
+        ensures { option_copied result ≡ link_of self.now name.now }
+    {
+        self.links.iter().find(|row| row.name == *name)
+    }
+
+    /// A session's channel.
+    pub(crate) fn channel_of(&self, session: u32, sid: u32) -> Option<&Channel>
+        ensures { option_copied result ≡ channel_of self.now session sid }
+    {
+        self.channels
+            .iter()
+            .find(|row| row.session == session && row.sid == sid)
+    }
+
+    /// Whether a session's channel stands and is on a variable.
+    pub(crate) fn is_channel_on(&self, name: &Name, session: u32, sid: u32) -> bool
+        ensures { result ≡ is_channel_on name.now (channel_of self.now session sid) }
+    {
+        match self.channel_of(session, sid) {
+            Some(channel) => channel.real == *name,
+            None => false,
+        }
+    }
+
+    fn link_rights(&self, name: &Name) -> u32
+        ensures { result ≡ link_rights (link_of self.now name.now) }
+    {
+        match self.link_of(name) {
+            Some(link) => link.rights,
+            None => 0,
+        }
+    }
+
+    fn link_connected(&self, name: &Name) -> bool
+        ensures { result ≡ link_connected (link_of self.now name.now) }
+    {
+        match self.link_of(name) {
+            Some(link) => is_connected(link.state),
+            None => false,
+        }
+    }
+
+    /// The rights of a channel: those of its link that the policy leaves to its session.
+    pub(crate) fn rights_of(&self, channel: &Channel) -> Result<u32, AllocError>
+        ensures { IfOk result (λ rights. rights ≡ rights_of self.now channel.now) }
+    {
+        let lead = self.lead_in(channel.session, &channel.asked)?;
+        Ok(self.link_rights(&channel.real) & rights_left(&self.policy, lead.as_ref()))
+    }
+
+    /// Whether a channel is served: its name still leads to its real name, whose link is connected.
+    pub(crate) fn is_served(&self, channel: &Channel) -> Result<bool, AllocError>
+        ensures { IfOk result (λ answer. answer ≡ is_served self.now channel.now) }
+    {
+        let lead = self.lead_in(channel.session, &channel.asked)?;
+        Ok(is_real(lead.as_ref(), &channel.real) && self.link_connected(&channel.real))
+    }
+
+    /// What a client was last told that it may do with a channel, nothing where it has no such channel.
+    /// It takes no memory.
+    pub(crate) fn rights_told(&self, session: u32, sid: u32) -> Option<u32>
+        ensures { result ≡ rights_told self.now session sid }
+    {
+        match self.channel_of(session, sid) {
+            Some(channel) => Some(channel.rights),
+            None => None,
+        }
+    }
+
+    /// Whether the name that a host searches for leads to a variable whose link is connected.
+    pub(crate) fn is_found(&self, host: &Host, name: &Name) -> Result<bool, AllocError>
+        ensures { IfOk result (λ answer. answer ≡ is_found self.now host.now name.now) }
+    {
+        match lead_of(self.alloc, &self.policy, host, name)? {
+            Some(lead) => Ok(self.link_connected(&lead.real)),
+            None => Ok(false),
+        }
+    }
+
+    fn is_linked(&self, name: &Name) -> bool
+        ensures { result ≡ is_linked self.now name.now }
+    {
+        self.link_of(name).is_some()
+    }
+
+    /// Whether a remembered search leads to the real name.
+    fn is_searched(&self, name: &Name) -> Result<bool, AllocError>
+        ensures { IfOk result (λ answer. answer ≡ list_any (leads_to self.now.policy name.now) self.now.searches) }
+    {
+        for row in &self.searches {
+            let lead = lead_of(self.alloc, &self.policy, &row.host, &row.name)?;
+            if is_real(lead.as_ref(), name) {
+                return Ok(true);
+            }
+        }
+        Ok(false)
+    }
+
+    /// Whether a channel is open on the real name, or a remembered search leads to it.
+    pub(crate) fn is_wanted(&self, name: &Name) -> Result<bool, AllocError>
+        ensures { IfOk result (λ answer. answer ≡ is_wanted self.now name.now) }
+    {
+        Ok(any_on(&self.channels, name) || self.is_searched(name)?)
+    }
+
+    /// Whether the real name is wanted and has no link.
+    pub(crate) fn is_missing(&self, name: &Name) -> Result<bool, AllocError>
+        ensures { IfOk result (λ answer. answer ≡ is_missing self.now name.now) }
+    {
+        Ok(self.is_wanted(name)? && !self.is_linked(name))
+    }
+
+    /// Adds a name where it has no link.
+    fn add_unlinked(&self, names: &mut Vec<Name>, name: &Name) -> Result<(), AllocError>
+        ensures { OnOk result (names.new.items ≡ with_unlinked self.now names.old.items name.now) }
+    {
+        if self.is_linked(name) {
+            return Ok(());
+        }
+        let name = name.copy()?;
+        add_in_order(names, name)
+    }
+
+    fn add_channel_names(&self, names: &mut Vec<Name>) -> Result<(), AllocError>
+        ensures { OnOk result (names.new.items ≡ fold (with_unlinked self.now) names.old.items (channel_names self.now.clients.channels)) }
+    {
+        for channel in &self.channels {
+            self.add_unlinked(names, &channel.real)?;
+        }
+        Ok(())
+    }
+
+    fn add_search_names(&self, names: &mut Vec<Name>) -> Result<(), AllocError>
+        ensures { OnOk result (names.new.items ≡ fold (with_unlinked self.now) names.old.items (search_names self.now.policy self.now.searches)) }
+    {
+        for row in &self.searches {
+            if let Some(lead) = lead_of(self.alloc, &self.policy, &row.host, &row.name)? {
+                self.add_unlinked(names, &lead.real)?;
+            }
+        }
+        Ok(())
+    }
+
+    /// The names to ask servers for: wanted, without a link, by rising bytes, each once.
+    pub(crate) fn asks(&self) -> Result<Vec<Name>, AllocError>
+        ensures { IfOk result (λ names. names.items ≡ asks self.now) }
+    {
+        let mut names = Vec::new(self.alloc);
+        self.add_channel_names(&mut names)?;
+        self.add_search_names(&mut names)?;
+        Ok(names)
+    }
+
+    /// Somebody at a host looks for a name: that is remembered, once, where there is room.
+    pub(crate) fn remember(&mut self, host: &Host, name: &Name) -> Result<(), AllocError>
+        ensures { OnOk result (self.new ≡ remembered host.now name.now self.old) }
+    {
+        if any_search(&self.searches, host, name) || self.searches.len() >= SEARCH_LIMIT {
+            return Ok(());
+        }
+        let host = host.copy()?;
+        let name = name.copy()?;
+        self.searches.push(Search { host, name })?;
+        Ok(())
+    }
+}
+
+fn any_on(channels: &[Channel], name: &Name) -> bool
+    ensures { result ≡ list_any (is_on name.now) channels.now }
+{
+    channels.iter().any(|channel| channel.real == *name)
+}
+
+fn any_search(rows: &[Search], host: &Host, name: &Name) -> bool
+    ensures { result ≡ list_any (same_search host.now name.now) rows.now }
+{
+    rows.iter()
+        .any(|row| row.name == *name && same_host(&row.host, host))
+}
+
+/// Adds a name to names by rising bytes, where it isn't there yet.
+fn add_in_order(names: &mut Vec<Name>, name: Name) -> Result<(), AllocError>
+    ensures { OnOk result (names.new.items ≡ with_name name names.old.items) }
+{
+    for place in 0..names.len() {
+        match name.text().as_bytes().cmp(names[place].text().as_bytes()) {
+            Ordering::Less => {
+                names.insert(place, name)?;
+                return Ok(());
+            }
+            Ordering::Equal => return Ok(()),
+            Ordering::Greater => {}
+        }
+    }
+    names.push(name)?;
+    Ok(())
+}
+
+/// Whether the rights let a client read.
+pub(crate) fn may_read(rights: u32) -> bool
+    ensures { result ≡ may_read rights }
+{
+    rights & CA_PROTO_ACCESS_RIGHT_READ == CA_PROTO_ACCESS_RIGHT_READ
+}
+
+/// Whether a server made the link's channel, and it can be used.
+fn is_connected(state: LinkState) -> bool
+    ensures { result ≡ is_connected state }
+{
+    match state {
+        LinkState::Creating | LinkState::Unusable => false,
+        LinkState::Connected { .. } => true,
+    }
+}
+
+/// Whether the server was asked for the link's channel and hasn't answered.
+pub(crate) fn is_creating(state: LinkState) -> bool
+    ensures { result ≡ is_creating state }
+{
+    match state {
+        LinkState::Creating => true,
+        LinkState::Connected { .. } | LinkState::Unusable => false,
+    }
+}
+
+/// The type and the count of a connected link's variable.
+pub(crate) fn native_in(state: LinkState) -> Option<Native>
+    ensures { result ≡ native_in state }
+{
+    match state {
+        LinkState::Creating | LinkState::Unusable => None,
+        LinkState::Connected { dtype, count, .. } => Some(Native { dtype, count }),
+    }
+}

@@ -1,0 +1,178 @@
+//! What a server's message does by itself, and links to variables that servers have.
+ghost use Rattle.std.specs.Prelude.{◌≡◌, true, IsErrOf, OnOk};
+ghost use Rattle.gateway_state.specs.Numbers.{is_past_numbers};
+ghost use Rattle.gateway_state.specs.Servers.{channel_dropped, channel_made, channel_returned, creation_refused, found, is_usable, linked, rights_said, server_said};
+
+use crate::names::is_creating;
+use crate::numbers::Refusal;
+use crate::state::Rows;
+use crate::update::update;
+use crate::upstream::{find_link, put_minor, put_state};
+use crate::values::{fits_payload, time_of};
+use crate::write::end_write;
+use ca_header::Message;
+use ca_message::{NameText, ServerReply, ToServer, read_reply};
+use gateway_state::{Dest, PLAIN_TYPES};
+use link_table::{Counter, LINK_LIMIT, Link, LinkState};
+use pv_name::Name;
+use std::alloc::AllocError;
+
+/// A server sent a message.
+pub(crate) fn hear_server(rows: &mut Rows, server: u32, message: Message) -> Result<(), AllocError>
+    ensures { OnOk result (rows.new ≡ server_said rows.old server message) }
+{
+    match read_reply(&message.head, &message.payload) {
+        Ok(ServerReply::Version { minor }) => {
+            put_minor(&mut rows.servers, server, minor);
+            Ok(())
+        }
+        Ok(
+            ServerReply::EventAdd {
+                id,
+                status,
+                dtype,
+                count,
+                ..
+            },
+        ) => {
+            let payload = message.payload.clone()?;
+            update(rows, server, id, status, dtype, count, payload)
+        }
+        Ok(
+            ServerReply::CreateChannel {
+                cid,
+                sid,
+                dtype,
+                count,
+            },
+        ) => make_channel(rows, server, cid, sid, dtype, count),
+        Ok(ServerReply::AccessRights { cid, rights }) => {
+            hear_rights(rows, server, cid, rights);
+            Ok(())
+        }
+        Ok(ServerReply::CreateChannelFail { cid }) => {
+            hear_refusal(rows, server, cid);
+            Ok(())
+        }
+        Ok(ServerReply::ServerDisconnect { cid }) => {
+            hear_disconnect(rows, server, cid);
+            Ok(())
+        }
+        Ok(ServerReply::WriteNotify { ioid, status }) => end_write(rows, server, ioid, status),
+        Err(_) => Ok(()),
+    }
+}
+
+/// The gateway gives up a channel that it doesn't want.
+fn return_channel(rows: &mut Rows, server: u32, sid: u32, cid: u32) -> Result<(), AllocError>
+    ensures { OnOk result (rows.new ≡ channel_returned server sid cid rows.old) }
+{
+    rows.ask(server, &ToServer::ClearChannel { sid, cid })
+}
+
+/// Whether updates of a channel with this native type and count can be taken.
+fn is_usable(dtype: u16, count: u32) -> bool
+    ensures { result ≡ is_usable dtype count }
+{
+    dtype < PLAIN_TYPES && 0 < count && fits_payload(time_of(dtype), count)
+}
+
+/// A server made a channel.
+fn make_channel(
+    rows: &mut Rows,
+    server: u32,
+    cid: u32,
+    sid: u32,
+    dtype: u16,
+    count: u32,
+) -> Result<(), AllocError>
+    ensures { OnOk result (rows.new ≡ channel_made rows.old server cid sid dtype count) }
+{
+    let Some(link) = find_link(&rows.links, server, cid) else {
+        return return_channel(rows, server, sid, cid);
+    };
+    if !is_creating(link.state) {
+        return Ok(());
+    }
+    let rights = link.rights;
+    if is_usable(dtype, count) {
+        let state = LinkState::Connected { sid, dtype, count };
+        put_state(&mut rows.links, server, cid, state, rights);
+        return Ok(());
+    }
+    put_state(&mut rows.links, server, cid, LinkState::Unusable, rights);
+    return_channel(rows, server, sid, cid)
+}
+
+/// A server said what may be done with a channel.
+fn hear_rights(rows: &mut Rows, server: u32, cid: u32, rights: u32)
+    ensures { rows.new ≡ rights_said rows.old server cid rights }
+{
+    if let Some(link) = find_link(&rows.links, server, cid) {
+        let state = link.state;
+        put_state(&mut rows.links, server, cid, state, rights);
+    }
+}
+
+/// A server didn't make a channel.
+fn hear_refusal(rows: &mut Rows, server: u32, cid: u32)
+    ensures { rows.new ≡ creation_refused rows.old server cid }
+{
+    if let Some(link) = find_link(&rows.links, server, cid) {
+        if is_creating(link.state) {
+            rows.remove_link(server, cid);
+        }
+    }
+}
+
+/// A server dropped a channel.
+fn hear_disconnect(rows: &mut Rows, server: u32, cid: u32)
+    ensures { rows.new ≡ channel_dropped rows.old server cid }
+{
+    if let Some(_) = find_link(&rows.links, server, cid) {
+        rows.remove_link(server, cid);
+    }
+}
+
+/// A server has a variable.
+pub(crate) fn find_at(rows: &mut Rows, name: Name, server: u32) -> Result<(), Refusal>
+    ensures ok { OnOk result (rows.new ≡ found rows.old name server) }
+    ensures used_up { IsErrOf result Refusal.NumbersUsedUp → is_past_numbers (found rows.old name server) ≡ true }
+{
+    if rows.is_missing(&name)?
+        && rows.acts(Dest::Upstream(server))
+        && rows.links.len() < LINK_LIMIT
+    {
+        make_link(rows, server, name)
+    } else {
+        Ok(())
+    }
+}
+
+/// Makes a link, and asks the server for a channel.
+#[tactic(auto, unfolding(gateway_state::specs::Telling::sent, gateway_state::specs::Numbers::is_past_numbers))]
+fn make_link(rows: &mut Rows, server: u32, name: Name) -> Result<(), Refusal>
+    ensures ok { OnOk result (rows.new ≡ linked rows.old server name) }
+    ensures used_up { IsErrOf result Refusal.NumbersUsedUp → is_past_numbers (linked rows.old server name) ≡ true }
+{
+    let Some(cid) = rows.numbers.give_out(Counter::Cid) else {
+        return Err(Refusal::NumbersUsedUp);
+    };
+    let asked = name.copy()?;
+    let link = Link {
+        cid,
+        server,
+        name,
+        state: LinkState::Creating,
+        rights: 0,
+        subscription: None,
+    };
+    if rows.links.push(link).is_err() {
+        return Err(Refusal::OutOfMemory);
+    }
+    let said = ToServer::CreateChannel {
+        cid,
+        name: NameText::from(&asked),
+    };
+    Ok(rows.ask(server, &said)?)
+}

@@ -1,0 +1,102 @@
+//! All rows, as plain lists.
+ghost use Rattle.std.specs.Prelude.{◌≡◌, false};
+ghost use Rattle.gateway_state.specs.Gateway.{initial};
+ghost use Rattle.gateway_state.specs.Numbers.{is_past_numbers};
+
+use crate::numbers::Numbers;
+use channel_table::{Channel, ClientSub, Session, WaitingRead};
+use gateway_state::{Config, Connection, LastMessage, Policy, Search};
+use link_table::{Link, Server, WaitingWrite};
+use std::alloc::Global;
+use std::marker::Model;
+
+/// What the gateway knows: each list in the order in which its rows were added. A call that fails may
+/// leave the work half done.
+#[derive(Drop)]
+pub(crate) struct Rows {
+    pub alloc: Global,
+    pub config: Config,
+    /// The rules and the rights of groups.
+    pub policy: Policy,
+    /// The connections that stand, with their outboxes.
+    pub connections: Vec<Connection>,
+    pub sessions: Vec<Session>,
+    pub channels: Vec<Channel>,
+    /// The subscriptions of clients.
+    pub subs: Vec<ClientSub>,
+    /// The reads that wait for a value.
+    pub reads: Vec<WaitingRead>,
+    pub servers: Vec<Server>,
+    pub links: Vec<Link>,
+    /// The writes that wait for what their server says.
+    pub writes: Vec<WaitingWrite>,
+    /// The numbers that are given out.
+    pub numbers: Numbers,
+    /// The last message of each link.
+    pub cache: Vec<LastMessage>,
+    /// The searches that are remembered.
+    pub searches: Vec<Search>,
+}
+
+impl Model for Rows {
+    ghost use Rattle.gateway_state.specs.Gateway.{Gateway};
+    ghost use Rattle.rule_desk.specs.contracts.policy.Policy as the_policy;
+    ghost use Rattle.std.specs.Coded.{codes};
+
+    ghost Value = { Gateway };
+
+    ghost coded = { Prim.hlevel (codes, the_policy.the_row.coded) };
+
+    ghost view = { λ r. record {
+      config = r.config;
+      policy = r.policy;
+      connections = r.connections.items;
+      clients = record {
+        sessions = r.sessions.items;
+        channels = r.channels.items;
+        subs = r.subs.items;
+        reads = r.reads.items;
+      };
+      upstream = record {
+        servers = r.servers.items;
+        links = r.links.items;
+        writes = r.writes.items;
+        counters = r.numbers;
+      };
+      cache = r.cache.items;
+      searches = r.searches.items;
+    } };
+}
+
+impl Rows {
+    /// What is known before any event.
+    pub(crate) fn new(alloc: Global, config: Config, policy: Policy) -> Rows
+        ensures { result ≡ initial config policy }
+    {
+        let first = config.first;
+        Rows {
+            alloc,
+            config,
+            policy,
+            connections: Vec::new(alloc),
+            sessions: Vec::new(alloc),
+            channels: Vec::new(alloc),
+            subs: Vec::new(alloc),
+            reads: Vec::new(alloc),
+            servers: Vec::new(alloc),
+            links: Vec::new(alloc),
+            writes: Vec::new(alloc),
+            numbers: Numbers::new(first),
+            cache: Vec::new(alloc),
+            searches: Vec::new(alloc),
+        }
+    }
+
+    /// No number past the last one was given out, whatever was done: this call does nothing.
+    #[tactic(auto, unfolding(gateway_state::specs::Numbers::is_past_numbers))]
+    pub(crate) fn numbers_are_in_range(&self)
+        ensures { is_past_numbers self.now ≡ false }
+    {
+        self.numbers.are_in_range();
+    }
+}

@@ -1,0 +1,118 @@
+//! One event: its direct effect, and all passes over all rows.
+ghost use Rattle.std.specs.Prelude.{◌≡◌, true, false, IfOk, IsErrOf, OnOk};
+ghost use Rattle.gateway_state.specs.Direct.{direct_effect, searched};
+ghost use Rattle.gateway_state.specs.Numbers.{is_past_numbers};
+ghost use Rattle.gateway_state.specs.Step.{consequences, step, taken};
+
+use crate::channels_pass::tell_channels;
+use crate::client::hear_client;
+use crate::connections::take;
+use crate::links_pass::tell_links;
+use crate::numbers::Refusal;
+use crate::opening::{lose_server, lose_session, open_server, open_session};
+use crate::reads_pass::tell_reads;
+use crate::server::{find_at, hear_server};
+use crate::state::Rows;
+use crate::updates_pass::{tell_updates, withhold_updates};
+use fanout::Out;
+use gateway_state::{Dest, Event, lead_of};
+use pv_name::{Host, Name};
+use std::alloc::AllocError;
+
+/// Performs one event.
+#[tactic(auto, using(gateway_state::proofs::NumberLemmas::consequences_past), unfolding(gateway_state::specs::Step::step))]
+pub(crate) fn step(rows: &mut Rows, event: Event) -> Result<(), Refusal>
+    ensures ok { OnOk result (rows.new ≡ step rows.old event) }
+    ensures used_up { IsErrOf result Refusal.NumbersUsedUp → is_past_numbers (step rows.old event) ≡ true }
+    ensures in_range { OnOk result (is_past_numbers rows.new ≡ false) }
+{
+    perform(rows, event)?;
+    follow(rows)?;
+    rows.numbers_are_in_range();
+    Ok(())
+}
+
+/// Takes the oldest messages of an outbox, in order. This is an event too.
+#[tactic(auto, using(gateway_state::proofs::NumberLemmas::consequences_past), unfolding(gateway_state::specs::Step::step))]
+pub(crate) fn drain(rows: &mut Rows, dest: Dest, count: usize) -> Result<Vec<Out>, Refusal>
+    ensures ok { OnOk result (rows.new ≡ step rows.old (Event.Drain dest count)) }
+    ensures found { IfOk result (λ outs. outs.items ≡ taken rows.old (Event.Drain dest count) dest) }
+    ensures used_up { IsErrOf result Refusal.NumbersUsedUp → is_past_numbers (step rows.old (Event.Drain dest count)) ≡ true }
+    ensures in_range { OnOk result (is_past_numbers rows.new ≡ false) }
+{
+    let outs = take(&mut rows.connections, rows.alloc, dest, count)?;
+    follow(rows)?;
+    rows.numbers_are_in_range();
+    Ok(outs)
+}
+
+/// What follows from an event: all passes, over all rows.
+#[tactic(auto, using(gateway_state::proofs::NumberLemmas::links_told_past))]
+fn follow(rows: &mut Rows) -> Result<(), Refusal>
+    ensures ok { OnOk result (rows.new ≡ consequences rows.old) }
+    ensures used_up { IsErrOf result Refusal.NumbersUsedUp → is_past_numbers (consequences rows.old) ≡ true }
+{
+    tell_channels(rows)?;
+    withhold_updates(rows)?;
+    tell_links(rows)?;
+    tell_reads(rows)?;
+    tell_updates(rows)?;
+    Ok(())
+}
+
+/// What the event does by itself.
+fn perform(rows: &mut Rows, event: Event) -> Result<(), Refusal>
+    ensures ok { OnOk result (rows.new ≡ direct_effect rows.old event) }
+    ensures used_up { IsErrOf result Refusal.NumbersUsedUp → is_past_numbers (direct_effect rows.old event) ≡ true }
+{
+    match event {
+        Event::Opened(number, host) => Ok(open_session(rows, number, host)?),
+        Event::Lost(number) => {
+            lose_session(rows, number);
+            Ok(())
+        }
+        Event::Client(number, message) => {
+            if rows.acts(Dest::Session(number)) {
+                hear_client(rows, number, message)
+            } else {
+                Ok(())
+            }
+        }
+        Event::UpOpened(number) => Ok(open_server(rows, number)?),
+        Event::UpLost(number) => {
+            lose_server(rows, number);
+            Ok(())
+        }
+        Event::Server(number, message) => {
+            if rows.acts(Dest::Upstream(number)) {
+                Ok(hear_server(rows, number, message)?)
+            } else {
+                Ok(())
+            }
+        }
+        Event::Found(name, number) => find_at(rows, name, number),
+        Event::Search(host, name) => Ok(search_for(rows, &host, &name)?),
+        Event::Edit(policy) => {
+            rows.policy = policy;
+            Ok(())
+        }
+        Event::Sweep => {
+            rows.searches.clear();
+            Ok(())
+        }
+        Event::Drain(dest, count) => {
+            let _taken = take(&mut rows.connections, rows.alloc, dest, count)?;
+            Ok(())
+        }
+    }
+}
+
+/// Somebody at a host looks for a name, which is remembered where it leads somewhere.
+fn search_for(rows: &mut Rows, host: &Host, name: &Name) -> Result<(), AllocError>
+    ensures { OnOk result (rows.new ≡ searched host.now name.now rows.old) }
+{
+    match lead_of(rows.alloc, &rows.policy, host, name)? {
+        Some(_) => rows.remember(host, name),
+        None => Ok(()),
+    }
+}

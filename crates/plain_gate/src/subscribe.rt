@@ -1,0 +1,124 @@
+//! EVENT_ADD and EVENT_CANCEL.
+ghost use Rattle.std.specs.Prelude.{◌≡◌, OnOk};
+ghost use Rattle.gateway_state.specs.Subscribing.{is_on_sid, short_subscription, sub_of, sub_verdict, subscription_asked, subscription_cancelled, subscription_refusal};
+
+use crate::clients::{find_sub, remove_sub, sub_count};
+use crate::names::native_in;
+use crate::state::Rows;
+use crate::values::value_refusal;
+use ca_header::Header;
+use ca_message::ToClient;
+use ca_message::codes::{ECA_ALLOCMEM, ECA_BADCHID, ECA_BADMASK, ECA_INTERNAL};
+use ca_message::commands::NO_CHANNEL;
+use channel_table::{ClientSub, SUB_LIMIT};
+use gateway_state::{Native, SubVerdict};
+use mask_merge::KNOWN_EVENTS;
+use std::alloc::AllocError;
+
+/// Why a subscription is refused, the first reason that applies.
+fn subscription_refusal(rows: &Rows, sub: ClientSub, native: Native) -> Option<u32>
+    ensures { result ≡ subscription_refusal rows.now sub native }
+{
+    if find_sub(&rows.subs, sub.session, sub.id).is_some() {
+        return Some(ECA_INTERNAL);
+    }
+    if let Some(code) = value_refusal(native, sub.dtype, sub.count) {
+        return Some(code);
+    }
+    if sub.mask & KNOWN_EVENTS == 0 {
+        Some(ECA_BADMASK)
+    } else if sub_count(&rows.subs, sub.session) >= SUB_LIMIT {
+        Some(ECA_ALLOCMEM)
+    } else {
+        None
+    }
+}
+
+/// What becomes of an EVENT_ADD.
+fn sub_verdict(rows: &Rows, sub: ClientSub) -> SubVerdict
+    ensures { result ≡ sub_verdict rows.now sub }
+{
+    let Some(channel) = rows.channel_of(sub.session, sub.sid) else {
+        return SubVerdict::NoChannel;
+    };
+    let Some(link) = rows.link_of(&channel.real) else {
+        return SubVerdict::Ignored;
+    };
+    let Some(native) = native_in(link.state) else {
+        return SubVerdict::Ignored;
+    };
+    let cid = channel.cid;
+    match subscription_refusal(rows, sub, native) {
+        None => SubVerdict::Accepted,
+        Some(code) => SubVerdict::Refused { cid, code },
+    }
+}
+
+/// A client wants updates.
+pub(crate) fn subscribe_client(
+    rows: &mut Rows,
+    sub: ClientSub,
+    head: &Header,
+) -> Result<(), AllocError>
+    ensures { OnOk result (rows.new ≡ subscription_asked sub head.now rows.old) }
+{
+    match sub_verdict(rows, sub) {
+        SubVerdict::NoChannel => rows.refuse(sub.session, NO_CHANNEL, ECA_BADCHID, head),
+        SubVerdict::Ignored => Ok(()),
+        SubVerdict::Refused { cid, code } => rows.refuse(sub.session, cid, code, head),
+        SubVerdict::Accepted => {
+            rows.subs.push(sub)?;
+            Ok(())
+        }
+    }
+}
+
+/// An EVENT_ADD without all of its fields: the ERROR says which channel it names.
+pub(crate) fn refuse_short(rows: &mut Rows, number: u32, head: &Header) -> Result<(), AllocError>
+    ensures { OnOk result (rows.new ≡ short_subscription rows.old number head.now) }
+{
+    let cid = match rows.channel_of(number, head.p1) {
+        Some(channel) => channel.cid,
+        None => NO_CHANNEL,
+    };
+    rows.refuse(number, cid, ECA_INTERNAL, head)
+}
+
+/// Whether the session's subscription of an ID is on this channel.
+fn is_sub_on(rows: &Rows, number: u32, id: u32, sid: u32) -> bool
+    ensures { result ≡ is_on_sid sid (sub_of rows.now number id) }
+{
+    match find_sub(&rows.subs, number, id) {
+        Some(sub) => sub.sid == sid,
+        None => false,
+    }
+}
+
+/// A client gives up a subscription, which must be on the channel that it names.
+pub(crate) fn cancel_subscription(
+    rows: &mut Rows,
+    number: u32,
+    sid: u32,
+    id: u32,
+    dtype: u16,
+    count: u32,
+    head: &Header,
+) -> Result<(), AllocError>
+    ensures { OnOk result (rows.new ≡ subscription_cancelled number sid id dtype count head.now rows.old) }
+{
+    let Some(channel) = rows.channel_of(number, sid) else {
+        return rows.refuse(number, NO_CHANNEL, ECA_BADCHID, head);
+    };
+    let cid = channel.cid;
+    if !is_sub_on(rows, number, id, sid) {
+        return rows.refuse(number, cid, ECA_INTERNAL, head);
+    }
+    remove_sub(&mut rows.subs, number, id);
+    let said = ToClient::EventCancelled {
+        sid,
+        id,
+        dtype,
+        count,
+    };
+    rows.tell(number, &said)
+}

@@ -1,0 +1,207 @@
+//! WRITE and WRITE_NOTIFY, from clients and from servers.
+ghost use Rattle.std.specs.Prelude.{◌≡◌, true, IfOk, IsErrOf, OnOk};
+ghost use Rattle.gateway_state.specs.Numbers.{is_past_numbers};
+ghost use Rattle.gateway_state.specs.Writing.{may_write, new_write, with_write, write_answered, write_asked, write_ended, write_handed_on, write_judged, write_notify_asked, write_verdict};
+
+use crate::numbers::Refusal;
+use crate::state::Rows;
+use crate::upstream::{find_write, remove_write, write_count};
+use ca_header::Header;
+use ca_message::codes::{ECA_BADCHID, ECA_NOWTACCESS, ECA_PUTFAIL};
+use ca_message::commands::{CA_PROTO_ACCESS_RIGHT_WRITE, NO_CHANNEL};
+use ca_message::{ToClient, ToServer, WriteFault, WrittenValue};
+use channel_table::Channel;
+use gateway_state::WriteVerdict;
+use link_table::{Counter, LinkState, WRITE_LIMIT, WaitingWrite};
+use std::alloc::AllocError;
+
+/// What a client writes: to which of its channels, and which type and how many elements it says.
+#[derive(Clone, Copy, Debug, PartialEq, Eq)]
+pub(crate) struct Write {
+    pub session: u32,
+    pub sid: u32,
+    pub dtype: u16,
+    pub count: u32,
+}
+
+/// Whether the rights let a client write.
+fn may_write(rights: u32) -> bool
+    ensures { result ≡ may_write rights }
+{
+    rights & CA_PROTO_ACCESS_RIGHT_WRITE == CA_PROTO_ACCESS_RIGHT_WRITE
+}
+
+/// A value that isn't fit to be handed on is refused first, then a write without the right.
+fn judge<'a>(
+    rows: &Rows,
+    channel: &Channel,
+    server: u32,
+    sid: u32,
+    value: Result<WrittenValue<'a>, WriteFault>,
+) -> Result<WriteVerdict<'a>, AllocError>
+    ensures { IfOk result (λ verdict. verdict ≡ write_judged rows.now channel.now server sid value.entry) }
+{
+    let cid = channel.cid;
+    match value {
+        Err(fault) => Ok(WriteVerdict::Refused {
+            cid,
+            code: fault.code(),
+        }),
+        Ok(value) if may_write(rows.rights_of(channel)?) => {
+            Ok(WriteVerdict::Accepted { server, sid, value })
+        }
+        Ok(_) => Ok(WriteVerdict::Refused {
+            cid,
+            code: ECA_NOWTACCESS,
+        }),
+    }
+}
+
+/// What becomes of a write.
+fn write_verdict<'a>(
+    rows: &Rows,
+    write: Write,
+    payload: &'a [u8],
+) -> Result<WriteVerdict<'a>, AllocError>
+    ensures { IfOk result (λ verdict. verdict ≡ write_verdict rows.now write.session write.sid write.dtype write.count payload.now) }
+{
+    let Some(channel) = rows.channel_of(write.session, write.sid) else {
+        return Ok(WriteVerdict::NoChannel);
+    };
+    let Some(link) = rows.link_of(&channel.real) else {
+        return Ok(WriteVerdict::Ignored);
+    };
+    match link.state {
+        LinkState::Connected { sid, count, .. } => {
+            let value = WrittenValue::read(write.dtype, write.count, count, payload);
+            judge(rows, channel, link.server, sid, value)
+        }
+        LinkState::Creating | LinkState::Unusable => Ok(WriteVerdict::Ignored),
+    }
+}
+
+/// A client writes a value, and wants no reply.
+pub(crate) fn hear_write(
+    rows: &mut Rows,
+    write: Write,
+    payload: &[u8],
+    head: &Header,
+) -> Result<(), AllocError>
+    ensures { OnOk result (rows.new ≡ write_asked write.session write.sid write.dtype write.count payload.now head.now rows.old) }
+{
+    match write_verdict(rows, write, payload)? {
+        WriteVerdict::NoChannel => rows.refuse(write.session, NO_CHANNEL, ECA_BADCHID, head),
+        WriteVerdict::Ignored => Ok(()),
+        WriteVerdict::Refused { cid, code } => rows.refuse(write.session, cid, code, head),
+        WriteVerdict::Accepted { server, sid, value } => {
+            rows.ask(server, &ToServer::Write { sid, value })
+        }
+    }
+}
+
+/// The client is told how its write ended.
+fn answer_write(rows: &mut Rows, write: Write, ioid: u32, status: u32) -> Result<(), AllocError>
+    ensures { OnOk result (rows.new ≡ write_answered write.session ioid write.dtype write.count status rows.old) }
+{
+    let said = ToClient::WriteNotify {
+        ioid,
+        dtype: write.dtype,
+        count: write.count,
+        status,
+    };
+    rows.tell(write.session, &said)
+}
+
+/// Notes that the write waits, under the next ID, which it gives.
+#[tactic(auto, unfolding(gateway_state::specs::Numbers::is_past_numbers))]
+fn add_write(rows: &mut Rows, write: Write, ioid: u32, server: u32) -> Result<u32, Refusal>
+    ensures ok { OnOk result (rows.new ≡ with_write (new_write rows.old server write.session write.sid write.dtype write.count ioid) rows.old) }
+    ensures id { IfOk result (λ id. id ≡ rows.old.upstream.counters.write) }
+    ensures used_up { IsErrOf result Refusal.NumbersUsedUp → is_past_numbers (with_write (new_write rows.old server write.session write.sid write.dtype write.count ioid) rows.old) ≡ true }
+{
+    let Some(id) = rows.numbers.give_out(Counter::Write) else {
+        return Err(Refusal::NumbersUsedUp);
+    };
+    let waiting = WaitingWrite {
+        server,
+        id,
+        session: write.session,
+        sid: write.sid,
+        dtype: write.dtype,
+        count: write.count,
+        ioid,
+    };
+    match rows.writes.push(waiting) {
+        Ok(()) => Ok(id),
+        Err(_) => Err(Refusal::OutOfMemory),
+    }
+}
+
+/// Hands the write on, unless as many writes of the session wait as may.
+#[tactic(auto, unfolding(gateway_state::specs::Numbers::is_past_numbers, gateway_state::specs::Telling::sent))]
+fn hand_on(
+    rows: &mut Rows,
+    write: Write,
+    ioid: u32,
+    server: u32,
+    sid: u32,
+    value: WrittenValue<'_>,
+) -> Result<(), Refusal>
+    ensures ok { OnOk result (rows.new ≡ write_handed_on write.session write.sid ioid write.dtype write.count server sid value.entry rows.old) }
+    ensures used_up { IsErrOf result Refusal.NumbersUsedUp → is_past_numbers (write_handed_on write.session write.sid ioid write.dtype write.count server sid value.entry rows.old) ≡ true }
+{
+    if write_count(&rows.writes, write.session) >= WRITE_LIMIT {
+        return Ok(answer_write(rows, write, ioid, ECA_PUTFAIL)?);
+    }
+    let id = add_write(rows, write, ioid, server)?;
+    let said = ToServer::WriteNotify {
+        sid,
+        ioid: id,
+        value,
+    };
+    Ok(rows.ask(server, &said)?)
+}
+
+/// A client writes a value, and wants to be told how that ended.
+pub(crate) fn hear_write_notify(
+    rows: &mut Rows,
+    write: Write,
+    ioid: u32,
+    payload: &[u8],
+    head: &Header,
+) -> Result<(), Refusal>
+    ensures ok { OnOk result (rows.new ≡ write_notify_asked write.session write.sid ioid write.dtype write.count payload.now head.now rows.old) }
+    ensures used_up { IsErrOf result Refusal.NumbersUsedUp → is_past_numbers (write_notify_asked write.session write.sid ioid write.dtype write.count payload.now head.now rows.old) ≡ true }
+{
+    match write_verdict(rows, write, payload)? {
+        WriteVerdict::NoChannel => Ok(rows.refuse(write.session, NO_CHANNEL, ECA_BADCHID, head)?),
+        WriteVerdict::Ignored => Ok(()),
+        WriteVerdict::Refused { code, .. } => Ok(answer_write(rows, write, ioid, code)?),
+        WriteVerdict::Accepted { server, sid, value } => {
+            hand_on(rows, write, ioid, server, sid, value)
+        }
+    }
+}
+
+/// A server says how a write ended: the client that asked for it is told, under its own ID of it.
+pub(crate) fn end_write(
+    rows: &mut Rows,
+    server: u32,
+    id: u32,
+    status: u32,
+) -> Result<(), AllocError>
+    ensures { OnOk result (rows.new ≡ write_ended rows.old server id status) }
+{
+    let Some(waiting) = find_write(&rows.writes, server, id) else {
+        return Ok(());
+    };
+    let ioid = waiting.ioid;
+    let write = Write {
+        session: waiting.session,
+        sid: waiting.sid,
+        dtype: waiting.dtype,
+        count: waiting.count,
+    };
+    remove_write(&mut rows.writes, server, id);
+    answer_write(rows, write, ioid, status)
+}

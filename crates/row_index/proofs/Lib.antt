@@ -1,0 +1,5 @@
+pub mod Agreeing
+pub mod Keys
+pub mod Named
+pub mod Owned
+pub mod Slotted

@@ -1,0 +1,29 @@
+use Rattle.std.proofs.Common.{bytes_eq, List, is_some, Some, ◌++◌, ◌∷◌, [], ap, sym, ◌∙◌}
+use Rattle.std.proofs.lemmas.Result.{MatchResult-from_err}
+use Rattle.row_index.specs.Lists.{of}
+use Rattle.row_index.specs.declared.key.Key.{Key}
+use Rattle.row_index.proofs.Named.{of_there, of_nowhere, of_updated, of_kept, same_bytes}
+use Rattle.row_index.proofs.name_lists.NameLists.add.Goals as goal
+
+pub add_first-requires : goal.add_first-requires
+add_first-requires c =
+    rw c.get_mut.follows.holds-at-none (sym (of_nowhere bytes_eq same_bytes c.args.name.now c.self.inside.lists.entries c.in-None.ensures.value))
+
+pub returns-in_ok-push-in-Some-clause-ok : goal.returns-in_ok-push-in-Some-clause-ok
+returns-in_ok-push-in-Some-clause-ok c =
+    let ended : List Key → List Key = λ keys. keys ++ c.args.key ∷ [] in
+    let old = c.self.inside.lists.entries in
+    let there = of_there bytes_eq same_bytes c.args.name.now old c.in-Some.keys.now c.in-Some.ensures.value in
+    let written = c.get_mut.follows.holds c.push.new.self in
+    rw (← c.self.view_is) (
+    of_updated bytes_eq same_bytes ended c.args.name.now old (c.get_mut.follows.lender c.push.new.self).entries (Some c.push.new.self) (written.3 (sym (ap is_some c.in-Some.ensures.value))).0
+    (c.in_ok-push-in-Some.ensures.items ∙ ap (λ keys. keys ++ c.args.key ∷ []) there)
+    )
+
+pub returns-in_err-push-in-Some-clause-err : goal.returns-in_err-push-in-Some-clause-err
+returns-in_err-push-in-Some-clause-err c =
+    let old = c.self.inside.lists.entries in
+    let there = of_there bytes_eq same_bytes c.args.name.now old c.in-Some.keys.now c.in-Some.ensures.value in
+    let written = c.get_mut.follows.holds c.push.new.self in
+    let kept = of_kept bytes_eq same_bytes c.args.name.now old (c.get_mut.follows.lender c.push.new.self).entries (Some c.push.new.self) (written.3 (sym (ap is_some c.in-Some.ensures.value))).0 (c.in_err-push-in-Some.ensures.items ∙ there) in
+    MatchResult-from_err c.from_residual.result _ _ c.from_residual.ensures.0 (λ _. λ n. kept n ∙ ap (λ lists. of lists n) c.self.view_is)

@@ -1,0 +1,42 @@
+use Rattle.std.proofs.Common.{ℕ, nat_eq, ◌≡◌, List, is_some, refl, length, vec_len, Some, None, ap, sym, ◌∙◌}
+use Rattle.std.specs.List.{filter}
+use Rattle.std.proofs.lemmas.Bool.{eqb-true}
+use Rattle.row_index.specs.Lists.{is_not_id}
+use Rattle.row_index.proofs.Named.{of_there, of_updated, of_without, taken_out, no_items}
+use Rattle.row_index.proofs.owner_lists.OwnerLists.remove.Goals as goal
+
+pub returns-in_default : goal.returns-in_default
+returns-in_default c =
+    rw (c.get_mut.follows.holds-at-none, ← c.self.view_is) (of_without nat_eq eqb-true (filter (is_not_id c.args.id)) c.args.owner c.self.inside.lists.entries c.in_default.ensures.value refl)
+
+pub returns-else-is_empty : goal.returns-else-is_empty
+returns-else-is_empty c =
+    let without : List ℕ → List ℕ = filter (is_not_id c.args.id) in
+    let old = c.self.inside.lists.entries in
+    let there = of_there nat_eq eqb-true c.args.owner old c.in-Some.ids.now c.in-Some.ensures.value in
+    let written = c.get_mut.follows.holds c.remove_id.new.ids in
+    rw (← c.self.view_is) (
+    of_updated nat_eq eqb-true without c.args.owner old (c.get_mut.follows.lender c.remove_id.new.ids).entries (Some c.remove_id.new.ids) (written.3 (sym (ap is_some c.in-Some.ensures.value))).0
+    (c.remove_id.ensures ∙ ap without there)
+    )
+
+pub returns-then-is_empty : goal.returns-then-is_empty
+returns-then-is_empty c =
+    let without : List ℕ → List ℕ = filter (is_not_id c.args.id) in
+    let old = c.self.inside.lists.entries in
+    let mid = (c.get_mut.follows.lender c.remove_id.new.ids).entries in
+    let there = of_there nat_eq eqb-true c.args.owner old c.in-Some.ids.now c.in-Some.ensures.value in
+    let written = c.get_mut.follows.holds c.remove_id.new.ids in
+    let none : vec_len c.remove_id.new.ids ≡ 0 = eqb-true (vec_len c.remove_id.new.ids) 0 (sym c.if-is_empty.ensures) in
+    let len = c.remove_id.new.ids.ok in
+    let empty : length c.remove_id.new.ids.items ≡ 0 = sym len.0 ∙ none in
+    rw (← c.self.view_is) (
+    of_updated nat_eq eqb-true without c.args.owner old c.forget.new.lists.entries None
+    (taken_out nat_eq eqb-true c.args.owner old mid c.forget.new.lists.entries (Some c.remove_id.new.ids) (written.3 (sym (ap is_some c.in-Some.ensures.value))).0 c.forget.ensures)
+    (sym (no_items c.remove_id.new.ids.items empty) ∙ c.remove_id.ensures ∙ ap without there)
+    )
+
+pub remove_id-requires : goal.remove_id-requires
+remove_id-requires c =
+    let there = of_there nat_eq eqb-true c.args.owner c.self.inside.lists.entries c.in-Some.ids.now c.in-Some.ensures.value in
+    rw there (rw (← c.self.view_is) at c.requires)

@@ -1,0 +1,52 @@
+-- Lists, each under a name or a number.
+use Rattle.std.specs.Prelude.{◌≡◌, ℕ, List, [], ◌∷◌, ◌++◌, Bool, not, bytes_eq, ◌==◌, nat_eq, if◌then◌else◌}
+use Rattle.std.specs.List.{filter}
+use Rattle.std.specs.Map.{lookup}
+use Rattle.std.specs.Option.{unwrap_or}
+use Rattle.row_index.specs.declared.key.Key.{Key}
+use Rattle.row_index.specs.Rows.{same_key}
+
+module _ {K X : Type 0} (eq : K → K → Bool) where
+  -- what is listed under a name, in the order of adding
+  abbrev pub listed : List (K × List X) → K → List X
+  listed lists name = unwrap_or (lookup (eq name) lists) []
+
+  -- the new lists are the old ones, but that the one under this name is changed by f
+  abbrev pub Changes : K → (List X → List X) → List (K × List X) → List (K × List X) → Type 0
+  Changes name f old new = (n : K) → listed new n ≡ (if eq name n then f (listed old n) else listed old n)
+
+-- the list with one more, as its last
+abbrev pub with_last : {X : Type 0} → X → List X → List X
+with_last x xs = xs ++ x ∷ []
+
+-- the keys under a name, in the order of adding
+abbrev pub of : List (List ℕ × List Key) → List ℕ → List Key
+of lists name = listed bytes_eq lists name
+
+-- another key
+abbrev pub is_not_key : Key → Key → Bool
+is_not_key key other = not (same_key other key)
+
+-- the new lists are the old ones, but that the one under this name has the key as its last
+abbrev pub AddsTo : List ℕ → Key → List (List ℕ × List Key) → List (List ℕ × List Key) → Type 0
+AddsTo name key old new = Changes bytes_eq name (with_last key) old new
+
+-- the new lists are the old ones, but that the one under this name lacks the key
+abbrev pub RemovesFrom : List ℕ → Key → List (List ℕ × List Key) → List (List ℕ × List Key) → Type 0
+RemovesFrom name key old new = Changes bytes_eq name (filter (is_not_key key)) old new
+
+-- each name has the same keys in both
+abbrev pub SameLists : List (List ℕ × List Key) → List (List ℕ × List Key) → Type 0
+SameLists old new = (n : List ℕ) → of new n ≡ of old n
+
+-- the IDs of an owner, in the order of adding
+abbrev pub ids_of : List (ℕ × List ℕ) → ℕ → List ℕ
+ids_of lists owner = listed nat_eq lists owner
+
+-- the same ID
+abbrev pub is_id : ℕ → ℕ → Bool
+is_id id other = other == id
+
+-- another ID
+abbrev pub is_not_id : ℕ → ℕ → Bool
+is_not_id id other = not (is_id id other)

@@ -1,0 +1,35 @@
+//! Rows that are found by their keys, and keys that are found by a name.
+//!
+//! - A [`RowMap`] has its rows in the order of adding, each under a [`Key`] of its own: whose the row
+//!   is, and its ID there. `get`, `get_mut` and `contains` find a row by its key, `count_of` and `of`
+//!   the rows of one owner, and `row` and `rows` any of all of them. Finding a row, adding one, and the
+//!   n-th of an owner cost the same however many there are; `remove` may walk the IDs of the one owner.
+//! - A [`NameLists`] has a list of keys for each name, in the order of adding. A name with no key takes
+//!   no memory.
+//!
+//! `add` may be refused memory, and then changes nothing. `remove` takes none. A contract sees a
+//! `RowMap` as the list of its entries, each a key and a value (`specs/Rows.antt`), and `NameLists` by
+//! the list that each name has (`of` in `specs/Lists.antt`).
+//!
+//! ```
+//! let mut rows = RowMap::new(rt.alloc());
+//! let key = Key { owner: 1, id: 11 };
+//! rows.add(key, "first")?;
+//! rows.add(Key { owner: 2, id: 11 }, "second")?;
+//! assert_eq!(rt; rows.get(key).copied(), Some("first"));
+//! rows.remove(key);
+//! assert_eq!(rt; rows.of(2, 0).copied(), Some("second"));
+//! assert_eq!(rt; rows.count_of(1), 0);
+//! ```
+#![tactic(auto)]
+
+mod key;
+mod name_lists;
+mod owner_lists;
+mod row_map;
+mod slot;
+mod slots;
+
+pub use key::Key;
+pub use name_lists::NameLists;
+pub use row_map::RowMap;

@@ -1,0 +1,106 @@
+//! Lists of keys by names.
+ghost use Rattle.std.specs.Prelude.{◌≡◌, ℕ, List, [], None, OnOk, OnErr, bytes_eq, if◌then◌else◌};
+ghost use Rattle.std.specs.List.{filter};
+ghost use Rattle.indexmap.specs.IndexMap.{get};
+ghost use Rattle.row_index.specs.Lists.{of, is_not_key, AddsTo, RemovesFrom, SameLists};
+
+use crate::key::Key;
+use indexmap::IndexMap;
+use pv_name::Name;
+use std::alloc::{AllocError, Global};
+use std::marker::Model;
+
+/// Lists of keys, each under a name, in the order of adding. A name with no key takes no memory.
+#[derive(Drop)]
+pub struct NameLists {
+    lists: IndexMap<Name, Vec<Key>>,
+    alloc: Global,
+}
+
+impl Model for NameLists {
+    ghost use Rattle.std.specs.Prelude.{ℕ, List, map};
+    ghost use Rattle.row_index.specs.declared.key.Key.{Key as RowKey};
+
+    ghost Value = { List (List ℕ × List RowKey) };
+
+    ghost view = { λ l. map (λ list. (list.0, list.1.items)) l.lists.entries };
+}
+
+impl NameLists {
+    /// No key. This takes no memory.
+    pub fn new(alloc: Global) -> NameLists
+        ensures { (name : List ℕ) → of result name ≡ [] }
+    {
+        NameLists {
+            lists: IndexMap::new(alloc),
+            alloc,
+        }
+    }
+
+    /// The keys under this name, in the order of adding.
+    pub fn of(&self, name: &Name) -> &[Key]
+        ensures { result.now ≡ of self.now name.now }
+    {
+        match self.lists.get(name) {
+            Some(keys) => keys,
+            None => &[],
+        }
+    }
+
+    /// Adds a key under this name, as its last. At an error nothing changes.
+    pub fn add(&mut self, name: &Name, key: Key) -> Result<(), AllocError>
+        ensures ok { OnOk result (AddsTo name.now key self.old self.new) }
+        ensures err { OnErr result (SameLists self.old self.new) }
+    {
+        match self.lists.get_mut(name) {
+            Some(keys) => {
+                keys.push(key)?;
+                Ok(())
+            }
+            None => self.add_first(name, key),
+        }
+    }
+
+    // Adds the first key under this name.
+    fn add_first(&mut self, name: &Name, key: Key) -> Result<(), AllocError>
+        requires { of self.old name.now ≡ [] }
+        ensures ok { OnOk result (AddsTo name.now key self.old self.new) }
+        ensures err { OnErr result (SameLists self.old self.new) }
+    {
+        let Ok(copy) = name.copy() else {
+            return Err(AllocError);
+        };
+        let mut keys = Vec::new(self.alloc);
+        keys.push(key)?;
+        match self.lists.insert(copy, keys) {
+            Ok(_) => Ok(()),
+            Err(_) => Err(AllocError),
+        }
+    }
+
+    /// Removes a key under this name, if it stands there. This takes no memory.
+    pub fn remove(&mut self, name: &Name, key: Key)
+        ensures { RemovesFrom name.now key self.old self.new }
+    {
+        let Some(keys) = self.lists.get_mut(name) else {
+            return;
+        };
+        remove_key(keys, key);
+        if keys.is_empty() {
+            forget(&mut self.lists, name);
+        }
+    }
+}
+
+fn remove_key(keys: &mut Vec<Key>, key: Key)
+    ensures { keys.new.items ≡ filter (is_not_key key) keys.old.items }
+{
+    keys.retain(|other| *other != key);
+}
+
+// Takes out a list, with its name.
+fn forget(lists: &mut IndexMap<Name, Vec<Key>>, name: &Name)
+    ensures { (n : List ℕ) → get bytes_eq lists.new n ≡ (if bytes_eq name.now n then None else get bytes_eq lists.old n) }
+{
+    lists.swap_remove(name);
+}

@@ -1,0 +1,187 @@
+//! Rows in slots, with the place of each.
+ghost use Rattle.std.specs.Prelude.{◌≡◌, ◌+◌, ◌<◌, ◌≤◌, [], ◌∷◌, ◌++◌, Some, None, if◌then◌else◌, IfOk, OnOk, OnErr, length, map, slice_get};
+ghost use Rattle.std.specs.List.{filter};
+ghost use Rattle.std.specs.Option.{option_copied, option_copied_mut};
+ghost use Rattle.std.specs.Borrow.{sem};
+ghost use Rattle.indexmap.specs.IndexMap.{get, index_map_len, spare};
+ghost use Rattle.row_index.specs.declared.key.Key.{Key as RowKey};
+ghost use Rattle.row_index.specs.Rows.{same_key, lacks_key, value_at, row_of, HasKeysApart};
+ghost use Rattle.row_index.specs.Slots.{is_full, filled, Agrees};
+
+use crate::key::Key;
+use crate::slot::Slot;
+use indexmap::IndexMap;
+use std::alloc::{AllocError, Global};
+use std::marker::Model;
+
+/// Rows in the order of adding. A row that goes leaves its slot empty, so that no other row moves; at
+/// least half of the slots have a row, so that walking them costs what there is.
+#[derive(Drop)]
+pub(crate) struct Slots<V> {
+    slots: Vec<Slot<V>>,
+    places: IndexMap<Key, usize>,
+}
+
+impl<V> Model for Slots<V> {
+    ghost use Rattle.std.specs.Prelude.{List};
+    ghost use Rattle.row_index.specs.declared.key.Key.{Key as RowKey};
+    ghost use Rattle.row_index.specs.Slots.{filled, Agrees};
+
+    ghost Value = { List (RowKey × V) };
+
+    ghost view = { λ s. filled s.slots.items };
+
+    ghost invariant = { λ s. Agrees s.slots.items s.places.entries };
+}
+
+impl<V> Slots<V> {
+    ghost use Rattle.row_index.specs.SlotsLends.{lends_value};
+
+    pub(crate) fn new(alloc: Global) -> Slots<V>
+        ensures { result ≡ [] }
+    {
+        Slots {
+            slots: Vec::new(alloc),
+            places: IndexMap::new(alloc),
+        }
+    }
+
+    pub(crate) fn len(&self) -> usize
+        ensures { result ≡ length self.now }
+    {
+        self.places.len()
+    }
+
+    pub(crate) fn get(&self, key: Key) -> Option<&V>
+        ensures { option_copied result ≡ value_at key self.now }
+    {
+        match self.places.get(&key) {
+            Some(place) => self.slots[*place].value(),
+            None => None,
+        }
+    }
+
+    pub(crate) fn get_mut(&mut self, key: Key) -> Option<&mut V>
+        ensures* writes_back { sem 𝓛 (lends_value V.row self.entry key result) }
+        ensures value { option_copied_mut result ≡ value_at key self.old }
+    {
+        match self.places.get(&key) {
+            Some(place) => {
+                let place = *place;
+                self.slots[place].value_mut()
+            }
+            None => None,
+        }
+    }
+
+    pub(crate) fn add(&mut self, key: Key, value: V) -> Result<(), AllocError>
+    where
+        V: Drop,
+        requires new { value_at key self.old ≡ None }
+        ensures ok { OnOk result (self.new ≡ self.old ++ (key, value) ∷ []) }
+        ensures err { OnErr result (self.new ≡ self.old) }
+    {
+        self.places.reserve(1)?;
+        let place = self.slots.len();
+        self.slots.push(Slot::Full(key, value))?;
+        put_place(&mut self.places, key, place);
+        Ok(())
+    }
+
+    pub(crate) fn remove(&mut self, key: Key)
+    where
+        V: Drop,
+        ensures { self.new ≡ filter (lacks_key key) self.old }
+    {
+        take_out(&mut self.slots, &mut self.places, key);
+        if self.slots.len() / 2 > self.places.len() {
+            squeeze(&mut self.slots, &mut self.places);
+        }
+    }
+
+    pub(crate) fn row(&self, n: usize) -> Option<&V>
+        ensures { option_copied result ≡ slice_get (map row_of self.now) n }
+    {
+        let mut left = n;
+        for slot in &self.slots {
+            if let Some(value) = slot.value() {
+                if left == 0 {
+                    return Some(value);
+                }
+                left -= 1;
+            }
+        }
+        None
+    }
+
+    pub(crate) fn rows(&self, alloc: Global) -> Result<Vec<&V>, AllocError>
+        ensures { IfOk result (λ rows. map (λ row. row.now) rows.items ≡ map row_of self.now) }
+    {
+        let mut rows = Vec::new(alloc);
+        for slot in &self.slots {
+            if let Some(value) = slot.value() {
+                rows.push(value)?;
+            }
+        }
+        Ok(rows)
+    }
+
+    pub(crate) fn has_keys_apart(&self)
+        ensures { HasKeysApart self.now }
+    {
+        let _ = &self.slots;
+    }
+}
+
+// Empties the slot of a row.
+fn take_out<V: Drop>(slots: &mut Vec<Slot<V>>, places: &mut IndexMap<Key, usize>, key: Key)
+    requires agree { Agrees slots.old.items places.old.entries }
+    ensures rows { filled slots.new.items ≡ filter (lacks_key key) (filled slots.old.items) }
+    ensures agree { Agrees slots.new.items places.new.entries }
+{
+    if let Some(place) = places.swap_remove(&key) {
+        slots[place] = Slot::Empty;
+    }
+}
+
+// Notes the place of a new key. Since there is room for it, no memory is taken.
+fn put_place(places: &mut IndexMap<Key, usize>, key: Key, place: usize)
+    requires room { 0 < spare places.old }
+    requires new { get same_key places.old key ≡ None }
+    ensures found { (q : RowKey) → get same_key places.new q ≡ (if same_key key q then Some place else get same_key places.old q) }
+    ensures count { index_map_len places.new ≡ index_map_len places.old + 1 }
+    ensures room { spare places.old ≤ spare places.new + 1 }
+{
+    places.insert(key, place).unwrap();
+}
+
+// Takes the empty slots away.
+fn squeeze<V: Drop>(slots: &mut Vec<Slot<V>>, places: &mut IndexMap<Key, usize>)
+    requires agree { Agrees slots.old.items places.old.entries }
+    ensures rows { filled slots.new.items ≡ filled slots.old.items }
+    ensures agree { Agrees slots.new.items places.new.entries }
+{
+    keep_full(slots);
+    renew(slots, places);
+}
+
+fn keep_full<V: Drop>(slots: &mut Vec<Slot<V>>)
+    ensures { slots.new.items ≡ filter is_full slots.old.items }
+{
+    slots.retain(|slot| slot.is_full());
+}
+
+// Finds the places of all rows anew. Since there is room for them, no memory is taken.
+fn renew<V>(slots: &[Slot<V>], places: &mut IndexMap<Key, usize>)
+    requires apart { HasKeysApart (filled slots.now) }
+    requires room { length slots.now ≤ index_map_len places.old + spare places.old }
+    ensures { Agrees slots.now places.new.entries }
+{
+    places.clear();
+    for (place, slot) in slots.iter().enumerate() {
+        match slot {
+            Slot::Full(key, _) => put_place(places, *key, place),
+            Slot::Empty => {}
+        }
+    }
+}

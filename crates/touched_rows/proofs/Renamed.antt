@@ -1,0 +1,82 @@
+-- A session that says where it is: names lead where they led for all other sessions, and for this one too
+-- where its host is fixed.
+use Rattle.std.proofs.Common.{◌≡◌, ℕ, List, [], ◌∷◌, length, Bool, true, false, cond, eqb, not, ◌&&◌, ◌||◌, Option, Some, None, refl, sym, ap, subst, ◌∙◌, arith}
+use Rattle.std.specs.Prelude.{filter}
+use Rattle.std.specs.List.{All, find}
+use Rattle.std.proofs.lemmas.Bool.{eqb-true}
+use Rattle.std.proofs.lemmas.List.Elements.{All-cons, All-nil, All-weaker}
+use Rattle.std.proofs.lemmas.List.Sums.{length-filter}
+use Rattle.rows.specs.Rows.{change_first}
+use Rattle.rows.proofs.RowLemmas.{change_first_kept, change_first_unfound}
+use Rattle.channel_table.specs.declared.channels.Channel.{Channel}
+use Rattle.channel_table.specs.declared.sessions.Session.{Session}
+use Rattle.channel_table.specs.Channels.{is_channel_of}
+use Rattle.channel_table.specs.ClientRows.{channel_count}
+use Rattle.channel_table.specs.Sessions.{is_numbered}
+use Rattle.gateway_state.specs.Clients.{host_named, renamed}
+use Rattle.gateway_state.specs.Gateway.{Gateway}
+use Rattle.gateway_state.specs.Rights.{lead_for, lead_in}
+use Rattle.gateway_state.specs.Settled.{IsSettled}
+use Rattle.gateway_state.specs.Step.{consequences}
+use Rattle.gateway_state.specs.Updates.{is_taking}
+use Rattle.gateway_state.proofs.SettledSteps.{settled_stays}
+use Rattle.touched_rows.specs.Touches.{follows, host_touches, host_touches_over}
+use Rattle.touched_rows.specs.declared.touched.Touched.TheVariants.{All as Everything, Nothing}
+use Rattle.touched_rows.proofs.Blanked.{found_other}
+use Rattle.touched_rows.proofs.Sessions.{other_number, paused_kept, settled_sessions, unhosted}
+
+-- no row passes where the list of those that do is empty
+none_passing : {A : Type 0} (test : A → Bool) (rows : List A) → length (filter test rows) ≡ 0 → All (λ (row : A). test row ≡ false) rows
+none_passing {A = A} test [] none = All-nil (λ (row : A). test row ≡ false)
+none_passing {A = A} test (row ∷ rows) none = by (test row) refl none (λ later. none_passing test rows later)
+  where
+    by : (is : Bool) → test row ≡ is → length (cond is (row ∷ filter test rows) (filter test rows)) ≡ 0 → (length (filter test rows) ≡ 0 → All (λ (x : A). test x ≡ false) rows)
+        → All (λ (x : A). test x ≡ false) (row ∷ rows)
+    by true is none rest = absurd (omega (arith, none))
+    by false is none rest = All-cons (λ (x : A). test x ≡ false) row rows is (rest none)
+
+renamed_number : (host : List ℕ) (number : ℕ) (row : Session) → is_numbered number (renamed host row) ≡ is_numbered number row
+renamed_number host number row = elim row.host_fixed as (λ t. is_numbered number (cond t row (record row { host = host })) ≡ is_numbered number row) [ true ↦ refl | false ↦ refl ]
+
+renamed_unhosted : (host : List ℕ) (row : Session) → unhosted (renamed host row) ≡ unhosted row
+renamed_unhosted host row = elim row.host_fixed as (λ t. unhosted (cond t row (record row { host = host })) ≡ unhosted row) [ true ↦ refl | false ↦ refl ]
+
+module _ (w : Gateway) (settled : IsSettled w) (number : ℕ) (host : List ℕ) where
+  abbrev named : Gateway
+  named = host_named number host w
+
+  abbrev rows : List Session
+  rows = change_first (is_numbered number) (renamed host) w.clients.sessions
+
+  -- where the session's row stays as it is
+  unchanged : rows ≡ w.clients.sessions → IsSettled named
+  unchanged same = subst (λ (sessions : List Session). IsSettled (record w { clients = record w.clients { sessions = sessions } })) (sym same) settled
+
+  -- where the session has no channel
+  found_same : (of : ℕ) → eqb of number ≡ false → find (is_numbered of) rows ≡ find (is_numbered of) w.clients.sessions
+  found_same of differ =
+      found_other (is_numbered of) (is_numbered number) (renamed host) w.clients.sessions
+      (λ row is. let other = other_number number of differ row is in (other, renamed_number host of row ∙ other))
+
+  without_channels : channel_count number w.clients ≡ 0 → IsSettled named
+  without_channels none =
+      settled_sessions w settled rows
+      (All-weaker (λ (c : Channel). is_channel_of number c ≡ false) (λ (c : Channel). lead_for w.policy c.asked (find (is_numbered c.session) rows) ≡ lead_in w c.session c.asked)
+      (λ c differ. ap (lead_for w.policy c.asked) (found_same c.session differ)) w.clients.channels (none_passing (is_channel_of number) w.clients.channels (length-filter (is_channel_of number) w.clients.channels ∙ none)))
+      (λ other open_to.
+      ap (λ (paused : Bool). not paused && is_taking w other)
+      (sym (paused_kept (renamed host) (renamed_unhosted host) (is_numbered number) other (renamed_number host other) w.clients.sessions))
+      ∙ open_to)
+
+  pub told_after_renaming : consequences (host_named number host w) ≡ follows (host_touches w number) (host_named number host w)
+  told_after_renaming = by (find (is_numbered number) w.clients.sessions) refl
+    where
+      over : (row : Session) → find (is_numbered number) w.clients.sessions ≡ Some row → (is_fixed is_none : Bool) → row.host_fixed ≡ is_fixed → eqb (channel_count number w.clients) 0 ≡ is_none
+          → consequences named ≡ follows (cond (is_fixed || is_none) Nothing Everything) named
+      over row is true is_none e none = settled_stays named (unchanged (change_first_kept (is_numbered number) (renamed host) w.clients.sessions row is (rw e refl)))
+      over row is false true e none = settled_stays named (without_channels (eqb-true (channel_count number w.clients) 0 none))
+      over row is false false e none = refl
+
+      by : (found : Option Session) → find (is_numbered number) w.clients.sessions ≡ found → consequences named ≡ follows (host_touches_over (channel_count number w.clients) found) named
+      by None is = settled_stays named (unchanged (change_first_unfound (is_numbered number) (renamed host) w.clients.sessions is))
+      by (Some row) is = over row is row.host_fixed (eqb (channel_count number w.clients) 0) refl refl
