@@ -10,13 +10,12 @@ ghost use Rattle.gateway_state.specs.Asked.{stands, ends, queued};
 ghost use Rattle.gateway_state.specs.Interest.{subscription_of};
 ghost use Rattle.gateway_state.specs.Rights.{rights_asked};
 ghost use Rattle.gateway_state.specs.Variables.{asks};
-ghost use Rattle.gateway_core.specs.Searching.{IsSearched};
+ghost use Rattle.gate_calls.specs.Searching.{IsSearched};
 
-use crate::NoMemory;
-use crate::fault::{Failed, StepFault};
 use crate::search::search;
 use crate::step::{drain, step};
 use fanout::Out;
+use gate_calls::{AskFault, Failed, NoMemory, StepFault};
 use gateway_rows::{Refusal, Rows};
 use gateway_state::{Config, Dest, Event, Policy, Reading, Sub};
 use pv_name::{Host, Name};
@@ -24,15 +23,6 @@ use pv_search::SearchAnswer;
 use std::alloc::Global;
 use std::collections::VecDeque;
 use std::marker::Model;
-
-/// Why a question isn't answered. Nothing changed.
-#[derive(Clone, Copy, Debug, PartialEq, Eq)]
-pub enum AskFault {
-    /// Memory was refused.
-    OutOfMemory,
-    /// An earlier step was refused.
-    Failed,
-}
 
 /// The gateway, one event at a time. A refused step leaves it failed for good.
 #[derive(Drop)]

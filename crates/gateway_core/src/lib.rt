@@ -14,16 +14,13 @@
 
 mod connections;
 mod engine;
-mod fault;
+mod gate;
 pub mod laws;
 mod search;
 mod step;
 
-pub use engine::{AskFault, Engine};
+pub use engine::Engine;
 pub use fanout::Out;
-pub use fault::{Failed, StepFault};
+pub use gate_calls::{AskFault, Failed, NoMemory, StepFault};
 pub use gateway_state::{Config, Dest, Event, Policy, Reading, Sub};
 pub use pv_search::SearchAnswer;
-
-/// Want of memory, of a call that fails for nothing else.
-pub type NoMemory = std::alloc::AllocError;

@@ -10,13 +10,13 @@ ghost use Rattle.gateway_state.specs.Asked.{stands, ends, queued};
 ghost use Rattle.gateway_state.specs.Interest.{subscription_of};
 ghost use Rattle.gateway_state.specs.Rights.{rights_asked};
 ghost use Rattle.gateway_state.specs.Variables.{asks};
-ghost use Rattle.gateway_core.specs.Searching.{IsSearched};
+ghost use Rattle.gate_calls.specs.Searching.{IsSearched};
 
 use crate::numbers::Refusal;
 use crate::state::Rows;
 use crate::step::{drain, step};
 use fanout::Out;
-use gateway_core::{AskFault, Failed, NoMemory, StepFault};
+use gate_calls::{AskFault, Failed, NoMemory, StepFault};
 use gateway_state::{Config, Dest, Event, Policy, Reading, Sub};
 use pv_name::{Host, Name};
 use pv_search::{SearchAnswer, answer};

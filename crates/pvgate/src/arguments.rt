@@ -93,8 +93,15 @@ Example:
 /// The programs that a command line can name.
 #[derive(Clone, Copy, Debug)]
 pub enum Program<'a> {
-    Replay,
+    Replay(Body),
     CheckRules(CheckRules<'a>),
+}
+
+/// The gateway that a script is performed on.
+#[derive(Clone, Copy, Debug)]
+pub enum Body {
+    Engine,
+    Plain,
 }
 
 /// What `check-rules` is to check: the paths of the files, and the name and the host that it is
@@ -114,21 +121,30 @@ pub fn read<'a>(alloc: Global, words: &'a [String]) -> Result<Program<'a>, Error
         .about(ABOUT)
         .arg_required_else_help(true)
         .subcommand_required(true)
-        .subcommand(replay_command(alloc))?
+        .subcommand(replay_command(alloc)?)?
         .subcommand(check_rules_command(alloc)?)?;
     let matches = command.try_get_matches_from(words)?;
-    Ok(match matches.subcommand_matches("check-rules") {
-        Some(found) => Program::CheckRules(check_rules_arguments(found)),
-        // The other subcommand was named.
-        None => Program::Replay,
-    })
+    if let Some(found) = matches.subcommand_matches("check-rules") {
+        return Ok(Program::CheckRules(check_rules_arguments(found)));
+    }
+    // The other subcommand was named.
+    let found = matches.subcommand_matches("replay");
+    let is_plain = found.is_some_and(|found| found.get_flag("plain"));
+    Ok(Program::Replay(if is_plain { Body::Plain } else { Body::Engine }))
 }
 
-fn replay_command<'a>(alloc: Global) -> Command<'a> {
-    Command::new(alloc, "replay")
-        .about(REPLAY_ABOUT)
-        .long_about(REPLAY_LONG_ABOUT)
-        .after_help(REPLAY_AFTER_HELP)
+fn replay_command<'a>(alloc: Global) -> Result<Command<'a>, Error> {
+    let plain = Arg::new(alloc, "plain")
+        .long("plain")
+        .help("Performs it on the plain gateway, which is slow, and prints the same")
+        .action(ArgAction::SetTrue);
+    Ok(
+        Command::new(alloc, "replay")
+            .about(REPLAY_ABOUT)
+            .long_about(REPLAY_LONG_ABOUT)
+            .after_help(REPLAY_AFTER_HELP)
+            .arg(plain)?,
+    )
 }
 
 fn check_rules_command<'a>(alloc: Global) -> Result<Command<'a>, Error> {

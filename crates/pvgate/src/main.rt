@@ -5,10 +5,10 @@ mod arguments;
 mod check_rules;
 mod fault;
 
-use arguments::Program;
+use arguments::{Body, Program};
 use check_rules::check_rules;
 use clap::error::ErrorKind;
-use replay::{replay, status};
+use replay::{replay, replay_plain, status};
 use std::io::BufWriter;
 use std::process::ExitCode;
 use std::{env, io};
@@ -33,7 +33,7 @@ fn run(rt: &HostRuntime) -> io::Result<u8> {
     let alloc = rt.alloc();
     let words: Vec<String> = env::args(rt)?.collect(alloc)?;
     match arguments::read(alloc, &words) {
-        Ok(Program::Replay) => replay_script(rt),
+        Ok(Program::Replay(body)) => replay_script(rt, body),
         Ok(Program::CheckRules(arguments)) => match check_rules(rt, &arguments) {
             Ok(status) => Ok(status),
             Err(fault) => {
@@ -53,10 +53,13 @@ fn run(rt: &HostRuntime) -> io::Result<u8> {
 }
 
 /// Replays the script on standard input.
-fn replay_script(rt: &HostRuntime) -> io::Result<u8> {
+fn replay_script(rt: &HostRuntime, body: Body) -> io::Result<u8> {
     let alloc = rt.alloc();
     let mut out = BufWriter::new(alloc, io::writer(rt))?;
-    let ended = replay(alloc, rt.reader(), &mut out);
+    let ended = match body {
+        Body::Engine => replay(alloc, rt.reader(), &mut out),
+        Body::Plain => replay_plain(alloc, rt.reader(), &mut out),
+    };
     if ended == status::STREAM_FAILED {
         let _ = eprintln!(rt;
             "pvgate: the script can't be read, or what it prints can't be written"

@@ -11,15 +11,18 @@
 //! ```
 //!
 //! Here the status is `status::GOOD`, and `out` is the line of the VERSION message that the client
-//! is greeted with. `replay_text` has the lines of scripts, and those that are printed; `script_player`
-//! performs them.
+//! is greeted with. [`replay_plain`] does the same on the plain gateway, to compare the two.
+//! `replay_text` has the lines of scripts, and those that are printed; `script_player` performs them.
 #![tactic(auto)]
 
 ghost use Rattle.std.specs.Prelude.{◌≡◌, ℕ, IsSome};
 ghost use Rattle.script_player.specs.Replay.{EndsIn, IsStatus, bad_line};
 ghost use Rattle.script_player.specs.Script.{IsBadAt, IsGood};
 
-use gateway_core::{Config, Engine, Policy};
+use gate_calls::Gate;
+use gateway_core::Engine;
+use gateway_state::{Config, Policy};
+use plain_gate::PlainGate;
 use pv_name::Name;
 use script_player::play;
 pub use script_player::status;
@@ -37,20 +40,33 @@ pub fn replay<R: Read + Drop, W: Write>(alloc: Global, reader: R, writer: &mut W
     ensures bad { result ≡ 2 → (number : ℕ) × IsBadAt (R.remaining reader) number
         × (((held : W) → IsSome (W.contents held)) → EndsIn (W.contents writer.new) (bad_line number)) }
 {
-    match gateway(alloc) {
+    match gateway::<Engine>(alloc) {
         Some(engine) => play(alloc, engine, reader, writer),
+        None => status::FAILED,
+    }
+}
+
+/// The same on the plain gateway, which is slow, and to be compared with the other.
+pub fn replay_plain<R: Read + Drop, W: Write>(alloc: Global, reader: R, writer: &mut W) -> u8
+    ensures among { IsStatus result }
+    ensures good { result ≡ 0 → IsGood (R.remaining reader) }
+    ensures bad { result ≡ 2 → (number : ℕ) × IsBadAt (R.remaining reader) number
+        × (((held : W) → IsSome (W.contents held)) → EndsIn (W.contents writer.new) (bad_line number)) }
+{
+    match gateway::<PlainGate>(alloc) {
+        Some(gate) => play(alloc, gate, reader, writer),
         None => status::FAILED,
     }
 }
 
 /// The gateway that scripts are performed on. It admits every name. There is none where memory is
 /// refused.
-fn gateway(alloc: Global) -> Option<Engine> {
+fn gateway<G: Gate>(alloc: Global) -> Option<G> {
     let config = Config {
         client_name: Name::read(alloc, b"pvgate").ok()?,
         host_name: Name::read(alloc, b"gw").ok()?,
         port: 5064,
         first: 1,
     };
-    Engine::new(alloc, config, Policy::open_to_all(alloc)).ok()
+    G::new(alloc, config, Policy::open_to_all(alloc)).ok()
 }

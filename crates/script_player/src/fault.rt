@@ -3,7 +3,7 @@ ghost use Rattle.std.specs.Prelude.{◌≡◌};
 ghost use Rattle.script_player.specs.Replay.{IsStatus, status_of};
 
 use crate::status;
-use gateway_core::{AskFault, Failed, StepFault};
+use gate_calls::{AskFault, Failed, StepFault};
 use std::alloc::{AllocError, AllocFailed};
 use std::io;
 use thiserror::Error;
@@ -25,10 +25,10 @@ pub enum Fault {
     /// The script can't be read, or what is printed can't be written.
     #[error("a stream failed")]
     StreamFailed,
-    /// Memory was refused outside the engine.
+    /// Memory was refused outside the gateway's steps.
     #[error("out of memory")]
     OutOfMemory,
-    /// The engine refused a step, and is failed for good.
+    /// The gateway refused a step, and is failed for good.
     #[error("the engine failed")]
     EngineFailed,
 }

@@ -1,13 +1,13 @@
 //! A script, performed on a gateway that is there already.
 //!
-//! [`play`] takes a script from a reader, performs it line by line on an engine, with no network, and
+//! [`play`] takes a script from a reader, performs it line by line on a gateway, with no network, and
 //! writes what the gateway sends to each connection. It returns the status that a program ends with, one
-//! of those in [`status`]. `replay` makes the engine that scripts begin with.
+//! of those in [`status`]. `replay` makes the gateways that scripts begin with.
 //!
 //! ```rust
 //! let script = b"open s1 10.0.0.5\n".as_slice();
 //! let mut out = Vec::new(alloc);
-//! let ended = play(alloc, engine, script, &mut out);
+//! let ended = play(alloc, gate, script, &mut out);
 //! ```
 #![tactic(auto)]
 
@@ -25,21 +25,21 @@ mod script;
 pub mod status;
 
 use fault::{Fault, ReplayFault};
-use gateway_core::Engine;
+use gate_calls::Gate;
 use player::Player;
 use script::Script;
 use std::alloc::Global;
 use std::io;
 use std::io::{Read, Write};
 
-/// Performs the script that the reader gives, one line after another, on the engine, and prints what the
+/// Performs the script that the reader gives, one line after another, on the gateway, and prints what the
 /// gateway sends to each connection. Returns the status that the program ends with: good only where every
 /// line of the script was performed, bad input only at the first line that is none of a script, of
 /// which the last line that is printed has the number. What a line prints is flushed before more of
 /// the script is waited for, and at the end.
-pub fn play<R: Read + Drop, W: Write>(
+pub fn play<G: Gate + Drop, R: Read + Drop, W: Write>(
     alloc: Global,
-    engine: Engine,
+    gate: G,
     reader: R,
     writer: &mut W,
 ) -> u8
@@ -48,29 +48,29 @@ pub fn play<R: Read + Drop, W: Write>(
     ensures bad { result ≡ 2 → (number : ℕ) × IsBadAt (R.remaining reader) number
         × (((held : W) → IsSome (W.contents held)) → EndsIn (W.contents writer.new) (bad_line number)) }
 {
-    let ended = play_script(alloc, engine, reader, writer);
+    let ended = play_script(alloc, gate, reader, writer);
     match report(ended, writer) {
         Ok(status) => status,
         Err(_) => status::STREAM_FAILED,
     }
 }
 
-fn play_script<R: Read + Drop, W: Write>(
+fn play_script<G: Gate + Drop, R: Read + Drop, W: Write>(
     alloc: Global,
-    engine: Engine,
+    gate: G,
     reader: R,
     writer: &mut W,
 ) -> Result<(), ReplayFault>
     ensures good { OnOk result (IsGood (R.remaining reader)) }
     ensures bad { IfBadLine result (IsBadAt (R.remaining reader)) }
 {
-    let mut player = Player::new(alloc, engine);
+    let mut player = Player::new(alloc, gate);
     let mut script = Script::new(alloc, reader)?;
     play_entries(&mut player, &mut script, writer)
 }
 
-fn play_entries<R: Read + Drop, W: Write>(
-    player: &mut Player,
+fn play_entries<G: Gate + Drop, R: Read + Drop, W: Write>(
+    player: &mut Player<G>,
     script: &mut Script<R>,
     writer: &mut W,
 ) -> Result<(), ReplayFault>

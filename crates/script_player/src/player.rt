@@ -1,4 +1,4 @@
-//! The lines of a script, performed on an engine.
+//! The lines of a script, performed on a gateway.
 ghost use Rattle.std.specs.Prelude.{◌≡◌, None, Some, IsTrue, IfOk, IfSome, OnOk, option_map, flat_map, length};
 ghost use Rattle.std.specs.BTreeMap.{get};
 ghost use Rattle.std.specs.BTreeSet.{contains};
@@ -10,7 +10,9 @@ ghost use Rattle.script_player.specs.Played.{loss, out_line, said};
 use crate::entry::{Entry, Files};
 use crate::fault::Fault;
 use ca_header::{FrameFault, Intake, IntakeFault, Message};
-use gateway_core::{Dest, Engine, Event, Out};
+use fanout::Out;
+use gate_calls::Gate;
+use gateway_state::{Dest, Event};
 use pv_name::{Host, Name};
 use replay_text::{
     Line, write_asks, write_end, write_message, write_reading, write_refused, write_refused_groups,
@@ -25,11 +27,11 @@ use std::io::Write;
 // How many messages are taken from an outbox at a time.
 const PIECE: usize = 1_024;
 
-/// An engine, and what a script needs to know beside it.
+/// A gateway, and what a script needs to know beside it.
 #[derive(Drop)]
-pub struct Player {
+pub struct Player<G: Gate + Drop> {
     alloc: Global,
-    engine: Engine,
+    gate: G,
     desk: Desk,
     /// The connections that stand, with the bytes that came from each and are no whole message yet.
     intakes: BTreeMap<Dest, Intake>,
@@ -44,12 +46,12 @@ struct Misframed {
     fault: FrameFault,
 }
 
-impl Player {
-    /// A player of scripts on a gateway to which nothing happened yet.
-    pub fn new(alloc: Global, engine: Engine) -> Player {
+impl<G: Gate + Drop> Player<G> {
+    /// A player of scripts on this gateway.
+    pub fn new(alloc: Global, gate: G) -> Player<G> {
         Player {
             alloc,
-            engine,
+            gate,
             desk: Desk::new(alloc),
             intakes: BTreeMap::new(alloc),
             held: BTreeSet::new(alloc),
@@ -85,7 +87,7 @@ impl Player {
         files: &Files,
         out: &mut W,
     ) -> Result<Option<Misframed>, Fault>
-        ensures edit { IfEdit line (OnOk result (IsEdited files.now self.old.engine self.new.engine (W.contents out.old) (W.contents out.new))) }
+        ensures edit { IfEdit line (OnOk result (IsEdited files.now (G.state self.old.gate) (G.state self.new.gate) (W.contents out.old) (W.contents out.new))) }
     {
         match line {
             Line::Skipped => {}
@@ -104,22 +106,22 @@ impl Player {
                 Dest::Upstream(number),
                 bytes.as_slice(),
             ),
-            Line::Found(name, number) => self.engine.step(Event::Found(name, number))?,
+            Line::Found(name, number) => self.gate.step(Event::Found(name, number))?,
             Line::Search(host, datagram) => self.search(&host, datagram.as_slice(), out)?,
-            Line::Sweep => self.engine.step(Event::Sweep)?,
+            Line::Sweep => self.gate.step(Event::Sweep)?,
             Line::Edit { .. } => self.edit(files, out)?,
-            Line::Asks => write_asks(out, &self.engine.asks()?)?,
+            Line::Asks => write_asks(out, &self.gate.asks()?)?,
             Line::Read {
                 session,
                 sid,
                 dtype,
                 count,
-            } => write_reading(out, &self.engine.read(session, sid, dtype, count)?)?,
+            } => write_reading(out, &self.gate.read(session, sid, dtype, count)?)?,
             Line::Subscription(name) => {
-                write_subscription(out, self.engine.subscription(&name)?)?;
+                write_subscription(out, self.gate.subscription(&name)?)?;
             }
             Line::Rights { session, sid } => {
-                write_rights(out, self.engine.rights(session, sid)?)?;
+                write_rights(out, self.gate.rights(session, sid)?)?;
             }
             Line::Hold(dest) => {
                 self.held.insert(dest)?;
@@ -128,7 +130,7 @@ impl Player {
                 self.held.remove(&dest);
             }
             Line::Drain(dest, count) => {
-                print_messages(&mut self.engine, dest, count, out)?;
+                print_messages(&mut self.gate, dest, count, out)?;
             }
         }
         Ok(None)
@@ -136,7 +138,7 @@ impl Player {
 
     /// Prints the reply to a datagram; the names that it searches for are looked for from then on.
     fn search<W: Write>(&mut self, host: &Host, datagram: &[u8], out: &mut W) -> Result<(), Fault> {
-        let answer = self.engine.search(host, datagram)?;
+        let answer = self.gate.search(host, datagram)?;
         write_reply(out, answer.reply.as_slice())?;
         self.look_for(host, answer.asked.as_slice())
     }
@@ -144,24 +146,24 @@ impl Player {
     fn look_for(&mut self, host: &Host, names: &[Name]) -> Result<(), Fault> {
         for name in names {
             let event = Event::Search(host.copy()?, name.copy()?);
-            self.engine.step(event)?;
+            self.gate.step(event)?;
         }
         Ok(())
     }
 
     /// Edits the policy, or prints why not: the first fault of the files, the rule file's first.
     fn edit<W: Write>(&mut self, files: &Files, out: &mut W) -> Result<(), Fault>
-        ensures { OnOk result (IsEdited files.now self.old.engine self.new.engine (W.contents out.old) (W.contents out.new)) }
+        ensures { OnOk result (IsEdited files.now (G.state self.old.gate) (G.state self.new.gate) (W.contents out.old) (W.contents out.new)) }
     {
         match self.desk.edit(files.rules.text(), files.groups.text()) {
-            Ok(policy) => Ok(self.engine.step(Event::Edit(policy))?),
+            Ok(policy) => Ok(self.gate.step(Event::Edit(policy))?),
             Err(fault) => print_refusal(out, fault),
         }
     }
 
     fn open(&mut self, dest: Dest, event: Event) -> Result<(), Fault> {
-        self.engine.step(event)?;
-        if !self.intakes.contains_key(&dest) && self.engine.is_open(dest)? {
+        self.gate.step(event)?;
+        if !self.intakes.contains_key(&dest) && self.gate.is_open(dest)? {
             self.intakes.insert(dest, Intake::new(self.alloc))?;
         }
         Ok(())
@@ -170,10 +172,10 @@ impl Player {
     /// Hands a connection in as lost. What came from it and is no whole message is forgotten.
     fn lose(&mut self, dest: Dest) -> Result<(), Fault>
         ensures gone { OnOk result (get ⟦<Dest as Ord>⟧.cmp self.new.intakes dest ≡ None) }
-        ensures lost { OnOk result (self.new.engine ≡ option_map (λ w. step w (loss dest)) self.old.engine) }
+        ensures lost { OnOk result (G.state self.new.gate ≡ option_map (λ w. step w (loss dest)) (G.state self.old.gate)) }
         ensures held { self.new.held ≡ self.old.held }
     {
-        self.engine.step(lost(dest))?;
+        self.gate.step(lost(dest))?;
         self.intakes.remove(&dest);
         Ok(())
     }
@@ -200,14 +202,14 @@ impl Player {
                 Err(IntakeFault::OutOfMemory) => return Err(Fault::OutOfMemory),
             }
         }
-        self.engine.run(events)?;
+        self.gate.run(events)?;
         Ok(misframed)
     }
 
     /// Prints all that waits for the connections that aren't held.
     fn print_waiting<W: Write>(&mut self, out: &mut W) -> Result<(), Fault> {
         for dest in self.intakes.keys() {
-            print_unheld(&mut self.engine, &self.held, *dest, out)?;
+            print_unheld(&mut self.gate, &self.held, *dest, out)?;
         }
         Ok(())
     }
@@ -227,7 +229,7 @@ impl Player {
 
     fn first_marked(&mut self) -> Result<Option<Dest>, Fault> {
         for dest in self.intakes.keys() {
-            if self.engine.must_end(*dest)? {
+            if self.gate.must_end(*dest)? {
                 return Ok(Some(*dest));
             }
         }
@@ -267,20 +269,20 @@ fn lost(dest: Dest) -> Event
 }
 
 /// Prints all that waits for a connection, or nothing where it is held.
-fn print_unheld<W: Write>(
-    engine: &mut Engine,
+fn print_unheld<G: Gate, W: Write>(
+    gate: &mut G,
     held: &BTreeSet<Dest>,
     dest: Dest,
     out: &mut W,
 ) -> Result<(), Fault>
-    ensures kept { IsTrue (contains ⟦<Dest as Ord>⟧.cmp held.now dest) → engine.new ≡ engine.old }
+    ensures kept { IsTrue (contains ⟦<Dest as Ord>⟧.cmp held.now dest) → G.state gate.new ≡ G.state gate.old }
     ensures silent { IsTrue (contains ⟦<Dest as Ord>⟧.cmp held.now dest) → W.contents out.new ≡ W.contents out.old }
 {
     if held.contains(&dest) {
         return Ok(());
     }
     for _ in 0..u64::MAX {
-        if print_messages(engine, dest, PIECE, out)? == 0 {
+        if print_messages(gate, dest, PIECE, out)? == 0 {
             break;
         }
     }
@@ -288,18 +290,18 @@ fn print_unheld<W: Write>(
 }
 
 /// Takes the oldest messages of a connection, and prints them. Says how many there were.
-fn print_messages<W: Write>(
-    engine: &mut Engine,
+fn print_messages<G: Gate, W: Write>(
+    gate: &mut G,
     dest: Dest,
     count: usize,
     out: &mut W,
 ) -> Result<usize, Fault>
-    ensures taken { OnOk result (engine.new ≡ option_map (λ w. step w (Event.Drain dest count)) engine.old) }
-    ensures count { IfOk result (λ printed. Some printed ≡ option_map (λ w. length (taken w (Event.Drain dest count) dest)) engine.old) }
-    ensures printed { OnOk result (IfSome (option_map (λ w. flat_map (out_line dest) (taken w (Event.Drain dest count) dest)) engine.old)
+    ensures taken { OnOk result (G.state gate.new ≡ option_map (λ w. step w (Event.Drain dest count)) (G.state gate.old)) }
+    ensures count { IfOk result (λ printed. Some printed ≡ option_map (λ w. length (taken w (Event.Drain dest count) dest)) (G.state gate.old)) }
+    ensures printed { OnOk result (IfSome (option_map (λ w. flat_map (out_line dest) (taken w (Event.Drain dest count) dest)) (G.state gate.old))
         (Appends (W.contents out.old) (W.contents out.new))) }
 {
-    let messages = engine.drain(dest, count)?;
+    let messages = gate.drain(dest, count)?;
     write_messages(out, dest, &messages)?;
     Ok(messages.len())
 }

@@ -1,8 +1,8 @@
-//! Why the engine refuses a call.
+//! Why a gateway refuses a call.
 use std::error::Error;
 use std::fmt;
 
-/// Why a step was refused. Each leaves the engine failed for good.
+/// Why a step was refused. Each leaves the gateway failed for good.
 #[derive(Clone, Copy, Debug, PartialEq, Eq)]
 pub enum StepFault {
     /// Memory was refused.
@@ -25,7 +25,16 @@ impl fmt::Display for StepFault {
 
 impl Error for StepFault {}
 
-/// An earlier step was refused, so the engine answers nothing.
+/// Why a question isn't answered. Nothing changed.
+#[derive(Clone, Copy, Debug, PartialEq, Eq)]
+pub enum AskFault {
+    /// Memory was refused.
+    OutOfMemory,
+    /// An earlier step was refused.
+    Failed,
+}
+
+/// An earlier step was refused, so the gateway answers nothing.
 #[derive(Clone, Copy, Debug, PartialEq, Eq)]
 pub struct Failed;
 

@@ -1,4 +1,4 @@
--- What the gateway answers to searches by datagram.
+-- What a gateway answers to searches by datagram.
 use Rattle.std.specs.Prelude.{◌≡◌, ℕ, List}
 use Rattle.pv_search.specs.declared.answering.SearchAnswer.{SearchAnswer}
 use Rattle.pv_search.specs.Answer.{IsAnswer}

@@ -1,0 +1,67 @@
+//! The engine is a gateway.
+
+use crate::engine::Engine;
+use fanout::Out;
+use gate_calls::{AskFault, Failed, Gate, NoMemory, StepFault};
+use gateway_state::{Config, Dest, Event, Policy, Reading, Sub};
+use pv_name::{Host, Name};
+use pv_search::SearchAnswer;
+use std::alloc::Global;
+
+impl Gate for Engine {
+    ghost state = { λ engine. engine };
+
+    fn new(alloc: Global, config: Config, policy: Policy) -> Result<Engine, NoMemory> {
+        Engine::new(alloc, config, policy)
+    }
+
+    fn step(&mut self, event: Event) -> Result<(), StepFault> {
+        Engine::step(self, event)
+    }
+
+    fn run(&mut self, events: Vec<Event>) -> Result<(), StepFault> {
+        Engine::run(self, events)
+    }
+
+    fn drain(&mut self, dest: Dest, count: usize) -> Result<Vec<Out>, StepFault> {
+        Engine::drain(self, dest, count)
+    }
+
+    fn is_open(&mut self, dest: Dest) -> Result<bool, Failed> {
+        Engine::is_open(self, dest)
+    }
+
+    fn must_end(&mut self, dest: Dest) -> Result<bool, Failed> {
+        Engine::must_end(self, dest)
+    }
+
+    fn queued(&mut self, dest: Dest) -> Result<usize, Failed> {
+        Engine::queued(self, dest)
+    }
+
+    fn subscription(&mut self, name: &Name) -> Result<Option<Sub>, Failed> {
+        Engine::subscription(self, name)
+    }
+
+    fn rights(&mut self, session: u32, sid: u32) -> Result<Option<u32>, Failed> {
+        Engine::rights(self, session, sid)
+    }
+
+    fn read(
+        &mut self,
+        session: u32,
+        sid: u32,
+        dtype: u16,
+        count: u32,
+    ) -> Result<Reading, AskFault> {
+        Engine::read(self, session, sid, dtype, count)
+    }
+
+    fn asks(&mut self) -> Result<Vec<Name>, AskFault> {
+        Engine::asks(self)
+    }
+
+    fn search(&mut self, host: &Host, datagram: &[u8]) -> Result<SearchAnswer, AskFault> {
+        Engine::search(self, host, datagram)
+    }
+}
