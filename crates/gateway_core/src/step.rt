@@ -41,19 +41,20 @@ pub(crate) fn drain(rows: &mut Rows, dest: Dest, count: usize) -> Result<Vec<Out
     ensures used_up { IsErrOf result Refusal.NumbersUsedUp → is_past_numbers (step rows.old (Event.Drain dest count)) ≡ true }
     ensures in_range { OnOk result (is_past_numbers rows.new ≡ false) }
 {
+    let touched = drain_touches(rows, dest);
     let outs = rows.take(dest, count)?;
-    follow(rows, drain_touches(dest))?;
+    follow(rows, touched)?;
     rows.numbers_are_in_range();
     Ok(outs)
 }
 
-/// A client may take updates again once its outbox was drained.
-fn drain_touches(dest: Dest) -> Touched
-    ensures { result ≡ drain_touches dest }
+/// A client whose outbox took no updates may take them again once it was drained.
+fn drain_touches(rows: &Rows, dest: Dest) -> Touched
+    ensures { result ≡ drain_touches rows.now dest }
 {
     match dest {
-        Dest::Session(number) => Touched::Session(number),
-        Dest::Upstream(_) => Touched::Nothing,
+        Dest::Session(number) if !rows.is_taking(number) => Touched::Session(number),
+        Dest::Session(_) | Dest::Upstream(_) => Touched::Nothing,
     }
 }
 
@@ -113,8 +114,9 @@ fn perform(rows: &mut Rows, event: Event) -> Result<Touched, Refusal>
             Ok(Touched::All)
         }
         Event::Drain(dest, count) => {
+            let touched = drain_touches(rows, dest);
             let _taken = rows.take(dest, count)?;
-            Ok(drain_touches(dest))
+            Ok(touched)
         }
     }
 }

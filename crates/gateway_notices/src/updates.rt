@@ -1,14 +1,14 @@
 //! What clients are owed about their subscriptions.
 ghost use Rattle.std.specs.Prelude.{◌≡◌, Some, fold, OnOk, IfOk};
 ghost use Rattle.gateway_state.specs.Rights.{channel_of};
-ghost use Rattle.gateway_state.specs.Updates.{is_open_to, is_paused, is_taking, is_unreadable, is_withheld, update_notice, update_notices, update_on, update_over, update_told, updates_told, updates_withheld, withheld};
+ghost use Rattle.gateway_state.specs.Updates.{is_open_to, is_paused, is_unreadable, is_withheld, update_notice, update_notices, update_on, update_over, update_told, updates_told, updates_withheld, withheld};
 ghost use Rattle.gateway_state.specs.Variables.{link_of};
 ghost use Rattle.touched_rows.specs.Touched.{one_update_told, update_notices_on, update_notices_to, updates_told_on, updates_told_to};
 
 use ca_message::ToClient;
 use channel_table::{Channel, ClientSub};
 use gateway_rows::{Rows, may_read, native_in};
-use gateway_state::{Dest, UPDATE_LIMIT, UpdateNotice};
+use gateway_state::UpdateNotice;
 use pv_name::Name;
 use std::alloc::AllocError;
 use std::collections::VecDeque;
@@ -60,19 +60,11 @@ fn is_paused(rows: &Rows, number: u32) -> bool
     }
 }
 
-/// Whether a session's outbox takes updates.
-fn is_taking(rows: &Rows, number: u32) -> bool
-    ensures { result ≡ is_taking rows.now number }
-{
-    let dest = Dest::Session(number);
-    !rows.connections.must_end(dest) && rows.connections.queued(dest) < UPDATE_LIMIT
-}
-
 /// Whether a subscription's session takes updates now.
 fn is_open_to(rows: &Rows, sub: &ClientSub) -> bool
     ensures { result ≡ is_open_to rows.now sub.now }
 {
-    !is_paused(rows, sub.session) && is_taking(rows, sub.session)
+    !is_paused(rows, sub.session) && rows.is_taking(sub.session)
 }
 
 fn update_over(
@@ -170,7 +162,7 @@ fn update_notices_to(rows: &Rows, number: u32) -> Result<VecDeque<UpdateNotice>,
 fn tell_update(rows: &mut Rows, notice: UpdateNotice) -> Result<(), AllocError>
     ensures { OnOk result (rows.new ≡ update_told rows.old notice) }
 {
-    if !is_taking(rows, notice.session) {
+    if !rows.is_taking(notice.session) {
         return Ok(());
     }
     rows.set_owed(notice.session, notice.id, false);

@@ -4,10 +4,11 @@ ghost use Rattle.gateway_state.specs.Asked.{stands, ends, queued, acts};
 ghost use Rattle.gateway_state.specs.Connections.{outbox_of};
 ghost use Rattle.gateway_state.specs.Direct.{drained};
 ghost use Rattle.gateway_state.specs.Telling.{marked};
+ghost use Rattle.gateway_state.specs.Updates.{is_taking};
 
 use crate::state::Rows;
 use fanout::Out;
-use gateway_state::Dest;
+use gateway_state::{Dest, UPDATE_LIMIT};
 use std::alloc::AllocError;
 
 impl Rows {
@@ -37,6 +38,14 @@ impl Rows {
         ensures { result ≡ acts self.now dest }
     {
         self.stands(dest) && !self.ends(dest)
+    }
+
+    /// Whether a session's outbox takes updates.
+    pub fn is_taking(&self, number: u32) -> bool
+        ensures { result ≡ is_taking self.now number }
+    {
+        let dest = Dest::Session(number);
+        !self.ends(dest) && self.queued(dest) < UPDATE_LIMIT
     }
 
     /// Marks a connection to end.

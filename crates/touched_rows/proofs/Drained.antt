@@ -16,10 +16,12 @@ use Rattle.gateway_state.specs.Gateway.{Gateway}
 use Rattle.gateway_state.specs.Rights.{channel_of}
 use Rattle.gateway_state.specs.Settled.{IsSettled}
 use Rattle.gateway_state.specs.Step.{consequences}
-use Rattle.gateway_state.specs.Updates.{is_paused, takes_updates, update_notice, update_on, update_told}
+use Rattle.gateway_state.specs.Updates.{is_paused, is_taking, takes_updates, update_notice, update_on, update_told}
 use Rattle.gateway_state.proofs.SettledMeaning.{none_told}
 use Rattle.gateway_state.proofs.SettledSteps.{settled_stays}
+use Rattle.touched_rows.specs.declared.touched.Touched.TheVariants.{Nothing, Session}
 use Rattle.touched_rows.specs.Touched.{updates_told_to}
+use Rattle.touched_rows.specs.Touches.{drain_touches, follows}
 use Rattle.touched_rows.proofs.Blanked.{found_other}
 use Rattle.touched_rows.proofs.Connections.{takes}
 use Rattle.touched_rows.proofs.Nothing.{settled_connections}
@@ -59,7 +61,7 @@ due_as_before w number count sub differ =
     ap (λ (room : Bool). cond (sub.owed && (not (is_paused w sub.session) && room)) (update_on w sub (channel_of w sub.session sub.sid)) None)
     (takes_as_before number sub.session count w.connections differ)
 
-pub told_after_drain : (w : Gateway) (number count : ℕ) → IsSettled w
+told_after_drain : (w : Gateway) (number count : ℕ) → IsSettled w
     → consequences (drained w (ToSession number) count) ≡ updates_told_to number (drained w (ToSession number) count)
 told_after_drain w number count settled =
     from_updates x settled.channels settled.held_back settled.links settled.reads
@@ -72,6 +74,32 @@ told_after_drain w number count settled =
     quiet =
         All-weaker (λ (sub : ClientSub). update_notice w sub ≡ None) (λ (sub : ClientSub). is_sub_of number sub ≡ false → update_notice x sub ≡ None)
         (λ sub none differ. due_as_before w number count sub differ ∙ none) w.clients.subs (none_told (update_notice w) w.clients.subs settled.updates)
+
+-- no session takes updates that didn't before, where the drained one did
+room_before : (number other count : ℕ) (rows : List Connection) → takes rows number ≡ true
+    → takes (change_first (is_to (ToSession number)) (relieved count) rows) other ≡ true → takes rows other ≡ true
+room_before number other count rows room taking =
+    elim (eqb other number) as (λ t. eqb other number ≡ t → takes rows other ≡ true) [
+      | true ↦ λ is. ap (takes rows) (eqb-true other number is) ∙ room
+      | false ↦ λ is. sym (takes_as_before number other count rows is) ∙ taking
+    ] refl
+
+nothing_after_room : (w : Gateway) (number count : ℕ) → IsSettled w → is_taking w number ≡ true
+    → consequences (drained w (ToSession number) count) ≡ drained w (ToSession number) count
+nothing_after_room w number count settled room =
+    settled_stays (drained w (ToSession number) count)
+    (settled_connections w (change_first (is_to (ToSession number)) (relieved count) w.connections) settled
+    (λ other taking. room_before number other count w.connections room taking))
+
+-- what was drained tells its session's updates where it took none before
+pub told_drain : (w : Gateway) (number count : ℕ) → IsSettled w
+    → consequences (drained w (ToSession number) count) ≡ follows (drain_touches w (ToSession number)) (drained w (ToSession number) count)
+told_drain w number count settled =
+    let x = drained w (ToSession number) count in
+    elim (is_taking w number) as (λ t. is_taking w number ≡ t → consequences x ≡ follows (cond t Nothing (Session number)) x) [
+      | true ↦ λ room. nothing_after_room w number count settled room
+      | false ↦ λ full. told_after_drain w number count settled
+    ] refl
 
 -- a server's outbox makes room for none
 pub nothing_after_server_drain : (w : Gateway) (number count : ℕ) → IsSettled w → consequences (drained w (Upstream number) count) ≡ drained w (Upstream number) count

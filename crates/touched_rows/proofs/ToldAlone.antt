@@ -15,7 +15,7 @@ use Rattle.gateway_state.specs.Step.{consequences, step}
 use Rattle.gateway_state.proofs.SettledSteps.{settled_stays}
 use Rattle.touched_rows.specs.declared.touched.Touched.TheVariants.{Nothing}
 use Rattle.touched_rows.specs.Touches.{event_touches, follows, reply_touches, request_touches}
-use Rattle.touched_rows.proofs.Drained.{nothing_after_server_drain, told_after_drain}
+use Rattle.touched_rows.proofs.Drained.{nothing_after_server_drain, told_drain}
 use Rattle.touched_rows.proofs.Found.{nothing_after_found}
 use Rattle.touched_rows.proofs.Lost.{told_after_losing}
 use Rattle.touched_rows.proofs.Opened.{nothing_after_opening, nothing_after_server_opening}
@@ -43,7 +43,7 @@ told_event w (Found name number) tidy = nothing_after_found w name number tidy.s
 told_event w (Search host name) tidy = nothing_after_search host name w tidy.settled
 told_event w Sweep tidy = refl
 told_event w (Edit policy) tidy = refl
-told_event w (Drain (ToSession number) count) tidy = told_after_drain w number count tidy.settled
+told_event w (Drain (ToSession number) count) tidy = told_drain w number count tidy.settled
 told_event w (Drain (Upstream number) count) tidy = nothing_after_server_drain w number count tidy.settled
 
 pub told_alone : (w : Gateway) (event : Event) → IsReached w → consequences (direct_effect w event) ≡ follows (event_touches w event) (direct_effect w event)

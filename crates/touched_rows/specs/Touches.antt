@@ -37,6 +37,7 @@ use Rattle.gateway_state.specs.Rights.{channel_of}
 use Rattle.gateway_state.specs.Servers.{is_value}
 use Rattle.gateway_state.specs.Step.{consequences}
 use Rattle.gateway_state.specs.Subscribing.{is_on_sid, new_sub, sub_of, sub_verdict}
+use Rattle.gateway_state.specs.Updates.{is_taking}
 use Rattle.gateway_state.specs.Variables.{channel_names, is_connected, is_creating}
 use Rattle.touched_rows.specs.declared.touched.Touched.{Touched}
 use Rattle.touched_rows.specs.declared.touched.Touched.TheVariants.{All, Nothing, Session, Value, Interest, Link as LinkOf, Links, Read, Subscription as SubscriptionTo}
@@ -183,9 +184,10 @@ reply_touches w server (Err fault) = Nothing
 
 -- EVENTS
 
-abbrev pub drain_touches : Dest → Touched
-drain_touches (dests.Session number) = Session number
-drain_touches (dests.Upstream number) = Nothing
+-- an outbox that took updates before makes room for none that was held back
+abbrev pub drain_touches : Gateway → Dest → Touched
+drain_touches w (dests.Session number) = if is_taking w number then Nothing else Session number
+drain_touches w (dests.Upstream number) = Nothing
 
 -- the variables of a session's channels, in the order of adding
 abbrev pub names_of : Gateway → ℕ → List (List ℕ)
@@ -204,4 +206,4 @@ event_touches w (events.Found name number) = Nothing
 event_touches w (events.Search host name) = Nothing
 event_touches w events.Sweep = All
 event_touches w (events.Edit policy) = All
-event_touches w (events.Drain dest count) = drain_touches dest
+event_touches w (events.Drain dest count) = drain_touches w dest

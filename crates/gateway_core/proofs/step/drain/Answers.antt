@@ -16,13 +16,13 @@ returns-in_err-follow-clause-used_up c = λ e.
     let converted = refused.2 in
     let was = c.in_err-follow.was in
     ap is_past_numbers (step_alone c.args.rows.now (Drain c.args.dest c.args.count) c.requires.reached)
-    ∙ (λ i. is_past_numbers (follows (sym c.drain_touches.ensures i) (sym c.in_ok-outs.ensures.ok i)))
+    ∙ (λ i. is_past_numbers (follows (sym c.drain_touches-touched.ensures i) (sym c.in_ok-outs.ensures.ok i)))
     ∙ c.follow.ensures.used_up cc
 
 pub returns-clause-ok : goal.returns-clause-ok
 returns-clause-ok c =
     c.in_ok-follow.ensures.ok
-    ∙ (λ i. follows (c.drain_touches.ensures i) (c.in_ok-outs.ensures.ok i))
+    ∙ (λ i. follows (c.drain_touches-touched.ensures i) (c.in_ok-outs.ensures.ok i))
     ∙ sym (step_alone c.args.rows.now (Drain c.args.dest c.args.count) c.requires.reached)
 
 -- numbers are in order after a drain
