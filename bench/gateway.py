@@ -1,11 +1,11 @@
 #!/usr/bin/env python3
-"""Times what a read answered from the cache, an upstream update and a write cost beside many channels.
+"""Times what one event costs beside many variables, and how much memory a variable takes.
 
-Run by hand, from anywhere: bench/gateway.py [MOST] [TIMES]. A client has 1, 100, .. channels, on the
-variable that is read and written or on a variable each of their own, up to MOST (4,000 if not given; channels on
-variables of their own stop at 1,000 unless MOST is above 4,000). A script that sets this up is
-replayed with and without the messages, TIMES times each (3 if not given); the difference of the
-fastest runs is their cost. Prints microseconds a message; a write is WRITE_NOTIFY with its reply.
+Run by hand, from anywhere: bench/gateway.py [MOST] [TIMES]. A script sets variables up, each with a
+channel and a subscription of a client (up to 4,000 a client), and is replayed with and without more
+messages, TIMES times each (3 if not given); the difference of the fastest runs is their cost.
+Prints the cost of each kind of message beside 100 variables and beside MOST (10,000 if not
+given), of an update that many subscribe to, and of a client that is lost beside many others.
 """
 import os
 import subprocess
@@ -14,101 +14,183 @@ import tempfile
 import time
 
 ROOT = os.path.dirname(os.path.dirname(os.path.abspath(__file__)))
-PROGRAM = os.path.join(ROOT, "crates", "pvgate", "out", "pvgate")
+PROGRAM = os.environ.get("PVGATE", os.path.join(ROOT, "crates", "pvgate", "out", "pvgate"))
 
-READ = "000f" "0000" "0005" "0001" "00000001" "00000021"
-UPDATE = "0001" "0010" "0013" "0001" "00000001" "00000001" "00000000" "3b9aca00" "00000000" "0000002a"
-WRITE = "0013" "0008" "0005" "0001" "00000001" "00000021" "0000002a" "00000000"
-WAITING = 100  # writes that wait before the server answers them
+CHANNELS = 4_000  # of a client; a session may have 4,096
+SEARCHES = 2_000  # names that are looked for before they are forgotten; 4,096 are remembered
+WRITING = 100  # writes that wait before the server answers them
+
+
+def message(command, payload="", dtype=0, count=0, p1=0, p2=0):
+    """A message's bytes as digits; the payload is padded to a multiple of 8 bytes."""
+    payload += "0" * (-len(payload) % 16)
+    size = len(payload) // 2
+    if size > 0xFFF0 or count > 0xFFFE:
+        return f"{command:04x}ffff{dtype:04x}0000{p1:08x}{p2:08x}{size:08x}{count:08x}{payload}"
+    return f"{command:04x}{size:04x}{dtype:04x}{count:04x}{p1:08x}{p2:08x}{payload}"
 
 
 def create(cid, name):
-    """A client's request for a channel on a name of at most 7 bytes."""
-    payload = name.encode().ljust(8, b"\0").hex()
-    return f"0012000800000000{cid:08x}0000000d{payload}"
+    return message(18, (name.encode() + b"\0").hex(), p1=cid, p2=13)
 
 
-def connected(cid, name):
+def subscribe(sid, own, count=1):
+    return message(1, "0" * 24 + "00010000", dtype=5, count=count, p1=sid, p2=own)
+
+
+def update(own, value=42, count=1):
+    """An update of a LONG with its time stamp, under the gateway's subscription of this ID."""
+    return message(1, "000000003b9aca0000000000" + f"{value:08x}" * count, dtype=19, count=count, p1=1, p2=own)
+
+
+def connected(cid, name, count=1):
     """The lines that give the next link, of this CID, to a variable that was asked for."""
-    yield f"found {name} u1\n"
-    yield f"server u1 0016000000000000{cid:08x}00000003\n"
-    yield f"server u1 0012000000050001{cid:08x}{cid + 100:08x}\n"
+    yield f"found {name} u1"
+    yield "server u1 " + message(22, p1=cid, p2=3) + message(18, dtype=5, count=count, p1=cid, p2=1_000 + cid)
 
 
-def setup(same, others):
-    """A script after which T has a value and so many channels, and others one channel each."""
-    yield "open s1 10.0.0.5\nopen u1\nclient s1 " + create(7, "T") + "\n"
-    yield from connected(1, "T")
-    yield "client s1 " + create(7, "T") * same + "\n"
-    yield "client s1 " + READ + "\nserver u1 " + UPDATE + "\n"
-    names = [f"V{number}" for number in range(others)]
-    yield "client s1 " + "".join(create(8, name) for name in names) + "\n" if names else ""
-    for number, name in enumerate(names):
-        yield from connected(number + 2, name)
-    yield "client s1 " + "".join(create(8, name) for name in names) + "\n" if names else ""
+def variables(many):
+    """Variables, each with a channel, a subscription and a value."""
+    for place in range(many):
+        client, cid = f"s{1 + place // CHANNELS}", place + 1
+        name = f"V{cid:06}"
+        if place % CHANNELS == 0:
+            yield f"open {client} 10.0.0.5"
+        yield f"client {client} " + create(cid, name)
+        yield from connected(cid, name)
+        yield f"client {client} " + create(cid, name) + subscribe(cid, cid)
+        yield "server u1 " + update(cid)
+        if cid % SEARCHES == 0:
+            yield "sweep"
 
 
-def replay(script_file):
-    """Replays once. Gives seconds, and how many lines were printed."""
-    with open(script_file) as script:
+def beside(many):
+    return ["open u1", "server u1 " + message(0, count=13), "open s1000 10.0.0.6", *variables(many)]
+
+
+def replay(lines):
+    """Replays a script once. Gives seconds, and how many lines were printed."""
+    with tempfile.TemporaryFile("w+") as script, tempfile.TemporaryFile() as out:
+        script.write("\n".join(lines) + "\n")
+        script.flush()
+        script.seek(0)
         start = time.perf_counter()
-        done = subprocess.run([PROGRAM, "replay"], stdin=script, stdout=subprocess.PIPE, check=True)
-        return time.perf_counter() - start, done.stdout.count(b"\n")
+        subprocess.run([PROGRAM, "replay"], stdin=script, stdout=out, check=True)
+        took = time.perf_counter() - start
+        out.seek(0)
+        return took, sum(piece.count(b"\n") for piece in iter(lambda: out.read(1 << 20), b""))
 
 
-def reads(lines, each):
-    """Reads, and how many lines are printed of each."""
-    return ("client s1 " + READ * each + "\n") * lines, 1
+def memory(lines):
+    """The peak of memory in KiB, read while the program waits for more of the script."""
+    with tempfile.TemporaryFile() as out:
+        child = subprocess.Popen([PROGRAM, "replay"], stdin=subprocess.PIPE, stdout=out)
+        child.stdin.write(("\n".join(lines) + "\n").encode())
+        child.stdin.flush()
+        size = -1
+        while size < os.fstat(out.fileno()).st_size or size == 0:
+            size = os.fstat(out.fileno()).st_size
+            time.sleep(0.5)
+        with open(f"/proc/{child.pid}/status") as status:
+            peak = next(int(line.split()[1]) for line in status if line.startswith("VmHWM"))
+        child.communicate()
+        return peak
 
 
-def updates(lines, each):
-    return ("server u1 " + UPDATE * each + "\n") * lines, 0
+def fastest(lines, times):
+    runs = [replay(lines) for _ in range(times)]
+    return min(run[0] for run in runs), runs[0][1]
 
 
-def writes(lines, each):
-    """Writes, and the server's replies to them; what is printed is the request and the reply."""
-    script = ""
-    for first in range(1, lines * each, WAITING):
-        ids = range(first, min(first + WAITING, lines * each + 1))
-        script += "client s1 " + WRITE * len(ids) + "\n"
-        script += "server u1 " + "".join(f"001300000005000100000001{i:08x}" for i in ids) + "\n"
-    return script, 2
+def cost(base, more, printed, each, times):
+    """Microseconds of each of so many messages that are added to a script, and print so many lines."""
+    bare, lines_before = fastest(base, times)
+    full, lines = fastest(base + more, times)
+    if lines - lines_before != printed:
+        sys.exit(f"{lines - lines_before} lines more, where {printed} were to come")
+    return (full - bare) / each * 1e6
 
 
-def cost(same, others, messages, times):
-    """Microseconds of a message, which is sent so often that it can be timed."""
-    lines = 200 if same + others == 1 else 10 if others < 1_000 else 1
-    each = min(1_000, max(100, 200_000 // max(1, others * others)))
-    count = lines * each
-    with tempfile.TemporaryDirectory() as folder:
-        without, with_them = (os.path.join(folder, file) for file in ("without", "with"))
-        script = "".join(setup(same, others))
-        added, printed = messages(lines, each)
-        for file, more in ((without, ""), (with_them, added)):
-            with open(file, "w") as out:
-                out.write(script + more)
-        bare = [replay(without) for _ in range(times)]
-        full = [replay(with_them) for _ in range(times)]
-    more = full[0][1] - bare[0][1]
-    if more != count * printed:
-        sys.exit(f"{more} lines more, where {count * printed} were to come")
-    return (min(run[0] for run in full) - min(run[0] for run in bare)) / count * 1e6
+def read():
+    return "client s1 " + message(15, dtype=5, count=1, p1=1, p2=0x21)
+
+
+def subscribed():
+    return "client s1 " + subscribe(1, 999_999) + message(2, dtype=5, count=1, p1=1, p2=999_999)
+
+
+def writes(many):
+    for first in range(1, many, WRITING):
+        ids = range(first, first + WRITING)
+        asked = (message(19, "0000002a", dtype=5, count=1, p1=1, p2=ioid) for ioid in ids)
+        yield "client s1 " + "".join(asked)
+        yield "server u1 " + "".join(message(19, dtype=5, count=1, p1=1, p2=ioid) for ioid in ids)
+
+
+def events(most, times):
+    """What each kind of message costs beside few variables and beside many."""
+    many = 20_000
+    kinds = [
+        ("update of one variable", ["server u1 " + update(1)] * many, 1),
+        ("read that is covered", [read()] * many, 1),
+        ("ECHO of another client", ["client s1000 " + message(23)] * many, 1),
+        ("subscription made and given up", [subscribed()] * many, 2),
+        ("WRITE_NOTIFY and its reply", list(writes(many)), 2),
+    ]
+    for name, more, printed in kinds:
+        few, lots = (cost(beside(size), more, many * printed, many, times) for size in (100, most))
+        print(f"{name:32} {few:8.2f} us beside 100, {lots:8.2f} us beside {most}: {lots / few:5.2f} times", flush=True)
+
+
+def setting_up(most, times):
+    """What a variable costs to set up, in time and in memory."""
+    empty, _ = fastest(beside(0), times)
+    bare = memory(beside(0))
+    first = None
+    for many in (100, 1_000, most, 6 * most):
+        script = beside(many)
+        took, _ = fastest(script, times)
+        each = (took - empty) / many * 1e6
+        first = first or each
+        held = (memory(script) - bare) / many
+        print(f"{many:7} variables: {each:8.2f} us each to set up ({each / first:5.2f} times), {held:6.2f} KiB each", flush=True)
+
+
+def subscribers(times):
+    """What an update costs with many subscribers to one variable."""
+    for count in (8, 10_000):
+        alone = None
+        for many in (1, 100, 1_000):
+            lines = ["open u1", "server u1 " + message(0, count=13), "open s1 10.0.0.5", "client s1 " + create(1, "V000001")]
+            lines += connected(1, "V000001", count)
+            lines.append("client s1 " + create(1, "V000001"))
+            lines += ["client s1 " + subscribe(1, own, count) for own in range(1, many + 1)]
+            updates = max(20, (20_000 if count == 8 else 2_000) // many)
+            each = cost(lines, ["server u1 " + update(1, 42, count)] * updates, updates * many, updates * many, times)
+            alone = each if many == 100 else alone
+            told = f" ({each / alone:5.2f} times)" if many == 1_000 else ""
+            print(f"update of {count:6} elements to {many:5} subscribers: {each:8.2f} us each{told}", flush=True)
+
+
+def losses(times):
+    """What it costs that a client with 4,000 channels goes, beside others and beside none."""
+    alone = None
+    for others in (0, 13):
+        lines = ["open u1", "server u1 " + message(0, count=13), *variables((others + 1) * CHANNELS)]
+        each = cost(lines, [f"lost s{others + 1}"], 2 * CHANNELS, 1, times)
+        alone = alone or each
+        print(f"a client with {CHANNELS} channels is lost beside {others * CHANNELS:6} of others: {each / 1e3:8.2f} ms ({each / alone:5.2f} times)", flush=True)
 
 
 def main():
-    most = int(sys.argv[1]) if len(sys.argv) > 1 else 4_000
+    most = int(sys.argv[1]) if len(sys.argv) > 1 else 10_000
     times = int(sys.argv[2]) if len(sys.argv) > 2 else 3
     if not os.access(PROGRAM, os.X_OK):
         sys.exit("build pvgate first: ./pvgate --help")
-    for where in ("the same variable", "variables of their own"):
-        for channels in (1, 100, 1_000, 4_000):
-            own = where != "the same variable"
-            if channels > most or (own and channels > 1_000 and most <= 4_000):
-                continue
-            same, others = (1, channels) if own else (channels, 0)
-            costs = [(of.__name__[:-1], cost(same, others, of, times)) for of in (reads, updates, writes)]
-            told = ", ".join(f"{what} {each:10.1f} us" for what, each in costs)
-            print(f"{channels:6} channels on {where:24} {told}", flush=True)
+    events(most, times)
+    setting_up(most, times)
+    subscribers(times)
+    losses(times)
 
 
 if __name__ == "__main__":

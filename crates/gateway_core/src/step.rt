@@ -5,6 +5,7 @@ ghost use Rattle.gateway_state.specs.Direct.{direct_effect, searched};
 ghost use Rattle.gateway_state.specs.Reached.{IsReached};
 ghost use Rattle.gateway_state.specs.Settled.{HasCidsInOrder, HasSidsInOrder};
 ghost use Rattle.gateway_state.specs.Step.{step, taken};
+ghost use Rattle.gateway_state.specs.Variables.{search_names};
 ghost use Rattle.touched_rows.specs.Touches.{drain_touches, event_touches};
 
 use crate::connections::{lose_server, lose_session, open_server, open_session};
@@ -16,7 +17,7 @@ use gateway_state::{Dest, Event};
 use pv_name::{Host, Name};
 use server_messages::{find_at, hear_server};
 use std::alloc::AllocError;
-use touched_rows::Touched;
+use touched_rows::{Names, Touched};
 
 /// Performs one event, in a state that a run reaches.
 #[tactic(auto, using(gateway_state::proofs::NumberLemmas::consequences_past, gateway_state::proofs::OrderKept::reached_sids, gateway_state::proofs::OrderKept::reached_cids, touched_rows::proofs::ToldAlone::step_alone), unfolding(gateway_state::specs::Step::step))]
@@ -110,8 +111,9 @@ fn perform(rows: &mut Rows, event: Event) -> Result<Touched, Refusal>
             Ok(Touched::All)
         }
         Event::Sweep => {
+            let names = searched_names(rows)?;
             rows.sweep();
-            Ok(Touched::All)
+            Ok(Touched::Links(names))
         }
         Event::Drain(dest, count) => {
             let touched = drain_touches(rows, dest);
@@ -119,6 +121,13 @@ fn perform(rows: &mut Rows, event: Event) -> Result<Touched, Refusal>
             Ok(touched)
         }
     }
+}
+
+/// The variables that searches lead to.
+fn searched_names(rows: &Rows) -> Result<Names, AllocError>
+    ensures { IfOk result (λ names. names ≡ search_names rows.now.policy rows.now.searches) }
+{
+    Names::copied(rows.alloc, rows.searches.names())
 }
 
 /// Somebody at a host looks for a name, which is remembered where it leads somewhere.

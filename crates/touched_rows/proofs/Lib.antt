@@ -23,6 +23,7 @@ pub mod Searched
 pub mod Sessions
 pub mod Shapes
 pub mod Subscribed
+pub mod Swept
 pub mod Tellings
 pub mod Tidy
 pub mod ToldAlone

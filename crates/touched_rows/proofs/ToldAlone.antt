@@ -20,6 +20,7 @@ use Rattle.touched_rows.proofs.Found.{nothing_after_found}
 use Rattle.touched_rows.proofs.Lost.{told_after_losing}
 use Rattle.touched_rows.proofs.Opened.{nothing_after_opening, nothing_after_server_opening}
 use Rattle.touched_rows.proofs.Searched.{nothing_after_search}
+use Rattle.touched_rows.proofs.Swept.{told_after_sweep}
 use Rattle.touched_rows.proofs.Tidy.{IsTidy, reached_tidy}
 use Rattle.touched_rows.proofs.ToldClients.{told_request}
 use Rattle.touched_rows.proofs.ToldServers.{told_reply}
@@ -41,7 +42,7 @@ told_event w (Server number message) tidy =
     [ true ↦ told_reply w tidy number (reply_of message.head message.payload) | false ↦ settled_stays w tidy.settled ]
 told_event w (Found name number) tidy = nothing_after_found w name number tidy.settled
 told_event w (Search host name) tidy = nothing_after_search host name w tidy.settled
-told_event w Sweep tidy = refl
+told_event w Sweep tidy = told_after_sweep w tidy.settled tidy.order
 told_event w (Edit policy) tidy = refl
 told_event w (Drain (ToSession number) count) tidy = told_drain w number count tidy.settled
 told_event w (Drain (Upstream number) count) tidy = nothing_after_server_drain w number count tidy.settled

@@ -38,7 +38,7 @@ use Rattle.gateway_state.specs.Servers.{is_value}
 use Rattle.gateway_state.specs.Step.{consequences}
 use Rattle.gateway_state.specs.Subscribing.{is_on_sid, new_sub, sub_of, sub_verdict}
 use Rattle.gateway_state.specs.Updates.{is_taking}
-use Rattle.gateway_state.specs.Variables.{channel_names, is_connected, is_creating}
+use Rattle.gateway_state.specs.Variables.{channel_names, is_connected, is_creating, search_names}
 use Rattle.touched_rows.specs.declared.touched.Touched.{Touched}
 use Rattle.touched_rows.specs.declared.touched.Touched.TheVariants.{All, Nothing, Session, Value, Interest, Link as LinkOf, Links, Read, Subscription as SubscriptionTo}
 use Rattle.touched_rows.specs.Touched.{interest_told, link_told_on, links_told_among, one_read_told, one_update_told, reads_told_on, updates_told_on, updates_told_to}
@@ -204,6 +204,6 @@ event_touches w (events.Server number message) =
     if acts w (dests.Upstream number) then reply_touches w number (reply_of message.head message.payload) else Nothing
 event_touches w (events.Found name number) = Nothing
 event_touches w (events.Search host name) = Nothing
-event_touches w events.Sweep = All
+event_touches w events.Sweep = Links (search_names w.policy w.searches)
 event_touches w (events.Edit policy) = All
 event_touches w (events.Drain dest count) = drain_touches w dest

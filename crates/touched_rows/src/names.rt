@@ -1,5 +1,5 @@
 //! Several variables.
-ghost use Rattle.std.specs.Prelude.{◌≡◌, [], ◌∷◌, ◌++◌, OnOk};
+ghost use Rattle.std.specs.Prelude.{◌≡◌, [], ◌∷◌, ◌++◌, IfOk, OnOk};
 
 use pv_name::Name;
 use std::alloc::{AllocError, Global};
@@ -27,6 +27,17 @@ impl Names {
         Names {
             names: Vec::new(alloc),
         }
+    }
+
+    /// Copies of these names.
+    pub fn copied(alloc: Global, names: &[Name]) -> Result<Names, AllocError>
+        ensures { IfOk result (λ copies. copies ≡ names.now) }
+    {
+        let mut copies = Names::new(alloc);
+        for name in names {
+            copies.push(name.copy()?)?;
+        }
+        Ok(copies)
     }
 
     /// Adds a name, as the last.
