@@ -1,5 +1,5 @@
 //! Lists of IDs by owners.
-ghost use Rattle.std.specs.Prelude.{◌≡◌, ◌≤◌, ℕ, List, [], None, OnOk, OnErr, nat_eq, length, if◌then◌else◌};
+ghost use Rattle.std.specs.Prelude.{◌≡◌, ◌≤◌, ◌<◌, ℕ, List, [], None, OnOk, OnErr, IfSome, nat_eq, length, get_or, if◌then◌else◌};
 ghost use Rattle.std.specs.List.{filter};
 ghost use Rattle.indexmap.specs.IndexMap.{get};
 ghost use Rattle.row_index.specs.Lists.{ids_of, is_id, is_not_id, with_last, Changes};
@@ -92,7 +92,31 @@ fn remove_id(ids: &mut Vec<u32>, id: u32)
         Some(last) if *last == id => {
             ids.pop();
         }
-        _ => keep_others(ids, id),
+        _ => remove_within(ids, id),
+    }
+}
+
+// IDs that rise, as those that the gateway gives out, are found without a walk.
+#[tactic(auto, using(crate::proofs::Owned::others_beside))]
+fn remove_within(ids: &mut Vec<u32>, id: u32)
+    requires { length (filter (is_id id) ids.old.items) ≤ 1 }
+    ensures { ids.new.items ≡ filter (is_not_id id) ids.old.items }
+{
+    match place_of(ids, id) {
+        Some(place) => {
+            ids.remove(place);
+        }
+        None => keep_others(ids, id),
+    }
+}
+
+// A place of an ID among IDs that rise. Where they don't, it may be missed.
+fn place_of(ids: &[u32], id: u32) -> Option<usize>
+    ensures { IfSome result (λ place. (place < length ids.now) × (get_or ids.now place 0 ≡ id)) }
+{
+    match ids.binary_search(&id) {
+        Ok(place) if ids[place] == id => Some(place),
+        _ => None,
     }
 }
 
