@@ -19,6 +19,7 @@ pub mod Passes
 pub mod ReadAsked
 pub mod ReadersOf
 pub mod Renamed
+pub mod Ready
 pub mod Searched
 pub mod Sessions
 pub mod Shapes

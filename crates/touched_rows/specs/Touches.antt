@@ -37,6 +37,7 @@ use Rattle.gateway_state.specs.Rights.{channel_of}
 use Rattle.gateway_state.specs.Servers.{is_value}
 use Rattle.gateway_state.specs.Step.{consequences}
 use Rattle.gateway_state.specs.Subscribing.{is_on_sid, new_sub, sub_of, sub_verdict}
+use Rattle.gateway_state.specs.Told.{AreTold}
 use Rattle.gateway_state.specs.Variables.{channel_names, is_connected, is_creating}
 use Rattle.touched_rows.specs.declared.touched.Touched.{Touched}
 use Rattle.touched_rows.specs.declared.touched.Touched.TheVariants.{All, Nothing, Session, Value, Interest, Link as LinkOf, Links, Read, Subscription as SubscriptionTo}
@@ -53,6 +54,18 @@ follows (LinkOf name) w = link_told_on name w
 follows (Links names) w = links_told_among names w
 follows (Read name read) w = one_read_told read (interest_told name w)
 follows (SubscriptionTo name sub) w = one_update_told sub (interest_told name w)
+
+-- what tells these alone rests on that clients know their rights; where all was touched, it tells them
+abbrev pub IsReady : Touched → Gateway → Type 0
+IsReady All w = Unit {0}
+IsReady Nothing w = Unit {0}
+IsReady (Session number) w = AreTold w
+IsReady (Value name) w = AreTold w
+IsReady (Interest name) w = AreTold w
+IsReady (LinkOf name) w = AreTold w
+IsReady (Links names) w = AreTold w
+IsReady (Read name read) w = AreTold w
+IsReady (SubscriptionTo name sub) w = AreTold w
 
 -- CLIENTS' MESSAGES
 

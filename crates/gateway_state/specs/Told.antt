@@ -1,0 +1,14 @@
+-- Clients that know their rights.
+use Rattle.std.specs.Prelude.{◌≡◌}
+use Rattle.std.specs.List.{All}
+use Rattle.channel_table.specs.declared.channels.Channel.{Channel}
+use Rattle.gateway_state.specs.Gateway.{Gateway}
+use Rattle.gateway_state.specs.Rights.{rights_of}
+
+-- a channel has the rights that its client was last told
+abbrev pub IsTold : Gateway → Channel → Type 0
+IsTold w c = c.rights ≡ rights_of w c
+
+-- so has each channel
+abbrev pub AreTold : Gateway → Type 0
+AreTold w = All (IsTold w) w.clients.channels
