@@ -5,6 +5,7 @@ ghost use Rattle.gateway_state.specs.Direct.{direct_effect, searched};
 ghost use Rattle.gateway_state.specs.Reached.{IsReached};
 ghost use Rattle.gateway_state.specs.Settled.{HasCidsInOrder, HasSidsInOrder};
 ghost use Rattle.gateway_state.specs.Step.{step, taken};
+ghost use Rattle.gateway_state.specs.Told.{AreTold};
 ghost use Rattle.touched_rows.specs.Touches.{drain_touches, event_touches};
 
 use crate::connections::{lose_server, lose_session, open_server, open_session};
@@ -19,7 +20,7 @@ use std::alloc::AllocError;
 use touched_rows::Touched;
 
 /// Performs one event, in a state that a run reaches.
-#[tactic(auto, using(gateway_state::proofs::NumberLemmas::consequences_past, gateway_state::proofs::OrderKept::reached_sids, gateway_state::proofs::OrderKept::reached_cids, touched_rows::proofs::ToldAlone::step_alone), unfolding(gateway_state::specs::Step::step))]
+#[tactic(auto, using(gateway_state::proofs::NumberLemmas::consequences_past, gateway_state::proofs::OrderKept::reached_sids, gateway_state::proofs::OrderKept::reached_cids, gateway_state::proofs::ToldRights::reached_told, touched_rows::proofs::ToldAlone::step_alone), unfolding(gateway_state::specs::Step::step))]
 pub(crate) fn step(rows: &mut Rows, event: Event) -> Result<(), Refusal>
     requires reached { IsReached rows.old }
     ensures ok { OnOk result (rows.new ≡ step rows.old event) }
@@ -61,6 +62,7 @@ fn drain_touches(dest: Dest) -> Touched
 fn perform(rows: &mut Rows, event: Event) -> Result<Touched, Refusal>
     requires sids { HasSidsInOrder rows.old }
     requires cids { HasCidsInOrder rows.old }
+    requires told { AreTold rows.old }
     ensures ok { OnOk result (rows.new ≡ direct_effect rows.old event) }
     ensures touched { IfOk result (λ touched. touched ≡ event_touches rows.old event) }
     ensures used_up { IsErrOf result Refusal.NumbersUsedUp → is_past_numbers (direct_effect rows.old event) ≡ true }
