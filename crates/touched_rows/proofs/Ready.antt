@@ -155,6 +155,11 @@ ready_after_effect w event reached =
     back (event_touches w event) (direct_effect w event) (order_after_effect w event reached).links
     (subst AreTold (step_alone w event reached) (reached_told (step w event) (reached_step w event reached)))
 
+-- the same of what it is said to touch and to leave
+pub ready_as : (w : Gateway) (event : Event) → IsReached w → (touched : Touched) (x : Gateway) → touched ≡ event_touches w event → x ≡ direct_effect w event → IsReady touched x
+ready_as w event reached touched x is leaves =
+    subst (λ (t : Touched). IsReady t x) (sym is) (subst (λ (v : Gateway). IsReady (event_touches w event) v) (sym leaves) (ready_after_effect w event reached))
+
 -- and between the passes over one variable
 pub told_after_reads : (name : List ℕ) (x : Gateway) → AreTold x → AreTold (reads_told_on name x)
 told_after_reads name x told = told_on x (reads_told_on name x) (alike_reads (read_notices_on name x) x) told
