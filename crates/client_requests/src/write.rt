@@ -1,5 +1,6 @@
 //! WRITE and WRITE_NOTIFY.
 ghost use Rattle.std.specs.Prelude.{◌≡◌, true, OnOk, IfOk, IsErrOf};
+ghost use Rattle.gateway_state.specs.Gateway.{Gateway};
 ghost use Rattle.gateway_state.specs.Numbers.{is_past_numbers};
 ghost use Rattle.gateway_state.specs.Told.{AreTold, IsTold};
 ghost use Rattle.gateway_state.specs.Writing.{may_write, new_write, notified_by, with_write, write_answered, write_asked, write_handed_on, write_judged, write_notify_asked, write_verdict, write_verdict_in, write_waits, written_by};
@@ -33,14 +34,12 @@ fn may_write(rights: u32) -> bool
 
 /// A value that isn't fit to be handed on is refused first, then a write without the right.
 fn judge<'a>(
-    rows: &Rows,
     channel: &Channel,
     server: u32,
     sid: u32,
     value: Result<WrittenValue<'a>, WriteFault>,
 ) -> WriteVerdict<'a>
-    requires told { IsTold rows.now channel.now }
-    ensures { result ≡ write_judged rows.now channel.now server sid value.entry }
+    ensures { (w : Gateway) → IsTold w channel.now → result ≡ write_judged w channel.now server sid value.entry }
 {
     let cid = channel.cid;
     match value {
@@ -57,19 +56,17 @@ fn judge<'a>(
 }
 
 fn write_verdict_over<'a>(
-    rows: &Rows,
     channel: &Channel,
     link: &Link,
     write: Write,
     payload: &'a [u8],
 ) -> WriteVerdict<'a>
-    requires told { IsTold rows.now channel.now }
-    ensures { result ≡ write_verdict_in rows.now channel.now link.now.server write.dtype write.count payload.now link.now.state }
+    ensures { (w : Gateway) → IsTold w channel.now → result ≡ write_verdict_in w channel.now link.now.server write.dtype write.count payload.now link.now.state }
 {
     match link.state {
         LinkState::Connected { sid, count, .. } => {
             let value = WrittenValue::read(write.dtype, write.count, count, payload);
-            judge(rows, channel, link.server, sid, value)
+            judge(channel, link.server, sid, value)
         }
         LinkState::Creating | LinkState::Unusable => WriteVerdict::Ignored,
     }
@@ -84,7 +81,7 @@ fn write_verdict<'a>(rows: &Rows, write: Write, payload: &'a [u8]) -> WriteVerdi
         return WriteVerdict::NoChannel;
     };
     match rows.link_of(&channel.real) {
-        Some(link) => write_verdict_over(rows, channel, link, write, payload),
+        Some(link) => write_verdict_over(channel, link, write, payload),
         None => WriteVerdict::Ignored,
     }
 }
