@@ -89,7 +89,7 @@ fn perform(rows: &mut Rows, event: Event) -> Result<Touched, Refusal>
         }
         Event::UpLost(number) => {
             lose_server(rows, number);
-            Ok(Touched::All)
+            Ok(Touched::LinksGone)
         }
         Event::Server(number, message) => {
             if rows.acts(Dest::Upstream(number)) {
@@ -112,7 +112,7 @@ fn perform(rows: &mut Rows, event: Event) -> Result<Touched, Refusal>
         }
         Event::Sweep => {
             rows.sweep();
-            Ok(Touched::All)
+            Ok(Touched::LinksGone)
         }
         Event::Drain(dest, count) => {
             let _taken = rows.take(dest, count)?;

@@ -34,7 +34,8 @@ impl Rows {
         self.link_rights(&channel.real) & rights_left(self.searches.policy(), lead)
     }
 
-    fn is_link_connected(&self, name: &Name) -> bool
+    /// Whether a real name has a link that is connected.
+    pub fn is_link_connected(&self, name: &Name) -> bool
         ensures { result ≡ link_connected (link_of self.now name.now) }
     {
         match self.link_of(name) {

@@ -7,6 +7,7 @@ pub mod Drained
 pub mod Failed
 pub mod Found
 pub mod LessGiven
+pub mod LinksGone
 pub mod LinksQuiet
 pub mod Lost
 pub mod Nothing

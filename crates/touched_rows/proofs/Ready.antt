@@ -22,19 +22,21 @@ use Rattle.gateway_state.specs.Searches.{leads_to}
 use Rattle.gateway_state.specs.Settled.{AreInOrder, HasCidsInOrder}
 use Rattle.gateway_state.specs.Step.{step}
 use Rattle.gateway_state.specs.Telling.{sent, told}
-use Rattle.gateway_state.specs.Told.{AreTold, IsTold}
+use Rattle.gateway_state.specs.Told.{AreLed, AreTold, IsTold}
 use Rattle.gateway_state.specs.Updates.{is_taking, update_notice, update_told, with_owed_of}
 use Rattle.gateway_state.specs.Variables.{is_on, is_wanted, link_of}
 use Rattle.gateway_state.proofs.OrderKept.{order_after_effect}
 use Rattle.gateway_state.proofs.ReachedStates.{reached_step}
 use Rattle.gateway_state.proofs.ToldRights.{reached_told}
 use Rattle.touched_rows.specs.declared.touched.Touched.{Touched}
-use Rattle.touched_rows.specs.declared.touched.Touched.TheVariants.{All as Everything, Nothing, Session, Value, Interest, Link as LinkOf, Links, Read, Subscription as SubscriptionTo}
+use Rattle.touched_rows.specs.declared.touched.Touched.TheVariants.{All as Everything, LinksGone, Nothing, Session, Value, Interest, Link as LinkOf, Links, Read, Subscription as SubscriptionTo}
 use Rattle.touched_rows.specs.Touched.{interest_notices_over, interest_told, is_link_among, link_notices_among, link_notices_over, one_read_told, one_update_told, read_notices_on, read_told_if, reads_told_on, update_notices_on, update_notices_to, update_told_if}
 use Rattle.touched_rows.specs.Touches.{IsReady, event_touches, follows}
 use Rattle.touched_rows.proofs.LessGiven.{GivesNoMore}
+use Rattle.touched_rows.proofs.LinksGone.{is_links_gone, led_after_effect}
 use Rattle.touched_rows.proofs.Shapes.{links_told_shape, reads_told_shape}
 use Rattle.touched_rows.proofs.Tellings.{interest_keeps, keeps_links, less_links_told, less_read_told, less_reads_told, less_update_told}
+use Rattle.touched_rows.proofs.Tidy.{reached_tidy}
 use Rattle.touched_rows.proofs.ToldAlone.{step_alone}
 use Rattle.touched_rows.proofs.WantedLinks.{SparesWanted, one_spares, some_spare, wanted_rights_kept}
 
@@ -129,30 +131,31 @@ alike_update_if : (found : Option UpdateNotice) (w : Gateway) → AreAlike w (up
 alike_update_if None w = record { channels = refl; rights = λ c. refl }
 alike_update_if (Some notice) w = alike_update w notice
 
-back : (touched : Touched) (x : Gateway) → HasCidsInOrder x → AreTold (follows touched x) → IsReady touched x
-back Everything x order told = record {}
-back Nothing x order told = record {}
-back (Session number) x order told = told_back x (follows (Session number) x) (alike_updates (update_notices_to number x) x) told
-back (Value name) x order told =
+back : (touched : Touched) (x : Gateway) → HasCidsInOrder x → (is_links_gone touched ≡ true → AreLed x) → AreTold (follows touched x) → IsReady touched x
+back Everything x order led told = record {}
+back LinksGone x order led told = led refl
+back Nothing x order led told = record {}
+back (Session number) x order led told = told_back x (follows (Session number) x) (alike_updates (update_notices_to number x) x) told
+back (Value name) x order led told =
     let read : Gateway = reads_told_on name x in
     told_back x (follows (Value name) x)
     (alike_after x read (follows (Value name) x) (alike_reads (read_notices_on name x) x) (alike_updates (update_notices_on name read) read)) told
-back (Interest name) x order told = told_back x (interest_told name x) (alike_interest name x) told
-back (LinkOf name) x order told =
+back (Interest name) x order led told = told_back x (interest_told name x) (alike_interest name x) told
+back (LinkOf name) x order led told =
     links_back x (link_notices_over x (link_of x name)) (one_spares x x.upstream.counters.cid order name) told
-back (Links names) x order told =
+back (Links names) x order led told =
     links_back x (link_notices_among names x) (some_spare x x.upstream.counters.cid order (is_link_among names)) told
-back (Read name read) x order told =
+back (Read name read) x order led told =
     let v : Gateway = interest_told name x in
     told_back x (one_read_told read v) (alike_after x v (one_read_told read v) (alike_interest name x) (alike_read_if (read_notice v read) v)) told
-back (SubscriptionTo name sub) x order told =
+back (SubscriptionTo name sub) x order led told =
     let v : Gateway = interest_told name x in
     told_back x (one_update_told sub v) (alike_after x v (one_update_told sub v) (alike_interest name x) (alike_update_if (update_notice v sub) v)) told
 
 -- after an event's direct effect clients know their rights, where what follows rests on that
 pub ready_after_effect : (w : Gateway) (event : Event) → IsReached w → IsReady (event_touches w event) (direct_effect w event)
 ready_after_effect w event reached =
-    back (event_touches w event) (direct_effect w event) (order_after_effect w event reached).links
+    back (event_touches w event) (direct_effect w event) (order_after_effect w event reached).links (led_after_effect w (reached_tidy w reached) event)
     (subst AreTold (step_alone w event reached) (reached_told (step w event) (reached_step w event reached)))
 
 -- the same of what it is said to touch and to leave
