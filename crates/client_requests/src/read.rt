@@ -3,6 +3,7 @@ ghost use Rattle.std.specs.Prelude.{◌≡◌, Some, OnOk, IfOk};
 ghost use Rattle.gateway_state.specs.Answer.{cached_value};
 ghost use Rattle.gateway_state.specs.Clients.{accepted, is_one_too_many, read_asked, read_refused, read_verdict, verdict_natively};
 ghost use Rattle.gateway_state.specs.Rights.{channel_of};
+ghost use Rattle.gateway_state.specs.Told.{AreTold, IsTold};
 ghost use Rattle.touched_rows.specs.Touches.{accepted_touches, new_read, read_touches};
 
 use crate::refusals::refuse_channel;
@@ -44,10 +45,10 @@ fn read_verdict_on(
     dtype: u16,
     count: u32,
 ) -> Result<ReadVerdict, AllocError>
+    requires told { IsTold rows.now channel.now }
     ensures { IfOk result (λ verdict. verdict ≡ verdict_natively rows.now channel.now link.now dtype count (Some native)) }
 {
-    let rights = rows.rights_of(channel)?;
-    if let Some(code) = read_refusal(native, rights, dtype, count) {
+    if let Some(code) = read_refusal(native, channel.rights, dtype, count) {
         return Ok(ReadVerdict::Refused(code));
     }
     if is_one_too_many(rows, channel, link, native, dtype, count)? {
@@ -67,9 +68,10 @@ fn read_verdict(
     dtype: u16,
     count: u32,
 ) -> Result<ReadVerdict, AllocError>
+    requires told { AreTold rows.now }
     ensures { IfOk result (λ verdict. verdict ≡ read_verdict rows.now number sid dtype count) }
 {
-    let Some(channel) = rows.channel_of(number, sid) else {
+    let Some(channel) = rows.told_channel(number, sid) else {
         return Ok(ReadVerdict::NoChannel);
     };
     let Some(link) = rows.link_of(&channel.real) else {
@@ -123,6 +125,7 @@ pub(crate) fn read(
     count: u32,
     head: &Header,
 ) -> Result<Touched, AllocError>
+    requires told { AreTold rows.old }
     ensures ok { OnOk result (rows.new ≡ read_asked number sid ioid dtype count head.now rows.old) }
     ensures touched { IfOk result (λ touched. touched ≡ read_touches rows.old (new_read number sid ioid dtype count)) }
 {

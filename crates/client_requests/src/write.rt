@@ -1,6 +1,8 @@
 //! WRITE and WRITE_NOTIFY.
 ghost use Rattle.std.specs.Prelude.{◌≡◌, true, OnOk, IfOk, IsErrOf};
+ghost use Rattle.gateway_state.specs.Gateway.{Gateway};
 ghost use Rattle.gateway_state.specs.Numbers.{is_past_numbers};
+ghost use Rattle.gateway_state.specs.Told.{AreTold, IsTold};
 ghost use Rattle.gateway_state.specs.Writing.{may_write, new_write, notified_by, with_write, write_answered, write_asked, write_handed_on, write_judged, write_notify_asked, write_verdict, write_verdict_in, write_waits, written_by};
 
 use crate::refusals::{refuse_channel, refuse_request};
@@ -32,62 +34,55 @@ fn may_write(rights: u32) -> bool
 
 /// A value that isn't fit to be handed on is refused first, then a write without the right.
 fn judge<'a>(
-    rows: &Rows,
     channel: &Channel,
     server: u32,
     sid: u32,
     value: Result<WrittenValue<'a>, WriteFault>,
-) -> Result<WriteVerdict<'a>, AllocError>
-    ensures { IfOk result (λ verdict. verdict ≡ write_judged rows.now channel.now server sid value.entry) }
+) -> WriteVerdict<'a>
+    ensures { (w : Gateway) → IsTold w channel.now → result ≡ write_judged w channel.now server sid value.entry }
 {
     let cid = channel.cid;
     match value {
-        Err(fault) => Ok(WriteVerdict::Refused {
+        Err(fault) => WriteVerdict::Refused {
             cid,
             code: fault.code(),
-        }),
-        Ok(value) if may_write(rows.rights_of(channel)?) => {
-            Ok(WriteVerdict::Accepted { server, sid, value })
-        }
-        Ok(_) => Ok(WriteVerdict::Refused {
+        },
+        Ok(value) if may_write(channel.rights) => WriteVerdict::Accepted { server, sid, value },
+        Ok(_) => WriteVerdict::Refused {
             cid,
             code: ECA_NOWTACCESS,
-        }),
+        },
     }
 }
 
 fn write_verdict_over<'a>(
-    rows: &Rows,
     channel: &Channel,
     link: &Link,
     write: Write,
     payload: &'a [u8],
-) -> Result<WriteVerdict<'a>, AllocError>
-    ensures { IfOk result (λ verdict. verdict ≡ write_verdict_in rows.now channel.now link.now.server write.dtype write.count payload.now link.now.state) }
+) -> WriteVerdict<'a>
+    ensures { (w : Gateway) → IsTold w channel.now → result ≡ write_verdict_in w channel.now link.now.server write.dtype write.count payload.now link.now.state }
 {
     match link.state {
         LinkState::Connected { sid, count, .. } => {
             let value = WrittenValue::read(write.dtype, write.count, count, payload);
-            judge(rows, channel, link.server, sid, value)
+            judge(channel, link.server, sid, value)
         }
-        LinkState::Creating | LinkState::Unusable => Ok(WriteVerdict::Ignored),
+        LinkState::Creating | LinkState::Unusable => WriteVerdict::Ignored,
     }
 }
 
 /// What becomes of a write.
-fn write_verdict<'a>(
-    rows: &Rows,
-    write: Write,
-    payload: &'a [u8],
-) -> Result<WriteVerdict<'a>, AllocError>
-    ensures { IfOk result (λ verdict. verdict ≡ write_verdict rows.now write.session write.sid write.dtype write.count payload.now) }
+fn write_verdict<'a>(rows: &Rows, write: Write, payload: &'a [u8]) -> WriteVerdict<'a>
+    requires told { AreTold rows.now }
+    ensures { result ≡ write_verdict rows.now write.session write.sid write.dtype write.count payload.now }
 {
-    let Some(channel) = rows.channel_of(write.session, write.sid) else {
-        return Ok(WriteVerdict::NoChannel);
+    let Some(channel) = rows.told_channel(write.session, write.sid) else {
+        return WriteVerdict::NoChannel;
     };
     match rows.link_of(&channel.real) {
-        Some(link) => write_verdict_over(rows, channel, link, write, payload),
-        None => Ok(WriteVerdict::Ignored),
+        Some(link) => write_verdict_over(channel, link, write, payload),
+        None => WriteVerdict::Ignored,
     }
 }
 
@@ -98,9 +93,10 @@ pub(crate) fn hear_write(
     payload: &[u8],
     head: &Header,
 ) -> Result<(), AllocError>
+    requires told { AreTold rows.old }
     ensures { OnOk result (rows.new ≡ write_asked write.session write.sid write.dtype write.count payload.now head.now rows.old) }
 {
-    match write_verdict(rows, write, payload)? {
+    match write_verdict(rows, write, payload) {
         WriteVerdict::NoChannel => refuse_channel(rows, write.session, head),
         WriteVerdict::Ignored => Ok(()),
         WriteVerdict::Refused { cid, code } => {
@@ -183,10 +179,11 @@ pub(crate) fn hear_write_notify(
     payload: &[u8],
     head: &Header,
 ) -> Result<(), Refusal>
+    requires told { AreTold rows.old }
     ensures ok { OnOk result (rows.new ≡ write_notify_asked write.session write.sid ioid write.dtype write.count payload.now head.now rows.old) }
     ensures used_up { IsErrOf result Refusal.NumbersUsedUp → is_past_numbers (write_notify_asked write.session write.sid ioid write.dtype write.count payload.now head.now rows.old) ≡ true }
 {
-    match write_verdict(rows, write, payload)? {
+    match write_verdict(rows, write, payload) {
         WriteVerdict::NoChannel => Ok(refuse_channel(rows, write.session, head)?),
         WriteVerdict::Ignored => Ok(()),
         WriteVerdict::Refused { code, .. } => Ok(answer_write(rows, write, ioid, code)?),

@@ -1,1 +1,2 @@
+pub mod GoneChannels
 pub mod NextNotice

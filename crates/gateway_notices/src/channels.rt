@@ -1,6 +1,8 @@
 //! What clients are owed about their channels.
-ghost use Rattle.std.specs.Prelude.{◌≡◌, filter_map, OnOk, IfOk};
+ghost use Rattle.std.specs.Prelude.{◌≡◌, filter_map, false, OnOk, IfOk};
 ghost use Rattle.gateway_state.specs.Notices.{channel_notice, channel_notices, channel_told, channels_told, with_reach};
+ghost use Rattle.gateway_state.specs.Told.{AreLed};
+ghost use Rattle.gateway_notices.specs.Gone.{gone_notice, gone_notices};
 
 use ca_message::ToClient;
 use channel_table::Channel;
@@ -33,6 +35,20 @@ fn channel_notice(rows: &Rows, channel: &Channel) -> Result<Option<ChannelNotice
     }))
 }
 
+/// The same where names lead as they did: a channel is gone with its link.
+fn gone_notice(rows: &Rows, channel: &Channel) -> Option<ChannelNotice>
+    ensures { result ≡ gone_notice rows.now channel.now }
+{
+    if rows.is_link_connected(&channel.real) {
+        return None;
+    }
+    Some(ChannelNotice::Disconnected {
+        session: channel.session,
+        sid: channel.sid,
+        cid: channel.cid,
+    })
+}
+
 fn channel_notices(rows: &Rows) -> Result<Vec<ChannelNotice>, AllocError>
     ensures { IfOk result (λ notices. notices.items ≡ channel_notices rows.now) }
 {
@@ -43,6 +59,31 @@ fn channel_notices(rows: &Rows) -> Result<Vec<ChannelNotice>, AllocError>
         }
     }
     Ok(notices)
+}
+
+fn gone_notices(rows: &Rows) -> Result<Vec<ChannelNotice>, AllocError>
+    ensures { IfOk result (λ notices. notices.items ≡ gone_notices rows.now) }
+{
+    let mut notices = Vec::new(rows.alloc);
+    for channel in rows.clients.channels(rows.alloc)? {
+        if let Some(notice) = gone_notice(rows, channel) {
+            notices.push(notice)?;
+        }
+    }
+    Ok(notices)
+}
+
+/// What is owed about channels, worked out anew unless names lead as they did.
+#[tactic(auto, using(crate::proofs::GoneChannels::gone_as_told))]
+fn notices_of(rows: &Rows, anew: bool) -> Result<Vec<ChannelNotice>, AllocError>
+    requires led { anew ≡ false → AreLed rows.now }
+    ensures { IfOk result (λ notices. notices.items ≡ channel_notices rows.now) }
+{
+    if anew {
+        channel_notices(rows)
+    } else {
+        gone_notices(rows)
+    }
 }
 
 fn set_rights(rows: &mut Rows, session: u32, sid: u32, reach: u32, rights: u32)
@@ -72,11 +113,13 @@ fn tell_channel(rows: &mut Rows, notice: ChannelNotice) -> Result<(), AllocError
     }
 }
 
-/// Tells clients of channels that are gone, and of rights that changed.
-pub(crate) fn tell_channels(rows: &mut Rows) -> Result<(), AllocError>
+/// Tells clients of channels that are gone, and of rights that changed. They are worked out anew, unless
+/// names lead as they did.
+pub(crate) fn tell_channels(rows: &mut Rows, anew: bool) -> Result<(), AllocError>
+    requires led { anew ≡ false → AreLed rows.old }
     ensures { OnOk result (rows.new ≡ channels_told rows.old) }
 {
-    let notices = channel_notices(rows)?;
+    let notices = notices_of(rows, anew)?;
     for notice in &notices {
         tell_channel(rows, *notice)?;
     }

@@ -1,6 +1,7 @@
 //! What clients are owed about reads that wait.
 ghost use Rattle.std.specs.Prelude.{◌≡◌, fold, OnOk, IfOk};
 ghost use Rattle.gateway_state.specs.Notices.{answered_natively, answered_over, read_notice, read_notices, read_told, reads_told};
+ghost use Rattle.gateway_state.specs.Told.{AreTold};
 ghost use Rattle.gateway_state.specs.Variables.{link_of};
 ghost use Rattle.touched_rows.specs.Touched.{one_read_told, read_notices_on, reads_told_on};
 
@@ -35,12 +36,13 @@ fn answer_over(
 
 /// What is owed about a read: its refusal where the channel can't be read any more, or its answer.
 fn read_notice(rows: &Rows, read: WaitingRead) -> Result<Option<ReadNotice>, AllocError>
+    requires told { AreTold rows.now }
     ensures { IfOk result (λ notice. notice ≡ read_notice rows.now read) }
 {
-    let Some(channel) = rows.channel_of(read.session, read.sid) else {
+    let Some(channel) = rows.told_channel(read.session, read.sid) else {
         return Ok(None);
     };
-    if may_read(rows.rights_of(channel)?) {
+    if may_read(channel.rights) {
         answer_over(rows, read, &channel.real)
     } else {
         Ok(Some(ReadNotice::Refused(read, ECA_NORDACCESS)))
@@ -48,6 +50,7 @@ fn read_notice(rows: &Rows, read: WaitingRead) -> Result<Option<ReadNotice>, All
 }
 
 fn read_notices(rows: &Rows) -> Result<VecDeque<ReadNotice>, AllocError>
+    requires told { AreTold rows.now }
     ensures { IfOk result (λ notices. notices.items ≡ read_notices rows.now) }
 {
     let mut notices = VecDeque::new(rows.alloc);
@@ -61,6 +64,7 @@ fn read_notices(rows: &Rows) -> Result<VecDeque<ReadNotice>, AllocError>
 
 /// What is owed about the reads that wait for a variable.
 fn read_notices_on(rows: &Rows, name: &Name) -> Result<VecDeque<ReadNotice>, AllocError>
+    requires told { AreTold rows.now }
     ensures { IfOk result (λ notices. notices.items ≡ read_notices_on name.now rows.now) }
 {
     let mut notices = VecDeque::new(rows.alloc);
@@ -110,6 +114,7 @@ fn tell_each(rows: &mut Rows, mut notices: VecDeque<ReadNotice>) -> Result<(), A
 
 /// Answers reads that are covered, and refuses those whose right is gone.
 pub(crate) fn tell_reads(rows: &mut Rows) -> Result<(), AllocError>
+    requires told { AreTold rows.old }
     ensures { OnOk result (rows.new ≡ reads_told rows.old) }
 {
     let notices = read_notices(rows)?;
@@ -118,6 +123,7 @@ pub(crate) fn tell_reads(rows: &mut Rows) -> Result<(), AllocError>
 
 /// The same of the reads that wait for one variable.
 pub(crate) fn tell_reads_on(rows: &mut Rows, name: &Name) -> Result<(), AllocError>
+    requires told { AreTold rows.old }
     ensures { OnOk result (rows.new ≡ reads_told_on name.now rows.old) }
 {
     let notices = read_notices_on(rows, name)?;
@@ -126,6 +132,7 @@ pub(crate) fn tell_reads_on(rows: &mut Rows, name: &Name) -> Result<(), AllocErr
 
 /// The same of one read.
 pub(crate) fn tell_one_read(rows: &mut Rows, read: WaitingRead) -> Result<(), AllocError>
+    requires told { AreTold rows.old }
     ensures { OnOk result (rows.new ≡ one_read_told read rows.old) }
 {
     match read_notice(rows, read)? {

@@ -1,6 +1,7 @@
 //! What clients are owed about their subscriptions.
 ghost use Rattle.std.specs.Prelude.{◌≡◌, Some, fold, OnOk, IfOk};
 ghost use Rattle.gateway_state.specs.Rights.{channel_of};
+ghost use Rattle.gateway_state.specs.Told.{AreTold, IsTold};
 ghost use Rattle.gateway_state.specs.Updates.{is_open_to, is_paused, is_unreadable, is_withheld, update_notice, update_notices, update_on, update_over, update_told, updates_told, updates_withheld, withheld};
 ghost use Rattle.gateway_state.specs.Variables.{link_of};
 ghost use Rattle.touched_rows.specs.Touched.{one_update_told, update_notices_on, update_notices_to, updates_told_on, updates_told_to};
@@ -14,28 +15,31 @@ use std::alloc::AllocError;
 use std::collections::VecDeque;
 
 /// Whether a channel stands that may not be read.
-fn is_unreadable(rows: &Rows, session: u32, sid: u32) -> Result<bool, AllocError>
-    ensures { IfOk result (λ answer. answer ≡ is_unreadable rows.now (channel_of rows.now session sid)) }
+fn is_unreadable(rows: &Rows, session: u32, sid: u32) -> bool
+    requires told { AreTold rows.now }
+    ensures { result ≡ is_unreadable rows.now (channel_of rows.now session sid) }
 {
-    match rows.channel_of(session, sid) {
-        Some(channel) => Ok(!may_read(rows.rights_of(channel)?)),
-        None => Ok(false),
+    match rows.told_channel(session, sid) {
+        Some(channel) => !may_read(channel.rights),
+        None => false,
     }
 }
 
 /// Whether a subscription's channel may not be read, and nothing is owed to it yet.
-fn is_withheld(rows: &Rows, sub: &ClientSub) -> Result<bool, AllocError>
-    ensures { IfOk result (λ answer. answer ≡ is_withheld rows.now sub.now) }
+fn is_withheld(rows: &Rows, sub: &ClientSub) -> bool
+    requires told { AreTold rows.now }
+    ensures { result ≡ is_withheld rows.now sub.now }
 {
-    Ok(!sub.owed && is_unreadable(rows, sub.session, sub.sid)?)
+    !sub.owed && is_unreadable(rows, sub.session, sub.sid)
 }
 
 fn withheld(rows: &Rows) -> Result<Vec<ClientSub>, AllocError>
+    requires told { AreTold rows.now }
     ensures { IfOk result (λ subs. subs.items ≡ withheld rows.now) }
 {
     let mut subs = Vec::new(rows.alloc);
     for sub in rows.clients.subs(rows.alloc)? {
-        if is_withheld(rows, sub)? {
+        if is_withheld(rows, sub) {
             subs.push(*sub)?;
         }
     }
@@ -44,6 +48,7 @@ fn withheld(rows: &Rows) -> Result<Vec<ClientSub>, AllocError>
 
 /// Owes the latest value to subscriptions whose channels may not be read.
 pub(crate) fn withhold_updates(rows: &mut Rows) -> Result<(), AllocError>
+    requires told { AreTold rows.old }
     ensures { OnOk result (rows.new ≡ updates_withheld rows.old) }
 {
     let subs = withheld(rows)?;
@@ -97,9 +102,10 @@ fn update_on(
     sub: &ClientSub,
     channel: &Channel,
 ) -> Result<Option<UpdateNotice>, AllocError>
+    requires told { IsTold rows.now channel.now }
     ensures { IfOk result (λ notice. notice ≡ update_on rows.now sub.now (Some channel.now)) }
 {
-    if may_read(rows.rights_of(channel)?) {
+    if may_read(channel.rights) {
         update_over(rows, sub, &channel.real)
     } else {
         Ok(None)
@@ -109,18 +115,20 @@ fn update_on(
 /// The update that is due to a subscription.
 #[tactic(auto, unfolding(gateway_state::specs::Updates::update_notice))]
 fn update_notice(rows: &Rows, sub: ClientSub) -> Result<Option<UpdateNotice>, AllocError>
+    requires told { AreTold rows.now }
     ensures { IfOk result (λ notice. notice ≡ update_notice rows.now sub) }
 {
     if !(sub.owed && is_open_to(rows, &sub)) {
         return Ok(None);
     }
-    match rows.channel_of(sub.session, sub.sid) {
+    match rows.told_channel(sub.session, sub.sid) {
         Some(channel) => update_on(rows, &sub, channel),
         None => Ok(None),
     }
 }
 
 fn update_notices(rows: &Rows) -> Result<VecDeque<UpdateNotice>, AllocError>
+    requires told { AreTold rows.now }
     ensures { IfOk result (λ notices. notices.items ≡ update_notices rows.now) }
 {
     let mut notices = VecDeque::new(rows.alloc);
@@ -134,6 +142,7 @@ fn update_notices(rows: &Rows) -> Result<VecDeque<UpdateNotice>, AllocError>
 
 /// The updates that are due to subscriptions to a variable.
 fn update_notices_on(rows: &Rows, name: &Name) -> Result<VecDeque<UpdateNotice>, AllocError>
+    requires told { AreTold rows.now }
     ensures { IfOk result (λ notices. notices.items ≡ update_notices_on name.now rows.now) }
 {
     let mut notices = VecDeque::new(rows.alloc);
@@ -147,6 +156,7 @@ fn update_notices_on(rows: &Rows, name: &Name) -> Result<VecDeque<UpdateNotice>,
 
 /// The updates that are due to a session.
 fn update_notices_to(rows: &Rows, number: u32) -> Result<VecDeque<UpdateNotice>, AllocError>
+    requires told { AreTold rows.now }
     ensures { IfOk result (λ notices. notices.items ≡ update_notices_to number rows.now) }
 {
     let mut notices = VecDeque::new(rows.alloc);
@@ -186,6 +196,7 @@ fn tell_each(rows: &mut Rows, mut notices: VecDeque<UpdateNotice>) -> Result<(),
 
 /// Gives the updates that are due.
 pub(crate) fn tell_updates(rows: &mut Rows) -> Result<(), AllocError>
+    requires told { AreTold rows.old }
     ensures { OnOk result (rows.new ≡ updates_told rows.old) }
 {
     let notices = update_notices(rows)?;
@@ -194,6 +205,7 @@ pub(crate) fn tell_updates(rows: &mut Rows) -> Result<(), AllocError>
 
 /// The same of one variable.
 pub(crate) fn tell_updates_on(rows: &mut Rows, name: &Name) -> Result<(), AllocError>
+    requires told { AreTold rows.old }
     ensures { OnOk result (rows.new ≡ updates_told_on name.now rows.old) }
 {
     let notices = update_notices_on(rows, name)?;
@@ -202,6 +214,7 @@ pub(crate) fn tell_updates_on(rows: &mut Rows, name: &Name) -> Result<(), AllocE
 
 /// The same of one session.
 pub(crate) fn tell_updates_to(rows: &mut Rows, number: u32) -> Result<(), AllocError>
+    requires told { AreTold rows.old }
     ensures { OnOk result (rows.new ≡ updates_told_to number rows.old) }
 {
     let notices = update_notices_to(rows, number)?;
@@ -210,6 +223,7 @@ pub(crate) fn tell_updates_to(rows: &mut Rows, number: u32) -> Result<(), AllocE
 
 /// The same of one subscription.
 pub(crate) fn tell_one_update(rows: &mut Rows, sub: ClientSub) -> Result<(), AllocError>
+    requires told { AreTold rows.old }
     ensures { OnOk result (rows.new ≡ one_update_told sub rows.old) }
 {
     match update_notice(rows, sub)? {

@@ -2,6 +2,7 @@
 ghost use Rattle.std.specs.Prelude.{◌≡◌, Some, IfOk};
 ghost use Rattle.gateway_state.specs.Answer.{is_type_served, converts_to, fits_payload, meant_count, refusal, value_refusal, cached_as, cached_value, reading, reading_at, reading_on, reading_of, refused_or};
 ghost use Rattle.gateway_state.specs.Servers.{time_of};
+ghost use Rattle.gateway_state.specs.Told.{AreTold, IsTold};
 ghost use Rattle.dbr_layout.specs.Dbr.{dbr_of};
 
 use crate::rights::may_read;
@@ -51,9 +52,10 @@ impl Rows {
     }
 
     fn reading_at(&self, channel: &Channel, dtype: u16, count: u32) -> Result<Reading, AllocError>
+        requires told { IsTold self.now channel.now }
         ensures { IfOk result (λ reading. reading ≡ reading_at self.now channel.now dtype count) }
     {
-        let rights = self.rights_of(channel)?;
+        let rights = channel.rights;
         match self.link_of(&channel.real) {
             Some(link) => match native_in(link.state) {
                 Some(native) => self.reading_of(rights, dtype, count, link, native),
@@ -71,9 +73,10 @@ impl Rows {
         dtype: u16,
         count: u32,
     ) -> Result<Reading, AllocError>
+        requires told { AreTold self.now }
         ensures { IfOk result (λ answer. answer ≡ reading self.now session sid dtype count) }
     {
-        match self.channel_of(session, sid) {
+        match self.told_channel(session, sid) {
             Some(channel) => self.reading_at(channel, dtype, count),
             None => Ok(Reading::NoChannel),
         }

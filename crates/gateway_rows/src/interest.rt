@@ -1,6 +1,8 @@
 //! What the readers of a variable want together.
 ghost use Rattle.std.specs.Prelude.{◌≡◌, ◌++◌, Some, map, filter, OnOk, IfOk};
-ghost use Rattle.gateway_state.specs.Interest.{channel_want, interest_of, is_for, is_read_through, is_reader, is_subscriber, minor_of, sent_count, sub_want, subscription_of};
+ghost use Rattle.gateway_state.specs.Interest.{channel_want, interest_of, is_for, minor_of, sent_count, sub_want, subscription_of};
+ghost use Rattle.gateway_state.specs.Told.{AreTold};
+ghost use Rattle.gateway_rows.specs.ToldReaders.{is_told_reader, is_told_subscriber, is_told_through};
 
 use crate::answer::meant_count;
 use crate::rights::may_read;
@@ -13,35 +15,21 @@ use pv_name::Name;
 use std::alloc::AllocError;
 
 impl Rows {
-    /// Whether a channel is read itself.
-    fn is_reader(&self, name: &Name, channel: &Channel) -> Result<bool, AllocError>
-        ensures { IfOk result (λ answer. answer ≡ is_reader self.now name.now channel.now) }
-    {
-        Ok(channel.real == *name && channel.reach > 0 && may_read(self.rights_of(channel)?))
-    }
-
-    /// Whether a variable may be read over a channel.
-    fn is_read_through(&self, name: &Name, channel: &Channel) -> Result<bool, AllocError>
-        ensures { IfOk result (λ answer. answer ≡ is_read_through self.now name.now (Some channel.now)) }
-    {
-        Ok(channel.real == *name && may_read(self.rights_of(channel)?))
-    }
-
-    fn is_subscriber(&self, name: &Name, sub: &ClientSub) -> Result<bool, AllocError>
-        ensures { IfOk result (λ answer. answer ≡ is_subscriber self.now name.now sub.now) }
+    fn is_subscriber(&self, name: &Name, sub: &ClientSub) -> bool
+        ensures { result ≡ is_told_subscriber self.now name.now sub.now }
     {
         match self.channel_of(sub.session, sub.sid) {
-            Some(channel) => self.is_read_through(name, channel),
-            None => Ok(false),
+            Some(channel) => is_read_through(name, channel),
+            None => false,
         }
     }
 
     #[tactic(auto, using(crate::proofs::Readers::subscribers_are_on))]
     fn add_subscribers(&self, tally: &mut Tally, name: &Name, native: u32) -> Result<(), AllocError>
-        ensures { OnOk result (tally.new ≡ tally.old ++ map (sub_want native) (filter (is_subscriber self.now name.now) self.now.clients.subs)) }
+        ensures { OnOk result (tally.new ≡ tally.old ++ map (sub_want native) (filter (is_told_subscriber self.now name.now) self.now.clients.subs)) }
     {
         for sub in &self.subs_on(name)? {
-            if self.is_subscriber(name, sub)? {
+            if self.is_subscriber(name, sub) {
                 tally.add(sub.mask, meant_count(native, sub.count))?;
             }
         }
@@ -50,10 +38,10 @@ impl Rows {
 
     #[tactic(auto, using(crate::proofs::Readers::readers_are_on))]
     fn add_readers(&self, tally: &mut Tally, name: &Name) -> Result<(), AllocError>
-        ensures { OnOk result (tally.new ≡ tally.old ++ map channel_want (filter (is_reader self.now name.now) self.now.clients.channels)) }
+        ensures { OnOk result (tally.new ≡ tally.old ++ map channel_want (filter (is_told_reader name.now) self.now.clients.channels)) }
     {
         for channel in self.channels_on(name)? {
-            if self.is_reader(name, channel)? {
+            if is_reader(name, channel) {
                 tally.add(READ_EVENTS, channel.reach)?;
             }
         }
@@ -62,7 +50,9 @@ impl Rows {
 
     /// What the readers of a variable with this native count want together, nothing where there is
     /// none.
+    #[tactic(auto, using(crate::proofs::Readers::readers_as_told))]
     pub fn interest_of(&self, name: &Name, native: u32) -> Result<Option<Want>, AllocError>
+        requires told { AreTold self.now }
         ensures { IfOk result (λ want. want ≡ interest_of self.now name.now native) }
     {
         let mut tally = Tally::new(self.alloc);
@@ -96,6 +86,20 @@ impl Rows {
             None => 0,
         }
     }
+}
+
+/// Whether a channel is read itself, by the rights that its client was last told.
+fn is_reader(name: &Name, channel: &Channel) -> bool
+    ensures { result ≡ is_told_reader name.now channel.now }
+{
+    channel.real == *name && channel.reach > 0 && may_read(channel.rights)
+}
+
+/// Whether a variable may be read over a channel, by the same rights.
+fn is_read_through(name: &Name, channel: &Channel) -> bool
+    ensures { result ≡ is_told_through name.now (Some channel.now) }
+{
+    channel.real == *name && may_read(channel.rights)
 }
 
 /// Whether the subscription is for what is wanted.

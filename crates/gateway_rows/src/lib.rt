@@ -2,7 +2,7 @@
 //! layers make.
 //!
 //! `Rows` is everything that the gateway knows, and a contract sees it as the gateway state of
-//! `gateway_state`. Its questions (`link_of`, `rights_of`, `is_served`, `is_wanted`, `reading`,
+//! `gateway_state`. Its questions (`link_of`, `told_channel`, `is_wanted`, `reading`,
 //! `interest_of`, `asks` ..) leave it as it is, and each answers the definition of its name over that
 //! state; those that ask the rules take memory, and may be refused it. Its changes (`tell`, `ask`,
 //! `mark`, `remove_channel`, `remove_link`, `owe_all` ..) make the state that the definition which

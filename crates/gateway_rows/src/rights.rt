@@ -1,10 +1,11 @@
 //! What clients may do with their channels.
-ghost use Rattle.std.specs.Prelude.{◌≡◌, ◌&&◌, bit_and, IfOk};
+ghost use Rattle.std.specs.Prelude.{◌≡◌, ◌&&◌, bit_and, IfOk, IfSome};
 ghost use Rattle.std.specs.Option.{option_copied};
 ghost use Rattle.gateway_state.specs.Variables.{link_of};
 ghost use Rattle.gateway_state.specs.Reached.{rights_told};
 ghost use Rattle.gateway_state.specs.Resolution.{is_real, rights_left};
-ghost use Rattle.gateway_state.specs.Rights.{is_found, rights_of, may_read, link_rights, link_connected, channel_of};
+ghost use Rattle.gateway_state.specs.Told.{AreTold, IsTold};
+ghost use Rattle.gateway_state.specs.Rights.{is_found, may_read, link_rights, link_connected, channel_of};
 
 use crate::state::Rows;
 use crate::variables::is_connected;
@@ -33,15 +34,8 @@ impl Rows {
         self.link_rights(&channel.real) & rights_left(self.searches.policy(), lead)
     }
 
-    /// The rights of a channel.
-    pub fn rights_of(&self, channel: &Channel) -> Result<u32, AllocError>
-        ensures { IfOk result (λ rights. rights ≡ rights_of self.now channel.now) }
-    {
-        let lead = self.lead_in(channel.session, &channel.asked)?;
-        Ok(self.rights_by(channel, lead.as_ref()))
-    }
-
-    fn is_link_connected(&self, name: &Name) -> bool
+    /// Whether a real name has a link that is connected.
+    pub fn is_link_connected(&self, name: &Name) -> bool
         ensures { result ≡ link_connected (link_of self.now name.now) }
     {
         match self.link_of(name) {
@@ -72,6 +66,15 @@ impl Rows {
         ensures { option_copied result ≡ channel_of self.now session sid }
     {
         self.clients.channel(session, sid)
+    }
+
+    /// A session's channel, where clients know their rights: it has those that its client was last told.
+    pub fn told_channel(&self, session: u32, sid: u32) -> Option<&Channel>
+        requires told { AreTold self.now }
+        ensures found { option_copied result ≡ channel_of self.now session sid }
+        ensures told { IfSome (option_copied result) (IsTold self.now) }
+    {
+        self.channel_of(session, sid)
     }
 
     /// What a client was last told that it may do with a channel, nothing where it has no such channel. It

@@ -26,6 +26,7 @@ pub mod SettledSubs
 pub mod SettledUpdates
 pub mod SettledWithheld
 pub mod SubsApart
+pub mod ToldRights
 pub mod WritesOnLinks
 pub mod LatestLemmas
 pub mod ListedLemmas

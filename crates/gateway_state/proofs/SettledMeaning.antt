@@ -21,7 +21,7 @@ use Rattle.gateway_state.specs.declared.reading.Native.{Native}
 use Rattle.gateway_state.specs.Answer.{cached_value, native_in}
 use Rattle.gateway_state.specs.Gateway.{Gateway}
 use Rattle.gateway_state.specs.Interest.{interest_of, is_for, minor_of}
-use Rattle.gateway_state.specs.Notices.{answered_by, answered_natively, answered_over, cancelled, channel_notice, interest_notices, link_notices_of, notice_on, read_notice, subscribed}
+use Rattle.gateway_state.specs.Notices.{answered_by, answered_natively, answered_over, cancelled, channel_notice, channel_notices, interest_notices, link_notices_of, notice_on, read_notice, subscribed}
 use Rattle.gateway_state.specs.Rights.{channel_of, is_served, link_connected, may_read, rights_of}
 use Rattle.gateway_state.specs.Settled.{HasReadsOnChannels, IsInUse, IsSettled, IsUpToDate, IsWaiting, want_in, is_on_channel, native_count_in}
 use Rattle.gateway_state.specs.Variables.{is_connected, is_wanted, link_of}
@@ -57,9 +57,12 @@ up_to_date w c none = by (is_served w c) (eqb c.rights (rights_of w c)) refl ref
     by true false is_so is_same none = absurd cc
     by true true is_so is_same none = record { served = is_so; rights = eqb-true c.rights (rights_of w c) is_same }
 
+pub quiet_up_to_date : (w : Gateway) → channel_notices w ≡ [] → All (IsUpToDate w) w.clients.channels
+quiet_up_to_date w none =
+    All-weaker (λ (c : Channel). channel_notice w c ≡ None) (IsUpToDate w) (up_to_date w) w.clients.channels (none_told (channel_notice w) w.clients.channels none)
+
 pub all_up_to_date : (w : Gateway) → IsSettled w → All (IsUpToDate w) w.clients.channels
-all_up_to_date w settled =
-    All-weaker (λ (c : Channel). channel_notice w c ≡ None) (IsUpToDate w) (up_to_date w) w.clients.channels (none_told (channel_notice w) w.clients.channels settled.channels)
+all_up_to_date w settled = quiet_up_to_date w settled.channels
 
 -- ---- links
 

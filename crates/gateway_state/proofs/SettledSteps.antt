@@ -138,7 +138,7 @@ links_settled : (w v : Gateway) → IsPassed w v → link_notices v ≡ []
 links_settled w v passed =
     ap link_notices passed.is ∙ left_links_settled w passed.connections passed.cache passed.links passed.next passed.left
 
-links_keep_channels : (w v : Gateway) → IsPassed w v → channel_notices v ≡ channel_notices w
+pub links_keep_channels : (w v : Gateway) → IsPassed w v → channel_notices v ≡ channel_notices w
 links_keep_channels w v passed =
     ap channel_notices passed.is ∙ left_channels_same w passed.connections passed.cache passed.links passed.next passed.left
 

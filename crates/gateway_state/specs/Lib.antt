@@ -20,6 +20,7 @@ pub mod Settled
 pub mod Step
 pub mod Subscribing
 pub mod Telling
+pub mod Told
 pub mod Updates
 pub mod Variables
 pub mod Writing

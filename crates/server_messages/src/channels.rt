@@ -105,7 +105,7 @@ pub(crate) fn hear_disconnect(rows: &mut Rows, server: u32, cid: u32) -> Touched
     let was_connected = is_connected(link.state);
     rows.remove_link(server, cid);
     if was_connected {
-        Touched::All
+        Touched::LinksGone
     } else {
         Touched::Nothing
     }

@@ -14,7 +14,7 @@ use Rattle.gateway_state.specs.Step.{consequences}
 use Rattle.gateway_state.specs.Variables.{is_connected, is_creating, without_cached}
 use Rattle.gateway_state.proofs.SettledMeaning.{all_in_use, nothing_told}
 use Rattle.gateway_state.proofs.SettledSteps.{settled_stays}
-use Rattle.touched_rows.specs.declared.touched.Touched.TheVariants.{All as Everything, Nothing}
+use Rattle.touched_rows.specs.declared.touched.Touched.TheVariants.{LinksGone, Nothing}
 use Rattle.touched_rows.specs.Touches.{follows, gone_touches, gone_touches_over}
 use Rattle.touched_rows.proofs.Connecting.{creating_unconnected}
 use Rattle.touched_rows.proofs.LinksQuiet.{each_quiet}
@@ -85,7 +85,7 @@ module _ (w : Gateway) (settled : IsSettled w) (order : AreInOrder w) (links_apa
   told_after_dropping = by (find (is_link server cid) w.upstream.links) refl
     where
       over : (link : Link) → find (is_link server cid) w.upstream.links ≡ Some link → (connected : Bool) → is_connected link.state ≡ connected
-          → consequences (without_link server cid w) ≡ follows (cond connected Everything Nothing) (without_link server cid w)
+          → consequences (without_link server cid w) ≡ follows (cond connected LinksGone Nothing) (without_link server cid w)
       over link is true connected = refl
       over link is false connected = settled_stays (without_link server cid w) (settled_without link is connected)
 

@@ -7,6 +7,7 @@ pub mod Drained
 pub mod Failed
 pub mod Found
 pub mod LessGiven
+pub mod LinksGone
 pub mod LinksQuiet
 pub mod Lost
 pub mod Nothing
@@ -19,6 +20,7 @@ pub mod Passes
 pub mod ReadAsked
 pub mod ReadersOf
 pub mod Renamed
+pub mod Ready
 pub mod Searched
 pub mod Sessions
 pub mod Shapes

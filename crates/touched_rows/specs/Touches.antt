@@ -37,15 +37,17 @@ use Rattle.gateway_state.specs.Rights.{channel_of}
 use Rattle.gateway_state.specs.Servers.{is_value}
 use Rattle.gateway_state.specs.Step.{consequences}
 use Rattle.gateway_state.specs.Subscribing.{is_on_sid, new_sub, sub_of, sub_verdict}
+use Rattle.gateway_state.specs.Told.{AreLed, AreTold}
 use Rattle.gateway_state.specs.Updates.{is_taking}
 use Rattle.gateway_state.specs.Variables.{channel_names, is_connected, is_creating, search_names}
 use Rattle.touched_rows.specs.declared.touched.Touched.{Touched}
-use Rattle.touched_rows.specs.declared.touched.Touched.TheVariants.{All, Nothing, Session, Value, Interest, Link as LinkOf, Links, Read, Subscription as SubscriptionTo}
+use Rattle.touched_rows.specs.declared.touched.Touched.TheVariants.{All, LinksGone, Nothing, Session, Value, Interest, Link as LinkOf, Links, Read, Subscription as SubscriptionTo}
 use Rattle.touched_rows.specs.Touched.{interest_told, link_told_on, links_told_among, one_read_told, one_update_told, reads_told_on, updates_told_on, updates_told_to}
 
 -- what follows where no more than this was touched
 abbrev pub follows : Touched → Gateway → Gateway
 follows All w = consequences w
+follows LinksGone w = consequences w
 follows Nothing w = w
 follows (Session number) w = updates_told_to number w
 follows (Value name) w = updates_told_on name (reads_told_on name w)
@@ -54,6 +56,20 @@ follows (LinkOf name) w = link_told_on name w
 follows (Links names) w = links_told_among names w
 follows (Read name read) w = one_read_told read (interest_told name w)
 follows (SubscriptionTo name sub) w = one_update_told sub (interest_told name w)
+
+-- what tells these alone rests on that clients know their rights; where all was touched, it tells them
+-- first, and where links are gone, it tells those whose channels went with them
+abbrev pub IsReady : Touched → Gateway → Type 0
+IsReady All w = Unit {0}
+IsReady LinksGone w = AreLed w
+IsReady Nothing w = Unit {0}
+IsReady (Session number) w = AreTold w
+IsReady (Value name) w = AreTold w
+IsReady (Interest name) w = AreTold w
+IsReady (LinkOf name) w = AreTold w
+IsReady (Links names) w = AreTold w
+IsReady (Read name read) w = AreTold w
+IsReady (SubscriptionTo name sub) w = AreTold w
 
 -- CLIENTS' MESSAGES
 
@@ -166,7 +182,7 @@ rights_touches w server cid = rights_touches_over (find (is_link server cid) w.u
 
 abbrev pub gone_touches_over : Option Link → Touched
 gone_touches_over None = Nothing
-gone_touches_over (Some link) = if is_connected link.state then All else Nothing
+gone_touches_over (Some link) = if is_connected link.state then LinksGone else Nothing
 
 -- a channel that a server drops concerns all who use it, where it was connected
 abbrev pub gone_touches : Gateway → ℕ → ℕ → Touched
@@ -199,7 +215,7 @@ event_touches w (events.Lost number) = Links (names_of w number)
 event_touches w (events.Client number message) =
     if acts w (dests.Session number) then request_touches w number (request_of message.head message.payload) else Nothing
 event_touches w (events.UpOpened number) = Nothing
-event_touches w (events.UpLost number) = All
+event_touches w (events.UpLost number) = LinksGone
 event_touches w (events.Server number message) =
     if acts w (dests.Upstream number) then reply_touches w number (reply_of message.head message.payload) else Nothing
 event_touches w (events.Found name number) = Nothing

@@ -8,6 +8,9 @@ use pv_name::Name;
 pub enum Touched {
     /// Anything, to anybody.
     All,
+    /// The same, since links may be gone. Names lead where they did, and who can read and write what is
+    /// left can do so still.
+    LinksGone,
     /// Nothing.
     Nothing,
     /// Updates to the subscriptions of this session, which may have room for them now.

@@ -5,6 +5,7 @@ use Rattle.gateway_state.specs.Numbers.{is_past_numbers}
 use Rattle.gateway_state.specs.Settled.{AreInOrder}
 use Rattle.gateway_state.proofs.OrderKept.{order_after_effect}
 use Rattle.touched_rows.specs.Touches.{follows}
+use Rattle.touched_rows.proofs.Ready.{ready_as}
 use Rattle.touched_rows.proofs.ToldAlone.{step_alone}
 use Rattle.gateway_core.proofs.step.drain.Goals as goal
 
@@ -25,7 +26,9 @@ returns-clause-ok c =
     ∙ (λ i. follows (c.drain_touches-touched.ensures i) (c.in_ok-outs.ensures.ok i))
     ∙ sym (step_alone c.args.rows.now (Drain c.args.dest c.args.count) c.requires.reached)
 
--- numbers are in order after a drain
+-- numbers are in order after a drain, and clients know their rights
 pub follow-requires : goal.follow-requires
-follow-requires c =
-    record { order = subst AreInOrder (sym c.in_ok-outs.ensures.ok) (order_after_effect c.args.rows.now (Drain c.args.dest c.args.count) c.requires.reached) }
+follow-requires c = record {
+  order = subst AreInOrder (sym c.in_ok-outs.ensures.ok) (order_after_effect c.args.rows.now (Drain c.args.dest c.args.count) c.requires.reached);
+  told = ready_as c.args.rows.now (Drain c.args.dest c.args.count) c.requires.reached _ _ c.drain_touches.ensures c.in_ok-outs.ensures.ok;
+}

@@ -1,8 +1,12 @@
 use Rattle.std.proofs.Common.{sym, subst}
 use Rattle.gateway_state.specs.Settled.{AreInOrder}
 use Rattle.gateway_state.proofs.OrderKept.{order_after_effect}
+use Rattle.touched_rows.proofs.Ready.{ready_as}
 use Rattle.gateway_core.proofs.step.step.Goals as goal
 
--- numbers are in order after an event's direct effect
+-- numbers are in order after an event's direct effect, and clients know their rights
 pub follow-requires : goal.follow-requires
-follow-requires c = record { order = subst AreInOrder (sym c.in_ok-touched.ensures.ok) (order_after_effect c.args.rows.now c.args.event c.requires.reached) }
+follow-requires c = record {
+  order = subst AreInOrder (sym c.in_ok-touched.ensures.ok) (order_after_effect c.args.rows.now c.args.event c.requires.reached);
+  told = ready_as c.args.rows.now c.args.event c.requires.reached _ _ c.in_ok-touched.ensures.touched c.in_ok-touched.ensures.ok;
+}

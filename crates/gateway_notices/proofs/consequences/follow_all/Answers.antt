@@ -1,11 +1,17 @@
 use Rattle.std.proofs.Common.{sym, ap, subst, ◌∙◌}
+use Rattle.gateway_state.specs.Notices.{links_told, reads_told}
 use Rattle.gateway_state.specs.Settled.{AreInOrder}
+use Rattle.gateway_state.specs.Told.{AreTold}
 use Rattle.gateway_state.specs.Updates.{updates_withheld}
 use Rattle.gateway_state.proofs.OrderKept.{order_before_links}
+use Rattle.gateway_state.proofs.ToldRights.{told_before_links, told_before_reads, told_before_updates, told_before_withheld}
 use Rattle.gateway_notices.proofs.consequences.follow_all.Goals as goal
 
 -- the passes before leave numbers in order
 pub tell_links-requires : goal.tell_links-requires
-tell_links-requires c = record {
-  order = subst AreInOrder (sym (c.in_ok-withhold_updates.ensures ∙ ap updates_withheld c.in_ok-tell_channels.ensures)) (order_before_links c.args.rows.now c.requires.order);
-}
+tell_links-requires c =
+    let before = c.in_ok-withhold_updates.ensures ∙ ap updates_withheld c.in_ok-tell_channels.ensures in
+    record {
+      order = subst AreInOrder (sym before) (order_before_links c.args.rows.now c.requires.order);
+      told = subst AreTold (sym before) (told_before_links c.args.rows.now c.requires.order);
+    }

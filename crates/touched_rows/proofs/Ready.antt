@@ -1,0 +1,171 @@
+-- Clients know their rights wherever something is told alone.
+use Rattle.std.proofs.Common.{◌≡◌, ℕ, List, [], ◌∷◌, ◌++◌, Bool, true, false, cond, ◌||◌, Option, Some, None, refl, sym, ap, subst, ◌∙◌}
+use Rattle.std.specs.List.{All, fold, list_all, list_any}
+use Rattle.std.proofs.lemmas.List.Elements.{All-cons, All-head, All-nil, All-tail}
+use Rattle.std.proofs.lemmas.Slice.Eq.{bytes_eq-Decides}
+use Rattle.ca_message.specs.declared.to_client.ToClient.TheVariants as replies
+use Rattle.channel_table.specs.declared.channels.Channel.{Channel}
+use Rattle.channel_table.specs.declared.reads.WaitingRead.{WaitingRead}
+use Rattle.channel_table.specs.declared.subs.ClientSub.{ClientSub}
+use Rattle.link_table.specs.declared.links.Link.{Link}
+use Rattle.gateway_state.specs.declared.event.Event.{Event}
+use Rattle.gateway_state.specs.declared.notice.LinkNotice.{LinkNotice}
+use Rattle.gateway_state.specs.declared.notice.ReadNotice.{ReadNotice}
+use Rattle.gateway_state.specs.declared.notice.ReadNotice.TheVariants.{Refused, Answered}
+use Rattle.gateway_state.specs.declared.notice.UpdateNotice.{UpdateNotice}
+use Rattle.gateway_state.specs.Direct.{direct_effect}
+use Rattle.gateway_state.specs.Gateway.{Gateway}
+use Rattle.gateway_state.specs.Notices.{link_told, read_notice, read_told}
+use Rattle.gateway_state.specs.Reached.{IsReached}
+use Rattle.gateway_state.specs.Rights.{rights_of}
+use Rattle.gateway_state.specs.Searches.{leads_to}
+use Rattle.gateway_state.specs.Settled.{AreInOrder, HasCidsInOrder}
+use Rattle.gateway_state.specs.Step.{step}
+use Rattle.gateway_state.specs.Telling.{sent, told}
+use Rattle.gateway_state.specs.Told.{AreLed, AreTold, IsTold}
+use Rattle.gateway_state.specs.Updates.{is_taking, update_notice, update_told, with_owed_of}
+use Rattle.gateway_state.specs.Variables.{is_on, is_wanted, link_of}
+use Rattle.gateway_state.proofs.OrderKept.{order_after_effect}
+use Rattle.gateway_state.proofs.ReachedStates.{reached_step}
+use Rattle.gateway_state.proofs.ToldRights.{reached_told}
+use Rattle.touched_rows.specs.declared.touched.Touched.{Touched}
+use Rattle.touched_rows.specs.declared.touched.Touched.TheVariants.{All as Everything, LinksGone, Nothing, Session, Value, Interest, Link as LinkOf, Links, Read, Subscription as SubscriptionTo}
+use Rattle.touched_rows.specs.Touched.{interest_notices_over, interest_told, is_link_among, link_notices_among, link_notices_over, one_read_told, one_update_told, read_notices_on, read_told_if, reads_told_on, update_notices_on, update_notices_to, update_told_if}
+use Rattle.touched_rows.specs.Touches.{IsReady, event_touches, follows}
+use Rattle.touched_rows.proofs.LessGiven.{GivesNoMore}
+use Rattle.touched_rows.proofs.LinksGone.{is_links_gone, led_after_effect}
+use Rattle.touched_rows.proofs.Shapes.{links_told_shape, reads_told_shape}
+use Rattle.touched_rows.proofs.Tellings.{interest_keeps, keeps_links, less_links_told, less_read_told, less_reads_told, less_update_told}
+use Rattle.touched_rows.proofs.Tidy.{reached_tidy}
+use Rattle.touched_rows.proofs.ToldAlone.{step_alone}
+use Rattle.touched_rows.proofs.WantedLinks.{SparesWanted, one_spares, some_spare, wanted_rights_kept}
+
+-- ---- the same channels, with the same rights
+
+record AreAlike (w x : Gateway) : Type 0 where
+  channels : x.clients.channels ≡ w.clients.channels
+  rights : (c : Channel) → rights_of x c ≡ rights_of w c
+
+alike_after : (w x y : Gateway) → AreAlike w x → AreAlike x y → AreAlike w y
+alike_after w x y first second = record { channels = second.channels ∙ first.channels; rights = λ c. second.rights c ∙ first.rights c }
+
+-- what each has, by rights that are the same
+each_told : (w x : Gateway) (channels : List Channel) → ((c : Channel) → rights_of x c ≡ rights_of w c) → All (IsTold w) channels → All (IsTold x) channels
+each_told w x [] same told = All-nil (IsTold x)
+each_told w x (c ∷ channels) same told =
+    All-cons (IsTold x) c channels (All-head (IsTold w) c channels told ∙ sym (same c)) (each_told w x channels same (All-tail (IsTold w) c channels told))
+
+told_on : (w x : Gateway) → AreAlike w x → AreTold w → AreTold x
+told_on w x alike told =
+    subst (λ (channels : List Channel). All (IsTold x) channels) (sym alike.channels) (each_told w x w.clients.channels alike.rights told)
+
+told_back : (w x : Gateway) → AreAlike w x → AreTold x → AreTold w
+told_back w x alike told =
+    told_on x w (record { channels = sym alike.channels; rights = λ c. sym (alike.rights c) }) told
+
+-- ---- tellings
+
+alike_reads : (notices : List ReadNotice) (w : Gateway) → AreAlike w (fold read_told w notices)
+alike_reads notices w = record { channels = ap (λ (v : Gateway). v.clients.channels) (reads_told_shape notices w); rights = (less_reads_told notices w).rights }
+
+alike_one_read : (w : Gateway) (notice : ReadNotice) → AreAlike w (read_told w notice)
+alike_one_read w notice = alike_reads (notice ∷ []) w
+
+alike_update : (w : Gateway) (notice : UpdateNotice) → AreAlike w (update_told w notice)
+unfolding sent
+alike_update w notice = record {
+  channels =
+      elim (is_taking w notice.session)
+      as (λ t. (cond t (told notice.session (replies.Update notice.id notice.dtype notice.count notice.payload) (with_owed_of notice.session notice.id false w)) w).clients.channels ≡ w.clients.channels)
+      [ true ↦ refl | false ↦ refl ];
+  rights = (less_update_told w notice).rights;
+}
+
+alike_updates : (notices : List UpdateNotice) (w : Gateway) → AreAlike w (fold update_told w notices)
+alike_updates [] w = record { channels = refl; rights = λ c. refl }
+alike_updates (notice ∷ notices) w =
+    alike_after w (update_told w notice) (fold update_told (update_told w notice) notices) (alike_update w notice) (alike_updates notices (update_told w notice))
+
+interest_kept : (w : Gateway) (link : Option Link) → list_all keeps_links (interest_notices_over w link) ≡ true
+interest_kept w None = refl
+interest_kept w (Some link) = interest_keeps w link link.state
+
+alike_interest : (name : List ℕ) (w : Gateway) → AreAlike w (interest_told name w)
+alike_interest name w =
+    let notices : List LinkNotice = interest_notices_over w (link_of w name) in
+    record {
+      channels = ap (λ (v : Gateway). v.clients.channels) (links_told_shape notices w);
+      rights = (less_links_told notices w (interest_kept w (link_of w name))).rights;
+    }
+
+-- ---- tellings that may drop links
+
+-- rights on variables that are wanted stay
+module _ (x : Gateway) (notices : List LinkNotice) (spares : SparesWanted x notices) where
+  abbrev after : Gateway
+  after = fold link_told x notices
+
+  each_back : (channels : List Channel) → ((name : List ℕ) → list_any (is_on name) channels ≡ true → is_wanted x name ≡ true) → All (IsTold after) channels
+      → All (IsTold x) channels
+  each_back [] wanted told = All-nil (IsTold x)
+  each_back (c ∷ channels) wanted told =
+      let here : is_wanted x c.real ≡ true = wanted c.real (ap (λ (t : Bool). t || list_any (is_on c.real) channels) ((bytes_eq-Decides c.real c.real).1 refl)) in
+      let others : (name : List ℕ) → list_any (is_on name) channels ≡ true → is_wanted x name ≡ true =
+      λ name there. wanted name (elim (is_on name c) as (λ t. (t || list_any (is_on name) channels) ≡ true) [ true ↦ refl | false ↦ there ]) in
+      All-cons (IsTold x) c channels (All-head (IsTold after) c channels told ∙ wanted_rights_kept x notices spares c here)
+      (each_back channels others (All-tail (IsTold after) c channels told))
+
+  links_back : AreTold after → AreTold x
+  links_back told =
+      let same : after.clients.channels ≡ x.clients.channels = ap (λ (v : Gateway). v.clients.channels) (links_told_shape notices x) in
+      each_back x.clients.channels (λ name there. ap (λ (t : Bool). t || list_any (leads_to x.policy name) x.searches) there)
+      (subst (λ (channels : List Channel). All (IsTold after) channels) same told)
+
+-- ---- what is told rests on what was told before
+
+alike_read_if : (found : Option ReadNotice) (w : Gateway) → AreAlike w (read_told_if found w)
+alike_read_if None w = record { channels = refl; rights = λ c. refl }
+alike_read_if (Some notice) w = alike_one_read w notice
+
+alike_update_if : (found : Option UpdateNotice) (w : Gateway) → AreAlike w (update_told_if found w)
+alike_update_if None w = record { channels = refl; rights = λ c. refl }
+alike_update_if (Some notice) w = alike_update w notice
+
+back : (touched : Touched) (x : Gateway) → HasCidsInOrder x → (is_links_gone touched ≡ true → AreLed x) → AreTold (follows touched x) → IsReady touched x
+back Everything x order led told = record {}
+back LinksGone x order led told = led refl
+back Nothing x order led told = record {}
+back (Session number) x order led told = told_back x (follows (Session number) x) (alike_updates (update_notices_to number x) x) told
+back (Value name) x order led told =
+    let read : Gateway = reads_told_on name x in
+    told_back x (follows (Value name) x)
+    (alike_after x read (follows (Value name) x) (alike_reads (read_notices_on name x) x) (alike_updates (update_notices_on name read) read)) told
+back (Interest name) x order led told = told_back x (interest_told name x) (alike_interest name x) told
+back (LinkOf name) x order led told =
+    links_back x (link_notices_over x (link_of x name)) (one_spares x x.upstream.counters.cid order name) told
+back (Links names) x order led told =
+    links_back x (link_notices_among names x) (some_spare x x.upstream.counters.cid order (is_link_among names)) told
+back (Read name read) x order led told =
+    let v : Gateway = interest_told name x in
+    told_back x (one_read_told read v) (alike_after x v (one_read_told read v) (alike_interest name x) (alike_read_if (read_notice v read) v)) told
+back (SubscriptionTo name sub) x order led told =
+    let v : Gateway = interest_told name x in
+    told_back x (one_update_told sub v) (alike_after x v (one_update_told sub v) (alike_interest name x) (alike_update_if (update_notice v sub) v)) told
+
+-- after an event's direct effect clients know their rights, where what follows rests on that
+pub ready_after_effect : (w : Gateway) (event : Event) → IsReached w → IsReady (event_touches w event) (direct_effect w event)
+ready_after_effect w event reached =
+    back (event_touches w event) (direct_effect w event) (order_after_effect w event reached).links (led_after_effect w (reached_tidy w reached) event)
+    (subst AreTold (step_alone w event reached) (reached_told (step w event) (reached_step w event reached)))
+
+-- the same of what it is said to touch and to leave
+pub ready_as : (w : Gateway) (event : Event) → IsReached w → (touched : Touched) (x : Gateway) → touched ≡ event_touches w event → x ≡ direct_effect w event → IsReady touched x
+ready_as w event reached touched x is leaves =
+    subst (λ (t : Touched). IsReady t x) (sym is) (subst (λ (v : Gateway). IsReady (event_touches w event) v) (sym leaves) (ready_after_effect w event reached))
+
+-- and between the passes over one variable
+pub told_after_reads : (name : List ℕ) (x : Gateway) → AreTold x → AreTold (reads_told_on name x)
+told_after_reads name x told = told_on x (reads_told_on name x) (alike_reads (read_notices_on name x) x) told
+
+pub told_after_interest : (name : List ℕ) (x : Gateway) → AreTold x → AreTold (interest_told name x)
+told_after_interest name x told = told_on x (interest_told name x) (alike_interest name x) told
