@@ -1,0 +1,205 @@
+//! Events as tables.
+//!
+//! A row is `SOURCE|LINES`. The source is the beginning of a line that was printed, or that stands in
+//! the list and begins with `client`; `?` stands for any byte. One of those lines is drawn, mostly of
+//! the last ones; a row without a source takes nothing from a line. Places in the lines are
+//!
+//! - `$d $t $k $p $q`: the number of the source's connection, and its message's type, count, first and
+//!   second parameter; `$Q` the second parameter in decimal;
+//! - `$1` to `$9`: a drawn digit from 1 to that one;
+//! - `$/`: the end of a line;
+//! - any other letter: one of the words that `words` has for it.
+
+/// Clients ask about channels that they have.
+pub(crate) const REQUESTS: &[u8] =
+    b"s? 0012|client s$d 00010010$T$K$q0000003$9000000000000000000000000$M0000
+s? 0012|client s$d 00010010$t$K$q0000003$9000000000000000000000000$M0000
+s? 0012|client s$d 00010010$t0000$q0000003$9000000000000000000000000$M0000
+client s? 0001|client s$d 00020000$t$k$p$q
+s? 0012|client s$d 000f0000$T$K$q000000$9$9
+s? 0012|client s$d 000f0000$t$K$q000000$9$9
+s? 0012|client s$d 000f0000$t0000$q000000$9$9
+s? 0012|client s$d 000f0000$t0001$q000000$9$9
+s? 0012|client s$d 00040008$W$K$q00000000$V$V
+s? 0012|client s$d 00130008$W$K$q000000$9$9$V$V
+s? 0012|client s$d 00130008$t0001$q000000$9$9$V$V
+|client s$3 0012000800000000000000$9$90000000d543$5000000000000
+|client s$4 0012000800000000000000$9$90000000d543$5000000000000";
+
+/// Servers say what was asked of them.
+pub(crate) const REPLIES: &[u8] =
+    b"u? 00010010|server u$d 00010038$t$C00000001$q$A3b9aca000000000$9$V$V$V$V$V$V$V$V$V$V$V
+u? 00010010|server u$d 00010038$t$k00000001$q$A3b9aca000000000$9$V$V$V$V$V$V$V$V$V$V$V
+u? 00010010|server u$d 00010038$t$C00000001$q$A3b9aca000000000$9$V$V$V$V$V$V$V$V$V$V$V
+u? 00010010|server u$d 00010018$t000100000001$q$A3b9aca000000000$9$V$V$V
+u? 0012|server u$d 00120000$N$C$p000000$9$9
+u? 0012|server u$d 0016000000000000$p0000000$R$/server u$d 001200000005000$3$p000000$9$9
+u? 0012|server u$d 0016000000000000$p0000000$R
+u? 0013|server u$d 00130000$t$k$S$q
+u? 0013|server u$d 00130000$t$k00000001$q
+|found T$5 u$2
+|found T$5 u$3";
+
+/// What is known is asked for.
+pub(crate) const QUESTIONS: &[u8] = b"|asks
+|sub T$5
+s? 0012|rights s$d $Q
+s? 0012|read s$d $Q $D $E
+|search lab$3 000600080005000d0000000$90000000$9543$5000000000000
+|search lab$3 000000000000000d0000000000000000000600080005000d00000011000000115431000000000000000600080005000d0000000$90000000$9543$5000000000000";
+
+/// Connections come and go, rows go, and outboxes wait.
+pub(crate) const CHANGES: &[u8] = b"|open s$4 lab$3
+|open s$4 lab$3$/client s$4 0012000800000000000000$9$90000000d543$5000000000000
+|lost s$4
+|open u$3$/server u$3 000000000000000d0000000000000000
+|open u$3
+|open u$3
+|lost u$3
+s? 0012|client s$d 000c000000000000$q$p
+s? 0012|client s$d 000c000000000000$q$p
+u? 0012|server u$d 001b000000000000$p00000000
+u? 0012|server u$d 001a000000000000$p00000000
+client s? 0001|client s$d 00080000000000000000000000000000
+client s? 0001|client s$d 00090000000000000000000000000000
+|client s$4 00090000000000000000000000000000
+|hold s$3
+|flow s$3
+|flow s$3
+|drain s$3 $4
+|sweep";
+
+/// What is refused, ignored or cut, and what says nothing.
+pub(crate) const ODDITIES: &[u8] = b"|client s$4 000000000000000$X0000000000000000
+|client s$4 00000000000000080000000000000000
+|client s$4 001500080000000000000000000000006c6162$H00000000
+|client s$4 00140008000000000000000000000000$V$V
+|client s$4 00170000000000000000000000000000
+|client s$4 00170008$T$K000000$9$9000000$9$9$V$V
+|client s$4 00$U0000$T$K000000$9$9000000$9$9
+|client s$4 000f0000$T$K000000$9$9000000$9$9
+|client s$4 0001001000050001000000$9$90000003$9000000000000000000000000$M0000
+s? 0012|client s$d 00020000$t$k$q0000003$9
+s? 0012|client s$d 00010008$t$k$q0000003$9$V$V
+s? 0012|client s$d 00010010$L$K$q0000003$9000000000000000000000000$M0000
+s? 0012|client s$d 000f0000$L$K$q000000$9$9
+s? 0012|client s$d 00130000$L$K$q000000$9$9
+s? 0012|client s$d 000fffff$T0000$q000000$9$9000000000000$K
+s? 0012|client s$d 0013ffff$t0000$q000000$9$90000000800000001$V$V
+s? 0012|client s$d 000f0000$t$/client s$d $K$q000000$9$9
+s? 0012|client s$d 00010010$t$k$q0000003$900000000$/client s$d 0000000000000000$M0000
+|client s$4 0012000800000000000000$9$90000000d5431323334353637
+|client s$4 0012000000000000000000$9$90000000d
+|client s$4 00120003000000000000000000000000
+|client s$4 0017ffff0000000000000000000000007ffffff800000000
+|client s$4 0012
+u? 00010010|server u$d 00010038$T$k00000001$q$A3b9aca000000000$9$V$V$V$V$V$V$V$V$V$V$V
+u? 00010010|server u$d 00010008$t$k00000001$q$V$V
+u? 00010010|server u$d 00010000$t$k0000009$9$q
+u? 0002|server u$d 00010000$t$k$p$q
+u? 0012|server u$d 00120000$L$K$p000000$9$9
+|server u$3 001200000005000$3000000$9$9000000$9$9
+|server u$3 0016000000000000000000$9$90000000$R
+|server u$3 00130000000500010000000$9000000$9$9
+|server u$3 000000000000000$X0000000000000000
+|server u$3 00$U0000$T$K000000$9$9000000$9$9
+|server u$3 00160003000000000000000000000000
+|server u$3 0001
+|found T$9 u$4
+|lost s$9
+|client s$9 0017";
+
+/// Rule files and group files.
+pub(crate) const EDITS: &[u8] = b"|edit 0 0
+|edit 1 1$/.* ALLOW ops$/ops $G
+|edit 1 2$/.* ALLOW ops$/ops READ$/ops $G
+|edit 2 1$/.* ALLOW$/T$5 ALLOW ops$/ops $G
+|edit 2 0$/.* ALLOW$/T$5 DENY
+|edit 2 0$/.* ALLOW$/T$5 DENY FROM lab$3
+|edit 2 1$/.* ALLOW ops$/T$5 ALIAS T$5 ops$/ops $G
+|edit 2 0$/T[1-$5] ALLOW$/\\(.\\)$5 ALIAS \\1$5
+|edit 2 1$/.* ALLOW$/T[$5$5] ALLOW ops$/ops $G
+|edit 1 0$/T$5 GRANT
+|edit 1 2$/.* ALLOW ops$/ops $G$/ops ALL
+|edit 1 0$/(.* ALLOW
+|edit 0 0";
+
+/// How a list begins.
+pub(crate) const BEGINNING: &[u8] = b"open s1 lab1
+open s2 lab2
+open s3 lab3
+open u1
+open u2
+server u1 000000000000000d0000000000000000
+server u2 000000000000000$X0000000000000000
+client s1 000000000000000d0000000000000000
+client s1 0012000800000000000000010000000d5431000000000000
+client s1 0012000800000000000000020000000d5432000000000000
+client s2 0012000800000000000000030000000d5433000000000000
+search lab3 000600080005000d00000011000000115434000000000000
+found T1 u1
+found T2 u2
+found T3 u$2
+found T4 u1
+server u1 00160000000000000000000100000003
+server u1 00120000000500030000000100000065
+server u2 00160000000000000000000200000003
+server u2 00120000$N$C0000000200000066
+server u1 00160000000000000000000300000003
+server u1 00120000$N$C0000000300000067
+server u2 00160000000000000000000300000003
+server u2 00120000$N$C0000000300000068
+server u1 0016000000000000000000040000000$R
+server u1 0012000000$30$C0000000400000069
+client s1 0012000800000000000000010000000d543$2000000000000
+client s1 0012000800000000000000020000000d5432000000000000
+client s1 0012000800000000000000030000000d5433000000000000
+client s2 0012000800000000000000010000000d5431000000000000
+client s2 0012000800000000000000020000000d543$4000000000000
+client s3 0012000800000000000000010000000d5431000000000000
+client s3 0012000800000000000000020000000d5434000000000000
+client s2 00010010000500010000000400000031000000000000000000000000$M0000
+client s3 00010010001300030000000600000031000000000000000000000000$M0000
+client s1 000100100000000100000001000000320000000000000000000000000001$M
+server u1 00010038001300010000000100000001$A3b9aca000000000$9$V$V$V$V$V$V$V$V$V$V$V
+server u1 00010038001300030000000100000002$A3b9aca000000000$9$V$V$V$V$V$V$V$V$V$V$V
+";
+
+/// The words that may stand at a place.
+pub(crate) fn words(letter: u8) -> &'static [u8] {
+    match letter {
+        b'/' => b"\n",
+        b'1' => b"1",
+        b'2' => b"1 2",
+        b'3' => b"1 2 3",
+        b'4' => b"1 2 3 4",
+        b'5' => b"1 2 3 4 5",
+        b'9' => b"1 2 3 4 5 6 7 8 9",
+        // Types that may be asked for, those that are written, those of channels, and numbers of none.
+        b'T' =>
+            b"0005 0005 0000 0001 0003 0004 0006 000c 000c 0007 0008 000a 000b 000d 0013 0013 000e 000f 0011 0012 0014",
+        b'W' => b"0005 0005 0005 0001 0004 0003 0000 0006 0002",
+        b'N' => b"0005 0005 0005 0005 0000 0001 0003 0004 0006 0002",
+        b'L' => b"0007 0013 0015 0016 001c 0022 0026 0027 ffff",
+        // Counts that may be asked for, and those of channels and values.
+        b'K' => b"0001 0001 0001 0001 0000 0002 0003 0003 0004 0014 0015",
+        b'C' => b"0001 0001 0003 0003 0002 0000 0004 0005 0014",
+        // Masks, alarms, statuses, rights, versions, groups' rights and hosts' ends.
+        b'M' => b"0001 0001 0001 0002 0004 0005 0007 0003 0006 000f 0000 0008",
+        b'A' => b"00000000 00000000 00000000 00030001 00030002 00110003",
+        b'S' => b"00000001 00000001 000000a0 00000178 00000000",
+        b'R' => b"3 3 3 3 1 2 0 7",
+        b'X' => b"d d d d b 9",
+        b'G' => b"NONE READ WRITE",
+        b'H' => b"31 32 33 37",
+        // Four bytes of a value.
+        b'V' =>
+            b"00000000 00000001 00000007 31320000 ffffffff ff00fe01 30783134 00002a00 80000000 41424344 7fffffff",
+        // Commands that no client or server sends.
+        b'U' => b"03 05 06 07 0a 0b 0d 0e 10 11 16 18 19 1a 1b 1c 63",
+        // Types and counts in decimal.
+        b'D' => b"5 5 5 0 1 3 4 6 7 12 19 15 21",
+        b'E' => b"0 1 1 1 2 3 4 20",
+        _ => b"",
+    }
+}
