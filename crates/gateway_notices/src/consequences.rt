@@ -9,6 +9,7 @@ ghost use Rattle.touched_rows.specs.Touches.{IsReady, follows};
 use crate::channels::tell_channels;
 use crate::links::{tell_interest, tell_link_on, tell_links, tell_links_among};
 use crate::reads::{tell_one_read, tell_reads, tell_reads_on};
+use crate::sharing::{share_on, share_with};
 use crate::updates::{
     tell_one_update, tell_updates, tell_updates_on, tell_updates_to, withhold_updates,
 };
@@ -45,6 +46,7 @@ pub fn follow(rows: &mut Rows, touched: Touched) -> Result<(), Refusal>
         Touched::Nothing => Ok(()),
         Touched::Session(number) => Ok(tell_updates_to(rows, number)?),
         Touched::Value(name) => {
+            share_on(rows, &name)?;
             tell_reads_on(rows, &name)?;
             Ok(tell_updates_on(rows, &name)?)
         }
@@ -57,6 +59,7 @@ pub fn follow(rows: &mut Rows, touched: Touched) -> Result<(), Refusal>
         }
         Touched::Subscription(name, sub) => {
             tell_interest(rows, &name)?;
+            share_with(rows, &name, &sub)?;
             Ok(tell_one_update(rows, sub)?)
         }
     }

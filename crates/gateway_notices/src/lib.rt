@@ -15,6 +15,7 @@ mod consequences;
 mod links;
 mod lookup;
 mod reads;
+mod sharing;
 mod updates;
 
 pub use consequences::follow;

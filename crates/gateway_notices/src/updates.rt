@@ -66,7 +66,7 @@ fn is_paused(rows: &Rows, number: u32) -> bool
 }
 
 /// Whether a subscription's session takes updates now.
-fn is_open_to(rows: &Rows, sub: &ClientSub) -> bool
+pub(crate) fn is_open_to(rows: &Rows, sub: &ClientSub) -> bool
     ensures { result ≡ is_open_to rows.now sub.now }
 {
     !is_paused(rows, sub.session) && rows.is_taking(sub.session)

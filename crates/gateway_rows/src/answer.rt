@@ -32,6 +32,25 @@ impl Rows {
         }
     }
 
+    /// Keeps a link's last message as an asked type and count, where it covers that count, so that all
+    /// who ask for these are given one payload. What the gateway knows is as before, also at an error.
+    pub fn keep_value(
+        &mut self,
+        cid: u32,
+        native: u32,
+        dtype: u16,
+        count: u32,
+    ) -> Result<(), AllocError>
+        ensures { self.new ≡ self.old }
+    {
+        match self.cache.get(cid) {
+            Some(last) if last.held.covers(meant_count(native, count)) => self
+                .cache
+                .keep(self.alloc, cid, dtype, count),
+            _ => Ok(()),
+        }
+    }
+
     fn reading_of(
         &self,
         rights: u32,

@@ -9,7 +9,7 @@ use Rattle.std.proofs.lemmas.List.{map-append}
 use Rattle.std.proofs.lemmas.List.Elements.{filter-append}
 use Rattle.link_table.proofs.ValueLemmas.{none_left_out}
 use Rattle.row_index.specs.declared.key.Key.{Key}
-use Rattle.row_index.specs.Rows.{has_key, lacks_key, is_owned_by, row_of, value_at}
+use Rattle.row_index.specs.Rows.{has_key, lacks_key, is_owned_by, put_at, row_of, value_at}
 use Rattle.gateway_state.specs.declared.cached.LastMessage.{LastMessage}
 use Rattle.gateway_state.specs.CachedRows.{is_cached_of, is_cached_elsewhere, with_row}
 use Rattle.link_table.specs.LinkIndex.{key}
@@ -179,3 +179,10 @@ from_here server cid row entries latest found here =
 pub from_another : (server cid : ℕ) (row : LastMessage) (entries : List (Key × LastMessage)) → AreLatest entries → find (is_cached_of cid) (map row_of entries) ≡ Some row → (row.server ≡ server → ⊥) → filter (is_not_cached_from server cid) (map row_of entries) ≡ map row_of entries
 from_another server cid row entries latest found other =
     from_alone server cid row entries latest found ∙ ap (λ t. cond t (filter (is_cached_elsewhere cid) (map row_of entries)) (map row_of entries)) (ne_eqb row.server server other)
+
+-- a row that is put where it is changes nothing
+pub put_again : (k : Key) (entries : List (Key × LastMessage)) (row : LastMessage) → value_at k entries ≡ Some row → put_at k entries row ≡ entries
+put_again k [] row e = refl
+put_again k (entry ∷ entries) row e =
+    elim (has_key k entry) as (λ t. option_map row_of (cond t (Some entry) (find (has_key k) entries)) ≡ Some row → cond t ((entry.0, row) ∷ entries) (entry ∷ put_at k entries row) ≡ entry ∷ entries)
+    [ true ↦ λ h. let here : entry.1 ≡ row = cc in ap (λ v. (entry.0, v) ∷ entries) (sym here) | false ↦ λ h. ap (λ rest. entry ∷ rest) (put_again k entries row h) ] e

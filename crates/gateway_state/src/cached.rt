@@ -7,11 +7,11 @@ ghost use Rattle.gateway_state.specs.CachedRows.{is_cached_of, is_cached_elsewhe
 ghost use Rattle.link_table.specs.LinkIndex.{key};
 ghost use Rattle.gateway_state.specs.LatestRows.{HoldIds, StillListed};
 
+use crate::last_value::LastValue;
 use crate::latest::Latest;
 use row_index::{Key, RowMap};
 use std::alloc::{AllocError, Global};
 use std::marker::Model;
-use value_cache::Cached;
 
 /// The last message that a link's subscription brought.
 #[derive(Debug, Drop)]
@@ -21,7 +21,7 @@ pub struct LastMessage {
     /// The link's CID.
     pub cid: u32,
     /// What it says.
-    pub held: Cached,
+    pub held: LastValue,
 }
 
 /// The last messages that are kept, at most one of a link.
@@ -69,6 +69,20 @@ impl Cache {
     {
         list(&mut self.listed, row.server, row.cid)?;
         self.latest.put(row)
+    }
+
+    /// Keeps what is answered from a link's last message under a type and a count, so that answers
+    /// share it. The messages are as before, also at an error.
+    pub fn keep(
+        &mut self,
+        alloc: Global,
+        cid: u32,
+        dtype: u16,
+        count: u32,
+    ) -> Result<(), AllocError>
+        ensures { self.new ≡ self.old }
+    {
+        self.latest.keep(alloc, cid, dtype, count)
     }
 
     /// Forgets a link's last message.

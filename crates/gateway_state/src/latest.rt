@@ -63,6 +63,29 @@ impl Latest {
         Ok(())
     }
 
+    /// Keeps what is answered from a link's message under a type and a count.
+    pub(crate) fn keep(
+        &mut self,
+        alloc: Global,
+        cid: u32,
+        dtype: u16,
+        count: u32,
+    ) -> Result<(), AllocError>
+        ensures { self.new ≡ self.old }
+    {
+        let free = free_id(&self.rows, cid);
+        keep(
+            alloc,
+            &mut self.rows,
+            Key {
+                owner: cid,
+                id: 1 - free,
+            },
+            dtype,
+            count,
+        )
+    }
+
     pub(crate) fn remove(&mut self, cid: u32)
         ensures { self.new ≡ filter (is_cached_elsewhere cid) self.old }
     {
@@ -96,5 +119,20 @@ fn free_id(rows: &RowMap<LastMessage>, cid: u32) -> u32
         1
     } else {
         0
+    }
+}
+
+fn keep(
+    alloc: Global,
+    rows: &mut RowMap<LastMessage>,
+    key: Key,
+    dtype: u16,
+    count: u32,
+) -> Result<(), AllocError>
+    ensures { rows.new ≡ rows.old }
+{
+    match rows.get_mut(key) {
+        Some(row) => row.held.keep(alloc, dtype, count),
+        None => Ok(()),
     }
 }

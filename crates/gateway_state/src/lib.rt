@@ -10,6 +10,7 @@ mod config;
 mod connections;
 mod event;
 mod interest;
+mod last_value;
 mod latest;
 pub mod laws;
 mod limits;
@@ -24,6 +25,7 @@ pub use config::{Config, LAST_FIRST};
 pub use connections::{Connection, Connections};
 pub use event::{Dest, Event};
 pub use interest::{ALARM_EVENTS, PLAIN_TYPES, READ_EVENTS, Sub, TIME_FORM, VALUE_EVENTS};
+pub use last_value::LastValue;
 pub use limits::{LOWEST_MINOR, SEARCH_LIMIT, UPDATE_LIMIT, UPDATE_MINOR};
 pub use notice::{
     ChannelNotice, LinkNotice, ReadNotice, ReadVerdict, SubVerdict, UpdateNotice, WriteVerdict,

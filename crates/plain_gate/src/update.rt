@@ -11,11 +11,10 @@ use bytes::Bytes;
 use ca_message::codes::{ECA_GETFAIL, ECA_NORMAL};
 use channel_table::{ClientSub, WaitingRead};
 use dbr_layout::View;
-use gateway_state::{ALARM_EVENTS, LastMessage, VALUE_EVENTS};
+use gateway_state::{ALARM_EVENTS, LastMessage, LastValue, VALUE_EVENTS};
 use link_table::LinkState;
 use pv_name::Name;
 use std::alloc::AllocError;
-use value_cache::Cached;
 
 /// The reads that wait for a variable, in the order of asking.
 fn reads_for(rows: &Rows, name: &Name) -> Result<Vec<WaitingRead>, AllocError>
@@ -107,8 +106,7 @@ pub(crate) fn update(
     let differs = has_other_alarm(rows, cid, dtype, count, &payload);
     let owed = concerned(rows, &link.name, differs)?;
     rows.owe_all(&owed);
-    let mut held = Cached::empty();
-    held.put(dtype, count, payload, subscription.count);
+    let held = LastValue::new(dtype, count, payload, subscription.count);
     put_message(&mut rows.cache, LastMessage { server, cid, held })
 }
 

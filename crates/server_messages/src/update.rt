@@ -10,12 +10,15 @@ use ca_message::codes::{ECA_GETFAIL, ECA_NORMAL};
 use channel_table::{ClientSub, WaitingRead};
 use dbr_layout::View;
 use gateway_rows::{Rows, time_of};
-use gateway_state::{ALARM_EVENTS, LastMessage, VALUE_EVENTS};
+use gateway_state::{ALARM_EVENTS, LastMessage, LastValue, VALUE_EVENTS};
 use link_table::LinkState;
 use pv_name::Name;
-use std::alloc::AllocError;
+use std::alloc::{AllocError, Global};
 use touched_rows::Touched;
-use value_cache::Cached;
+
+/// Shorter payloads are copied before they are kept: one that is kept as it came holds the block in
+/// which it came. Of a longer one that is at most 16 times its size, where blocks have 64 KiB.
+const SHORTEST_SHARED: usize = 4096;
 
 /// A read can't be had.
 fn fail_read(rows: &mut Rows, read: WaitingRead) -> Result<(), AllocError>
@@ -38,6 +41,17 @@ fn fail_reads(rows: &mut Rows, reads: Vec<WaitingRead>) -> Result<(), AllocError
         fail_read(rows, *read)?;
     }
     Ok(())
+}
+
+/// A payload that may be kept for long.
+fn to_keep(alloc: Global, payload: Bytes) -> Result<Bytes, AllocError>
+    ensures { IfOk result (λ kept. kept ≡ payload) }
+{
+    if payload.len() < SHORTEST_SHARED {
+        Bytes::copy_from_slice(alloc, &payload)
+    } else {
+        Ok(payload)
+    }
 }
 
 /// Keeps a link's last message.
@@ -109,8 +123,8 @@ pub(crate) fn update(
     let differs = has_other_alarm(rows, cid, dtype, count, &payload);
     let owed = concerned(rows, &link.name, differs)?;
     rows.owe_all(&owed);
-    let mut held = Cached::empty();
-    held.put(dtype, count, payload, subscription.count);
+    let payload = to_keep(rows.alloc, payload)?;
+    let held = LastValue::new(dtype, count, payload, subscription.count);
     keep_value(rows, LastMessage { server, cid, held })?;
     Ok(touched)
 }

@@ -1,1 +1,2 @@
 pub mod GivingBack
+pub mod KeptLemmas

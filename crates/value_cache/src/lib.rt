@@ -6,9 +6,14 @@
 //!   gives the value under another type, and [`Cached::alarm_differs`] tells whether a new message's
 //!   alarm is another.
 //!
-//! Each answer is worked out afresh from what the message shows (`answer` and `given` in
-//! `specs/Held.antt`). A message gives itself back under its own type (`laws::messages_are_given_back`).
-//! Only `answer` takes memory. A contract sees a `Cached` as what its message shows, or as nothing.
+//! - [`Cached::keep`] keeps what is answered under a type and a count until the next message, so that
+//!   all readers of these share one payload; [`Cached::kept`] tells how many are kept, at most eight.
+//!
+//! Each answer is what the message shows under that type and count, whatever is kept (`answer` and
+//! `given` in `specs/Held.antt`). A message gives itself back under its own type
+//! (`laws::messages_are_given_back`). Only `answer` and `keep` take memory. A contract sees a `Cached`
+//! as what its message shows, or nothing, and as the types and counts whose encodings are kept
+//! (`Keeping` in `specs/Kept.antt`).
 //!
 //! ```
 //! // A LONG of 42 with its time stamp is held, and read as a plain LONG.
@@ -24,6 +29,8 @@
 #![tactic(auto)]
 
 pub use cached::Cached;
+pub use encodings::MOST_KEPT;
 
 mod cached;
+mod encodings;
 pub mod laws;

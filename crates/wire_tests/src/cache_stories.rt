@@ -67,6 +67,60 @@ alarm 19 0: 00070002 00000000 00000000
 hold 19 1 3: 00000000 3b9aca01 00000000 0000002a
 alarm 19 2: 00070001 3b9aca00 00000005 00000001 fffffffe 00000003
 > true
+# An encoding is kept once, until the next value.
+hold 19 1 1: 00000000 3b9aca00 00000000 0000002a
+keep 5 1
+> 1
+ask 5 1
+> 1 in 0000002a 00000000
+keep 5 1
+> 1
+hold 19 1 1: 00000000 3b9aca01 00000000 0000002b
+ask 5 1
+> 1 in 0000002b 00000000
+keep 26 1
+> 0
+keep 5 0
+> 1
+ask 5 0
+> 1 in 0000002b 00000000
+# Of nine encodings the first one goes, and is kept as the last one again.
+hold 19 1 9: 00000000 3b9aca01 00000000 0000002b
+keep 5 1
+> 1
+keep 5 2
+> 2
+keep 5 3
+> 3
+keep 5 4
+> 4
+keep 5 5
+> 5
+keep 5 6
+> 6
+keep 5 7
+> 7
+keep 12 1
+> 8
+keep 19 1
+> 8
+keep 19 1
+> 8
+ask 5 1
+> 1 in 0000002b 00000000
+ask 5 2
+> 2 in 0000002b 00000000
+ask 12 1
+> 1 in 00000000 0000002b
+keep 6 1
+> 8
+keep 5 1
+> 8
+forget
+ask 5 2
+> none
+keep 5 2
+> 0
 ",
     )
 }

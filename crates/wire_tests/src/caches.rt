@@ -3,6 +3,7 @@
 //! - `hold TYPE COUNT ASKED: BYTES`: a message of so many elements, which came when `ASKED` were asked
 //!   for; answered only if it is refused;
 //! - `ask TYPE COUNT`: how many elements are given, and their payload; or `none`;
+//! - `keep TYPE COUNT`: how many encodings are kept then;
 //! - `covers COUNT`: whether so many are;
 //! - `alarm TYPE COUNT: BYTES`: whether the alarm of this message is another;
 //! - `forget`.
@@ -15,6 +16,7 @@ pub(crate) fn call(cached: &mut Cached, verb: &str, call: &Call, told: &mut Told
     match verb {
         "hold" => hold(cached, call, told),
         "ask" => ask(cached, call, told),
+        "keep" => keep(cached, call, told),
         "covers" => told.line(&cached.covers(call.number(0))),
         "alarm" => match View::new(call.short(0), call.number(1), &call.bytes) {
             Ok(view) => told.line(&cached.alarm_differs(&view)),
@@ -44,6 +46,13 @@ fn ask(cached: &Cached, call: &Call, told: &mut Told) {
             told.bytes(payload.as_slice());
         }
         Ok(None) => told.line(&"none"),
+        Err(_) => told.line(&"out of memory"),
+    }
+}
+
+fn keep(cached: &mut Cached, call: &Call, told: &mut Told) {
+    match cached.keep(call.alloc, call.short(0), call.number(1)) {
+        Ok(()) => told.line(&cached.kept()),
         Err(_) => told.line(&"out of memory"),
     }
 }

@@ -36,7 +36,7 @@ impl Wire {
             "feed" | "take" | "drip" | "cut" | "refusals" => {
                 streams::call(&mut self.intake, verb, call, told);
             }
-            "hold" | "ask" | "covers" | "alarm" | "forget" => {
+            "hold" | "ask" | "keep" | "covers" | "alarm" | "forget" => {
                 caches::call(&mut self.cached, verb, call, told);
             }
             "append" | "mark" | "length" | "front" | "empty" => {

@@ -1,0 +1,21 @@
+-- Encodings of what is held.
+use Rattle.std.specs.Prelude.{◌≡◌, ℕ, List, [], ◌∷◌, Bool, ◌&&◌, ◌==◌, Option, Some, None, Vec}
+use Rattle.value_cache.specs.declared.encodings.Encoding.{Encoding}
+use Rattle.value_cache.specs.Held.{Held, answer}
+
+-- those of a list that may not be there yet
+abbrev pub listed_in : {Z : Type 0} → Option (Vec Encoding Z) → List Encoding
+listed_in None = []
+listed_in (Some list) = list.items
+
+-- the type and count
+abbrev pub pair_of : Encoding → ℕ × ℕ
+pair_of e = (e.dtype, e.count)
+
+abbrev pub is_of : ℕ → ℕ → Encoding → Bool
+is_of dtype count e = e.dtype == dtype && e.count == count
+
+-- each is what its type and count are answered
+abbrev pub AreAnswers : Option Held → List Encoding → Type 0
+AreAnswers held [] = Unit {0}
+AreAnswers held (e ∷ later) = (answer e.dtype e.count held ≡ Some (e.given, e.payload)) × AreAnswers held later
