@@ -54,8 +54,9 @@ pub(crate) const CHANGES: &[u8] = b"|open s$4 lab$3
 |lost s$4
 |open u$3$/server u$3 000000000000000d0000000000000000
 |open u$3
-|open u$3
 |lost u$3
+u? 0013|lost u$d$/open u$d$/server u$d 00130000$t$k00000001$q
+|lost s$4$/open s$4 lab$3$/client s$4 001500080000000000000000000000006c61623$300000000$/client s$4 0012000800000000000000$9$90000000d543$5000000000000
 s? 0012|client s$d 000c000000000000$q$p
 s? 0012|client s$d 000c000000000000$q$p
 u? 0012|server u$d 001b000000000000$p00000000
