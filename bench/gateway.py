@@ -182,11 +182,15 @@ def losses(times):
         print(f"a client with {CHANNELS} channels is lost beside {others * CHANNELS:6} of others: {each / 1e3:8.2f} ms ({each / alone:5.2f} times)", flush=True)
 
 
+def need_program():
+    if not os.access(PROGRAM, os.X_OK):
+        sys.exit("build pvgate first: ./pvgate --help")
+
+
 def main():
     most = int(sys.argv[1]) if len(sys.argv) > 1 else 10_000
     times = int(sys.argv[2]) if len(sys.argv) > 2 else 3
-    if not os.access(PROGRAM, os.X_OK):
-        sys.exit("build pvgate first: ./pvgate --help")
+    need_program()
     events(most, times)
     setting_up(most, times)
     subscribers(times)
