@@ -30,5 +30,5 @@ returns-clause-ok c =
 pub follow-requires : goal.follow-requires
 follow-requires c = record {
   order = subst AreInOrder (sym c.in_ok-outs.ensures.ok) (order_after_effect c.args.rows.now (Drain c.args.dest c.args.count) c.requires.reached);
-  told = ready_as c.args.rows.now (Drain c.args.dest c.args.count) c.requires.reached _ _ c.drain_touches.ensures c.in_ok-outs.ensures.ok;
+  told = ready_as c.args.rows.now (Drain c.args.dest c.args.count) c.requires.reached _ _ c.drain_touches-touched.ensures c.in_ok-outs.ensures.ok;
 }
