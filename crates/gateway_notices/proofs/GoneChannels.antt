@@ -1,5 +1,5 @@
 -- Where names lead as they did, channels are owed notices for their links alone.
-use Rattle.std.proofs.Common.{◌≡◌, Bool, true, false, cond, eqb, not, ◌&&◌, Some, None, refl, sym, ap, ◌∙◌}
+use Rattle.std.proofs.Common.{◌≡◌, Bool, true, false, cond, eqb, ◌&&◌, Some, None, refl, sym, ap, ◌∙◌}
 use Rattle.std.proofs.lemmas.Bool.{eq-eqb}
 use Rattle.std.proofs.lemmas.List.Elements.{All-weaker}
 use Rattle.channel_table.specs.declared.channels.Channel.{Channel}

@@ -1,5 +1,5 @@
 -- Rows that are taken one by one, by their number.
-use Rattle.std.proofs.Common.{◌≡◌, ℕ, zero, suc, ◌+◌, ◌≤◌, List, [], ◌∷◌, ◌++◌, Bool, length, Some, None, drop, map, filter, refl, sym, ap, ◌∙◌, arith}
+use Rattle.std.proofs.Common.{◌≡◌, ℕ, zero, suc, ◌+◌, ◌≤◌, List, [], ◌∷◌, ◌++◌, Bool, Some, None, drop, map, filter, refl, sym, ap, ◌∙◌, arith}
 use Rattle.std.specs.Prelude.{count_by, slice_get}
 use Rattle.std.proofs.Math.Numerals.{suc-eq-add-one}
 use Rattle.std.proofs.lemmas.List.{append_assoc, append-nil, drop_all, map-append}

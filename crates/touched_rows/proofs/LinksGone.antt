@@ -1,7 +1,7 @@
 -- Where links are gone, names lead where they did.
 use Rattle.std.proofs.Common.{◌≡◌, ℕ, ◌≤◌, List, [], ◌∷◌, Bool, true, false, cond, eqb, ◌||◌, length, Option, Some, None, refl, sym, ap, ◌∙◌, arith}
 use Rattle.std.specs.Prelude.{Ok, Err, Result, bit_and, filter}
-use Rattle.std.specs.List.{All, find}
+use Rattle.std.specs.List.{find}
 use Rattle.std.proofs.lemmas.Bool.{and_parts, true≢false}
 use Rattle.std.proofs.lemmas.List.Elements.{All-weaker}
 use Rattle.ca_message.specs.declared.codes.TheConstants.{ECA_NORMAL}
@@ -43,11 +43,11 @@ use Rattle.gateway_state.specs.Gateway.{Gateway}
 use Rattle.gateway_state.specs.Resolution.{is_real, rights_left}
 use Rattle.gateway_state.specs.Rights.{channel_of, lead_in, link_connected, link_rights, rights_of}
 use Rattle.gateway_state.specs.Servers.{channel_dropped, gone_for, is_value, replied, server_said, without_link}
-use Rattle.gateway_state.specs.Settled.{HasLinksApart, IsSettled, IsUpToDate}
+use Rattle.gateway_state.specs.Settled.{IsUpToDate}
 use Rattle.gateway_state.specs.Subscribing.{is_on_sid, new_sub, sub_of, sub_verdict}
 use Rattle.gateway_state.specs.Told.{AreLed, IsLed}
 use Rattle.gateway_state.specs.Updates.{is_taking}
-use Rattle.gateway_state.specs.Variables.{is_connected, is_creating, link_of}
+use Rattle.gateway_state.specs.Variables.{is_creating, link_of}
 use Rattle.gateway_state.proofs.SettledMeaning.{all_up_to_date}
 use Rattle.touched_rows.specs.declared.touched.Touched.{Touched}
 use Rattle.touched_rows.specs.declared.touched.Touched.TheVariants.{All as Everything, LinksGone, Nothing, Session, Value, Interest, Link as LinkOf, Links, Read, Subscription as SubscriptionTo}

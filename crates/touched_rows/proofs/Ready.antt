@@ -1,17 +1,14 @@
 -- Clients know their rights wherever something is told alone.
-use Rattle.std.proofs.Common.{◌≡◌, ℕ, List, [], ◌∷◌, ◌++◌, Bool, true, false, cond, ◌||◌, Option, Some, None, refl, sym, ap, subst, ◌∙◌}
+use Rattle.std.proofs.Common.{◌≡◌, ℕ, List, [], ◌∷◌, Bool, true, false, cond, ◌||◌, Option, Some, None, refl, sym, ap, subst, ◌∙◌}
 use Rattle.std.specs.List.{All, fold, list_all, list_any}
 use Rattle.std.proofs.lemmas.List.Elements.{All-cons, All-head, All-nil, All-tail}
 use Rattle.std.proofs.lemmas.Slice.Eq.{bytes_eq-Decides}
 use Rattle.ca_message.specs.declared.to_client.ToClient.TheVariants as replies
 use Rattle.channel_table.specs.declared.channels.Channel.{Channel}
-use Rattle.channel_table.specs.declared.reads.WaitingRead.{WaitingRead}
-use Rattle.channel_table.specs.declared.subs.ClientSub.{ClientSub}
 use Rattle.link_table.specs.declared.links.Link.{Link}
 use Rattle.gateway_state.specs.declared.event.Event.{Event}
 use Rattle.gateway_state.specs.declared.notice.LinkNotice.{LinkNotice}
 use Rattle.gateway_state.specs.declared.notice.ReadNotice.{ReadNotice}
-use Rattle.gateway_state.specs.declared.notice.ReadNotice.TheVariants.{Refused, Answered}
 use Rattle.gateway_state.specs.declared.notice.UpdateNotice.{UpdateNotice}
 use Rattle.gateway_state.specs.Direct.{direct_effect}
 use Rattle.gateway_state.specs.Gateway.{Gateway}
@@ -19,7 +16,7 @@ use Rattle.gateway_state.specs.Notices.{link_told, read_notice, read_told}
 use Rattle.gateway_state.specs.Reached.{IsReached}
 use Rattle.gateway_state.specs.Rights.{rights_of}
 use Rattle.gateway_state.specs.Searches.{leads_to}
-use Rattle.gateway_state.specs.Settled.{AreInOrder, HasCidsInOrder}
+use Rattle.gateway_state.specs.Settled.{HasCidsInOrder}
 use Rattle.gateway_state.specs.Step.{step}
 use Rattle.gateway_state.specs.Telling.{sent, told}
 use Rattle.gateway_state.specs.Told.{AreLed, AreTold, IsTold}
@@ -32,10 +29,9 @@ use Rattle.touched_rows.specs.declared.touched.Touched.{Touched}
 use Rattle.touched_rows.specs.declared.touched.Touched.TheVariants.{All as Everything, LinksGone, Nothing, Session, Value, Interest, Link as LinkOf, Links, Read, Subscription as SubscriptionTo}
 use Rattle.touched_rows.specs.Touched.{interest_notices_over, interest_told, is_link_among, link_notices_among, link_notices_over, one_read_told, one_update_told, read_notices_on, read_told_if, reads_told_on, update_notices_on, update_notices_to, update_told_if}
 use Rattle.touched_rows.specs.Touches.{IsReady, event_touches, follows}
-use Rattle.touched_rows.proofs.LessGiven.{GivesNoMore}
 use Rattle.touched_rows.proofs.LinksGone.{is_links_gone, led_after_effect}
 use Rattle.touched_rows.proofs.Shapes.{links_told_shape, reads_told_shape}
-use Rattle.touched_rows.proofs.Tellings.{interest_keeps, keeps_links, less_links_told, less_read_told, less_reads_told, less_update_told}
+use Rattle.touched_rows.proofs.Tellings.{interest_keeps, keeps_links, less_links_told, less_reads_told, less_update_told}
 use Rattle.touched_rows.proofs.Tidy.{reached_tidy}
 use Rattle.touched_rows.proofs.ToldAlone.{step_alone}
 use Rattle.touched_rows.proofs.WantedLinks.{SparesWanted, one_spares, some_spare, wanted_rights_kept}

@@ -1,10 +1,9 @@
 use Rattle.std.proofs.Common.{sym, ap, subst, ◌∙◌}
-use Rattle.gateway_state.specs.Notices.{links_told, reads_told}
 use Rattle.gateway_state.specs.Settled.{AreInOrder}
 use Rattle.gateway_state.specs.Told.{AreTold}
 use Rattle.gateway_state.specs.Updates.{updates_withheld}
 use Rattle.gateway_state.proofs.OrderKept.{order_before_links}
-use Rattle.gateway_state.proofs.ToldRights.{told_before_links, told_before_reads, told_before_updates, told_before_withheld}
+use Rattle.gateway_state.proofs.ToldRights.{told_before_links}
 use Rattle.gateway_notices.proofs.consequences.follow_all.Goals as goal
 
 -- the passes before leave numbers in order
