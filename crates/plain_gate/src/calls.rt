@@ -47,7 +47,13 @@ impl Gate for PlainGate {
         PlainGate::rights(self, session, sid)
     }
 
-    fn read(&mut self, session: u32, sid: u32, dtype: u16, count: u32) -> Result<Reading, AskFault> {
+    fn read(
+        &mut self,
+        session: u32,
+        sid: u32,
+        dtype: u16,
+        count: u32,
+    ) -> Result<Reading, AskFault> {
         PlainGate::read(self, session, sid, dtype, count)
     }
 
