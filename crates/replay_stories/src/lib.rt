@@ -8,8 +8,8 @@
 //!   decimal digits, `{d4}` four of them, `{x6}` and `{x8}` so many hexadecimal ones, and `{t4}` the
 //!   bytes of `{d4}` as hexadecimal digits;
 //! - `! status 2`: another status at the end;
-//! - `! uncut`: without it the script is performed again with the bytes of each line cut after 1 to
-//!   47 of them.
+//! - `! uncut`: without it the script is performed on the plain gateway too, and again with the
+//!   bytes of each line cut after 1 to 47 of them.
 #![tactic(auto)]
 
 #[cfg(test)]

@@ -1,6 +1,6 @@
 //! How a story is told.
 use crate::beginnings::beginning;
-use replay::replay;
+use replay::{replay, replay_plain};
 use std::alloc::Global;
 use std::io::Write;
 use std::process::Abort;
@@ -18,6 +18,7 @@ pub(crate) fn tells(rt: &impl Abort, alloc: Global, text: &[u8]) -> Result<(), F
     }
     story.check(rt, alloc, &story.script)?;
     if story.cut {
+        story.check_plain(rt, alloc)?;
         for place in 1..48 {
             story.check(rt, alloc, &cut(alloc, &story.script, place)?)?;
         }
@@ -87,7 +88,18 @@ impl Story {
     fn check(&self, rt: &impl Abort, alloc: Global, script: &[u8]) -> Result<(), Fail> {
         let mut out = Vec::new(alloc);
         let status = replay(alloc, script, &mut out);
-        assert_eq!(rt; out.as_slice(), self.output.as_slice(), "of {script:?}");
+        self.compare(rt, script, &out, status)
+    }
+
+    /// The same of the story's own script on the plain gateway.
+    fn check_plain(&self, rt: &impl Abort, alloc: Global) -> Result<(), Fail> {
+        let mut out = Vec::new(alloc);
+        let status = replay_plain(alloc, self.script.as_slice(), &mut out);
+        self.compare(rt, &self.script, &out, status)
+    }
+
+    fn compare(&self, rt: &impl Abort, script: &[u8], out: &[u8], status: u8) -> Result<(), Fail> {
+        assert_eq!(rt; out, self.output.as_slice(), "of {script:?}");
         assert_eq!(rt; status, self.status, "of {script:?}");
         Ok(())
     }
