@@ -3,9 +3,10 @@
 
 Run by hand, from anywhere: bench/gateway.py [MOST] [TIMES]. A script sets variables up, each with a
 channel and a subscription of a client (up to 4,000 a client), and is replayed with and without more
-messages, TIMES times each (3 if not given); the difference of the fastest runs is their cost.
-Prints the cost of each kind of message beside 100 variables and beside MOST (10,000 if not
-given), of an update that many subscribe to, and of a client that is lost beside many others.
+messages, TIMES times each (3 if not given); the difference of the fastest runs is their cost, in
+time of the processor. Prints the cost of each kind of message beside 100 variables and beside MOST
+(10,000 if not given), of an update that many subscribe to, and of a client that is lost beside many
+others.
 """
 import os
 import subprocess
@@ -69,16 +70,19 @@ def beside(many):
 
 
 def replay(lines):
-    """Replays a script once. Gives seconds, and how many lines were printed."""
+    """Replays a script once. Gives the seconds of processor, and how many lines were printed."""
     with tempfile.TemporaryFile("w+") as script, tempfile.TemporaryFile() as out:
         script.write("\n".join(lines) + "\n")
         script.flush()
         script.seek(0)
-        start = time.perf_counter()
-        subprocess.run([PROGRAM, "replay"], stdin=script, stdout=out, check=True)
-        took = time.perf_counter() - start
+        child = subprocess.Popen([PROGRAM, "replay"], stdin=script, stdout=out)
+        _, status, used = os.wait4(child.pid, 0)
+        child.returncode = os.waitstatus_to_exitcode(status)
+        if child.returncode:
+            sys.exit(f"the replay ended with status {child.returncode}")
         out.seek(0)
-        return took, sum(piece.count(b"\n") for piece in iter(lambda: out.read(1 << 20), b""))
+        printed = sum(piece.count(b"\n") for piece in iter(lambda: out.read(1 << 20), b""))
+        return used.ru_utime + used.ru_stime, printed
 
 
 def memory(lines):
