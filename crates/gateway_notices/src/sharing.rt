@@ -55,8 +55,7 @@ fn nth_waiting(rows: &Rows, name: &Name, n: usize) -> Option<ClientSub> {
     }
 }
 
-// Whether a subscription may be told an update, by the rights that were told last. Where these aren't
-// so any more, a payload is kept in vain, or isn't shared.
+// Whether a subscription may be told an update, by the rights that were told last.
 fn is_waiting(rows: &Rows, sub: &ClientSub) -> bool {
     sub.owed
         && is_open_to(rows, sub)
