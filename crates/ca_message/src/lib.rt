@@ -3,9 +3,11 @@
 //!
 //! - [`read_request`] and [`read_reply`] read what a client asks for and what a server says, or why a
 //!   message is neither. They take no memory: texts and values are slices of the payload.
+//!   [`read_message`] reads the same, of a message whose payload may be shared.
 //! - [`ToClient`] and [`ToServer`] are the messages that are sent. Their `head` and `payload` are the
 //!   wire form, with the payload padded and the padding counted.
-//! - [`WrittenValue`] is the value of a write, as it is handed on: exactly its elements.
+//! - [`WrittenValue`] is the value of a write, as it is handed on: exactly its elements. A payload that
+//!   may be shared and is that already is handed on itself, else its bytes are copied.
 //! - [`commands`] and [`codes`] have the numbers of the protocol, [`error_text`] the texts of ERROR.
 //!
 //! Every message that is sent may head a payload and says its size (`laws::messages_to_clients_are_whole`,
@@ -23,7 +25,7 @@
 
 pub use codes::error_text;
 pub use reply::{ReplyFault, ServerReply, read_reply};
-pub use request::{ClientRequest, RequestFault, read_request};
+pub use request::{ClientRequest, RequestFault, read_message, read_request};
 pub use text::{HostText, NUL, NameText};
 pub use to_client::ToClient;
 pub use to_server::ToServer;

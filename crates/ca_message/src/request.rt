@@ -11,7 +11,7 @@ use crate::commands::{
 use crate::payload::{EVENT_MASK_OFFSET, EVENT_PAYLOAD_LEN};
 use crate::text::{HostText, NameText};
 use crate::value::ValueBytes;
-use ca_header::Header;
+use ca_header::{Header, Message};
 
 /// A message from a client, as it is meant. Its texts and values are slices of the payload.
 ///
@@ -103,9 +103,22 @@ pub enum RequestFault {
 pub fn read_request<'a>(head: &Header, payload: &'a [u8]) -> Result<ClientRequest<'a>, RequestFault>
     ensures { result ≡ request_of head.now payload.now }
 {
+    read(head, ValueBytes::from(payload))
+}
+
+/// The same, of a message whose payload may be shared with who hands a written value on.
+pub fn read_message<'a>(message: &'a Message) -> Result<ClientRequest<'a>, RequestFault>
+    ensures { result ≡ request_of message.now.head message.now.payload }
+{
+    read(&message.head, ValueBytes::of_payload(&message.payload))
+}
+
+fn read<'a>(head: &Header, payload: ValueBytes<'a>) -> Result<ClientRequest<'a>, RequestFault>
+    ensures { result ≡ request_of head.now payload.entry }
+{
     match head.command {
         CA_PROTO_VERSION => Ok(ClientRequest::Version { minor: head.count }),
-        CA_PROTO_EVENT_ADD => read_event_add(head, payload),
+        CA_PROTO_EVENT_ADD => read_event_add(head, payload.as_slice()),
         CA_PROTO_EVENT_CANCEL => Ok(ClientRequest::EventCancel {
             sid: head.p1,
             id: head.p2,
@@ -116,7 +129,7 @@ pub fn read_request<'a>(head: &Header, payload: &'a [u8]) -> Result<ClientReques
             sid: head.p1,
             dtype: head.dtype,
             count: head.count,
-            value: ValueBytes::from(payload),
+            value: payload,
         }),
         CA_PROTO_EVENTS_OFF => Ok(ClientRequest::EventsOff),
         CA_PROTO_EVENTS_ON => Ok(ClientRequest::EventsOn),
@@ -133,17 +146,17 @@ pub fn read_request<'a>(head: &Header, payload: &'a [u8]) -> Result<ClientReques
         CA_PROTO_CREATE_CHAN => Ok(ClientRequest::CreateChannel {
             cid: head.p1,
             minor: head.p2,
-            name: NameText::read(payload)?,
+            name: NameText::read(payload.as_slice())?,
         }),
         CA_PROTO_WRITE_NOTIFY => Ok(ClientRequest::WriteNotify {
             sid: head.p1,
             ioid: head.p2,
             dtype: head.dtype,
             count: head.count,
-            value: ValueBytes::from(payload),
+            value: payload,
         }),
-        CA_PROTO_CLIENT_NAME => Ok(ClientRequest::ClientName(NameText::read(payload)?)),
-        CA_PROTO_HOST_NAME => Ok(ClientRequest::HostName(HostText::read(payload)?)),
+        CA_PROTO_CLIENT_NAME => Ok(ClientRequest::ClientName(NameText::read(payload.as_slice())?)),
+        CA_PROTO_HOST_NAME => Ok(ClientRequest::HostName(HostText::read(payload.as_slice())?)),
         CA_PROTO_ECHO => Ok(ClientRequest::Echo),
         _ => Err(RequestFault::Unknown),
     }

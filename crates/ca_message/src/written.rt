@@ -10,6 +10,7 @@ use crate::NoMemory;
 use crate::codes::{ECA_BADCOUNT, ECA_BADTYPE};
 use crate::payload::{header, padded_len, size_of_len, write_padded};
 use crate::text::nul_place;
+use crate::value::ValueBytes;
 use bytes::Bytes;
 use ca_header::Header;
 use dbr_layout::{Base, Dbr, Form};
@@ -55,18 +56,22 @@ pub struct WrittenValue<'a> {
     bytes: &'a [u8],
     /// How many bytes the elements have. Those that `bytes` lacks are zero.
     size: usize,
+    /// The payload in which the value came, where that is what is handed on already.
+    handed_on: Option<&'a Bytes>,
 }
 
 impl<'a> Model for WrittenValue<'a> {
-    ghost use Rattle.std.specs.Prelude.{◌<◌, ◌≤◌, ◌^◌, length};
+    ghost use Rattle.std.specs.Prelude.{◌≡◌, ◌<◌, ◌≤◌, ◌^◌, length, IfSome};
     ghost use Rattle.dbr_layout.specs.Layout.{filled_to};
+    ghost use Rattle.ca_message.specs.Padding.{padded};
     ghost use Rattle.ca_message.specs.Written.{Written};
 
     ghost Value = { Written };
 
     ghost view = { λ v. record { dtype = v.dtype; count = v.count; bytes = filled_to v.size v.bytes.now } };
 
-    ghost invariant = { λ v. (length v.bytes.now ≤ v.size) × (0 < v.size) × (v.size < 2 ^ 40) };
+    ghost invariant = { λ v. (length v.bytes.now ≤ v.size) × (0 < v.size) × (v.size < 2 ^ 40)
+        × IfSome v.handed_on (λ payload. payload.now ≡ padded (filled_to v.size v.bytes.now)) };
 }
 
 impl<'a> WrittenValue<'a> {
@@ -76,6 +81,19 @@ impl<'a> WrittenValue<'a> {
     /// elements. What the payload holds past the elements is left out, and so is what a single STRING
     /// holds past its first NUL. It takes no memory.
     pub fn read(dtype: u16, count: u32, native: u32, payload: &'a [u8]) -> Result<Self, WriteFault>
+        ensures { result ≡ written dtype count native payload.now }
+    {
+        Self::of(dtype, count, native, &ValueBytes::from(payload))
+    }
+
+    /// The same of a value that a request brings. Where its payload may be shared, and is already what
+    /// is handed on, it is handed on itself, without a copy.
+    pub fn of(
+        dtype: u16,
+        count: u32,
+        native: u32,
+        payload: &ValueBytes<'a>,
+    ) -> Result<Self, WriteFault>
         ensures { result ≡ written dtype count native payload.now }
     {
         let dbr = plain_type(dtype).ok_or(WriteFault::BadType)?;
@@ -94,34 +112,44 @@ impl<'a> WrittenValue<'a> {
     }
 
     // A value of `size` bytes.
-    fn whole(dtype: u16, count: u32, size: usize, payload: &'a [u8]) -> Result<Self, WriteFault>
+    fn whole(
+        dtype: u16,
+        count: u32,
+        size: usize,
+        payload: &ValueBytes<'a>,
+    ) -> Result<Self, WriteFault>
         requires some { 0 < size }
         requires small { size < 2 ^ 40 }
         ensures { result ≡ whole_value dtype count size payload.now }
     {
-        if payload.len() < size {
+        let bytes = payload.as_slice();
+        if bytes.len() < size {
             return Err(WriteFault::Short);
         }
         Ok(WrittenValue {
             dtype,
             count,
-            bytes: &payload[..size],
+            bytes: &bytes[..size],
             size,
+            handed_on: payload.handed_on(size, size),
         })
     }
 
     // A single STRING.
-    fn string(dtype: u16, payload: &'a [u8]) -> Result<Self, WriteFault>
+    fn string(dtype: u16, payload: &ValueBytes<'a>) -> Result<Self, WriteFault>
         ensures { result ≡ string_value dtype payload.now }
     {
-        if payload.is_empty() {
+        let bytes = payload.as_slice();
+        if bytes.is_empty() {
             return Err(WriteFault::Short);
         }
+        let text = text_of(bytes);
         Ok(WrittenValue {
             dtype,
             count: 1,
-            bytes: text_of(payload),
+            bytes: text,
             size: STRING_SIZE,
+            handed_on: payload.handed_on(text.len(), STRING_SIZE),
         })
     }
 
@@ -136,11 +164,15 @@ impl<'a> WrittenValue<'a> {
     }
 
     /// The payload of such a message: the bytes of the elements, and zero bytes up to a multiple of 8.
+    /// It is the payload in which the value came, where that is so.
     pub(crate) fn payload(&self, alloc: Global) -> Result<Bytes, NoMemory>
         ensures ok { IfOk result (λ payload. payload ≡ padded self.now.bytes) }
         ensures some { 0 < length (padded self.now.bytes) }
     {
-        write_padded(alloc, self.bytes, self.size)
+        match self.handed_on {
+            Some(payload) => payload.slice(..),
+            None => write_padded(alloc, self.bytes, self.size),
+        }
     }
 }
 

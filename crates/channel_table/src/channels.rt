@@ -63,6 +63,12 @@ impl Channels {
         }
     }
 
+    pub(crate) fn len(&self) -> usize
+        ensures { result ≡ length self.now }
+    {
+        self.rows.len()
+    }
+
     pub(crate) fn all(&self, alloc: Global) -> Result<Vec<&Channel>, AllocError>
         ensures { IfOk result (λ rows. map (λ row. row.now) rows.items ≡ self.now) }
     {

@@ -4,11 +4,16 @@
 //! - `add_session`, `add_channel`, `add_sub` and `add_read` put a row last. They refuse one whose
 //!   session or channel doesn't stand, and one past its limit ([`TableFault`]).
 //! - `session`, `channel` and `sub` find a row by its IDs; `channels`, `subs` and `reads` are all rows
-//!   in the order of adding, and `channel_count` and the like count those of a session.
+//!   in the order of adding, `reads_for` the reads that wait for a real name, and `channel_count` and the
+//!   like count those of a session.
 //! - `channel_of` and `sub_of` give the rows of a session one by one, and `channel_on`, `sub_on` and
 //!   `read_on` those of a real name: of the channels on it, and of what hangs on these.
 //! - `put_session`, `put_channel` and `put_sub` change a row that stands.
 //! - `remove_session` and `remove_channel` take the rows that name theirs along.
+//!
+//! Whoever looks at a row, or changes one, hands in the table's [`Visits`], which count it: a list of
+//! rows as many times as it has rows. So a contract above can say how many rows an event looks at.
+//! Adding, removing and counting rows look at none.
 //!
 //! Channels and subscriptions are kept under their IDs, and their keys in lists by real name, so that
 //! a look-up costs the same beside many rows as beside few. A removal walks what is on the same name,
@@ -18,7 +23,7 @@
 //! one none, and a limit refuses exactly where it is reached; limits are in `laws::numbers_are_these`.
 //!
 //! ```
-//! let mut table = Table::new(rt.alloc());
+//! let (mut table, mut visits) = Table::new(rt.alloc());
 //! table.add_session(Session {
 //!     number: 1,
 //!     host: Host::read(rt.alloc(), b"10.0.0.5")?,
@@ -33,6 +38,8 @@
 //!     ioid: 9,
 //! };
 //! assert_eq!(rt; table.add_read(waiting), Err(TableFault::Missing));
+//! assert!(rt; table.channel(&mut visits, 1, 11).is_none());
+//! assert_eq!(rt; visits.visited(), 1);
 //! ```
 #![tactic(auto)]
 
@@ -43,9 +50,11 @@ mod reads;
 mod sessions;
 mod subs;
 mod table;
+mod visits;
 
 pub use channels::Channel;
 pub use reads::WaitingRead;
 pub use sessions::Session;
 pub use subs::ClientSub;
 pub use table::{CHANNEL_LIMIT, READ_LIMIT, SESSION_LIMIT, SUB_LIMIT, Table, TableFault};
+pub use visits::Visits;

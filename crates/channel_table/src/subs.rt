@@ -70,6 +70,12 @@ impl Subs {
         self.rows.has_keys_apart();
     }
 
+    pub(crate) fn len(&self) -> usize
+        ensures { result ≡ length self.now.rows }
+    {
+        self.rows.len()
+    }
+
     pub(crate) fn all(&self, alloc: Global) -> Result<Vec<&ClientSub>, AllocError>
         ensures { IfOk result (λ rows. map (λ row. row.now) rows.items ≡ self.now.rows) }
     {

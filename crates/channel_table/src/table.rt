@@ -1,5 +1,6 @@
 //! The table of clients.
-ghost use Rattle.std.specs.Prelude.{◌≡◌, ◌≢◌, ◌≤◌, ◌<◌, ◌↔◌, [], ◌∷◌, ◌++◌, length, map, slice_get, true, false, Err, OnOk, OnErr, IfOk, IsErrOf, IsTrue};
+ghost use Rattle.std.specs.Prelude.{◌≡◌, ◌≢◌, ◌≤◌, ◌<◌, ◌↔◌, ◌+◌, [], ◌∷◌, ◌++◌, length, map, slice_get, true, false, Err, OnOk, OnErr, IfOk, IsErrOf, IsTrue};
+ghost use Rattle.std.specs.Io.Iter.{u64_saturate};
 ghost use Rattle.std.specs.List.{filter, find, list_any};
 ghost use Rattle.std.specs.Option.{option_copied};
 ghost use Rattle.rows.specs.Rows.{change_first, remove_first};
@@ -13,6 +14,7 @@ use crate::channels::{Channel, Channels};
 use crate::reads::{self, WaitingRead};
 use crate::sessions::{self, Session};
 use crate::subs::{ClientSub, Subs};
+use crate::visits::Visits;
 use pv_name::{Host, Name};
 use std::alloc::{AllocError, Global};
 use std::marker::Model;
@@ -66,8 +68,15 @@ impl Model for Table {
 }
 
 impl Table {
-    /// No row.
-    pub fn new(alloc: Global) -> Table
+    /// No row, and the count of those that were looked at. There is one count for each table.
+    pub fn new(alloc: Global) -> (Table, Visits)
+        ensures rows { result.0 ≡ record { sessions = []; channels = []; subs = []; reads = [] } }
+        ensures visits { result.1 ≡ 0 }
+    {
+        (Table::bare(alloc), Visits::new())
+    }
+
+    fn bare(alloc: Global) -> Table
         ensures { result ≡ record { sessions = []; channels = []; subs = []; reads = [] } }
     {
         Table {
@@ -79,44 +88,70 @@ impl Table {
     }
 
     /// All channels, in the order in which they were added.
-    pub fn channels(&self, alloc: Global) -> Result<Vec<&Channel>, AllocError>
-        ensures { IfOk result (λ rows. map (λ row. row.now) rows.items ≡ self.now.channels) }
+    pub fn channels<'a>(
+        &'a self,
+        visits: &mut Visits,
+        alloc: Global,
+    ) -> Result<Vec<&'a Channel>, AllocError>
+        ensures all { IfOk result (λ rows. map (λ row. row.now) rows.items ≡ self.now.channels) }
+        ensures visits { visits.new ≡ u64_saturate (visits.old + length self.now.channels) }
+        ensures bound { visits.new ≤ visits.old + length self.now.channels }
     {
+        visits.count(self.channels.len());
         self.channels.all(alloc)
     }
 
     /// All subscriptions, in the order in which they were added.
-    pub fn subs(&self, alloc: Global) -> Result<Vec<&ClientSub>, AllocError>
-        ensures { IfOk result (λ rows. map (λ row. row.now) rows.items ≡ self.now.subs) }
+    pub fn subs<'a>(
+        &'a self,
+        visits: &mut Visits,
+        alloc: Global,
+    ) -> Result<Vec<&'a ClientSub>, AllocError>
+        ensures all { IfOk result (λ rows. map (λ row. row.now) rows.items ≡ self.now.subs) }
+        ensures visits { visits.new ≡ u64_saturate (visits.old + length self.now.subs) }
+        ensures bound { visits.new ≤ visits.old + length self.now.subs }
     {
+        visits.count(self.subs.len());
         self.subs.all(alloc)
     }
 
     /// All waiting reads, in the order in which they were added.
-    pub fn reads(&self) -> &[WaitingRead]
-        ensures { result.now ≡ self.now.reads }
+    pub fn reads<'a>(&'a self, visits: &mut Visits) -> &'a [WaitingRead]
+        ensures all { result.now ≡ self.now.reads }
+        ensures visits { visits.new ≡ u64_saturate (visits.old + length self.now.reads) }
+        ensures bound { visits.new ≤ visits.old + length self.now.reads }
     {
+        visits.count(self.reads.len());
         &self.reads
     }
 
     /// The session of this number.
-    pub fn session(&self, number: u32) -> Option<&Session>
-        ensures { option_copied result ≡ find (is_numbered number) self.now.sessions }
+    pub fn session<'a>(&'a self, visits: &mut Visits, number: u32) -> Option<&'a Session>
+        ensures found { option_copied result ≡ find (is_numbered number) self.now.sessions }
+        ensures visits { visits.new ≡ u64_saturate (visits.old + 1) }
+        ensures bound { visits.new ≤ visits.old + 1 }
     {
+        visits.count(1);
         sessions::find(&self.sessions, number)
     }
 
     /// The session's channel of this ID.
-    pub fn channel(&self, session: u32, sid: u32) -> Option<&Channel>
-        ensures { option_copied result ≡ find (is_channel session sid) self.now.channels }
+    pub fn channel<'a>(&'a self, visits: &mut Visits, session: u32, sid: u32) -> Option<&'a Channel>
+        ensures found { option_copied result ≡ find (is_channel session sid) self.now.channels }
+        ensures visits { visits.new ≡ u64_saturate (visits.old + 1) }
+        ensures bound { visits.new ≤ visits.old + 1 }
     {
+        visits.count(1);
         self.channels.get(session, sid)
     }
 
     /// The session's subscription of this ID.
-    pub fn sub(&self, session: u32, id: u32) -> Option<&ClientSub>
-        ensures { option_copied result ≡ find (is_sub session id) self.now.subs }
+    pub fn sub<'a>(&'a self, visits: &mut Visits, session: u32, id: u32) -> Option<&'a ClientSub>
+        ensures found { option_copied result ≡ find (is_sub session id) self.now.subs }
+        ensures visits { visits.new ≡ u64_saturate (visits.old + 1) }
+        ensures bound { visits.new ≤ visits.old + 1 }
     {
+        visits.count(1);
         self.subs.get(session, id)
     }
 
@@ -142,16 +177,32 @@ impl Table {
     }
 
     /// The session's nth channel, counted from 0 in the order in which they were added.
-    pub fn channel_of(&self, session: u32, n: usize) -> Option<&Channel>
-        ensures { option_copied result ≡ slice_get (filter (is_channel_of session) self.now.channels) n }
+    pub fn channel_of<'a>(
+        &'a self,
+        visits: &mut Visits,
+        session: u32,
+        n: usize,
+    ) -> Option<&'a Channel>
+        ensures nth { option_copied result ≡ slice_get (filter (is_channel_of session) self.now.channels) n }
+        ensures visits { visits.new ≡ u64_saturate (visits.old + 1) }
+        ensures bound { visits.new ≤ visits.old + 1 }
     {
+        visits.count(1);
         self.channels.nth_of(session, n)
     }
 
     /// The session's nth subscription.
-    pub fn sub_of(&self, session: u32, n: usize) -> Option<&ClientSub>
-        ensures { option_copied result ≡ slice_get (filter (is_sub_of session) self.now.subs) n }
+    pub fn sub_of<'a>(
+        &'a self,
+        visits: &mut Visits,
+        session: u32,
+        n: usize,
+    ) -> Option<&'a ClientSub>
+        ensures nth { option_copied result ≡ slice_get (filter (is_sub_of session) self.now.subs) n }
+        ensures visits { visits.new ≡ u64_saturate (visits.old + 1) }
+        ensures bound { visits.new ≤ visits.old + 1 }
     {
+        visits.count(1);
         self.subs.nth_of(session, n)
     }
 
@@ -170,9 +221,17 @@ impl Table {
     }
 
     /// The nth channel on this real name, counted from 0 in the order in which they were added.
-    pub fn channel_on(&self, name: &Name, n: usize) -> Option<&Channel>
-        ensures { option_copied result ≡ slice_get (filter (is_on name.now) self.now.channels) n }
+    pub fn channel_on<'a>(
+        &'a self,
+        visits: &mut Visits,
+        name: &Name,
+        n: usize,
+    ) -> Option<&'a Channel>
+        ensures nth { option_copied result ≡ slice_get (filter (is_on name.now) self.now.channels) n }
+        ensures visits { visits.new ≡ u64_saturate (visits.old + 1) }
+        ensures bound { visits.new ≤ visits.old + 1 }
     {
+        visits.count(1);
         self.channels.nth_on(name, n)
     }
 
@@ -184,9 +243,12 @@ impl Table {
     }
 
     /// The nth subscription to a channel on this real name.
-    pub fn sub_on(&self, name: &Name, n: usize) -> Option<&ClientSub>
-        ensures { option_copied result ≡ slice_get (filter (is_sub_to self.now name.now) self.now.subs) n }
+    pub fn sub_on<'a>(&'a self, visits: &mut Visits, name: &Name, n: usize) -> Option<&'a ClientSub>
+        ensures nth { option_copied result ≡ slice_get (filter (is_sub_to self.now name.now) self.now.subs) n }
+        ensures visits { visits.new ≡ u64_saturate (visits.old + 1) }
+        ensures bound { visits.new ≤ visits.old + 1 }
     {
+        visits.count(1);
         self.subs.are_apart();
         self.subs.nth_on(name, n)
     }
@@ -202,14 +264,38 @@ impl Table {
     }
 
     /// The nth read that waits on a channel on this real name.
-    pub fn read_on(&self, name: &Name, n: usize) -> Option<WaitingRead>
-        ensures { result ≡ slice_get (filter (is_read_for self.now name.now) self.now.reads) n }
+    pub fn read_on(&self, visits: &mut Visits, name: &Name, n: usize) -> Option<WaitingRead>
+        ensures nth { result ≡ slice_get (filter (is_read_for self.now name.now) self.now.reads) n }
+        ensures visits { visits.new ≡ u64_saturate (visits.old + 1) }
+        ensures bound { visits.new ≤ visits.old + 1 }
     {
+        visits.count(1);
         self.reads
             .iter()
             .filter(|row| self.leads_to(row.session, row.sid, name))
             .nth(n)
             .copied()
+    }
+
+    /// The reads that wait on channels on this real name, in the order of asking.
+    pub fn reads_for(
+        &self,
+        visits: &mut Visits,
+        alloc: Global,
+        name: &Name,
+    ) -> Result<Vec<WaitingRead>, AllocError>
+        ensures found { IfOk result (λ reads. reads.items ≡ filter (is_read_for self.now name.now) self.now.reads) }
+        ensures visits { IfOk result (λ reads. visits.new ≡ u64_saturate (visits.old + length reads.items)) }
+        ensures bound { IfOk result (λ reads. visits.new ≤ visits.old + length reads.items) }
+    {
+        let mut reads = Vec::new(alloc);
+        for read in &self.reads {
+            if self.leads_to(read.session, read.sid, name) {
+                reads.push(*read)?;
+            }
+        }
+        visits.count(reads.len());
+        Ok(reads)
     }
 
     /// Adds a session. The caller sees to it that none of its number stands.
@@ -316,31 +402,54 @@ impl Table {
     }
 
     /// Changes a session that stands: its host, whether that stays, and whether it wants no updates.
-    pub fn put_session(&mut self, number: u32, host: Host, host_fixed: bool, paused: bool)
-        ensures { self.new ≡ record self.old {
+    pub fn put_session(
+        &mut self,
+        visits: &mut Visits,
+        number: u32,
+        host: Host,
+        host_fixed: bool,
+        paused: bool,
+    )
+        ensures put { self.new ≡ record self.old {
           sessions = change_first
               (is_numbered number) (with_host_and_pause host host_fixed paused) self.old.sessions;
         } }
+        ensures visits { visits.new ≡ u64_saturate (visits.old + 1) }
+        ensures bound { visits.new ≤ visits.old + 1 }
     {
+        visits.count(1);
         sessions::put(&mut self.sessions, number, host, host_fixed, paused);
     }
 
     /// Changes a channel that stands: its reach and the rights last told.
-    pub fn put_channel(&mut self, session: u32, sid: u32, reach: u32, rights: u32)
-        ensures { self.new ≡ record self.old {
+    pub fn put_channel(
+        &mut self,
+        visits: &mut Visits,
+        session: u32,
+        sid: u32,
+        reach: u32,
+        rights: u32,
+    )
+        ensures put { self.new ≡ record self.old {
           channels = change_first
               (is_channel session sid) (with_reach_and_rights reach rights) self.old.channels;
         } }
+        ensures visits { visits.new ≡ u64_saturate (visits.old + 1) }
+        ensures bound { visits.new ≤ visits.old + 1 }
     {
+        visits.count(1);
         self.channels.put(session, sid, reach, rights);
     }
 
     /// Changes a subscription that stands: whether an update is owed.
-    pub fn put_sub(&mut self, session: u32, id: u32, owed: bool)
-        ensures { self.new ≡ record self.old {
+    pub fn put_sub(&mut self, visits: &mut Visits, session: u32, id: u32, owed: bool)
+        ensures put { self.new ≡ record self.old {
           subs = change_first (is_sub session id) (with_owed owed) self.old.subs;
         } }
+        ensures visits { visits.new ≡ u64_saturate (visits.old + 1) }
+        ensures bound { visits.new ≤ visits.old + 1 }
     {
+        visits.count(1);
         self.subs.put(session, id, owed);
     }
 

@@ -1,5 +1,5 @@
 //! CREATE_CHAN.
-ghost use Rattle.std.specs.Prelude.{◌≡◌, true, OnOk, IfOk, IsErrOf};
+ghost use Rattle.std.specs.Prelude.{◌≡◌, ◌≤◌, ◌+◌, true, OnOk, IfOk, IsErrOf};
 ghost use Rattle.gateway_state.specs.Numbers.{is_past_numbers};
 ghost use Rattle.gateway_state.specs.Clients.{remembered_by, with_channel, created, created_with, created_on_native, created_on, created_as, creation_failed, not_connected, channel_asked, rights_on};
 ghost use Rattle.gateway_state.specs.Settled.{HasSidsInOrder};
@@ -9,7 +9,7 @@ ghost use Rattle.channel_table.specs.Sessions.{is_numbered};
 
 use crate::host_name::fix_host;
 use ca_message::ToClient;
-use channel_table::{CHANNEL_LIMIT, Channel};
+use channel_table::{CHANNEL_LIMIT, Channel, Visits};
 use gateway_rows::{Refusal, Rows, native_in};
 use gateway_state::Native;
 use link_table::{Counter, Link};
@@ -24,20 +24,33 @@ pub(crate) fn fail_creation(rows: &mut Rows, number: u32, cid: u32) -> Result<()
 }
 
 /// The session's host looks for the name.
-fn remember(rows: &mut Rows, number: u32, name: &Name) -> Result<(), AllocError>
-    ensures { OnOk result (rows.new ≡ remembered_by (find (is_numbered number) rows.old.clients.sessions) name.now rows.old) }
+fn remember(
+    rows: &mut Rows,
+    visits: &mut Visits,
+    number: u32,
+    name: &Name,
+) -> Result<(), AllocError>
+    ensures ok { OnOk result (rows.new ≡ remembered_by (find (is_numbered number) rows.old.clients.sessions) name.now rows.old) }
+    ensures bound { visits.new ≤ visits.old + 1 }
 {
-    if let Some(session) = rows.clients.session(number) {
+    if let Some(session) = rows.clients.session(visits, number) {
         let host = session.host.copy()?;
         rows.remember(&host, name)?;
     }
     Ok(())
 }
 
-fn leave_unconnected(rows: &mut Rows, number: u32, cid: u32, name: &Name) -> Result<(), AllocError>
-    ensures { OnOk result (rows.new ≡ not_connected number cid name.now rows.old) }
+fn leave_unconnected(
+    rows: &mut Rows,
+    visits: &mut Visits,
+    number: u32,
+    cid: u32,
+    name: &Name,
+) -> Result<(), AllocError>
+    ensures ok { OnOk result (rows.new ≡ not_connected number cid name.now rows.old) }
+    ensures bound { visits.new ≤ visits.old + 1 }
 {
-    remember(rows, number, name)?;
+    remember(rows, visits, number, name)?;
     fail_creation(rows, number, cid)
 }
 
@@ -111,6 +124,7 @@ fn rights_on(rows: &Rows, lead: &Lead, link: &Link) -> u32
 
 fn create_as(
     rows: &mut Rows,
+    visits: &mut Visits,
     number: u32,
     cid: u32,
     asked: &Name,
@@ -119,13 +133,14 @@ fn create_as(
     requires order { HasSidsInOrder rows.old }
     ensures ok { OnOk result (rows.new ≡ created_on number cid asked.now lead (link_of rows.old lead.real) rows.old) }
     ensures used_up { IsErrOf result Refusal.NumbersUsedUp → is_past_numbers (created_on number cid asked.now lead (link_of rows.old lead.real) rows.old) ≡ true }
+    ensures bound { visits.new ≤ visits.old + 1 }
 {
     let Some(link) = rows.link_of(&lead.real) else {
-        leave_unconnected(rows, number, cid, asked)?;
+        leave_unconnected(rows, visits, number, cid, asked)?;
         return Ok(());
     };
     let Some(native) = native_in(link.state) else {
-        leave_unconnected(rows, number, cid, asked)?;
+        leave_unconnected(rows, visits, number, cid, asked)?;
         return Ok(());
     };
     let rights = rights_on(rows, &lead, link);
@@ -136,6 +151,7 @@ fn create_as(
 /// A client wants a channel on a name.
 pub(crate) fn create_channel(
     rows: &mut Rows,
+    visits: &mut Visits,
     number: u32,
     cid: u32,
     name: &Name,
@@ -143,9 +159,10 @@ pub(crate) fn create_channel(
     requires order { HasSidsInOrder rows.old }
     ensures ok { OnOk result (rows.new ≡ channel_asked number cid name.now rows.old) }
     ensures used_up { IsErrOf result Refusal.NumbersUsedUp → is_past_numbers (channel_asked number cid name.now rows.old) ≡ true }
+    ensures bound { visits.new ≤ visits.old + 4 }
 {
-    let lead = rows.lead_in(number, name)?;
-    fix_host(rows, number)?;
+    let lead = rows.lead_in(visits, number, name)?;
+    fix_host(rows, visits, number)?;
     let Some(lead) = lead else {
         fail_creation(rows, number, cid)?;
         return Ok(());
@@ -154,5 +171,5 @@ pub(crate) fn create_channel(
         fail_creation(rows, number, cid)?;
         return Ok(());
     }
-    create_as(rows, number, cid, name, lead)
+    create_as(rows, visits, number, cid, name, lead)
 }

@@ -1,5 +1,5 @@
 //! What clients ask for.
-ghost use Rattle.std.specs.Prelude.{◌≡◌, true, Ok, OnOk, IfOk, IsErrOf};
+ghost use Rattle.std.specs.Prelude.{◌≡◌, ◌≤◌, ◌+◌, true, Ok, OnOk, IfOk, IsErrOf};
 ghost use Rattle.ca_message.specs.ClientRequest.{request_of};
 ghost use Rattle.gateway_state.specs.Numbers.{is_past_numbers};
 ghost use Rattle.gateway_state.specs.Clients.{versioned};
@@ -22,24 +22,31 @@ use ca_header::{Header, Message};
 use ca_message::commands::{
     CA_PROTO_CLIENT_NAME, CA_PROTO_CREATE_CHAN, CA_PROTO_EVENT_ADD, CA_PROTO_HOST_NAME,
 };
-use ca_message::{ClientRequest, ToClient, read_request};
+use ca_message::{ClientRequest, ToClient, read_message};
+use channel_table::Visits;
 use gateway_rows::{Refusal, Rows};
 use gateway_state::{Dest, LOWEST_MINOR};
 use std::alloc::AllocError;
 use touched_rows::Touched;
 
 /// A client sent a message.
-pub fn hear_client(rows: &mut Rows, number: u32, message: Message) -> Result<Touched, Refusal>
+pub fn hear_client(
+    rows: &mut Rows,
+    visits: &mut Visits,
+    number: u32,
+    message: Message,
+) -> Result<Touched, Refusal>
     requires order { HasSidsInOrder rows.old }
     requires told { AreTold rows.old }
     ensures ok { OnOk result (rows.new ≡ client_said rows.old number message) }
     ensures touched { IfOk result (λ touched. touched ≡ request_touches rows.old number (request_of message.head message.payload)) }
     ensures used_up { IsErrOf result Refusal.NumbersUsedUp → is_past_numbers (client_said rows.old number message) ≡ true }
+    ensures bound { visits.new ≤ visits.old + 4 }
 {
-    match read_request(&message.head, &message.payload) {
-        Ok(request) => hear_request(rows, number, request, &message),
+    match read_message(&message) {
+        Ok(request) => hear_request(rows, visits, number, request, &message),
         Err(_) => {
-            hear_unreadable(rows, number, &message.head)?;
+            hear_unreadable(rows, visits, number, &message.head)?;
             Ok(Touched::Nothing)
         }
     }
@@ -48,6 +55,7 @@ pub fn hear_client(rows: &mut Rows, number: u32, message: Message) -> Result<Tou
 /// A client asked for something.
 fn hear_request(
     rows: &mut Rows,
+    visits: &mut Visits,
     number: u32,
     request: ClientRequest<'_>,
     message: &Message,
@@ -57,6 +65,7 @@ fn hear_request(
     ensures ok { OnOk result (rows.new ≡ requested rows.old number message.now (Ok request.entry)) }
     ensures touched { IfOk result (λ touched. touched ≡ request_touches rows.old number (Ok request.entry)) }
     ensures used_up { IsErrOf result Refusal.NumbersUsedUp → is_past_numbers (requested rows.old number message.now (Ok request.entry)) ≡ true }
+    ensures bound { visits.new ≤ visits.old + 4 }
 {
     let head = &message.head;
     match request {
@@ -70,13 +79,18 @@ fn hear_request(
             dtype,
             count,
             mask,
-        } => Ok(subscribe_client(rows, new_sub(number, sid, id, dtype, count, mask), head)?),
+        } => Ok(subscribe_client(
+            rows,
+            visits,
+            new_sub(number, sid, id, dtype, count, mask),
+            head,
+        )?),
         ClientRequest::EventCancel {
             sid,
             id,
             dtype,
             count,
-        } => Ok(cancel_subscription(rows, number, sid, id, dtype, count, head)?),
+        } => Ok(cancel_subscription(rows, visits, number, sid, id, dtype, count, head)?),
         ClientRequest::Write {
             sid,
             dtype,
@@ -89,29 +103,29 @@ fn hear_request(
                 dtype,
                 count,
             };
-            hear_write(rows, write, value.as_slice(), head)?;
+            hear_write(rows, visits, write, &value, head)?;
             Ok(Touched::Nothing)
         }
         ClientRequest::EventsOff => {
-            pause(rows, number, true)?;
+            pause(rows, visits, number, true)?;
             Ok(Touched::Nothing)
         }
         ClientRequest::EventsOn => {
-            pause(rows, number, false)?;
+            pause(rows, visits, number, false)?;
             Ok(Touched::Session(number))
         }
         ClientRequest::ClearChannel { sid, cid } => {
-            Ok(clear_channel(rows, number, sid, cid, head)?)
+            Ok(clear_channel(rows, visits, number, sid, cid, head)?)
         }
         ClientRequest::ReadNotify {
             sid,
             ioid,
             dtype,
             count,
-        } => Ok(read(rows, number, sid, ioid, dtype, count, head)?),
+        } => Ok(read(rows, visits, number, sid, ioid, dtype, count, head)?),
         ClientRequest::CreateChannel { cid, name, .. } => {
             let name = name.to_name(rows.alloc)?;
-            create_channel(rows, number, cid, &name)?;
+            create_channel(rows, visits, number, cid, &name)?;
             Ok(Touched::Nothing)
         }
         ClientRequest::WriteNotify {
@@ -127,13 +141,13 @@ fn hear_request(
                 dtype,
                 count,
             };
-            hear_write_notify(rows, write, ioid, value.as_slice(), head)?;
+            hear_write_notify(rows, visits, write, ioid, &value, head)?;
             Ok(Touched::Nothing)
         }
         ClientRequest::ClientName(_) => Ok(Touched::Nothing),
         ClientRequest::HostName(host) => {
             let host = host.to_host(rows.alloc)?;
-            Ok(name_host(rows, number, host)?)
+            Ok(name_host(rows, visits, number, host)?)
         }
         ClientRequest::Echo => {
             echo(rows, number, message)?;
@@ -165,16 +179,22 @@ fn hear_version(rows: &mut Rows, number: u32, minor: u32)
 
 /// A message that is no request: texts that can't be read are ignored, but a CREATE_CHAN fails;
 /// a short EVENT_ADD is refused over its channel.
-fn hear_unreadable(rows: &mut Rows, number: u32, head: &Header) -> Result<(), AllocError>
-    ensures { OnOk result (rows.new ≡ unreadable rows.old number head.now) }
+fn hear_unreadable(
+    rows: &mut Rows,
+    visits: &mut Visits,
+    number: u32,
+    head: &Header,
+) -> Result<(), AllocError>
+    ensures ok { OnOk result (rows.new ≡ unreadable rows.old number head.now) }
+    ensures bound { visits.new ≤ visits.old + 2 }
 {
     if head.command == CA_PROTO_CREATE_CHAN {
-        fix_host(rows, number)?;
+        fix_host(rows, visits, number)?;
         fail_creation(rows, number, head.p1)
     } else if head.command == CA_PROTO_CLIENT_NAME || head.command == CA_PROTO_HOST_NAME {
         Ok(())
     } else if head.command == CA_PROTO_EVENT_ADD {
-        refuse_short_subscription(rows, number, head)
+        refuse_short_subscription(rows, visits, number, head)
     } else {
         refuse_unknown(rows, number, head)
     }

@@ -1,5 +1,5 @@
 //! READ_NOTIFY.
-ghost use Rattle.std.specs.Prelude.{◌≡◌, Some, OnOk, IfOk};
+ghost use Rattle.std.specs.Prelude.{◌≡◌, ◌≤◌, ◌+◌, Some, OnOk, IfOk};
 ghost use Rattle.gateway_state.specs.Answer.{cached_value};
 ghost use Rattle.gateway_state.specs.Clients.{accepted, is_one_too_many, read_asked, read_refused, read_verdict, verdict_natively};
 ghost use Rattle.gateway_state.specs.Rights.{channel_of};
@@ -10,7 +10,7 @@ use crate::refusals::refuse_channel;
 use ca_header::Header;
 use ca_message::ToClient;
 use ca_message::codes::ECA_GETFAIL;
-use channel_table::{Channel, READ_LIMIT, WaitingRead};
+use channel_table::{Channel, READ_LIMIT, Visits, WaitingRead};
 use gateway_rows::{Rows, meant_count, native_in, read_refusal};
 use gateway_state::{Native, ReadVerdict};
 use link_table::Link;
@@ -63,15 +63,17 @@ fn read_verdict_on(
 /// What becomes of a read.
 fn read_verdict(
     rows: &Rows,
+    visits: &mut Visits,
     number: u32,
     sid: u32,
     dtype: u16,
     count: u32,
 ) -> Result<ReadVerdict, AllocError>
     requires told { AreTold rows.now }
-    ensures { IfOk result (λ verdict. verdict ≡ read_verdict rows.now number sid dtype count) }
+    ensures found { IfOk result (λ verdict. verdict ≡ read_verdict rows.now number sid dtype count) }
+    ensures bound { visits.new ≤ visits.old + 1 }
 {
-    let Some(channel) = rows.told_channel(number, sid) else {
+    let Some(channel) = rows.told_channel(visits, number, sid) else {
         return Ok(ReadVerdict::NoChannel);
     };
     let Some(link) = rows.link_of(&channel.real) else {
@@ -104,20 +106,23 @@ fn refuse_read(
 
 fn accept_read(
     rows: &mut Rows,
+    visits: &mut Visits,
     read: WaitingRead,
     reach: u32,
     rights: u32,
 ) -> Result<(), AllocError>
-    ensures { OnOk result (rows.new ≡ accepted read.session read.sid read.ioid read.dtype read.count reach rights rows.old) }
+    ensures ok { OnOk result (rows.new ≡ accepted read.session read.sid read.ioid read.dtype read.count reach rights rows.old) }
+    ensures bound { visits.new ≤ visits.old + 1 }
 {
     rows.clients
-        .put_channel(read.session, read.sid, reach, rights);
+        .put_channel(visits, read.session, read.sid, reach, rights);
     rows.clients.keep_read(read)
 }
 
 /// A client wants a value.
 pub(crate) fn read(
     rows: &mut Rows,
+    visits: &mut Visits,
     number: u32,
     sid: u32,
     ioid: u32,
@@ -128,8 +133,9 @@ pub(crate) fn read(
     requires told { AreTold rows.old }
     ensures ok { OnOk result (rows.new ≡ read_asked number sid ioid dtype count head.now rows.old) }
     ensures touched { IfOk result (λ touched. touched ≡ read_touches rows.old (new_read number sid ioid dtype count)) }
+    ensures bound { visits.new ≤ visits.old + 3 }
 {
-    match read_verdict(rows, number, sid, dtype, count)? {
+    match read_verdict(rows, visits, number, sid, dtype, count)? {
         ReadVerdict::NoChannel => {
             refuse_channel(rows, number, head)?;
             Ok(Touched::Nothing)
@@ -147,18 +153,23 @@ pub(crate) fn read(
                 count,
                 ioid,
             };
-            let touched = accepted_touches(rows, read)?;
-            accept_read(rows, read, reach, rights)?;
+            let touched = accepted_touches(rows, visits, read)?;
+            accept_read(rows, visits, read, reach, rights)?;
             Ok(touched)
         }
     }
 }
 
 /// What a read touches that is accepted.
-fn accepted_touches(rows: &Rows, read: WaitingRead) -> Result<Touched, AllocError>
-    ensures { IfOk result (λ touched. touched ≡ accepted_touches read (channel_of rows.now read.session read.sid)) }
+fn accepted_touches(
+    rows: &Rows,
+    visits: &mut Visits,
+    read: WaitingRead,
+) -> Result<Touched, AllocError>
+    ensures found { IfOk result (λ touched. touched ≡ accepted_touches read (channel_of rows.now read.session read.sid)) }
+    ensures bound { visits.new ≤ visits.old + 1 }
 {
-    match rows.channel_of(read.session, read.sid) {
+    match rows.channel_of(visits, read.session, read.sid) {
         Some(channel) => Ok(Touched::Read(channel.real.copy()?, read)),
         None => Ok(Touched::Nothing),
     }

@@ -1,5 +1,5 @@
 //! ERROR: requests that are refused.
-ghost use Rattle.std.specs.Prelude.{◌≡◌, OnOk};
+ghost use Rattle.std.specs.Prelude.{◌≡◌, ◌≤◌, ◌+◌, OnOk};
 ghost use Rattle.gateway_state.specs.Clients.{not_understood, no_channel};
 ghost use Rattle.gateway_state.specs.Subscribing.{request_refused, short_subscription};
 
@@ -7,6 +7,7 @@ use ca_header::Header;
 use ca_message::ToClient;
 use ca_message::codes::{ECA_BADCHID, ECA_INTERNAL};
 use ca_message::commands::NO_CHANNEL;
+use channel_table::Visits;
 use gateway_rows::Rows;
 use std::alloc::AllocError;
 
@@ -55,12 +56,14 @@ pub(crate) fn refuse_request(
 /// An EVENT_ADD without all of its fields: the ERROR says which channel it names.
 pub(crate) fn refuse_short_subscription(
     rows: &mut Rows,
+    visits: &mut Visits,
     number: u32,
     head: &Header,
 ) -> Result<(), AllocError>
-    ensures { OnOk result (rows.new ≡ short_subscription rows.old number head.now) }
+    ensures ok { OnOk result (rows.new ≡ short_subscription rows.old number head.now) }
+    ensures bound { visits.new ≤ visits.old + 1 }
 {
-    let cid = match rows.channel_of(number, head.p1) {
+    let cid = match rows.channel_of(visits, number, head.p1) {
         Some(channel) => channel.cid,
         None => NO_CHANNEL,
     };

@@ -1,5 +1,5 @@
 //! EVENT_ADD.
-ghost use Rattle.std.specs.Prelude.{◌≡◌, Some, false, OnOk, IfOk};
+ghost use Rattle.std.specs.Prelude.{◌≡◌, ◌≤◌, ◌+◌, Some, false, OnOk, IfOk};
 ghost use Rattle.channel_table.specs.ClientRows.{has_sub};
 ghost use Rattle.gateway_state.specs.Rights.{channel_of};
 ghost use Rattle.gateway_state.specs.Subscribing.{new_sub, sub_verdict, sub_verdict_natively, subscription_asked, subscription_limit, subscription_refusal, with_sub};
@@ -8,7 +8,7 @@ ghost use Rattle.touched_rows.specs.Touches.{made_touches, sub_touches};
 use crate::refusals::{refuse_channel, refuse_request};
 use ca_header::Header;
 use ca_message::codes::{ECA_ALLOCMEM, ECA_BADMASK, ECA_INTERNAL};
-use channel_table::{Channel, ClientSub, SUB_LIMIT, TableFault};
+use channel_table::{Channel, ClientSub, SUB_LIMIT, TableFault, Visits};
 use gateway_rows::{Rows, native_in, value_refusal};
 use gateway_state::{Native, SubVerdict};
 use mask_merge::KNOWN_EVENTS;
@@ -51,10 +51,16 @@ fn subscription_limit(rows: &Rows, number: u32, mask: u16) -> Option<u32>
 }
 
 /// Why a subscription is refused, the first reason that applies.
-fn subscription_refusal(rows: &Rows, sub: ClientSub, native: Native) -> Option<u32>
-    ensures { result ≡ subscription_refusal rows.now sub native }
+fn subscription_refusal(
+    rows: &Rows,
+    visits: &mut Visits,
+    sub: ClientSub,
+    native: Native,
+) -> Option<u32>
+    ensures found { result ≡ subscription_refusal rows.now sub native }
+    ensures bound { visits.new ≤ visits.old + 1 }
 {
-    if rows.clients.sub(sub.session, sub.id).is_some() {
+    if rows.clients.sub(visits, sub.session, sub.id).is_some() {
         return Some(ECA_INTERNAL);
     }
     match value_refusal(native, sub.dtype, sub.count) {
@@ -63,10 +69,17 @@ fn subscription_refusal(rows: &Rows, sub: ClientSub, native: Native) -> Option<u
     }
 }
 
-fn sub_verdict_on(rows: &Rows, sub: ClientSub, channel: &Channel, native: Native) -> SubVerdict
-    ensures { result ≡ sub_verdict_natively rows.now sub channel.now (Some native) }
+fn sub_verdict_on(
+    rows: &Rows,
+    visits: &mut Visits,
+    sub: ClientSub,
+    channel: &Channel,
+    native: Native,
+) -> SubVerdict
+    ensures found { result ≡ sub_verdict_natively rows.now sub channel.now (Some native) }
+    ensures bound { visits.new ≤ visits.old + 1 }
 {
-    match subscription_refusal(rows, sub, native) {
+    match subscription_refusal(rows, visits, sub, native) {
         None => SubVerdict::Accepted,
         Some(code) => SubVerdict::Refused {
             cid: channel.cid,
@@ -76,17 +89,18 @@ fn sub_verdict_on(rows: &Rows, sub: ClientSub, channel: &Channel, native: Native
 }
 
 /// What becomes of an EVENT_ADD.
-fn sub_verdict(rows: &Rows, sub: ClientSub) -> SubVerdict
-    ensures { result ≡ sub_verdict rows.now sub }
+fn sub_verdict(rows: &Rows, visits: &mut Visits, sub: ClientSub) -> SubVerdict
+    ensures found { result ≡ sub_verdict rows.now sub }
+    ensures bound { visits.new ≤ visits.old + 2 }
 {
-    let Some(channel) = rows.channel_of(sub.session, sub.sid) else {
+    let Some(channel) = rows.channel_of(visits, sub.session, sub.sid) else {
         return SubVerdict::NoChannel;
     };
     let Some(link) = rows.link_of(&channel.real) else {
         return SubVerdict::Ignored;
     };
     match native_in(link.state) {
-        Some(native) => sub_verdict_on(rows, sub, channel, native),
+        Some(native) => sub_verdict_on(rows, visits, sub, channel, native),
         None => SubVerdict::Ignored,
     }
 }
@@ -105,13 +119,15 @@ fn add_sub(rows: &mut Rows, sub: ClientSub) -> Result<(), AllocError>
 #[tactic(auto, using(gateway_state::proofs::KeptByClients::accepted_is_new))]
 pub(crate) fn subscribe_client(
     rows: &mut Rows,
+    visits: &mut Visits,
     sub: ClientSub,
     head: &Header,
 ) -> Result<Touched, AllocError>
     ensures ok { OnOk result (rows.new ≡ subscription_asked sub head.now rows.old) }
     ensures touched { IfOk result (λ touched. touched ≡ sub_touches rows.old sub) }
+    ensures bound { visits.new ≤ visits.old + 3 }
 {
-    match sub_verdict(rows, sub) {
+    match sub_verdict(rows, visits, sub) {
         SubVerdict::NoChannel => {
             refuse_channel(rows, sub.session, head)?;
             Ok(Touched::Nothing)
@@ -122,7 +138,7 @@ pub(crate) fn subscribe_client(
             Ok(Touched::Nothing)
         }
         SubVerdict::Accepted => {
-            let touched = made_touches(rows, sub)?;
+            let touched = made_touches(rows, visits, sub)?;
             add_sub(rows, sub)?;
             Ok(touched)
         }
@@ -130,10 +146,11 @@ pub(crate) fn subscribe_client(
 }
 
 /// What a subscription touches that is made.
-fn made_touches(rows: &Rows, sub: ClientSub) -> Result<Touched, AllocError>
-    ensures { IfOk result (λ touched. touched ≡ made_touches sub (channel_of rows.now sub.session sub.sid)) }
+fn made_touches(rows: &Rows, visits: &mut Visits, sub: ClientSub) -> Result<Touched, AllocError>
+    ensures found { IfOk result (λ touched. touched ≡ made_touches sub (channel_of rows.now sub.session sub.sid)) }
+    ensures bound { visits.new ≤ visits.old + 1 }
 {
-    match rows.channel_of(sub.session, sub.sid) {
+    match rows.channel_of(visits, sub.session, sub.sid) {
         Some(channel) => Ok(Touched::Subscription(channel.real.copy()?, sub)),
         None => Ok(Touched::Nothing),
     }

@@ -1,5 +1,5 @@
 //! EVENT_CANCEL.
-ghost use Rattle.std.specs.Prelude.{◌≡◌, OnOk, IfOk};
+ghost use Rattle.std.specs.Prelude.{◌≡◌, ◌≤◌, ◌+◌, OnOk, IfOk};
 ghost use Rattle.gateway_state.specs.Subscribing.{is_on_sid, sub_of, subscription_cancelled, without_sub};
 ghost use Rattle.touched_rows.specs.Touches.{cancel_touches};
 
@@ -7,15 +7,17 @@ use crate::refusals::{refuse_channel, refuse_request};
 use ca_header::Header;
 use ca_message::ToClient;
 use ca_message::codes::ECA_INTERNAL;
+use channel_table::Visits;
 use gateway_rows::Rows;
 use std::alloc::AllocError;
 use touched_rows::Touched;
 
 /// Whether the session's subscription of an ID is on this channel.
-fn is_sub_on(rows: &Rows, number: u32, id: u32, sid: u32) -> bool
-    ensures { result ≡ is_on_sid sid (sub_of rows.now number id) }
+fn is_sub_on(rows: &Rows, visits: &mut Visits, number: u32, id: u32, sid: u32) -> bool
+    ensures found { result ≡ is_on_sid sid (sub_of rows.now number id) }
+    ensures bound { visits.new ≤ visits.old + 1 }
 {
-    match rows.clients.sub(number, id) {
+    match rows.clients.sub(visits, number, id) {
         Some(sub) => sub.sid == sid,
         None => false,
     }
@@ -30,6 +32,7 @@ fn remove_sub(rows: &mut Rows, number: u32, id: u32)
 /// A client gives up a subscription, which must be on the channel that it names.
 pub(crate) fn cancel_subscription(
     rows: &mut Rows,
+    visits: &mut Visits,
     number: u32,
     sid: u32,
     id: u32,
@@ -39,13 +42,14 @@ pub(crate) fn cancel_subscription(
 ) -> Result<Touched, AllocError>
     ensures ok { OnOk result (rows.new ≡ subscription_cancelled number sid id dtype count head.now rows.old) }
     ensures touched { IfOk result (λ touched. touched ≡ cancel_touches rows.old number sid id) }
+    ensures bound { visits.new ≤ visits.old + 2 }
 {
-    let Some(channel) = rows.channel_of(number, sid) else {
+    let Some(channel) = rows.channel_of(visits, number, sid) else {
         refuse_channel(rows, number, head)?;
         return Ok(Touched::Nothing);
     };
     let cid = channel.cid;
-    if !is_sub_on(rows, number, id, sid) {
+    if !is_sub_on(rows, visits, number, id, sid) {
         refuse_request(rows, number, cid, ECA_INTERNAL, head)?;
         return Ok(Touched::Nothing);
     }

@@ -1,5 +1,5 @@
 //! WRITE and WRITE_NOTIFY.
-ghost use Rattle.std.specs.Prelude.{◌≡◌, true, OnOk, IfOk, IsErrOf};
+ghost use Rattle.std.specs.Prelude.{◌≡◌, ◌≤◌, ◌+◌, true, OnOk, IfOk, IsErrOf};
 ghost use Rattle.gateway_state.specs.Gateway.{Gateway};
 ghost use Rattle.gateway_state.specs.Numbers.{is_past_numbers};
 ghost use Rattle.gateway_state.specs.Told.{AreTold, IsTold};
@@ -9,8 +9,8 @@ use crate::refusals::{refuse_channel, refuse_request};
 use ca_header::Header;
 use ca_message::codes::{ECA_NOWTACCESS, ECA_PUTFAIL};
 use ca_message::commands::CA_PROTO_ACCESS_RIGHT_WRITE;
-use ca_message::{ToClient, ToServer, WriteFault, WrittenValue};
-use channel_table::Channel;
+use ca_message::{ToClient, ToServer, ValueBytes, WriteFault, WrittenValue};
+use channel_table::{Channel, Visits};
 use gateway_rows::{Refusal, Rows};
 use gateway_state::WriteVerdict;
 use link_table::{Counter, Link, LinkState, WRITE_LIMIT, WaitingWrite};
@@ -59,13 +59,13 @@ fn write_verdict_over<'a>(
     channel: &Channel,
     link: &Link,
     write: Write,
-    payload: &'a [u8],
+    payload: &ValueBytes<'a>,
 ) -> WriteVerdict<'a>
     ensures { (w : Gateway) → IsTold w channel.now → result ≡ write_verdict_in w channel.now link.now.server write.dtype write.count payload.now link.now.state }
 {
     match link.state {
         LinkState::Connected { sid, count, .. } => {
-            let value = WrittenValue::read(write.dtype, write.count, count, payload);
+            let value = WrittenValue::of(write.dtype, write.count, count, payload);
             judge(channel, link.server, sid, value)
         }
         LinkState::Creating | LinkState::Unusable => WriteVerdict::Ignored,
@@ -73,11 +73,17 @@ fn write_verdict_over<'a>(
 }
 
 /// What becomes of a write.
-fn write_verdict<'a>(rows: &Rows, write: Write, payload: &'a [u8]) -> WriteVerdict<'a>
+fn write_verdict<'a>(
+    rows: &Rows,
+    visits: &mut Visits,
+    write: Write,
+    payload: &ValueBytes<'a>,
+) -> WriteVerdict<'a>
     requires told { AreTold rows.now }
-    ensures { result ≡ write_verdict rows.now write.session write.sid write.dtype write.count payload.now }
+    ensures found { result ≡ write_verdict rows.now write.session write.sid write.dtype write.count payload.now }
+    ensures bound { visits.new ≤ visits.old + 1 }
 {
-    let Some(channel) = rows.told_channel(write.session, write.sid) else {
+    let Some(channel) = rows.told_channel(visits, write.session, write.sid) else {
         return WriteVerdict::NoChannel;
     };
     match rows.link_of(&channel.real) {
@@ -89,14 +95,16 @@ fn write_verdict<'a>(rows: &Rows, write: Write, payload: &'a [u8]) -> WriteVerdi
 /// A client writes a value, and wants no reply.
 pub(crate) fn hear_write(
     rows: &mut Rows,
+    visits: &mut Visits,
     write: Write,
-    payload: &[u8],
+    payload: &ValueBytes<'_>,
     head: &Header,
 ) -> Result<(), AllocError>
     requires told { AreTold rows.old }
-    ensures { OnOk result (rows.new ≡ write_asked write.session write.sid write.dtype write.count payload.now head.now rows.old) }
+    ensures ok { OnOk result (rows.new ≡ write_asked write.session write.sid write.dtype write.count payload.now head.now rows.old) }
+    ensures bound { visits.new ≤ visits.old + 1 }
 {
-    match write_verdict(rows, write, payload) {
+    match write_verdict(rows, visits, write, payload) {
         WriteVerdict::NoChannel => refuse_channel(rows, write.session, head),
         WriteVerdict::Ignored => Ok(()),
         WriteVerdict::Refused { cid, code } => {
@@ -174,16 +182,18 @@ fn hand_on(
 /// A client writes a value, and wants to be told how that ended.
 pub(crate) fn hear_write_notify(
     rows: &mut Rows,
+    visits: &mut Visits,
     write: Write,
     ioid: u32,
-    payload: &[u8],
+    payload: &ValueBytes<'_>,
     head: &Header,
 ) -> Result<(), Refusal>
     requires told { AreTold rows.old }
     ensures ok { OnOk result (rows.new ≡ write_notify_asked write.session write.sid ioid write.dtype write.count payload.now head.now rows.old) }
     ensures used_up { IsErrOf result Refusal.NumbersUsedUp → is_past_numbers (write_notify_asked write.session write.sid ioid write.dtype write.count payload.now head.now rows.old) ≡ true }
+    ensures bound { visits.new ≤ visits.old + 1 }
 {
-    match write_verdict(rows, write, payload) {
+    match write_verdict(rows, visits, write, payload) {
         WriteVerdict::NoChannel => Ok(refuse_channel(rows, write.session, head)?),
         WriteVerdict::Ignored => Ok(()),
         WriteVerdict::Refused { code, .. } => Ok(answer_write(rows, write, ioid, code)?),

@@ -6,7 +6,7 @@ ghost use Rattle.gateway_state.specs.Variables.{channel_names};
 ghost use Rattle.touched_rows.specs.Touches.{names_of};
 
 use ca_message::{NameText, ToClient, ToServer};
-use channel_table::{Session, Table, TableFault};
+use channel_table::{Session, Table, TableFault, Visits};
 use gateway_rows::Rows;
 use gateway_state::Dest;
 use link_table::{Server, TableFault as LinkFault};
@@ -39,12 +39,17 @@ pub(crate) fn open_session(rows: &mut Rows, number: u32, host: Host) -> Result<(
 
 /// The variables of a session's channels, in the order of adding.
 #[tactic(auto, using(crate::proofs::Named::named_next, crate::proofs::Named::named_past))]
-fn names_of(alloc: Global, clients: &Table, number: u32) -> Result<Names, AllocError>
+fn names_of(
+    alloc: Global,
+    clients: &Table,
+    visits: &mut Visits,
+    number: u32,
+) -> Result<Names, AllocError>
     ensures { IfOk result (λ names. names ≡ channel_names (filter (is_channel_of number) clients.now.channels)) }
 {
     let mut names = Names::new(alloc);
     for n in 0..clients.channel_count(number) {
-        if let Some(channel) = clients.channel_of(number, n) {
+        if let Some(channel) = clients.channel_of(visits, number, n) {
             names.push(channel.real.copy()?)?;
         }
     }
@@ -52,11 +57,15 @@ fn names_of(alloc: Global, clients: &Table, number: u32) -> Result<Names, AllocE
 }
 
 /// A client's connection is gone. It answers the variables of its channels.
-pub(crate) fn lose_session(rows: &mut Rows, number: u32) -> Result<Names, AllocError>
+pub(crate) fn lose_session(
+    rows: &mut Rows,
+    visits: &mut Visits,
+    number: u32,
+) -> Result<Names, AllocError>
     ensures ok { OnOk result (rows.new ≡ lost rows.old number) }
     ensures names { IfOk result (λ names. names ≡ names_of rows.old number) }
 {
-    let names = names_of(rows.alloc, &rows.clients, number)?;
+    let names = names_of(rows.alloc, &rows.clients, visits, number)?;
     rows.connections.remove(Dest::Session(number));
     rows.clients.remove_session(number);
     rows.upstream.remove_writes_of(number);

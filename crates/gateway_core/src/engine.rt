@@ -11,9 +11,12 @@ ghost use Rattle.gateway_state.specs.Interest.{subscription_of};
 ghost use Rattle.gateway_state.specs.Rights.{rights_asked};
 ghost use Rattle.gateway_state.specs.Variables.{asks};
 ghost use Rattle.gate_calls.specs.Searching.{IsSearched};
+ghost use Rattle.gateway_core.specs.Looks.{event_looks};
+ghost use Rattle.gateway_rows.specs.Own.{IsWithin};
 
 use crate::search::search;
 use crate::step::{drain, step};
+use channel_table::Visits;
 use fanout::Out;
 use gate_calls::{AskFault, Failed, NoMemory, StepFault};
 use gateway_rows::{Refusal, Rows};
@@ -28,19 +31,19 @@ use std::marker::Model;
 #[derive(Drop)]
 pub struct Engine {
     rows: Option<Rows>,
+    visits: Visits,
 }
 
 impl Model for Engine {
-    ghost use Rattle.std.specs.Prelude.{Option};
-    ghost use Rattle.gateway_state.specs.Gateway.{Gateway};
+    ghost use Rattle.gateway_core.specs.EngineState.{EngineState};
     ghost use Rattle.rule_desk.specs.contracts.policy.Policy as the_policy;
     ghost use Rattle.std.specs.Coded.{codes};
 
-    ghost Value = { Option Gateway };
+    ghost Value = { EngineState };
 
     ghost coded = { Prim.hlevel (codes, the_policy.the_row.coded) };
 
-    ghost view = { λ e. e.rows };
+    ghost view = { λ e. record { state = e.rows; visits = e.visits } };
 
     ghost use Rattle.std.specs.Option.{ForSome};
     ghost use Rattle.gateway_state.specs.Reached.{IsReached};
@@ -54,25 +57,29 @@ impl Engine {
     pub fn new(alloc: Global, config: Config, policy: Policy) -> Result<Engine, NoMemory>
         requires lowest { 0 < config.first }
         requires highest { config.first ≤ LAST_FIRST }
-        ensures { IfOk result (λ engine. engine ≡ Some (initial config policy)) }
+        ensures state { IfOk result (λ engine. engine.state ≡ Some (initial config policy)) }
+        ensures visits { IfOk result (λ engine. engine.visits ≡ 0) }
     {
+        let (rows, visits) = Rows::new(alloc, config, policy);
         Ok(Engine {
-            rows: Some(Rows::new(alloc, config, policy)),
+            rows: Some(rows),
+            visits,
         })
     }
 
     /// Performs one event.
     pub fn step(&mut self, event: Event) -> Result<(), StepFault>
-        ensures ok { OnOk result (self.new ≡ option_map (λ w. step w event) self.old) }
-        ensures used_up { IsErrOf result StepFault.NumbersUsedUp → option_map (λ w. is_past_numbers (step w event)) self.old ≡ Some true }
-        ensures in_range { OnOk result (option_map (λ w. is_past_numbers (step w event)) self.old ≡ Some false) }
-        ensures failed { IsErrOf result StepFault.Failed ↔ IsNone self.old }
-        ensures err { OnErr result (self.new ≡ None) }
+        ensures ok { OnOk result (self.new.state ≡ option_map (λ w. step w event) self.old.state) }
+        ensures used_up { IsErrOf result StepFault.NumbersUsedUp → option_map (λ w. is_past_numbers (step w event)) self.old.state ≡ Some true }
+        ensures in_range { OnOk result (option_map (λ w. is_past_numbers (step w event)) self.old.state ≡ Some false) }
+        ensures failed { IsErrOf result StepFault.Failed ↔ IsNone self.old.state }
+        ensures err { OnErr result (self.new.state ≡ None) }
+        ensures bound { OnOk result (IfSome self.old.state (λ w. IsWithin (event_looks w event) self.old.visits self.new.visits)) }
     {
         let Some(rows) = &mut self.rows else {
             return Err(StepFault::Failed);
         };
-        match step(rows, event) {
+        match step(rows, &mut self.visits, event) {
             Ok(()) => Ok(()),
             Err(refusal) => Err(give_up(&mut self.rows, refusal)),
         }
@@ -81,11 +88,11 @@ impl Engine {
     /// Performs events in order, up to the first that is refused.
     #[tactic(auto, unfolding(gateway_state::specs::Step::run, gateway_state::specs::Numbers::runs_out))]
     pub fn run(&mut self, events: Vec<Event>) -> Result<(), StepFault>
-        ensures ok { OnOk result (self.new ≡ option_map (λ w. run w events.items) self.old) }
-        ensures used_up { IsErrOf result StepFault.NumbersUsedUp → option_map (λ w. runs_out w events.items) self.old ≡ Some true }
-        ensures in_range { OnOk result (option_map (λ w. runs_out w events.items) self.old ≡ Some false) }
-        ensures failed { IsErrOf result StepFault.Failed ↔ IsNone self.old }
-        ensures err { OnErr result (self.new ≡ None) }
+        ensures ok { OnOk result (self.new.state ≡ option_map (λ w. run w events.items) self.old.state) }
+        ensures used_up { IsErrOf result StepFault.NumbersUsedUp → option_map (λ w. runs_out w events.items) self.old.state ≡ Some true }
+        ensures in_range { OnOk result (option_map (λ w. runs_out w events.items) self.old.state ≡ Some false) }
+        ensures failed { IsErrOf result StepFault.Failed ↔ IsNone self.old.state }
+        ensures err { OnErr result (self.new.state ≡ None) }
     {
         if self.rows.is_none() {
             return Err(StepFault::Failed);
@@ -99,27 +106,35 @@ impl Engine {
 
     /// Takes the first `count` messages of an outbox, or all, and hands them out in order.
     pub fn drain(&mut self, dest: Dest, count: usize) -> Result<Vec<Out>, StepFault>
-        ensures ok { OnOk result (self.new ≡ option_map (λ w. step w (Event.Drain dest count)) self.old) }
-        ensures used_up { IsErrOf result StepFault.NumbersUsedUp → option_map (λ w. is_past_numbers (step w (Event.Drain dest count))) self.old ≡ Some true }
-        ensures in_range { OnOk result (option_map (λ w. is_past_numbers (step w (Event.Drain dest count))) self.old ≡ Some false) }
-        ensures found { IfOk result (λ outs. Some outs.items ≡ option_map (λ w. taken w (Event.Drain dest count) dest) self.old) }
-        ensures failed { IsErrOf result StepFault.Failed ↔ IsNone self.old }
-        ensures err { OnErr result (self.new ≡ None) }
+        ensures ok { OnOk result (self.new.state ≡ option_map (λ w. step w (Event.Drain dest count)) self.old.state) }
+        ensures used_up { IsErrOf result StepFault.NumbersUsedUp → option_map (λ w. is_past_numbers (step w (Event.Drain dest count))) self.old.state ≡ Some true }
+        ensures in_range { OnOk result (option_map (λ w. is_past_numbers (step w (Event.Drain dest count))) self.old.state ≡ Some false) }
+        ensures found { IfOk result (λ outs. Some outs.items ≡ option_map (λ w. taken w (Event.Drain dest count) dest) self.old.state) }
+        ensures failed { IsErrOf result StepFault.Failed ↔ IsNone self.old.state }
+        ensures err { OnErr result (self.new.state ≡ None) }
     {
         let Some(rows) = &mut self.rows else {
             return Err(StepFault::Failed);
         };
-        match drain(rows, dest, count) {
+        match drain(rows, &mut self.visits, dest, count) {
             Ok(outs) => Ok(outs),
             Err(refusal) => Err(give_up(&mut self.rows, refusal)),
         }
     }
 
+    /// How many rows of clients were looked at so far, up to the type's last value.
+    pub fn visited(&mut self) -> u64
+        ensures found { result ≡ self.old.visits }
+        ensures same { self.new ≡ self.old }
+    {
+        self.visits.visited()
+    }
+
     /// Whether the connection stands.
     pub fn is_open(&mut self, dest: Dest) -> Result<bool, Failed>
-        ensures found { IfOk result (λ answer. Some answer ≡ option_map (λ w. stands w dest) self.old) }
-        ensures failed { IsOk result ↔ IsSome self.old }
-        ensures same { self.new ≡ self.old }
+        ensures found { IfOk result (λ answer. Some answer ≡ option_map (λ w. stands w dest) self.old.state) }
+        ensures failed { IsOk result ↔ IsSome self.old.state }
+        ensures same { self.new.state ≡ self.old.state }
     {
         match &self.rows {
             Some(rows) => Ok(rows.stands(dest)),
@@ -129,9 +144,9 @@ impl Engine {
 
     /// Whether the connection stands and must end.
     pub fn must_end(&mut self, dest: Dest) -> Result<bool, Failed>
-        ensures found { IfOk result (λ answer. Some answer ≡ option_map (λ w. ends w dest) self.old) }
-        ensures failed { IsOk result ↔ IsSome self.old }
-        ensures same { self.new ≡ self.old }
+        ensures found { IfOk result (λ answer. Some answer ≡ option_map (λ w. ends w dest) self.old.state) }
+        ensures failed { IsOk result ↔ IsSome self.old.state }
+        ensures same { self.new.state ≡ self.old.state }
     {
         match &self.rows {
             Some(rows) => Ok(rows.ends(dest)),
@@ -141,9 +156,9 @@ impl Engine {
 
     /// How many messages wait for the connection, 0 where it doesn't stand.
     pub fn queued(&mut self, dest: Dest) -> Result<usize, Failed>
-        ensures found { IfOk result (λ answer. Some answer ≡ option_map (λ w. queued w dest) self.old) }
-        ensures failed { IsOk result ↔ IsSome self.old }
-        ensures same { self.new ≡ self.old }
+        ensures found { IfOk result (λ answer. Some answer ≡ option_map (λ w. queued w dest) self.old.state) }
+        ensures failed { IsOk result ↔ IsSome self.old.state }
+        ensures same { self.new.state ≡ self.old.state }
     {
         match &self.rows {
             Some(rows) => Ok(rows.queued(dest)),
@@ -153,9 +168,9 @@ impl Engine {
 
     /// The present subscription of a variable upstream, nothing where there is none.
     pub fn subscription(&mut self, name: &Name) -> Result<Option<Sub>, Failed>
-        ensures found { IfOk result (λ answer. Some answer ≡ option_map (λ w. subscription_of w name.now) self.old) }
-        ensures failed { IsOk result ↔ IsSome self.old }
-        ensures same { self.new ≡ self.old }
+        ensures found { IfOk result (λ answer. Some answer ≡ option_map (λ w. subscription_of w name.now) self.old.state) }
+        ensures failed { IsOk result ↔ IsSome self.old.state }
+        ensures same { self.new.state ≡ self.old.state }
     {
         match &self.rows {
             Some(rows) => Ok(rows.subscription_of(name)),
@@ -165,15 +180,15 @@ impl Engine {
 
     /// What a client may do with its channel (1: read, 2: write), nothing where it has no such channel.
     pub fn rights(&mut self, session: u32, sid: u32) -> Result<Option<u32>, Failed>
-        ensures found { IfOk result (λ answer. Some answer ≡ option_map (λ w. rights_asked w session sid) self.old) }
-        ensures failed { IsOk result ↔ IsSome self.old }
-        ensures same { self.new ≡ self.old }
+        ensures found { IfOk result (λ answer. Some answer ≡ option_map (λ w. rights_asked w session sid) self.old.state) }
+        ensures failed { IsOk result ↔ IsSome self.old.state }
+        ensures same { self.new.state ≡ self.old.state }
     {
         let Some(rows) = &self.rows else {
             return Err(Failed);
         };
         // Whatever happened, a client was told of the rights that it has.
-        Ok(rows.rights_told(session, sid))
+        Ok(rows.rights_told(&mut self.visits, session, sid))
     }
 
     /// What a READ_NOTIFY would be answered now. The limit of reads that wait isn't part of it.
@@ -184,12 +199,12 @@ impl Engine {
         dtype: u16,
         count: u32,
     ) -> Result<Reading, AskFault>
-        ensures found { IfOk result (λ answer. Some answer ≡ option_map (λ w. reading w session sid dtype count) self.old) }
-        ensures failed { IsErrOf result AskFault.Failed ↔ IsNone self.old }
-        ensures same { self.new ≡ self.old }
+        ensures found { IfOk result (λ answer. Some answer ≡ option_map (λ w. reading w session sid dtype count) self.old.state) }
+        ensures failed { IsErrOf result AskFault.Failed ↔ IsNone self.old.state }
+        ensures same { self.new.state ≡ self.old.state }
     {
         match &self.rows {
-            Some(rows) => match rows.reading(session, sid, dtype, count) {
+            Some(rows) => match rows.reading(&mut self.visits, session, sid, dtype, count) {
                 Ok(answer) => Ok(answer),
                 Err(_) => Err(AskFault::OutOfMemory),
             },
@@ -199,9 +214,9 @@ impl Engine {
 
     /// The names to ask servers for: wanted, without a link, by rising bytes, each once.
     pub fn asks(&mut self) -> Result<Vec<Name>, AskFault>
-        ensures found { IfOk result (λ names. Some names.items ≡ option_map asks self.old) }
-        ensures failed { IsErrOf result AskFault.Failed ↔ IsNone self.old }
-        ensures same { self.new ≡ self.old }
+        ensures found { IfOk result (λ names. Some names.items ≡ option_map asks self.old.state) }
+        ensures failed { IsErrOf result AskFault.Failed ↔ IsNone self.old.state }
+        ensures same { self.new.state ≡ self.old.state }
     {
         match &self.rows {
             Some(rows) => match rows.asks() {
@@ -215,9 +230,9 @@ impl Engine {
     /// What a client's datagram from this host comes to: the names that it searches for, and the datagram
     /// to send back for those that lead to connected variables.
     pub fn search(&mut self, host: &Host, datagram: &[u8]) -> Result<SearchAnswer, AskFault>
-        ensures found { IfOk result (λ answer. IfSome self.old (λ w. IsSearched w host.now datagram.now answer)) }
-        ensures failed { IsErrOf result AskFault.Failed ↔ IsNone self.old }
-        ensures same { self.new ≡ self.old }
+        ensures found { IfOk result (λ answer. IfSome self.old.state (λ w. IsSearched w host.now datagram.now answer)) }
+        ensures failed { IsErrOf result AskFault.Failed ↔ IsNone self.old.state }
+        ensures same { self.new.state ≡ self.old.state }
     {
         match &self.rows {
             Some(rows) => match search(rows, host, datagram) {

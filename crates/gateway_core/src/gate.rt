@@ -9,7 +9,7 @@ use pv_search::SearchAnswer;
 use std::alloc::Global;
 
 impl Gate for Engine {
-    ghost state = { λ engine. engine };
+    ghost state = { λ engine. engine.state };
 
     fn new(alloc: Global, config: Config, policy: Policy) -> Result<Engine, NoMemory> {
         Engine::new(alloc, config, policy)

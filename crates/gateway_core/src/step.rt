@@ -1,5 +1,7 @@
 //! One event.
 ghost use Rattle.std.specs.Prelude.{◌≡◌, true, false, OnOk, IfOk, IsErrOf};
+ghost use Rattle.gateway_core.specs.Looks.{direct_looks, event_looks};
+ghost use Rattle.gateway_rows.specs.Own.{IsWithin};
 ghost use Rattle.gateway_state.specs.Numbers.{is_past_numbers};
 ghost use Rattle.gateway_state.specs.Direct.{direct_effect, searched};
 ghost use Rattle.gateway_state.specs.Reached.{IsReached};
@@ -10,6 +12,7 @@ ghost use Rattle.gateway_state.specs.Variables.{search_names};
 ghost use Rattle.touched_rows.specs.Touches.{drain_touches, event_touches};
 
 use crate::connections::{lose_server, lose_session, open_server, open_session};
+use channel_table::Visits;
 use client_requests::hear_client;
 use fanout::Out;
 use gateway_notices::follow;
@@ -21,22 +24,28 @@ use std::alloc::AllocError;
 use touched_rows::{Names, Touched};
 
 /// Performs one event, in a state that a run reaches.
-#[tactic(auto, using(gateway_state::proofs::NumberLemmas::consequences_past, gateway_state::proofs::OrderKept::reached_sids, gateway_state::proofs::OrderKept::reached_cids, gateway_state::proofs::ToldRights::reached_told, touched_rows::proofs::ToldAlone::step_alone), unfolding(gateway_state::specs::Step::step))]
-pub(crate) fn step(rows: &mut Rows, event: Event) -> Result<(), Refusal>
+#[tactic(auto, using(gateway_state::proofs::NumberLemmas::consequences_past, gateway_state::proofs::OrderKept::reached_sids, gateway_state::proofs::OrderKept::reached_cids, gateway_state::proofs::ToldRights::reached_told, touched_rows::proofs::ToldAlone::step_alone, crate::proofs::Looked::looked_in_all), unfolding(gateway_state::specs::Step::step))]
+pub(crate) fn step(rows: &mut Rows, visits: &mut Visits, event: Event) -> Result<(), Refusal>
     requires reached { IsReached rows.old }
     ensures ok { OnOk result (rows.new ≡ step rows.old event) }
     ensures used_up { IsErrOf result Refusal.NumbersUsedUp → is_past_numbers (step rows.old event) ≡ true }
     ensures in_range { OnOk result (is_past_numbers rows.new ≡ false) }
+    ensures bound { OnOk result (IsWithin (event_looks rows.old event) visits.old visits.new) }
 {
-    let touched = perform(rows, event)?;
-    follow(rows, touched)?;
+    let touched = perform(rows, visits, event)?;
+    follow(rows, visits, touched)?;
     rows.numbers_are_in_range();
     Ok(())
 }
 
 /// Takes the oldest messages of an outbox, in order. This is an event too.
 #[tactic(auto, using(gateway_state::proofs::NumberLemmas::consequences_past, touched_rows::proofs::ToldAlone::step_alone), unfolding(gateway_state::specs::Step::step))]
-pub(crate) fn drain(rows: &mut Rows, dest: Dest, count: usize) -> Result<Vec<Out>, Refusal>
+pub(crate) fn drain(
+    rows: &mut Rows,
+    visits: &mut Visits,
+    dest: Dest,
+    count: usize,
+) -> Result<Vec<Out>, Refusal>
     requires reached { IsReached rows.old }
     ensures ok { OnOk result (rows.new ≡ step rows.old (Event.Drain dest count)) }
     ensures found { IfOk result (λ outs. outs.items ≡ taken rows.old (Event.Drain dest count) dest) }
@@ -45,7 +54,7 @@ pub(crate) fn drain(rows: &mut Rows, dest: Dest, count: usize) -> Result<Vec<Out
 {
     let touched = drain_touches(rows, dest);
     let outs = rows.take(dest, count)?;
-    follow(rows, touched)?;
+    follow(rows, visits, touched)?;
     rows.numbers_are_in_range();
     Ok(outs)
 }
@@ -61,13 +70,15 @@ fn drain_touches(rows: &Rows, dest: Dest) -> Touched
 }
 
 /// What the event does by itself. It answers what was touched.
-fn perform(rows: &mut Rows, event: Event) -> Result<Touched, Refusal>
+#[tactic(auto, using(gateway_rows::proofs::OwnStays::within_none))]
+fn perform(rows: &mut Rows, visits: &mut Visits, event: Event) -> Result<Touched, Refusal>
     requires sids { HasSidsInOrder rows.old }
     requires cids { HasCidsInOrder rows.old }
     requires told { AreTold rows.old }
     ensures ok { OnOk result (rows.new ≡ direct_effect rows.old event) }
     ensures touched { IfOk result (λ touched. touched ≡ event_touches rows.old event) }
     ensures used_up { IsErrOf result Refusal.NumbersUsedUp → is_past_numbers (direct_effect rows.old event) ≡ true }
+    ensures bound { OnOk result (IsWithin (direct_looks rows.old event) visits.old visits.new) }
 {
     match event {
         Event::Opened(number, host) => {
@@ -75,12 +86,12 @@ fn perform(rows: &mut Rows, event: Event) -> Result<Touched, Refusal>
             Ok(Touched::Nothing)
         }
         Event::Lost(number) => {
-            let names = lose_session(rows, number)?;
+            let names = lose_session(rows, visits, number)?;
             Ok(Touched::Links(names))
         }
         Event::Client(number, message) => {
             if rows.acts(Dest::Session(number)) {
-                hear_client(rows, number, message)
+                hear_client(rows, visits, number, message)
             } else {
                 Ok(Touched::Nothing)
             }
@@ -95,7 +106,7 @@ fn perform(rows: &mut Rows, event: Event) -> Result<Touched, Refusal>
         }
         Event::Server(number, message) => {
             if rows.acts(Dest::Upstream(number)) {
-                Ok(hear_server(rows, number, message)?)
+                Ok(hear_server(rows, visits, number, message)?)
             } else {
                 Ok(Touched::Nothing)
             }

@@ -6,7 +6,8 @@ use Rattle.channel_table.specs.declared.channels.Channel.{Channel}
 use Rattle.gateway_state.specs.declared.notice.ChannelNotice.TheVariants.{Disconnected, RightsChanged}
 use Rattle.gateway_state.specs.Gateway.{Gateway}
 use Rattle.gateway_state.specs.Notices.{channel_notice, channel_notices}
-use Rattle.gateway_state.specs.Rights.{link_connected, rights_of}
+use Rattle.gateway_state.specs.Resolution.{is_real}
+use Rattle.gateway_state.specs.Rights.{lead_in, link_connected, rights_of}
 use Rattle.gateway_state.specs.Told.{AreLed, IsLed, IsTold}
 use Rattle.gateway_state.specs.Variables.{link_of}
 use Rattle.gateway_state.proofs.SettledChannels.{notice_by}
@@ -28,3 +29,13 @@ pub gone_as_told : (w : Gateway) → AreLed w → gone_notices w ≡ channel_not
 gone_as_told w led =
     planned_alike (gone_notice w) (channel_notice w) w.clients.channels
     (All-weaker (IsLed w) (λ (c : Channel). gone_notice w c ≡ channel_notice w c) (gone_alike w) w.clients.channels led)
+
+-- whatever the rules say
+pub gone_with_link : (w : Gateway) (c : Channel) → link_connected (link_of w c.real) ≡ false → channel_notice w c ≡ Some (Disconnected c.session c.sid c.cid)
+gone_with_link w c gone =
+    ap (λ (connected : Bool). notice_by (is_real (lead_in w c.session c.asked) c.real && connected) (eqb c.rights (rights_of w c)) (rights_of w c) c) gone
+    ∙ ap (λ (served : Bool). notice_by served (eqb c.rights (rights_of w c)) (rights_of w c) c) (and_false (is_real (lead_in w c.session c.asked) c.real))
+  where
+    and_false : (t : Bool) → (t && false) ≡ false
+    and_false true = refl
+    and_false false = refl

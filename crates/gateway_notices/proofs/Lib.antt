@@ -1,2 +1,3 @@
 pub mod GoneChannels
 pub mod NextNotice
+pub mod SubsStay

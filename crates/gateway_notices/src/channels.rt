@@ -1,26 +1,44 @@
 //! What clients are owed about their channels.
-ghost use Rattle.std.specs.Prelude.{◌≡◌, filter_map, false, OnOk, IfOk};
+ghost use Rattle.std.specs.Prelude.{◌≡◌, filter_map, false, fold, OnOk, IfOk};
 ghost use Rattle.gateway_state.specs.Notices.{channel_notice, channel_notices, channel_told, channels_told, with_reach};
 ghost use Rattle.gateway_state.specs.Told.{AreLed};
+ghost use Rattle.touched_rows.specs.Touched.{channel_notices_on, channels_told_on};
 ghost use Rattle.gateway_notices.specs.Gone.{gone_notice, gone_notices};
 
 use ca_message::ToClient;
-use channel_table::Channel;
+use channel_table::{Channel, Visits};
 use gateway_rows::Rows;
 use gateway_state::ChannelNotice;
+use pv_name::Name;
 use std::alloc::AllocError;
 
-/// What is owed about a channel: that it is gone, or that its rights changed.
-fn channel_notice(rows: &Rows, channel: &Channel) -> Result<Option<ChannelNotice>, AllocError>
+/// That a channel is gone.
+fn disconnected(channel: &Channel) -> ChannelNotice
+    ensures { result ≡ ChannelNotice.Disconnected channel.now.session channel.now.sid channel.now.cid }
+{
+    ChannelNotice::Disconnected {
+        session: channel.session,
+        sid: channel.sid,
+        cid: channel.cid,
+    }
+}
+
+/// What is owed about a channel: that it is gone, or that its rights changed. Where its link is gone no rule
+/// is looked at.
+#[tactic(auto, using(crate::proofs::GoneChannels::gone_with_link))]
+fn channel_notice(
+    rows: &Rows,
+    visits: &mut Visits,
+    channel: &Channel,
+) -> Result<Option<ChannelNotice>, AllocError>
     ensures { IfOk result (λ notice. notice ≡ channel_notice rows.now channel.now) }
 {
-    let lead = rows.lead_in(channel.session, &channel.asked)?;
+    if !rows.is_link_connected(&channel.real) {
+        return Ok(Some(disconnected(channel)));
+    }
+    let lead = rows.lead_in(visits, channel.session, &channel.asked)?;
     if !rows.is_served_by(channel, lead.as_ref()) {
-        return Ok(Some(ChannelNotice::Disconnected {
-            session: channel.session,
-            sid: channel.sid,
-            cid: channel.cid,
-        }));
+        return Ok(Some(disconnected(channel)));
     }
     let rights = rows.rights_by(channel, lead.as_ref());
     if channel.rights == rights {
@@ -40,32 +58,46 @@ fn gone_notice(rows: &Rows, channel: &Channel) -> Option<ChannelNotice>
     ensures { result ≡ gone_notice rows.now channel.now }
 {
     if rows.is_link_connected(&channel.real) {
-        return None;
+        None
+    } else {
+        Some(disconnected(channel))
     }
-    Some(ChannelNotice::Disconnected {
-        session: channel.session,
-        sid: channel.sid,
-        cid: channel.cid,
-    })
 }
 
-fn channel_notices(rows: &Rows) -> Result<Vec<ChannelNotice>, AllocError>
+fn channel_notices(rows: &Rows, visits: &mut Visits) -> Result<Vec<ChannelNotice>, AllocError>
     ensures { IfOk result (λ notices. notices.items ≡ channel_notices rows.now) }
 {
     let mut notices = Vec::new(rows.alloc);
-    for channel in rows.clients.channels(rows.alloc)? {
-        if let Some(notice) = channel_notice(rows, channel)? {
+    for channel in rows.clients.channels(visits, rows.alloc)? {
+        if let Some(notice) = channel_notice(rows, visits, channel)? {
             notices.push(notice)?;
         }
     }
     Ok(notices)
 }
 
-fn gone_notices(rows: &Rows) -> Result<Vec<ChannelNotice>, AllocError>
+/// What is owed about the channels on a variable.
+fn channel_notices_on(
+    rows: &Rows,
+    visits: &mut Visits,
+    name: &Name,
+) -> Result<Vec<ChannelNotice>, AllocError>
+    ensures { IfOk result (λ notices. notices.items ≡ channel_notices_on name.now rows.now) }
+{
+    let mut notices = Vec::new(rows.alloc);
+    for channel in rows.channels_on(visits, name)? {
+        if let Some(notice) = channel_notice(rows, visits, channel)? {
+            notices.push(notice)?;
+        }
+    }
+    Ok(notices)
+}
+
+fn gone_notices(rows: &Rows, visits: &mut Visits) -> Result<Vec<ChannelNotice>, AllocError>
     ensures { IfOk result (λ notices. notices.items ≡ gone_notices rows.now) }
 {
     let mut notices = Vec::new(rows.alloc);
-    for channel in rows.clients.channels(rows.alloc)? {
+    for channel in rows.clients.channels(visits, rows.alloc)? {
         if let Some(notice) = gone_notice(rows, channel) {
             notices.push(notice)?;
         }
@@ -75,24 +107,33 @@ fn gone_notices(rows: &Rows) -> Result<Vec<ChannelNotice>, AllocError>
 
 /// What is owed about channels, worked out anew unless names lead as they did.
 #[tactic(auto, using(crate::proofs::GoneChannels::gone_as_told))]
-fn notices_of(rows: &Rows, anew: bool) -> Result<Vec<ChannelNotice>, AllocError>
+fn notices_of(
+    rows: &Rows,
+    visits: &mut Visits,
+    anew: bool,
+) -> Result<Vec<ChannelNotice>, AllocError>
     requires led { anew ≡ false → AreLed rows.now }
     ensures { IfOk result (λ notices. notices.items ≡ channel_notices rows.now) }
 {
     if anew {
-        channel_notices(rows)
+        channel_notices(rows, visits)
     } else {
-        gone_notices(rows)
+        gone_notices(rows, visits)
     }
 }
 
-fn set_rights(rows: &mut Rows, session: u32, sid: u32, reach: u32, rights: u32)
+fn set_rights(rows: &mut Rows, visits: &mut Visits, session: u32, sid: u32, reach: u32, rights: u32)
     ensures { rows.new ≡ with_reach session sid reach rights rows.old }
 {
-    rows.clients.put_channel(session, sid, reach, rights);
+    rows.clients
+        .put_channel(visits, session, sid, reach, rights);
 }
 
-fn tell_channel(rows: &mut Rows, notice: ChannelNotice) -> Result<(), AllocError>
+fn tell_channel(
+    rows: &mut Rows,
+    visits: &mut Visits,
+    notice: ChannelNotice,
+) -> Result<(), AllocError>
     ensures { OnOk result (rows.new ≡ channel_told rows.old notice) }
 {
     match notice {
@@ -107,21 +148,47 @@ fn tell_channel(rows: &mut Rows, notice: ChannelNotice) -> Result<(), AllocError
             reach,
             rights,
         } => {
-            set_rights(rows, session, sid, reach, rights);
+            set_rights(rows, visits, session, sid, reach, rights);
             rows.tell(session, &ToClient::AccessRights { cid, rights })
         }
     }
 }
 
+fn tell_each(
+    rows: &mut Rows,
+    visits: &mut Visits,
+    notices: &[ChannelNotice],
+) -> Result<(), AllocError>
+    ensures { OnOk result (rows.new ≡ fold channel_told rows.old notices.now) }
+{
+    for notice in notices {
+        tell_channel(rows, visits, *notice)?;
+    }
+    Ok(())
+}
+
 /// Tells clients of channels that are gone, and of rights that changed. They are worked out anew, unless
 /// names lead as they did.
-pub(crate) fn tell_channels(rows: &mut Rows, anew: bool) -> Result<(), AllocError>
+pub(crate) fn tell_channels(
+    rows: &mut Rows,
+    visits: &mut Visits,
+    anew: bool,
+) -> Result<(), AllocError>
     requires led { anew ≡ false → AreLed rows.old }
     ensures { OnOk result (rows.new ≡ channels_told rows.old) }
 {
-    let notices = notices_of(rows, anew)?;
-    for notice in &notices {
-        tell_channel(rows, *notice)?;
-    }
-    Ok(())
+    let notices = notices_of(rows, visits, anew)?;
+    tell_each(rows, visits, &notices)
+}
+
+/// Tells clients of the channels on one variable, of which the same is worked out anew.
+pub(crate) fn tell_channels_on(
+    rows: &mut Rows,
+    visits: &mut Visits,
+    name: &Name,
+) -> Result<(), AllocError>
+    ensures { OnOk result (rows.new ≡ channels_told_on name.now rows.old) }
+{
+    let notices = channel_notices_on(rows, visits, name)?;
+    tell_each(rows, visits, &notices)
 }

@@ -1,5 +1,6 @@
 //! What clients are owed about reads that wait.
-ghost use Rattle.std.specs.Prelude.{◌≡◌, fold, OnOk, IfOk};
+ghost use Rattle.std.specs.Prelude.{◌≡◌, ◌≤◌, ◌+◌, ◌*◌, fold, OnOk, IfOk};
+ghost use Rattle.gateway_rows.specs.Own.{reads_on};
 ghost use Rattle.gateway_state.specs.Notices.{answered_natively, answered_over, read_notice, read_notices, read_told, reads_told};
 ghost use Rattle.gateway_state.specs.Told.{AreTold};
 ghost use Rattle.gateway_state.specs.Variables.{link_of};
@@ -7,7 +8,7 @@ ghost use Rattle.touched_rows.specs.Touched.{one_read_told, read_notices_on, rea
 
 use ca_message::ToClient;
 use ca_message::codes::ECA_NORDACCESS;
-use channel_table::WaitingRead;
+use channel_table::{Visits, WaitingRead};
 use gateway_rows::{Rows, may_read, native_in};
 use gateway_state::ReadNotice;
 use pv_name::Name;
@@ -35,11 +36,16 @@ fn answer_over(
 }
 
 /// What is owed about a read: its refusal where the channel can't be read any more, or its answer.
-fn read_notice(rows: &Rows, read: WaitingRead) -> Result<Option<ReadNotice>, AllocError>
+fn read_notice(
+    rows: &Rows,
+    visits: &mut Visits,
+    read: WaitingRead,
+) -> Result<Option<ReadNotice>, AllocError>
     requires told { AreTold rows.now }
-    ensures { IfOk result (λ notice. notice ≡ read_notice rows.now read) }
+    ensures found { IfOk result (λ notice. notice ≡ read_notice rows.now read) }
+    ensures bound { visits.new ≤ visits.old + 1 }
 {
-    let Some(channel) = rows.told_channel(read.session, read.sid) else {
+    let Some(channel) = rows.told_channel(visits, read.session, read.sid) else {
         return Ok(None);
     };
     if may_read(channel.rights) {
@@ -49,13 +55,13 @@ fn read_notice(rows: &Rows, read: WaitingRead) -> Result<Option<ReadNotice>, All
     }
 }
 
-fn read_notices(rows: &Rows) -> Result<VecDeque<ReadNotice>, AllocError>
+fn read_notices(rows: &Rows, visits: &mut Visits) -> Result<VecDeque<ReadNotice>, AllocError>
     requires told { AreTold rows.now }
     ensures { IfOk result (λ notices. notices.items ≡ read_notices rows.now) }
 {
     let mut notices = VecDeque::new(rows.alloc);
-    for read in rows.clients.reads() {
-        if let Some(notice) = read_notice(rows, *read)? {
+    for read in rows.clients.reads(visits) {
+        if let Some(notice) = read_notice(rows, visits, *read)? {
             notices.push_back(notice)?;
         }
     }
@@ -63,13 +69,18 @@ fn read_notices(rows: &Rows) -> Result<VecDeque<ReadNotice>, AllocError>
 }
 
 /// What is owed about the reads that wait for a variable.
-fn read_notices_on(rows: &Rows, name: &Name) -> Result<VecDeque<ReadNotice>, AllocError>
+fn read_notices_on(
+    rows: &Rows,
+    visits: &mut Visits,
+    name: &Name,
+) -> Result<VecDeque<ReadNotice>, AllocError>
     requires told { AreTold rows.now }
-    ensures { IfOk result (λ notices. notices.items ≡ read_notices_on name.now rows.now) }
+    ensures found { IfOk result (λ notices. notices.items ≡ read_notices_on name.now rows.now) }
+    ensures bound { OnOk result (visits.new ≤ visits.old + 2 * reads_on rows.now name.now) }
 {
     let mut notices = VecDeque::new(rows.alloc);
-    for read in &rows.reads_for(name)? {
-        if let Some(notice) = read_notice(rows, *read)? {
+    for read in &rows.reads_for(visits, name)? {
+        if let Some(notice) = read_notice(rows, visits, *read)? {
             notices.push_back(notice)?;
         }
     }
@@ -113,29 +124,39 @@ fn tell_each(rows: &mut Rows, mut notices: VecDeque<ReadNotice>) -> Result<(), A
 }
 
 /// Answers reads that are covered, and refuses those whose right is gone.
-pub(crate) fn tell_reads(rows: &mut Rows) -> Result<(), AllocError>
+pub(crate) fn tell_reads(rows: &mut Rows, visits: &mut Visits) -> Result<(), AllocError>
     requires told { AreTold rows.old }
     ensures { OnOk result (rows.new ≡ reads_told rows.old) }
 {
-    let notices = read_notices(rows)?;
+    let notices = read_notices(rows, visits)?;
     tell_each(rows, notices)
 }
 
 /// The same of the reads that wait for one variable.
-pub(crate) fn tell_reads_on(rows: &mut Rows, name: &Name) -> Result<(), AllocError>
+pub(crate) fn tell_reads_on(
+    rows: &mut Rows,
+    visits: &mut Visits,
+    name: &Name,
+) -> Result<(), AllocError>
     requires told { AreTold rows.old }
-    ensures { OnOk result (rows.new ≡ reads_told_on name.now rows.old) }
+    ensures ok { OnOk result (rows.new ≡ reads_told_on name.now rows.old) }
+    ensures bound { OnOk result (visits.new ≤ visits.old + 2 * reads_on rows.old name.now) }
 {
-    let notices = read_notices_on(rows, name)?;
+    let notices = read_notices_on(rows, visits, name)?;
     tell_each(rows, notices)
 }
 
 /// The same of one read.
-pub(crate) fn tell_one_read(rows: &mut Rows, read: WaitingRead) -> Result<(), AllocError>
+pub(crate) fn tell_one_read(
+    rows: &mut Rows,
+    visits: &mut Visits,
+    read: WaitingRead,
+) -> Result<(), AllocError>
     requires told { AreTold rows.old }
-    ensures { OnOk result (rows.new ≡ one_read_told read rows.old) }
+    ensures ok { OnOk result (rows.new ≡ one_read_told read rows.old) }
+    ensures bound { visits.new ≤ visits.old + 1 }
 {
-    match read_notice(rows, read)? {
+    match read_notice(rows, visits, read)? {
         Some(notice) => tell_read(rows, notice),
         None => Ok(()),
     }

@@ -1,22 +1,23 @@
 //! Payloads that several readers of a variable share.
-ghost use Rattle.std.specs.Prelude.{◌≡◌};
+ghost use Rattle.std.specs.Prelude.{◌≡◌, ◌≤◌, ◌+◌, ◌*◌, OnOk};
+ghost use Rattle.gateway_rows.specs.Own.{subs_on};
 
-use crate::updates::is_open_to;
-use channel_table::ClientSub;
+use channel_table::{ClientSub, Visits};
 use gateway_rows::{Rows, may_read, native_in};
 use pv_name::Name;
 use std::alloc::AllocError;
 
 /// Keeps what the subscriptions to a variable that wait for its value are given of it, before it is
 /// told: so all of one type and count are told the same payload. What the gateway knows is as before.
-pub(crate) fn share_on(rows: &mut Rows, name: &Name) -> Result<(), AllocError>
-    ensures { rows.new ≡ rows.old }
+pub(crate) fn share_on(rows: &mut Rows, visits: &mut Visits, name: &Name) -> Result<(), AllocError>
+    ensures same { rows.new ≡ rows.old }
+    ensures bound { OnOk result (visits.new ≤ visits.old + 2 * subs_on rows.old name.now) }
 {
     let Some((cid, native)) = value_on(rows, name) else {
         return Ok(());
     };
     for n in 0..rows.clients.subs_on(name) {
-        if let Some(sub) = nth_waiting(rows, name, n) {
+        if let Some(sub) = nth_waiting(rows, visits, name, n) {
             rows.keep_value(cid, native, sub.dtype, sub.count)?;
         }
     }
@@ -24,11 +25,17 @@ pub(crate) fn share_on(rows: &mut Rows, name: &Name) -> Result<(), AllocError>
 }
 
 /// The same of one subscription.
-pub(crate) fn share_with(rows: &mut Rows, name: &Name, sub: &ClientSub) -> Result<(), AllocError>
-    ensures { rows.new ≡ rows.old }
+pub(crate) fn share_with(
+    rows: &mut Rows,
+    visits: &mut Visits,
+    name: &Name,
+    sub: &ClientSub,
+) -> Result<(), AllocError>
+    ensures same { rows.new ≡ rows.old }
+    ensures bound { visits.new ≤ visits.old + 1 }
 {
     match value_on(rows, name) {
-        Some((cid, native)) if is_waiting(rows, sub) => {
+        Some((cid, native)) if is_waiting(rows, visits, sub) => {
             rows.keep_value(cid, native, sub.dtype, sub.count)
         }
         _ => Ok(()),
@@ -46,20 +53,25 @@ fn value_on(rows: &Rows, name: &Name) -> Option<(u32, u32)> {
     Some((link.cid, native.count))
 }
 
-fn nth_waiting(rows: &Rows, name: &Name, n: usize) -> Option<ClientSub> {
-    let sub = rows.clients.sub_on(name, n)?;
-    if is_waiting(rows, sub) {
+fn nth_waiting(rows: &Rows, visits: &mut Visits, name: &Name, n: usize) -> Option<ClientSub>
+    ensures { visits.new ≤ visits.old + 2 }
+{
+    let sub = rows.clients.sub_on(visits, name, n)?;
+    if is_waiting(rows, visits, sub) {
         Some(*sub)
     } else {
         None
     }
 }
 
-// Whether a subscription may be told an update, by the rights that were told last.
-fn is_waiting(rows: &Rows, sub: &ClientSub) -> bool {
+// Whether a subscription may be told an update, by the rights that were told last. What is kept for
+// one whose client wants none for now is kept in vain.
+fn is_waiting(rows: &Rows, visits: &mut Visits, sub: &ClientSub) -> bool
+    ensures { visits.new ≤ visits.old + 1 }
+{
     sub.owed
-        && is_open_to(rows, sub)
-        && match rows.channel_of(sub.session, sub.sid) {
+        && rows.is_taking(sub.session)
+        && match rows.channel_of(visits, sub.session, sub.sid) {
             Some(channel) => may_read(channel.rights),
             None => false,
         }

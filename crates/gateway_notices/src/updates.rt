@@ -1,13 +1,14 @@
 //! What clients are owed about their subscriptions.
-ghost use Rattle.std.specs.Prelude.{◌≡◌, Some, fold, OnOk, IfOk};
+ghost use Rattle.std.specs.Prelude.{◌≡◌, ◌≤◌, ◌+◌, ◌*◌, length, Some, fold, OnOk, IfOk};
+ghost use Rattle.gateway_rows.specs.Own.{subs_on};
 ghost use Rattle.gateway_state.specs.Rights.{channel_of};
 ghost use Rattle.gateway_state.specs.Told.{AreTold, IsTold};
 ghost use Rattle.gateway_state.specs.Updates.{is_open_to, is_paused, is_unreadable, is_withheld, update_notice, update_notices, update_on, update_over, update_told, updates_told, updates_withheld, withheld};
 ghost use Rattle.gateway_state.specs.Variables.{link_of};
-ghost use Rattle.touched_rows.specs.Touched.{one_update_told, update_notices_on, update_notices_to, updates_told_on, updates_told_to};
+ghost use Rattle.touched_rows.specs.Touched.{one_update_told, update_notices_on, update_notices_to, updates_told_on, updates_told_to, updates_withheld_on, withheld_on};
 
 use ca_message::ToClient;
-use channel_table::{Channel, ClientSub};
+use channel_table::{Channel, ClientSub, Visits};
 use gateway_rows::{Rows, may_read, native_in};
 use gateway_state::UpdateNotice;
 use pv_name::Name;
@@ -15,31 +16,31 @@ use std::alloc::AllocError;
 use std::collections::VecDeque;
 
 /// Whether a channel stands that may not be read.
-fn is_unreadable(rows: &Rows, session: u32, sid: u32) -> bool
+fn is_unreadable(rows: &Rows, visits: &mut Visits, session: u32, sid: u32) -> bool
     requires told { AreTold rows.now }
     ensures { result ≡ is_unreadable rows.now (channel_of rows.now session sid) }
 {
-    match rows.told_channel(session, sid) {
+    match rows.told_channel(visits, session, sid) {
         Some(channel) => !may_read(channel.rights),
         None => false,
     }
 }
 
 /// Whether a subscription's channel may not be read, and nothing is owed to it yet.
-fn is_withheld(rows: &Rows, sub: &ClientSub) -> bool
+fn is_withheld(rows: &Rows, visits: &mut Visits, sub: &ClientSub) -> bool
     requires told { AreTold rows.now }
     ensures { result ≡ is_withheld rows.now sub.now }
 {
-    !sub.owed && is_unreadable(rows, sub.session, sub.sid)
+    !sub.owed && is_unreadable(rows, visits, sub.session, sub.sid)
 }
 
-fn withheld(rows: &Rows) -> Result<Vec<ClientSub>, AllocError>
+fn withheld(rows: &Rows, visits: &mut Visits) -> Result<Vec<ClientSub>, AllocError>
     requires told { AreTold rows.now }
     ensures { IfOk result (λ subs. subs.items ≡ withheld rows.now) }
 {
     let mut subs = Vec::new(rows.alloc);
-    for sub in rows.clients.subs(rows.alloc)? {
-        if is_withheld(rows, sub) {
+    for sub in rows.clients.subs(visits, rows.alloc)? {
+        if is_withheld(rows, visits, sub) {
             subs.push(*sub)?;
         }
     }
@@ -47,29 +48,58 @@ fn withheld(rows: &Rows) -> Result<Vec<ClientSub>, AllocError>
 }
 
 /// Owes the latest value to subscriptions whose channels may not be read.
-pub(crate) fn withhold_updates(rows: &mut Rows) -> Result<(), AllocError>
+pub(crate) fn withhold_updates(rows: &mut Rows, visits: &mut Visits) -> Result<(), AllocError>
     requires told { AreTold rows.old }
     ensures { OnOk result (rows.new ≡ updates_withheld rows.old) }
 {
-    let subs = withheld(rows)?;
-    rows.owe_all(&subs);
+    let subs = withheld(rows, visits)?;
+    rows.owe_all(visits, &subs);
     Ok(())
 }
 
-fn is_paused(rows: &Rows, number: u32) -> bool
-    ensures { result ≡ is_paused rows.now number }
+fn withheld_on(rows: &Rows, visits: &mut Visits, name: &Name) -> Result<Vec<ClientSub>, AllocError>
+    requires told { AreTold rows.now }
+    ensures { IfOk result (λ subs. subs.items ≡ withheld_on name.now rows.now) }
 {
-    match rows.clients.session(number) {
+    let mut subs = Vec::new(rows.alloc);
+    for sub in &rows.subs_on(visits, name)? {
+        if is_withheld(rows, visits, sub) {
+            subs.push(*sub)?;
+        }
+    }
+    Ok(subs)
+}
+
+/// The same of the subscriptions to one variable.
+pub(crate) fn withhold_updates_on(
+    rows: &mut Rows,
+    visits: &mut Visits,
+    name: &Name,
+) -> Result<(), AllocError>
+    requires told { AreTold rows.old }
+    ensures { OnOk result (rows.new ≡ updates_withheld_on name.now rows.old) }
+{
+    let subs = withheld_on(rows, visits, name)?;
+    rows.owe_all(visits, &subs);
+    Ok(())
+}
+
+fn is_paused(rows: &Rows, visits: &mut Visits, number: u32) -> bool
+    ensures found { result ≡ is_paused rows.now number }
+    ensures bound { visits.new ≤ visits.old + 1 }
+{
+    match rows.clients.session(visits, number) {
         Some(session) => session.paused,
         None => false,
     }
 }
 
 /// Whether a subscription's session takes updates now.
-pub(crate) fn is_open_to(rows: &Rows, sub: &ClientSub) -> bool
-    ensures { result ≡ is_open_to rows.now sub.now }
+fn is_open_to(rows: &Rows, visits: &mut Visits, sub: &ClientSub) -> bool
+    ensures found { result ≡ is_open_to rows.now sub.now }
+    ensures bound { visits.new ≤ visits.old + 1 }
 {
-    !is_paused(rows, sub.session) && rows.is_taking(sub.session)
+    !is_paused(rows, visits, sub.session) && rows.is_taking(sub.session)
 }
 
 fn update_over(
@@ -114,26 +144,31 @@ fn update_on(
 
 /// The update that is due to a subscription.
 #[tactic(auto, unfolding(gateway_state::specs::Updates::update_notice))]
-fn update_notice(rows: &Rows, sub: ClientSub) -> Result<Option<UpdateNotice>, AllocError>
+fn update_notice(
+    rows: &Rows,
+    visits: &mut Visits,
+    sub: ClientSub,
+) -> Result<Option<UpdateNotice>, AllocError>
     requires told { AreTold rows.now }
-    ensures { IfOk result (λ notice. notice ≡ update_notice rows.now sub) }
+    ensures found { IfOk result (λ notice. notice ≡ update_notice rows.now sub) }
+    ensures bound { visits.new ≤ visits.old + 2 }
 {
-    if !(sub.owed && is_open_to(rows, &sub)) {
+    if !(sub.owed && is_open_to(rows, visits, &sub)) {
         return Ok(None);
     }
-    match rows.told_channel(sub.session, sub.sid) {
+    match rows.told_channel(visits, sub.session, sub.sid) {
         Some(channel) => update_on(rows, &sub, channel),
         None => Ok(None),
     }
 }
 
-fn update_notices(rows: &Rows) -> Result<VecDeque<UpdateNotice>, AllocError>
+fn update_notices(rows: &Rows, visits: &mut Visits) -> Result<VecDeque<UpdateNotice>, AllocError>
     requires told { AreTold rows.now }
     ensures { IfOk result (λ notices. notices.items ≡ update_notices rows.now) }
 {
     let mut notices = VecDeque::new(rows.alloc);
-    for sub in rows.clients.subs(rows.alloc)? {
-        if let Some(notice) = update_notice(rows, *sub)? {
+    for sub in rows.clients.subs(visits, rows.alloc)? {
+        if let Some(notice) = update_notice(rows, visits, *sub)? {
             notices.push_back(notice)?;
         }
     }
@@ -141,13 +176,19 @@ fn update_notices(rows: &Rows) -> Result<VecDeque<UpdateNotice>, AllocError>
 }
 
 /// The updates that are due to subscriptions to a variable.
-fn update_notices_on(rows: &Rows, name: &Name) -> Result<VecDeque<UpdateNotice>, AllocError>
+fn update_notices_on(
+    rows: &Rows,
+    visits: &mut Visits,
+    name: &Name,
+) -> Result<VecDeque<UpdateNotice>, AllocError>
     requires told { AreTold rows.now }
-    ensures { IfOk result (λ notices. notices.items ≡ update_notices_on name.now rows.now) }
+    ensures found { IfOk result (λ notices. notices.items ≡ update_notices_on name.now rows.now) }
+    ensures bound { OnOk result (visits.new ≤ visits.old + 3 * subs_on rows.now name.now) }
+    ensures fewer { IfOk result (λ notices. length notices.items ≤ subs_on rows.now name.now) }
 {
     let mut notices = VecDeque::new(rows.alloc);
-    for sub in &rows.subs_on(name)? {
-        if let Some(notice) = update_notice(rows, *sub)? {
+    for sub in &rows.subs_on(visits, name)? {
+        if let Some(notice) = update_notice(rows, visits, *sub)? {
             notices.push_back(notice)?;
         }
     }
@@ -155,13 +196,17 @@ fn update_notices_on(rows: &Rows, name: &Name) -> Result<VecDeque<UpdateNotice>,
 }
 
 /// The updates that are due to a session.
-fn update_notices_to(rows: &Rows, number: u32) -> Result<VecDeque<UpdateNotice>, AllocError>
+fn update_notices_to(
+    rows: &Rows,
+    visits: &mut Visits,
+    number: u32,
+) -> Result<VecDeque<UpdateNotice>, AllocError>
     requires told { AreTold rows.now }
     ensures { IfOk result (λ notices. notices.items ≡ update_notices_to number rows.now) }
 {
     let mut notices = VecDeque::new(rows.alloc);
-    for sub in &rows.subs_of(number)? {
-        if let Some(notice) = update_notice(rows, *sub)? {
+    for sub in &rows.subs_of(visits, number)? {
+        if let Some(notice) = update_notice(rows, visits, *sub)? {
             notices.push_back(notice)?;
         }
     }
@@ -169,13 +214,14 @@ fn update_notices_to(rows: &Rows, number: u32) -> Result<VecDeque<UpdateNotice>,
 }
 
 /// Gives an update, as long as those given before it leave room for it.
-fn tell_update(rows: &mut Rows, notice: UpdateNotice) -> Result<(), AllocError>
-    ensures { OnOk result (rows.new ≡ update_told rows.old notice) }
+fn tell_update(rows: &mut Rows, visits: &mut Visits, notice: UpdateNotice) -> Result<(), AllocError>
+    ensures ok { OnOk result (rows.new ≡ update_told rows.old notice) }
+    ensures bound { visits.new ≤ visits.old + 1 }
 {
     if !rows.is_taking(notice.session) {
         return Ok(());
     }
-    rows.set_owed(notice.session, notice.id, false);
+    rows.set_owed(visits, notice.session, notice.id, false);
     let said = ToClient::Update {
         id: notice.id,
         dtype: notice.dtype,
@@ -185,49 +231,68 @@ fn tell_update(rows: &mut Rows, notice: UpdateNotice) -> Result<(), AllocError>
     rows.tell(notice.session, &said)
 }
 
-fn tell_each(rows: &mut Rows, mut notices: VecDeque<UpdateNotice>) -> Result<(), AllocError>
-    ensures { OnOk result (rows.new ≡ fold update_told rows.old notices.items) }
+fn tell_each(
+    rows: &mut Rows,
+    visits: &mut Visits,
+    mut notices: VecDeque<UpdateNotice>,
+) -> Result<(), AllocError>
+    ensures ok { OnOk result (rows.new ≡ fold update_told rows.old notices.items) }
+    ensures bound { OnOk result (visits.new ≤ visits.old + length notices.items) }
 {
     while let Some(notice) = notices.pop_front() {
-        tell_update(rows, notice)?;
+        tell_update(rows, visits, notice)?;
     }
     Ok(())
 }
 
 /// Gives the updates that are due.
-pub(crate) fn tell_updates(rows: &mut Rows) -> Result<(), AllocError>
+pub(crate) fn tell_updates(rows: &mut Rows, visits: &mut Visits) -> Result<(), AllocError>
     requires told { AreTold rows.old }
     ensures { OnOk result (rows.new ≡ updates_told rows.old) }
 {
-    let notices = update_notices(rows)?;
-    tell_each(rows, notices)
+    let notices = update_notices(rows, visits)?;
+    tell_each(rows, visits, notices)
 }
 
 /// The same of one variable.
-pub(crate) fn tell_updates_on(rows: &mut Rows, name: &Name) -> Result<(), AllocError>
+pub(crate) fn tell_updates_on(
+    rows: &mut Rows,
+    visits: &mut Visits,
+    name: &Name,
+) -> Result<(), AllocError>
     requires told { AreTold rows.old }
-    ensures { OnOk result (rows.new ≡ updates_told_on name.now rows.old) }
+    ensures ok { OnOk result (rows.new ≡ updates_told_on name.now rows.old) }
+    ensures bound { OnOk result (visits.new ≤ visits.old + 4 * subs_on rows.old name.now) }
 {
-    let notices = update_notices_on(rows, name)?;
-    tell_each(rows, notices)
+    let notices = update_notices_on(rows, visits, name)?;
+    tell_each(rows, visits, notices)
 }
 
 /// The same of one session.
-pub(crate) fn tell_updates_to(rows: &mut Rows, number: u32) -> Result<(), AllocError>
+pub(crate) fn tell_updates_to(
+    rows: &mut Rows,
+    visits: &mut Visits,
+    number: u32,
+) -> Result<(), AllocError>
     requires told { AreTold rows.old }
     ensures { OnOk result (rows.new ≡ updates_told_to number rows.old) }
 {
-    let notices = update_notices_to(rows, number)?;
-    tell_each(rows, notices)
+    let notices = update_notices_to(rows, visits, number)?;
+    tell_each(rows, visits, notices)
 }
 
 /// The same of one subscription.
-pub(crate) fn tell_one_update(rows: &mut Rows, sub: ClientSub) -> Result<(), AllocError>
+pub(crate) fn tell_one_update(
+    rows: &mut Rows,
+    visits: &mut Visits,
+    sub: ClientSub,
+) -> Result<(), AllocError>
     requires told { AreTold rows.old }
-    ensures { OnOk result (rows.new ≡ one_update_told sub rows.old) }
+    ensures ok { OnOk result (rows.new ≡ one_update_told sub rows.old) }
+    ensures bound { visits.new ≤ visits.old + 3 }
 {
-    match update_notice(rows, sub)? {
-        Some(notice) => tell_update(rows, notice),
+    match update_notice(rows, visits, sub)? {
+        Some(notice) => tell_update(rows, visits, notice),
         None => Ok(()),
     }
 }

@@ -1,2 +1,4 @@
+pub mod Asked
 pub mod Counted
+pub mod OwnStays
 pub mod Readers

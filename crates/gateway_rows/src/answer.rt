@@ -9,7 +9,7 @@ use crate::rights::may_read;
 use crate::state::Rows;
 use crate::variables::native_in;
 use ca_message::codes::{ECA_BADCOUNT, ECA_BADTYPE, ECA_NORDACCESS, ECA_TOLARGE};
-use channel_table::Channel;
+use channel_table::{Channel, Visits};
 use dbr_layout::{Dbr, converts};
 use gateway_state::{Given, LastMessage, Native, PLAIN_TYPES, Reading, TIME_FORM};
 use link_table::Link;
@@ -87,6 +87,7 @@ impl Rows {
     /// What a session's read would be answered.
     pub fn reading(
         &self,
+        visits: &mut Visits,
         session: u32,
         sid: u32,
         dtype: u16,
@@ -95,7 +96,7 @@ impl Rows {
         requires told { AreTold self.now }
         ensures { IfOk result (λ answer. answer ≡ reading self.now session sid dtype count) }
     {
-        match self.told_channel(session, sid) {
+        match self.told_channel(visits, session, sid) {
             Some(channel) => self.reading_at(channel, dtype, count),
             None => Ok(Reading::NoChannel),
         }

@@ -1,6 +1,8 @@
 //! The names to ask servers for.
 ghost use Rattle.std.specs.Prelude.{◌≡◌, List, fold, OnOk, IfOk};
-ghost use Rattle.gateway_state.specs.Variables.{asks, channel_names, is_unlinked, search_names, with_name, with_unlinked};
+ghost use Rattle.std.specs.List.{All};
+ghost use Rattle.gateway_state.specs.Settled.{IsUpToDate};
+ghost use Rattle.gateway_state.specs.Variables.{asks, is_unlinked, search_names, with_name, with_unlinked};
 
 use crate::state::Rows;
 use pv_name::Name;
@@ -19,15 +21,6 @@ impl Rows {
         add_in_order(names, name)
     }
 
-    fn add_channel_names(&self, names: &mut Vec<Name>) -> Result<(), AllocError>
-        ensures { OnOk result (names.new.items ≡ fold (with_unlinked self.now) names.old.items (channel_names self.now.clients.channels)) }
-    {
-        for channel in self.clients.channels(self.alloc)? {
-            self.add_unlinked(names, &channel.real)?;
-        }
-        Ok(())
-    }
-
     fn add_search_names(&self, names: &mut Vec<Name>) -> Result<(), AllocError>
         ensures { OnOk result (names.new.items ≡ fold (with_unlinked self.now) names.old.items (search_names self.now.policy self.now.searches)) }
     {
@@ -37,12 +30,14 @@ impl Rows {
         Ok(())
     }
 
-    /// The names to ask servers for: wanted, without a link, by rising bytes, each once.
+    /// The names to ask servers for: wanted, without a link, by rising bytes, each once. Where each
+    /// channel is served, no name of a channel is among them.
+    #[tactic(auto, using(crate::proofs::Asked::asks_of_searches))]
     pub fn asks(&self) -> Result<Vec<Name>, AllocError>
+        requires served { All (IsUpToDate self.now) self.now.clients.channels }
         ensures { IfOk result (λ names. names.items ≡ asks self.now) }
     {
         let mut names = Vec::new(self.alloc);
-        self.add_channel_names(&mut names)?;
         self.add_search_names(&mut names)?;
         Ok(names)
     }

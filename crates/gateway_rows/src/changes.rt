@@ -1,5 +1,5 @@
 //! Small changes of rows.
-ghost use Rattle.std.specs.Prelude.{◌≡◌, OnOk};
+ghost use Rattle.std.specs.Prelude.{◌≡◌, ◌≤◌, ◌+◌, length, OnOk};
 ghost use Rattle.gateway_state.specs.Clients.{remembered, without_channel};
 ghost use Rattle.gateway_state.specs.Direct.{edited, swept};
 ghost use Rattle.gateway_state.specs.Notices.{without_read};
@@ -8,7 +8,7 @@ ghost use Rattle.gateway_state.specs.Updates.{owed_to, owed_to_all, with_owed_of
 ghost use Rattle.gateway_state.specs.Variables.{without_cached};
 
 use crate::state::Rows;
-use channel_table::{ClientSub, WaitingRead};
+use channel_table::{ClientSub, Visits, WaitingRead};
 use gateway_state::{Policy, SEARCH_LIMIT, Search};
 use pv_name::{Host, Name};
 use std::alloc::AllocError;
@@ -30,24 +30,27 @@ impl Rows {
     }
 
     /// Notes that a subscription is owed an update, or no longer.
-    pub fn set_owed(&mut self, session: u32, id: u32, owed: bool)
-        ensures { self.new ≡ with_owed_of session id owed self.old }
+    pub fn set_owed(&mut self, visits: &mut Visits, session: u32, id: u32, owed: bool)
+        ensures put { self.new ≡ with_owed_of session id owed self.old }
+        ensures bound { visits.new ≤ visits.old + 1 }
     {
-        self.clients.put_sub(session, id, owed);
+        self.clients.put_sub(visits, session, id, owed);
     }
 
-    fn owe(&mut self, sub: &ClientSub)
-        ensures { self.new ≡ owed_to self.old sub.now }
+    fn owe(&mut self, visits: &mut Visits, sub: &ClientSub)
+        ensures put { self.new ≡ owed_to self.old sub.now }
+        ensures bound { visits.new ≤ visits.old + 1 }
     {
-        self.set_owed(sub.session, sub.id, true);
+        self.set_owed(visits, sub.session, sub.id, true);
     }
 
     /// Notes that each of these is owed an update.
-    pub fn owe_all(&mut self, subs: &[ClientSub])
-        ensures { self.new ≡ owed_to_all self.old subs.now }
+    pub fn owe_all(&mut self, visits: &mut Visits, subs: &[ClientSub])
+        ensures put { self.new ≡ owed_to_all self.old subs.now }
+        ensures bound { visits.new ≤ visits.old + length subs.now }
     {
         for sub in subs {
-            self.owe(sub);
+            self.owe(visits, sub);
         }
     }
 

@@ -7,7 +7,7 @@ ghost use Rattle.gateway_rows.specs.ToldReaders.{is_told_reader, is_told_subscri
 use crate::answer::meant_count;
 use crate::rights::may_read;
 use crate::state::Rows;
-use channel_table::{Channel, ClientSub};
+use channel_table::{Channel, ClientSub, Visits};
 use gateway_state::{READ_EVENTS, Sub, UPDATE_MINOR};
 use link_table::{LinkState, Subscription};
 use mask_merge::{Tally, Want};
@@ -15,21 +15,27 @@ use pv_name::Name;
 use std::alloc::AllocError;
 
 impl Rows {
-    fn is_subscriber(&self, name: &Name, sub: &ClientSub) -> bool
+    fn is_subscriber(&self, visits: &mut Visits, name: &Name, sub: &ClientSub) -> bool
         ensures { result ≡ is_told_subscriber self.now name.now sub.now }
     {
-        match self.channel_of(sub.session, sub.sid) {
+        match self.channel_of(visits, sub.session, sub.sid) {
             Some(channel) => is_read_through(name, channel),
             None => false,
         }
     }
 
     #[tactic(auto, using(crate::proofs::Readers::subscribers_are_on))]
-    fn add_subscribers(&self, tally: &mut Tally, name: &Name, native: u32) -> Result<(), AllocError>
+    fn add_subscribers(
+        &self,
+        visits: &mut Visits,
+        tally: &mut Tally,
+        name: &Name,
+        native: u32,
+    ) -> Result<(), AllocError>
         ensures { OnOk result (tally.new ≡ tally.old ++ map (sub_want native) (filter (is_told_subscriber self.now name.now) self.now.clients.subs)) }
     {
-        for sub in &self.subs_on(name)? {
-            if self.is_subscriber(name, sub) {
+        for sub in &self.subs_on(visits, name)? {
+            if self.is_subscriber(visits, name, sub) {
                 tally.add(sub.mask, meant_count(native, sub.count))?;
             }
         }
@@ -37,10 +43,15 @@ impl Rows {
     }
 
     #[tactic(auto, using(crate::proofs::Readers::readers_are_on))]
-    fn add_readers(&self, tally: &mut Tally, name: &Name) -> Result<(), AllocError>
+    fn add_readers(
+        &self,
+        visits: &mut Visits,
+        tally: &mut Tally,
+        name: &Name,
+    ) -> Result<(), AllocError>
         ensures { OnOk result (tally.new ≡ tally.old ++ map channel_want (filter (is_told_reader name.now) self.now.clients.channels)) }
     {
-        for channel in self.channels_on(name)? {
+        for channel in self.channels_on(visits, name)? {
             if is_reader(name, channel) {
                 tally.add(READ_EVENTS, channel.reach)?;
             }
@@ -51,13 +62,18 @@ impl Rows {
     /// What the readers of a variable with this native count want together, nothing where there is
     /// none.
     #[tactic(auto, using(crate::proofs::Readers::readers_as_told))]
-    pub fn interest_of(&self, name: &Name, native: u32) -> Result<Option<Want>, AllocError>
+    pub fn interest_of(
+        &self,
+        visits: &mut Visits,
+        name: &Name,
+        native: u32,
+    ) -> Result<Option<Want>, AllocError>
         requires told { AreTold self.now }
         ensures { IfOk result (λ want. want ≡ interest_of self.now name.now native) }
     {
         let mut tally = Tally::new(self.alloc);
-        self.add_subscribers(&mut tally, name, native)?;
-        self.add_readers(&mut tally, name)?;
+        self.add_subscribers(visits, &mut tally, name, native)?;
+        self.add_readers(visits, &mut tally, name)?;
         Ok(tally.want())
     }
 

@@ -1,5 +1,5 @@
 //! What clients may do with their channels.
-ghost use Rattle.std.specs.Prelude.{◌≡◌, ◌&&◌, bit_and, IfOk, IfSome};
+ghost use Rattle.std.specs.Prelude.{◌≡◌, ◌≤◌, ◌+◌, ◌&&◌, bit_and, IfOk, IfSome};
 ghost use Rattle.std.specs.Option.{option_copied};
 ghost use Rattle.gateway_state.specs.Variables.{link_of};
 ghost use Rattle.gateway_state.specs.Reached.{rights_told};
@@ -10,7 +10,7 @@ ghost use Rattle.gateway_state.specs.Rights.{is_found, may_read, link_rights, li
 use crate::state::Rows;
 use crate::variables::is_connected;
 use ca_message::commands::CA_PROTO_ACCESS_RIGHT_READ;
-use channel_table::Channel;
+use channel_table::{Channel, Visits};
 use gateway_state::{is_real, rights_left};
 use pv_alias::Lead;
 use pv_name::{Host, Name};
@@ -62,27 +62,39 @@ impl Rows {
     }
 
     /// A session's channel.
-    pub fn channel_of(&self, session: u32, sid: u32) -> Option<&Channel>
-        ensures { option_copied result ≡ channel_of self.now session sid }
+    pub fn channel_of<'a>(
+        &'a self,
+        visits: &mut Visits,
+        session: u32,
+        sid: u32,
+    ) -> Option<&'a Channel>
+        ensures found { option_copied result ≡ channel_of self.now session sid }
+        ensures bound { visits.new ≤ visits.old + 1 }
     {
-        self.clients.channel(session, sid)
+        self.clients.channel(visits, session, sid)
     }
 
     /// A session's channel, where clients know their rights: it has those that its client was last told.
-    pub fn told_channel(&self, session: u32, sid: u32) -> Option<&Channel>
+    pub fn told_channel<'a>(
+        &'a self,
+        visits: &mut Visits,
+        session: u32,
+        sid: u32,
+    ) -> Option<&'a Channel>
         requires told { AreTold self.now }
         ensures found { option_copied result ≡ channel_of self.now session sid }
         ensures told { IfSome (option_copied result) (IsTold self.now) }
+        ensures bound { visits.new ≤ visits.old + 1 }
     {
-        self.channel_of(session, sid)
+        self.channel_of(visits, session, sid)
     }
 
     /// What a client was last told that it may do with a channel, nothing where it has no such channel. It
     /// takes no memory.
-    pub fn rights_told(&self, session: u32, sid: u32) -> Option<u32>
+    pub fn rights_told(&self, visits: &mut Visits, session: u32, sid: u32) -> Option<u32>
         ensures { result ≡ rights_told self.now session sid }
     {
-        match self.channel_of(session, sid) {
+        match self.channel_of(visits, session, sid) {
             Some(channel) => Some(channel.rights),
             None => None,
         }

@@ -3,7 +3,7 @@ ghost use Rattle.std.specs.Prelude.{◌≡◌, false};
 ghost use Rattle.gateway_state.specs.Gateway.{initial};
 ghost use Rattle.gateway_state.specs.Numbers.{is_past_numbers};
 
-use channel_table::Table;
+use channel_table::{Table, Visits};
 use gateway_state::{Cache, Config, Connections, Policy, Searches};
 use link_table::Links;
 use std::alloc::Global;
@@ -59,20 +59,23 @@ impl Drop for Rows {
 }
 
 impl Rows {
-    /// What is known before any event.
-    pub fn new(alloc: Global, config: Config, policy: Policy) -> Rows
-        ensures { result ≡ initial config policy }
+    /// What is known before any event, and the count of looks at the rows of clients.
+    pub fn new(alloc: Global, config: Config, policy: Policy) -> (Rows, Visits)
+        ensures rows { result.0 ≡ initial config policy }
+        ensures visits { result.1 ≡ 0 }
     {
         let first = config.first;
-        Rows {
+        let (clients, visits) = Table::new(alloc);
+        let rows = Rows {
             alloc,
             config,
             connections: Connections::new(alloc),
-            clients: Table::new(alloc),
+            clients,
             upstream: Links::new(alloc, first),
             cache: Cache::new(alloc),
             searches: Searches::new(alloc, policy),
-        }
+        };
+        (rows, visits)
     }
 
     /// No number past the last one was given out, whatever was done: this call does nothing.

@@ -59,7 +59,7 @@ module _ (P : Gateway → Type 0) (kept : KeepsRows P) where
   kept_channel_told w (RightsChanged session sid cid reach rights) holds =
       kept.messages.telling session (replies.AccessRights cid rights) (with_reach session sid reach rights w) (kept.channel_changed session sid reach rights w holds)
 
-  kept_channels : (notices : List ChannelNotice) (w : Gateway) → P w → P (fold channel_told w notices)
+  pub kept_channels : (notices : List ChannelNotice) (w : Gateway) → P w → P (fold channel_told w notices)
   kept_channels [] w holds = holds
   kept_channels (notice ∷ notices) w holds = kept_channels notices (channel_told w notice) (kept_channel_told w notice holds)
 

@@ -62,7 +62,7 @@ unfolding sent is_past_numbers
 read_told_past w (reads.Refused read code) e = e
 read_told_past w (reads.Answered read count payload) e = e
 
-all_reads_past : (w : Gateway) (notices : List ReadNotice) → is_past_numbers w ≡ true → is_past_numbers (fold read_told w notices) ≡ true
+pub all_reads_past : (w : Gateway) (notices : List ReadNotice) → is_past_numbers w ≡ true → is_past_numbers (fold read_told w notices) ≡ true
 all_reads_past w [] e = e
 all_reads_past w (notice ∷ notices) e = all_reads_past (read_told w notice) notices (read_told_past w notice e)
 
@@ -82,7 +82,7 @@ update_told_past w notice e =
     elim (is_taking w notice.session) as (λ t. is_past_numbers (cond t (told notice.session (replies.Update notice.id notice.dtype notice.count notice.payload) (with_owed_of notice.session notice.id false w)) w) ≡ true)
     [ true ↦ e | false ↦ e ]
 
-all_updates_past : (w : Gateway) (notices : List UpdateNotice) → is_past_numbers w ≡ true → is_past_numbers (fold update_told w notices) ≡ true
+pub all_updates_past : (w : Gateway) (notices : List UpdateNotice) → is_past_numbers w ≡ true → is_past_numbers (fold update_told w notices) ≡ true
 all_updates_past w [] e = e
 all_updates_past w (notice ∷ notices) e = all_updates_past (update_told w notice) notices (update_told_past w notice e)
 

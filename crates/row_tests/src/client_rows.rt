@@ -14,8 +14,9 @@
 //! - `on NAME`: whether a channel is on the variable, how many channels, subscriptions and reads are,
 //!   and these one by one. Channels 50 to 99 are on B:SP, others on A:SP;
 //! - `of S`: the channels and subscriptions of the session, one by one;
-//! - `show`: all rows, of sessions those below 10.
-use channel_table::{Channel, ClientSub, Session, Table, TableFault, WaitingRead};
+//! - `show`: all rows, of sessions those below 10;
+//! - `visits`: how many rows were looked at since the beginning.
+use channel_table::{Channel, ClientSub, Session, Table, TableFault, Visits, WaitingRead};
 use pv_name::{Host, Name};
 use std::alloc::Global;
 use std::fmt::Write;
@@ -29,14 +30,14 @@ pub(crate) fn tells(
     beginning: &str,
     story: &str,
 ) -> Result<(), Fail> {
-    let mut table = Table::new(alloc);
+    let (mut table, mut visits) = Table::new(alloc);
     let mut told = String::new(alloc);
     let mut wanted = String::new(alloc);
     for text in [beginning, story] {
         for line in text.lines() {
             match line.strip_prefix("> ") {
                 Some(answer) => writeln!(wanted, "{answer}")?,
-                None => call(alloc, &mut table, line, &mut told)?,
+                None => call(alloc, &mut table, &mut visits, line, &mut told)?,
             }
         }
     }
@@ -44,16 +45,28 @@ pub(crate) fn tells(
     Ok(())
 }
 
-fn call(alloc: Global, table: &mut Table, line: &str, told: &mut String) -> Result<(), Fail> {
+fn call(
+    alloc: Global,
+    table: &mut Table,
+    visits: &mut Visits,
+    line: &str,
+    told: &mut String,
+) -> Result<(), Fail> {
     match word(line, 0)? {
-        "put" => put(alloc, table, line),
-        "find" => find(table, line, told),
+        "put" => put(alloc, table, visits, line),
+        "find" => find(table, visits, line, told),
         "remove" => remove(table, line),
         "count" => count(table, number(line, 1)?, told),
-        "show" => show(alloc, table, told),
-        "on" => show_on(table, &Name::read(alloc, word(line, 1)?.as_bytes())?, told),
-        "of" => show_of(table, number(line, 1)?, told),
-        _ => add(alloc, table, line, told),
+        "show" => show(alloc, table, visits, told),
+        "visits" => Ok(writeln!(told, "{}", visits.visited())?),
+        "on" => show_on(
+            table,
+            visits,
+            &Name::read(alloc, word(line, 1)?.as_bytes())?,
+            told,
+        ),
+        "of" => show_of(table, visits, number(line, 1)?, told),
+        _ => add(alloc, table, visits, line, told),
     }
 }
 
@@ -66,16 +79,22 @@ fn number(line: &str, place: usize) -> Result<u32, Fail> {
 }
 
 /// Adds one row, or as many as a range at the end of the line has numbers.
-fn add(alloc: Global, table: &mut Table, line: &str, told: &mut String) -> Result<(), Fail> {
+fn add(
+    alloc: Global,
+    table: &mut Table,
+    visits: &mut Visits,
+    line: &str,
+    told: &mut String,
+) -> Result<(), Fail> {
     let Some((front, last)) = line.rsplit_once('-') else {
         let (_, first) = line.rsplit_once(' ').ok_or("a row without numbers")?;
-        return add_one(alloc, table, line, first.parse()?, told);
+        return add_one(alloc, table, visits, line, first.parse()?, told);
     };
     let (_, first) = front
         .rsplit_once(' ')
         .ok_or("a range without its first number")?;
     for last_number in first.parse()?..=last.parse()? {
-        add_one(alloc, table, line, last_number, told)?;
+        add_one(alloc, table, visits, line, last_number, told)?;
     }
     Ok(())
 }
@@ -84,14 +103,15 @@ fn add(alloc: Global, table: &mut Table, line: &str, told: &mut String) -> Resul
 fn add_one(
     alloc: Global,
     table: &mut Table,
+    visits: &mut Visits,
     line: &str,
     last: u32,
     told: &mut String,
 ) -> Result<(), Fail> {
     let added = match word(line, 0)? {
         "session" => table.add_session(session(alloc, last)?),
-        "channel" => add_channel(table, channel(alloc, number(line, 1)?, last)?),
-        "sub" => add_sub(table, sub(number(line, 1)?, number(line, 2)?, last)),
+        "channel" => add_channel(table, visits, channel(alloc, number(line, 1)?, last)?),
+        "sub" => add_sub(table, visits, sub(number(line, 1)?, number(line, 2)?, last)),
         _ => table.add_read(read(number(line, 1)?, number(line, 2)?, last)),
     };
     match added {
@@ -105,8 +125,8 @@ fn add_one(
 
 /// Adds a channel, but none that stands already.
 #[tactic(auto, using(channel_table::proofs::Lists::unfound_is_absent))]
-fn add_channel(table: &mut Table, channel: Channel) -> Result<(), TableFault> {
-    match table.channel(channel.session, channel.sid) {
+fn add_channel(table: &mut Table, visits: &mut Visits, channel: Channel) -> Result<(), TableFault> {
+    match table.channel(visits, channel.session, channel.sid) {
         Some(_) => Ok(()),
         None => table.add_channel(channel),
     }
@@ -114,8 +134,8 @@ fn add_channel(table: &mut Table, channel: Channel) -> Result<(), TableFault> {
 
 /// Adds a subscription, but none that stands already.
 #[tactic(auto, using(channel_table::proofs::Lists::unfound_is_absent))]
-fn add_sub(table: &mut Table, sub: ClientSub) -> Result<(), TableFault> {
-    match table.sub(sub.session, sub.id) {
+fn add_sub(table: &mut Table, visits: &mut Visits, sub: ClientSub) -> Result<(), TableFault> {
+    match table.sub(visits, sub.session, sub.id) {
         Some(_) => Ok(()),
         None => table.add_sub(sub),
     }
@@ -173,36 +193,37 @@ fn read(session: u32, sid: u32, ioid: u32) -> WaitingRead {
     }
 }
 
-fn put(alloc: Global, table: &mut Table, line: &str) -> Result<(), Fail> {
+fn put(alloc: Global, table: &mut Table, visits: &mut Visits, line: &str) -> Result<(), Fail> {
     let session = number(line, 2)?;
     match word(line, 1)? {
         "session" => {
             let host = Host::read(alloc, word(line, 3)?.as_bytes())?;
-            table.put_session(session, host, true, true);
+            table.put_session(visits, session, host, true, true);
         }
         "channel" => {
             table.put_channel(
+                visits,
                 session,
                 number(line, 3)?,
                 number(line, 4)?,
                 number(line, 5)?,
             );
         }
-        _ => table.put_sub(session, number(line, 3)?, false),
+        _ => table.put_sub(visits, session, number(line, 3)?, false),
     }
     Ok(())
 }
 
-fn find(table: &Table, line: &str, told: &mut String) -> Result<(), Fail> {
+fn find(table: &Table, visits: &mut Visits, line: &str, told: &mut String) -> Result<(), Fail> {
     let session = number(line, 2)?;
     match word(line, 1)? {
-        "session" => if let Some(row) = table.session(session) {
+        "session" => if let Some(row) = table.session(visits, session) {
             return show_session(row, told);
         },
-        "channel" => if let Some(row) = table.channel(session, number(line, 3)?) {
+        "channel" => if let Some(row) = table.channel(visits, session, number(line, 3)?) {
             return show_channel(row, told);
         },
-        _ => if let Some(row) = table.sub(session, number(line, 3)?) {
+        _ => if let Some(row) = table.sub(visits, session, number(line, 3)?) {
             return show_sub(row, told);
         },
     }
@@ -229,42 +250,42 @@ fn count(table: &Table, session: u32, told: &mut String) -> Result<(), Fail> {
     Ok(())
 }
 
-fn show(alloc: Global, table: &Table, told: &mut String) -> Result<(), Fail> {
+fn show(alloc: Global, table: &Table, visits: &mut Visits, told: &mut String) -> Result<(), Fail> {
     for number in 0..10 {
-        if let Some(row) = table.session(number) {
+        if let Some(row) = table.session(visits, number) {
             show_session(row, told)?;
         }
     }
-    for row in table.channels(alloc)? {
+    for row in table.channels(visits, alloc)? {
         show_channel(row, told)?;
     }
-    for row in table.subs(alloc)? {
+    for row in table.subs(visits, alloc)? {
         show_sub(row, told)?;
     }
-    for row in table.reads() {
+    for row in table.reads(visits) {
         show_read(*row, told)?;
     }
     Ok(())
 }
 
 /// The rows on a variable, one by one, and how many there are.
-fn show_on(table: &Table, name: &Name, told: &mut String) -> Result<(), Fail> {
+fn show_on(table: &Table, visits: &mut Visits, name: &Name, told: &mut String) -> Result<(), Fail> {
     let channels = table.channels_on(name);
     let subs = table.subs_on(name);
     let reads = table.reads_on(name);
     writeln!(told, "{} {channels} {subs} {reads}", table.is_used(name))?;
     for n in 0..=channels {
-        if let Some(row) = table.channel_on(name, n) {
+        if let Some(row) = table.channel_on(visits, name, n) {
             show_channel(row, told)?;
         }
     }
     for n in 0..=subs {
-        if let Some(row) = table.sub_on(name, n) {
+        if let Some(row) = table.sub_on(visits, name, n) {
             show_sub(row, told)?;
         }
     }
     for n in 0..=reads {
-        if let Some(row) = table.read_on(name, n) {
+        if let Some(row) = table.read_on(visits, name, n) {
             show_read(row, told)?;
         }
     }
@@ -272,14 +293,19 @@ fn show_on(table: &Table, name: &Name, told: &mut String) -> Result<(), Fail> {
 }
 
 /// The channels and subscriptions of a session, one by one.
-fn show_of(table: &Table, session: u32, told: &mut String) -> Result<(), Fail> {
+fn show_of(
+    table: &Table,
+    visits: &mut Visits,
+    session: u32,
+    told: &mut String,
+) -> Result<(), Fail> {
     for n in 0..=table.channel_count(session) {
-        if let Some(row) = table.channel_of(session, n) {
+        if let Some(row) = table.channel_of(visits, session, n) {
             show_channel(row, told)?;
         }
     }
     for n in 0..=table.sub_count(session) {
-        if let Some(row) = table.sub_of(session, n) {
+        if let Some(row) = table.sub_of(visits, session, n) {
             show_sub(row, told)?;
         }
     }

@@ -57,6 +57,66 @@ show
     )
 }
 
+// Each look counts, also one that finds nothing, and a list of rows as many times as it has rows. Adding
+// looks at channels and subscriptions for whether they stand.
+#[test]
+fn each_look_at_a_row_is_counted(rt: HostRuntime) -> Result<(), Fail> {
+    tells(
+        &rt,
+        rt.alloc(),
+        TWO_CLIENTS,
+        "\
+visits
+> 6
+find session 2
+> session 2 10.0.0.5
+find sub 2 6
+> none
+visits
+> 8
+put session 2 10.0.0.6
+put channel 2 21 3 1
+put sub 9 9
+visits
+> 11
+remove sub 2 5
+count 2
+> 1 0 1
+visits
+> 11
+of 2
+> channel 2 21 A:SP reach 3 rights 1
+visits
+> 14
+on A:SP
+> true 3 2 3
+> channel 1 11 A:SP reach 0 rights 3
+> channel 1 12 A:SP reach 0 rights 3
+> channel 2 21 A:SP reach 3 rights 1
+> sub 1 11 5 owed
+> sub 1 12 6 owed
+> read 1 11 11
+> read 1 12 12
+> read 2 21 21
+visits
+> 25
+show
+> session 1 10.0.0.5
+> session 2 10.0.0.6 fixed paused
+> channel 1 11 A:SP reach 0 rights 3
+> channel 1 12 A:SP reach 0 rights 3
+> channel 2 21 A:SP reach 3 rights 1
+> sub 1 11 5 owed
+> sub 1 12 6 owed
+> read 1 11 11
+> read 1 12 12
+> read 2 21 21
+visits
+> 43
+",
+    )
+}
+
 #[test]
 fn a_row_that_is_put_is_changed(rt: HostRuntime) -> Result<(), Fail> {
     tells(

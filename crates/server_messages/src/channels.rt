@@ -76,7 +76,7 @@ pub(crate) fn hear_rights(
     let touched = if is_creating(link.state) {
         Touched::Interest(link.name.copy()?)
     } else {
-        Touched::All
+        Touched::Variable(link.name.copy()?)
     };
     let state = link.state;
     put_link(rows, server, cid, state, rights);
@@ -95,20 +95,20 @@ pub(crate) fn hear_refusal(rows: &mut Rows, server: u32, cid: u32)
 }
 
 /// A server dropped a channel. Clients may have channels on a variable that was connected.
-pub(crate) fn hear_disconnect(rows: &mut Rows, server: u32, cid: u32) -> Touched
-    ensures effect { rows.new ≡ channel_dropped rows.old server cid }
-    ensures touched { result ≡ gone_touches rows.old server cid }
+pub(crate) fn hear_disconnect(rows: &mut Rows, server: u32, cid: u32) -> Result<Touched, AllocError>
+    ensures ok { OnOk result (rows.new ≡ channel_dropped rows.old server cid) }
+    ensures touched { IfOk result (λ touched. touched ≡ gone_touches rows.old server cid) }
 {
     let Some(link) = rows.upstream.by_cid(server, cid) else {
-        return Touched::Nothing;
+        return Ok(Touched::Nothing);
     };
-    let was_connected = is_connected(link.state);
-    rows.remove_link(server, cid);
-    if was_connected {
-        Touched::LinksGone
+    let touched = if is_connected(link.state) {
+        Touched::Variable(link.name.copy()?)
     } else {
         Touched::Nothing
-    }
+    };
+    rows.remove_link(server, cid);
+    Ok(touched)
 }
 
 /// Whether updates of a channel with this native type and count can be taken.

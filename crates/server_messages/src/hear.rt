@@ -1,6 +1,8 @@
 //! What servers say.
 ghost use Rattle.std.specs.Prelude.{◌≡◌, OnOk, IfOk};
 ghost use Rattle.ca_message.specs.ServerReply.{reply_of};
+ghost use Rattle.gateway_rows.specs.Own.{IsWithin};
+ghost use Rattle.server_messages.specs.Looks.{reply_looks};
 ghost use Rattle.gateway_state.specs.Servers.{server_said, server_versioned};
 ghost use Rattle.touched_rows.specs.Touches.{reply_touches};
 
@@ -9,14 +11,21 @@ use crate::update::update;
 use crate::write::end_write;
 use ca_header::Message;
 use ca_message::{ServerReply, read_reply};
+use channel_table::Visits;
 use gateway_rows::Rows;
 use std::alloc::AllocError;
 use touched_rows::Touched;
 
 /// A server sent a message.
-pub fn hear_server(rows: &mut Rows, server: u32, message: Message) -> Result<Touched, AllocError>
+pub fn hear_server(
+    rows: &mut Rows,
+    visits: &mut Visits,
+    server: u32,
+    message: Message,
+) -> Result<Touched, AllocError>
     ensures ok { OnOk result (rows.new ≡ server_said rows.old server message) }
     ensures touched { IfOk result (λ touched. touched ≡ reply_touches rows.old server (reply_of message.head message.payload)) }
+    ensures bound { OnOk result (IsWithin (reply_looks rows.old server (reply_of message.head message.payload)) visits.old visits.new) }
 {
     match read_reply(&message.head, &message.payload) {
         Ok(ServerReply::Version { minor }) => {
@@ -33,7 +42,7 @@ pub fn hear_server(rows: &mut Rows, server: u32, message: Message) -> Result<Tou
             },
         ) => {
             let payload = message.payload.clone()?;
-            update(rows, server, id, status, dtype, count, payload)
+            update(rows, visits, server, id, status, dtype, count, payload)
         }
         Ok(
             ServerReply::CreateChannel {
@@ -48,7 +57,7 @@ pub fn hear_server(rows: &mut Rows, server: u32, message: Message) -> Result<Tou
             hear_refusal(rows, server, cid);
             Ok(Touched::Nothing)
         }
-        Ok(ServerReply::ServerDisconnect { cid }) => Ok(hear_disconnect(rows, server, cid)),
+        Ok(ServerReply::ServerDisconnect { cid }) => hear_disconnect(rows, server, cid),
         Ok(ServerReply::WriteNotify { ioid, status }) => {
             end_write(rows, server, ioid, status)?;
             Ok(Touched::Nothing)

@@ -1,5 +1,8 @@
 //! Updates.
-ghost use Rattle.std.specs.Prelude.{◌≡◌, fold, OnOk, IfOk};
+ghost use Rattle.std.specs.Prelude.{◌≡◌, ◌≤◌, ◌+◌, ◌*◌, length, fold, OnOk, IfOk};
+ghost use Rattle.std.specs.List.{find};
+ghost use Rattle.gateway_rows.specs.Own.{own_over, subs_on};
+ghost use Rattle.link_table.specs.Links.{has_subscription};
 ghost use Rattle.gateway_state.specs.Servers.{has_other_alarm, is_value, read_failed, updated, with_cached};
 ghost use Rattle.gateway_state.specs.Updates.{concerned, is_concerned};
 ghost use Rattle.touched_rows.specs.Touches.{update_touches};
@@ -7,7 +10,7 @@ ghost use Rattle.touched_rows.specs.Touches.{update_touches};
 use bytes::Bytes;
 use ca_message::ToClient;
 use ca_message::codes::{ECA_GETFAIL, ECA_NORMAL};
-use channel_table::{ClientSub, WaitingRead};
+use channel_table::{ClientSub, Visits, WaitingRead};
 use dbr_layout::View;
 use gateway_rows::{Rows, time_of};
 use gateway_state::{ALARM_EVENTS, LastMessage, LastValue, VALUE_EVENTS};
@@ -63,11 +66,18 @@ fn keep_value(rows: &mut Rows, row: LastMessage) -> Result<(), AllocError>
 
 /// The subscriptions to a variable that an update of it concerns.
 #[tactic(auto, using(crate::proofs::Concerned::concerned_are_on))]
-fn concerned(rows: &Rows, name: &Name, differs: bool) -> Result<Vec<ClientSub>, AllocError>
-    ensures { IfOk result (λ subs. subs.items ≡ concerned rows.now name.now differs) }
+fn concerned(
+    rows: &Rows,
+    visits: &mut Visits,
+    name: &Name,
+    differs: bool,
+) -> Result<Vec<ClientSub>, AllocError>
+    ensures found { IfOk result (λ subs. subs.items ≡ concerned rows.now name.now differs) }
+    ensures bound { OnOk result (visits.new ≤ visits.old + subs_on rows.now name.now) }
+    ensures fewer { IfOk result (λ subs. length subs.items ≤ subs_on rows.now name.now) }
 {
     let mut subs = Vec::new(rows.alloc);
-    for sub in &rows.subs_on(name)? {
+    for sub in &rows.subs_on(visits, name)? {
         if is_concerned(sub, differs) {
             subs.push(*sub)?;
         }
@@ -91,6 +101,7 @@ fn has_other_alarm(rows: &Rows, cid: u32, dtype: u16, count: u32, payload: &[u8]
 /// An update came under a subscription's ID.
 pub(crate) fn update(
     rows: &mut Rows,
+    visits: &mut Visits,
     server: u32,
     id: u32,
     status: u32,
@@ -100,12 +111,13 @@ pub(crate) fn update(
 ) -> Result<Touched, AllocError>
     ensures ok { OnOk result (rows.new ≡ updated rows.old server id status dtype count payload) }
     ensures touched { IfOk result (λ touched. touched ≡ update_touches rows.old server id status dtype count payload) }
+    ensures bound { OnOk result (visits.new ≤ visits.old + 2 * own_over rows.old (find (has_subscription server id) rows.old.upstream.links)) }
 {
     let Some(link) = rows.upstream.by_sub(server, id) else {
         return Ok(Touched::Nothing);
     };
     if status != ECA_NORMAL {
-        let reads = rows.reads_for(&link.name)?;
+        let reads = rows.reads_for(visits, &link.name)?;
         fail_reads(rows, reads)?;
         return Ok(Touched::Nothing);
     }
@@ -121,8 +133,8 @@ pub(crate) fn update(
     let touched = Touched::Value(link.name.copy()?);
     let (server, cid) = (link.server, link.cid);
     let differs = has_other_alarm(rows, cid, dtype, count, &payload);
-    let owed = concerned(rows, &link.name, differs)?;
-    rows.owe_all(&owed);
+    let owed = concerned(rows, visits, &link.name, differs)?;
+    rows.owe_all(visits, &owed);
     let payload = to_keep(rows.alloc, payload)?;
     let held = LastValue::new(dtype, count, payload, subscription.count);
     keep_value(rows, LastMessage { server, cid, held })?;

@@ -54,6 +54,28 @@ left_have {A = A} P Q stays gives rows all = both (filter stays rows) (filter_pa
     both : (left : List A) → All (λ (row : A). stays row ≡ true) left → All P left → All Q left
     both left passing held k d within = gives _ (passing k d within) (held k d within)
 
+-- what each row has, all have
+pub all_of : {A : Type 0} (P : A → Type 0) (rows : List A) → ((row : A) → P row) → All P rows
+all_of P rows holds k d within = holds _
+
+-- another channel is found as before, where one is gone
+pub found_without : (session sid : ℕ) (channels : List Channel) (number of : ℕ) → (eqb number session && eqb of sid) ≡ false
+    → find (is_channel number of) (filter (is_not_channel session sid) channels) ≡ find (is_channel number of) channels
+found_without session sid channels number of differ =
+    found_left (is_channel number of) (is_not_channel session sid) channels (all_of (λ (row : Channel). is_not_channel session sid row ≡ false → is_channel number of row ≡ false) channels other)
+  where
+    other : (row : Channel) → is_not_channel session sid row ≡ false → is_channel number of row ≡ false
+    other row gone =
+        elim (is_channel number of row) as (λ t. is_channel number of row ≡ t → t ≡ false) [
+          | true ↦ λ is.
+              let here = and_parts (eqb row.session session) (eqb row.sid sid) (not_not (is_channel session sid row) gone) in
+              let there = and_parts (eqb row.session number) (eqb row.sid of) is in
+              let sessions : number ≡ session = sym (eqb-true row.session number there.0) ∙ eqb-true row.session session here.0 in
+              let sids : of ≡ sid = sym (eqb-true row.sid of there.1) ∙ eqb-true row.sid sid here.1 in
+              absurd (true≢false (sym (and_from (eqb number session) (eqb of sid) (eq-eqb number session sessions) (eq-eqb of sid sids)) ∙ differ))
+          | false ↦ λ is. refl
+        ] refl
+
 module _ (w : Gateway) (settled : IsSettled w) (order : AreInOrder w) (links_apart : HasLinksApart w) (session sid : ℕ) (c : Channel)
     (on : channel_of w session sid ≡ Some c) (connections : List Connection) (room : HasNoMoreRoom w.connections connections) where
   abbrev fewer : Gateway
@@ -70,23 +92,8 @@ module _ (w : Gateway) (settled : IsSettled w) (order : AreInOrder w) (links_apa
       one (eqb-true row.sid sid here.1 ∙ sym (eqb-true c.sid sid there.1)))
       w.clients.channels (one_of_number sid_of 0 w.upstream.counters.sid (is_channel session sid) w.clients.channels c order.channels on)
 
-  other_channel : (number of : ℕ) → (eqb number session && eqb of sid) ≡ false → (row : Channel) → is_not_channel session sid row ≡ false → is_channel number of row ≡ false
-  other_channel number of differ row gone =
-      elim (is_channel number of row) as (λ t. is_channel number of row ≡ t → t ≡ false) [
-        | true ↦ λ is.
-            let here = and_parts (eqb row.session session) (eqb row.sid sid) (not_not (is_channel session sid row) gone) in
-            let there = and_parts (eqb row.session number) (eqb row.sid of) is in
-            let sessions : number ≡ session = sym (eqb-true row.session number there.0) ∙ eqb-true row.session session here.0 in
-            let sids : of ≡ sid = sym (eqb-true row.sid of there.1) ∙ eqb-true row.sid sid here.1 in
-            absurd (true≢false (sym (and_from (eqb number session) (eqb of sid) (eq-eqb number session sessions) (eq-eqb of sid sids)) ∙ differ))
-        | false ↦ λ is. refl
-      ] refl
-
   found_same : (number of : ℕ) → (eqb number session && eqb of sid) ≡ false → channel_of fewer number of ≡ channel_of w number of
-  found_same number of differ =
-      found_left (is_channel number of) (is_not_channel session sid) w.clients.channels
-      (All-weaker (λ (row : Channel). is_not_channel session sid row ≡ false → row ≡ c) (λ (row : Channel). is_not_channel session sid row ≡ false → is_channel number of row ≡ false)
-      (λ row one gone. other_channel number of differ row gone) w.clients.channels one_channel)
+  found_same number of differ = found_without session sid w.clients.channels number of differ
 
   sub_found : (sub : ClientSub) → is_not_sub_on session sid sub ≡ true → channel_of fewer sub.session sub.sid ≡ channel_of w sub.session sub.sid
   sub_found sub stays = found_same sub.session sub.sid (not_so (eqb sub.session session && eqb sub.sid sid) stays)

@@ -8,14 +8,12 @@ use Rattle.link_table.specs.declared.links.Link.{Link}
 use Rattle.link_table.specs.Links.{is_link, is_named, is_not_link}
 use Rattle.gateway_state.specs.Gateway.{Gateway}
 use Rattle.gateway_state.specs.Notices.{link_notices, link_notices_of}
-use Rattle.gateway_state.specs.Servers.{channel_dropped, creation_refused, failed_for, gone_for, without_link}
+use Rattle.gateway_state.specs.Servers.{creation_refused, failed_for, without_link}
 use Rattle.gateway_state.specs.Settled.{AreInOrder, HasLinksApart, IsSettled}
 use Rattle.gateway_state.specs.Step.{consequences}
 use Rattle.gateway_state.specs.Variables.{is_connected, is_creating, without_cached}
 use Rattle.gateway_state.proofs.SettledMeaning.{all_in_use, nothing_told}
 use Rattle.gateway_state.proofs.SettledSteps.{settled_stays}
-use Rattle.touched_rows.specs.declared.touched.Touched.TheVariants.{LinksGone, Nothing}
-use Rattle.touched_rows.specs.Touches.{follows, gone_touches, gone_touches_over}
 use Rattle.touched_rows.proofs.Connecting.{creating_unconnected}
 use Rattle.touched_rows.proofs.LinksQuiet.{each_quiet}
 use Rattle.touched_rows.proofs.Passes.{no_reads, no_updates}
@@ -67,7 +65,7 @@ module _ (w : Gateway) (settled : IsSettled w) (order : AreInOrder w) (links_apa
         (each_quiet v x (interest_unseen v settled_v w.connections w.clients.sessions kept w.upstream.counters unseen) (λ name there. there) w.upstream.links (all_in_use v settled_v)
         (nothing_told (link_notices_of v) w.upstream.links settled_v.links)))
 
-    settled_without : IsSettled (without_link server cid w)
+    pub settled_without : IsSettled (without_link server cid w)
     settled_without = settled_unseen v settled_v w.connections w.clients.sessions kept w.upstream.counters unseen (λ number open_to. open_to) quiet
 
   pub nothing_after_refusal : consequences (creation_refused w server cid) ≡ creation_refused w server cid
@@ -80,15 +78,3 @@ module _ (w : Gateway) (settled : IsSettled w) (order : AreInOrder w) (links_apa
       by : (over_link : Option Link) → find (is_link server cid) w.upstream.links ≡ over_link → IsSettled (failed_for server cid over_link w)
       by None is = settled
       by (Some link) is = over link is (is_creating link.state) refl
-
-  pub told_after_dropping : consequences (channel_dropped w server cid) ≡ follows (gone_touches w server cid) (channel_dropped w server cid)
-  told_after_dropping = by (find (is_link server cid) w.upstream.links) refl
-    where
-      over : (link : Link) → find (is_link server cid) w.upstream.links ≡ Some link → (connected : Bool) → is_connected link.state ≡ connected
-          → consequences (without_link server cid w) ≡ follows (cond connected LinksGone Nothing) (without_link server cid w)
-      over link is true connected = refl
-      over link is false connected = settled_stays (without_link server cid w) (settled_without link is connected)
-
-      by : (over_link : Option Link) → find (is_link server cid) w.upstream.links ≡ over_link → consequences (gone_for server cid over_link w) ≡ follows (gone_touches_over over_link) (gone_for server cid over_link w)
-      by None is = settled_stays w settled
-      by (Some link) is = over link is (is_connected link.state) refl

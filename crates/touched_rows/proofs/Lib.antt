@@ -1,3 +1,4 @@
+pub mod Beside
 pub mod Blanked
 pub mod Cleared
 pub mod Connecting
@@ -7,6 +8,7 @@ pub mod Drained
 pub mod Failed
 pub mod Found
 pub mod LessGiven
+pub mod LinkChanged
 pub mod LinksGone
 pub mod LinksQuiet
 pub mod Lost
@@ -14,6 +16,7 @@ pub mod Nothing
 pub mod Numbered
 pub mod Numbers
 pub mod OneLink
+pub mod OneVariable
 pub mod Opened
 pub mod Owing
 pub mod Passes

@@ -25,7 +25,7 @@ use Rattle.link_table.specs.declared.links.LinkState.TheVariants.{Creating, Conn
 use Rattle.link_table.specs.declared.links.Subscription.{Subscription}
 use Rattle.link_table.specs.declared.servers.Server.{Server}
 use Rattle.link_table.specs.declared.writes.WaitingWrite.{WaitingWrite}
-use Rattle.link_table.specs.Links.{has_subscription, is_link, is_named, is_not_link, is_not_of}
+use Rattle.link_table.specs.Links.{has_subscription, is_link, is_named, is_not_of}
 use Rattle.gateway_state.specs.declared.cached.LastMessage.{LastMessage}
 use Rattle.gateway_state.specs.declared.connections.Connection.{Connection}
 use Rattle.gateway_state.specs.declared.event.Dest.TheVariants.{Session as ToSession, Upstream}
@@ -42,16 +42,16 @@ use Rattle.gateway_state.specs.Direct.{direct_effect}
 use Rattle.gateway_state.specs.Gateway.{Gateway}
 use Rattle.gateway_state.specs.Resolution.{is_real, rights_left}
 use Rattle.gateway_state.specs.Rights.{channel_of, lead_in, link_connected, link_rights, rights_of}
-use Rattle.gateway_state.specs.Servers.{channel_dropped, gone_for, is_value, replied, server_said, without_link}
+use Rattle.gateway_state.specs.Servers.{is_value}
 use Rattle.gateway_state.specs.Settled.{IsUpToDate}
 use Rattle.gateway_state.specs.Subscribing.{is_on_sid, new_sub, sub_of, sub_verdict}
 use Rattle.gateway_state.specs.Told.{AreLed, IsLed}
 use Rattle.gateway_state.specs.Updates.{is_taking}
-use Rattle.gateway_state.specs.Variables.{is_creating, link_of}
+use Rattle.gateway_state.specs.Variables.{is_connected, is_creating, link_of}
 use Rattle.gateway_state.proofs.SettledMeaning.{all_up_to_date}
 use Rattle.touched_rows.specs.declared.touched.Touched.{Touched}
-use Rattle.touched_rows.specs.declared.touched.Touched.TheVariants.{All as Everything, LinksGone, Nothing, Session, Value, Interest, Link as LinkOf, Links, Read, Subscription as SubscriptionTo}
-use Rattle.touched_rows.specs.Touches.{cancel_touches_by, clear_touches_by, created_touches_over, event_touches, gone_touches, gone_touches_over, host_touches_over, new_read, read_touches_by, reply_touches, request_touches, rights_touches_over, sub_touches_by, update_touches_over, value_touches}
+use Rattle.touched_rows.specs.declared.touched.Touched.TheVariants.{All as Everything, LinksGone, Nothing, Session, Variable, Value, Interest, Link as LinkOf, Links, Read, Subscription as SubscriptionTo}
+use Rattle.touched_rows.specs.Touches.{cancel_touches_by, clear_touches_by, created_touches_over, event_touches, gone_touches_over, host_touches_over, new_read, read_touches_by, reply_touches, request_touches, rights_touches_over, sub_touches_by, update_touches_over, value_touches}
 use Rattle.touched_rows.proofs.Tidy.{IsTidy}
 
 -- ---- rows that are left
@@ -123,6 +123,7 @@ is_links_gone Everything = false
 is_links_gone LinksGone = true
 is_links_gone Nothing = false
 is_links_gone (Session number) = false
+is_links_gone (Variable name) = false
 is_links_gone (Value name) = false
 is_links_gone (Interest name) = false
 is_links_gone (LinkOf name) = false
@@ -195,29 +196,25 @@ created_leaves (Some link) = elim (is_creating link.state) as (λ t. is_links_go
 
 rights_leaves : (found : Option Link) → is_links_gone (rights_touches_over found) ≡ false
 rights_leaves None = refl
-rights_leaves (Some link) = elim (is_creating link.state) as (λ t. is_links_gone (cond t (Interest link.name) Everything) ≡ false) [ true ↦ refl | false ↦ refl ]
+rights_leaves (Some link) = elim (is_creating link.state) as (λ t. is_links_gone (cond t (Interest link.name) (Variable link.name)) ≡ false) [ true ↦ refl | false ↦ refl ]
+
+gone_leaves : (found : Option Link) → is_links_gone (gone_touches_over found) ≡ false
+gone_leaves None = refl
+gone_leaves (Some link) = elim (is_connected link.state) as (λ t. is_links_gone (cond t (Variable link.name) Nothing) ≡ false) [ true ↦ refl | false ↦ refl ]
+
+reply_leaves : (w : Gateway) (server : ℕ) (reply : Result ServerReply ReplyFault) → is_links_gone (reply_touches w server reply) ≡ false
+reply_leaves w server (Ok (says.Version minor)) = refl
+reply_leaves w server (Ok (says.EventAdd id status dtype count value)) = update_leaves status dtype count value (find (has_subscription server id) w.upstream.links)
+reply_leaves w server (Ok (says.CreateChannel cid sid dtype count)) = created_leaves (find (is_link server cid) w.upstream.links)
+reply_leaves w server (Ok (says.WriteNotify ioid status)) = refl
+reply_leaves w server (Ok (says.AccessRights cid rights)) = rights_leaves (find (is_link server cid) w.upstream.links)
+reply_leaves w server (Ok (says.CreateChannelFail cid)) = refl
+reply_leaves w server (Ok (says.ServerDisconnect cid)) = gone_leaves (find (is_link server cid) w.upstream.links)
+reply_leaves w server (Err fault) = refl
 
 -- ---- names lead where they did
 
 module _ (w : Gateway) (tidy : IsTidy w) where
-  led_after_dropping : (server cid : ℕ) → is_links_gone (gone_touches w server cid) ≡ true → AreLed (channel_dropped w server cid)
-  led_after_dropping server cid = by (find (is_link server cid) w.upstream.links)
-    where
-      by : (found : Option Link) → is_links_gone (gone_touches_over found) ≡ true → AreLed (gone_for server cid found w)
-      by None gone = absurd (true≢false (sym gone))
-      by (Some link) gone = all_led w tidy (is_not_link server cid) w.connections (without_link server cid w).cache w.searches w.upstream.servers w.upstream.writes
-
-  led_after_reply : (server : ℕ) (reply : Result ServerReply ReplyFault) → is_links_gone (reply_touches w server reply) ≡ true → AreLed (replied w server reply)
-  led_after_reply server (Ok (says.Version minor)) gone = absurd (true≢false (sym gone))
-  led_after_reply server (Ok (says.EventAdd id status dtype count value)) gone =
-      absurd (true≢false (sym gone ∙ update_leaves status dtype count value (find (has_subscription server id) w.upstream.links)))
-  led_after_reply server (Ok (says.CreateChannel cid sid dtype count)) gone = absurd (true≢false (sym gone ∙ created_leaves (find (is_link server cid) w.upstream.links)))
-  led_after_reply server (Ok (says.WriteNotify ioid status)) gone = absurd (true≢false (sym gone))
-  led_after_reply server (Ok (says.AccessRights cid rights)) gone = absurd (true≢false (sym gone ∙ rights_leaves (find (is_link server cid) w.upstream.links)))
-  led_after_reply server (Ok (says.CreateChannelFail cid)) gone = absurd (true≢false (sym gone))
-  led_after_reply server (Ok (says.ServerDisconnect cid)) gone = led_after_dropping server cid gone
-  led_after_reply server (Err fault) gone = absurd (true≢false (sym gone))
-
   pub led_after_effect : (event : Event) → is_links_gone (event_touches w event) ≡ true → AreLed (direct_effect w event)
   led_after_effect (Opened number host) gone = absurd (true≢false (sym gone))
   led_after_effect (Lost number) gone = absurd (true≢false (sym gone))
@@ -230,12 +227,11 @@ module _ (w : Gateway) (tidy : IsTidy w) where
   led_after_effect (UpLost number) gone =
       let after : Gateway = direct_effect w (UpLost number) in
       all_led w tidy (is_not_of number) after.connections after.cache w.searches after.upstream.servers after.upstream.writes
-  led_after_effect (FromServer number message) gone = by (acts w (Upstream number)) gone
+  led_after_effect (FromServer number message) gone = absurd (true≢false (sym gone ∙ by (acts w (Upstream number))))
     where
-      by : (acting : Bool) → is_links_gone (cond acting (reply_touches w number (reply_of message.head message.payload)) Nothing) ≡ true
-          → AreLed (cond acting (server_said w number message) w)
-      by true gone = led_after_reply number (reply_of message.head message.payload) gone
-      by false gone = absurd (true≢false (sym gone))
+      by : (acting : Bool) → is_links_gone (cond acting (reply_touches w number (reply_of message.head message.payload)) Nothing) ≡ false
+      by true = reply_leaves w number (reply_of message.head message.payload)
+      by false = refl
   led_after_effect (Found name number) gone = absurd (true≢false (sym gone))
   led_after_effect (Search host name) gone = absurd (true≢false (sym gone))
   led_after_effect Sweep gone = absurd (true≢false (sym gone))

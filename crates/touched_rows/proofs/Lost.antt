@@ -37,7 +37,7 @@ use Rattle.gateway_state.proofs.SettledMeaning.{none_told}
 use Rattle.gateway_state.proofs.SettledSteps.{found_is_on, reads_stay, updates_stay}
 use Rattle.touched_rows.specs.Touched.{is_link_among, link_notices_among, links_told_among}
 use Rattle.touched_rows.specs.Touches.{names_of}
-use Rattle.touched_rows.proofs.Cleared.{left_have, not_so}
+use Rattle.touched_rows.proofs.Cleared.{all_of, left_have, not_so}
 use Rattle.touched_rows.proofs.Drained.{other_session}
 use Rattle.touched_rows.proofs.LessGiven.{is_open, read_on-stays, update_if_open, update_on-stays}
 use Rattle.touched_rows.proofs.OneLink.{IsBesideOthers, links_touched}
@@ -47,10 +47,6 @@ use Rattle.touched_rows.proofs.Sessions.{other_number}
 use Rattle.touched_rows.proofs.Shapes.{links_told_shape}
 use Rattle.touched_rows.proofs.TouchedAlone.{found_holds, found_passes, none_planned}
 use Rattle.touched_rows.proofs.WantedLinks.{SparesWanted, neither, open_no_more, some_spare, values_no_more, wanted_link_kept, wanted_rights_kept}
-
--- what each row has, all have
-all_of : {A : Type 0} (P : A → Type 0) (rows : List A) → ((row : A) → P row) → All P rows
-all_of P rows holds k d within = holds _
 
 -- a variable that isn't among those of the rows that pass
 among_none : (test : Channel → Bool) (name : List ℕ) (rows : List Channel) → is_among (channel_names (filter test rows)) name ≡ false → All (λ (c : Channel). test c ≡ true → is_on name c ≡ false) rows

@@ -66,20 +66,24 @@ pub record IsBesideOthers (w x : Gateway) (touched : List ℕ → Bool) : Type 0
   pub interest : (other : List ℕ) (native : ℕ) → touched other ≡ false → interest_of x other native ≡ interest_of w other native
   pub wanted : (other : List ℕ) → touched other ≡ false → is_wanted x other ≡ is_wanted w other
 
-module _ (w x : Gateway) (touched : List ℕ → Bool) (beside : IsBesideOthers w x touched) where
-  interest_beside : (link : Link) (state : LinkState) → touched link.name ≡ false → interest_notices x link state ≡ interest_notices w link state
-  interest_beside link Creating other = refl
-  interest_beside link Unusable other = refl
-  interest_beside link (Connected sid dtype native) other =
-      let want = beside.interest link.name native other in
-      let minor = beside.minors link.server in
-      λ i. cond (is_for (want i) link.subscription) [] (cancelled link sid dtype link.subscription ++ subscribed (minor i) link sid dtype native (want i))
+-- a link whose variable is wanted as before, and whose readers want what they wanted
+pub link_alike : (w x : Gateway) (link : Link) → ((native : ℕ) → interest_of x link.name native ≡ interest_of w link.name native) → ((server : ℕ) → minor_of x server ≡ minor_of w server)
+    → is_wanted x link.name ≡ is_wanted w link.name → link_notices_of x link ≡ link_notices_of w link
+link_alike w x link interest minors wanted =
+    let first = by link.state in
+    λ i. first i ++ cond (wanted i) [] (Dropped link.server link.cid link.state ∷ [])
+  where
+    by : (state : LinkState) → interest_notices x link state ≡ interest_notices w link state
+    by Creating = refl
+    by Unusable = refl
+    by (Connected sid dtype native) =
+        let want = interest native in
+        let minor = minors link.server in
+        λ i. cond (is_for (want i) link.subscription) [] (cancelled link sid dtype link.subscription ++ subscribed (minor i) link sid dtype native (want i))
 
+module _ (w x : Gateway) (touched : List ℕ → Bool) (beside : IsBesideOthers w x touched) where
   link_beside : (link : Link) → touched link.name ≡ false → link_notices_of x link ≡ link_notices_of w link
-  link_beside link other =
-      let first = interest_beside link link.state other in
-      let wanted = beside.wanted link.name other in
-      λ i. first i ++ cond (wanted i) [] (Dropped link.server link.cid link.state ∷ [])
+  link_beside link other = link_alike w x link (λ native. beside.interest link.name native other) beside.minors (beside.wanted link.name other)
 
   -- links of variables that weren't touched have no notice
   pub others_quiet : IsSettled w → All (λ (link : Link). touched link.name ≡ false → link_notices_of x link ≡ []) w.upstream.links

@@ -16,18 +16,18 @@ use Rattle.gateway_state.specs.Notices.{link_told, read_notice, read_told}
 use Rattle.gateway_state.specs.Reached.{IsReached}
 use Rattle.gateway_state.specs.Rights.{rights_of}
 use Rattle.gateway_state.specs.Searches.{leads_to}
-use Rattle.gateway_state.specs.Settled.{HasCidsInOrder}
+use Rattle.gateway_state.specs.Settled.{AreInOrder}
 use Rattle.gateway_state.specs.Step.{step}
 use Rattle.gateway_state.specs.Telling.{sent, told}
 use Rattle.gateway_state.specs.Told.{AreLed, AreTold, IsTold}
-use Rattle.gateway_state.specs.Updates.{is_taking, update_notice, update_told, with_owed_of}
+use Rattle.gateway_state.specs.Updates.{is_taking, owed_to_all, update_notice, update_told, with_owed_of}
 use Rattle.gateway_state.specs.Variables.{is_on, is_wanted, link_of}
 use Rattle.gateway_state.proofs.OrderKept.{order_after_effect}
 use Rattle.gateway_state.proofs.ReachedStates.{reached_step}
 use Rattle.gateway_state.proofs.ToldRights.{reached_told}
 use Rattle.touched_rows.specs.declared.touched.Touched.{Touched}
-use Rattle.touched_rows.specs.declared.touched.Touched.TheVariants.{All as Everything, LinksGone, Nothing, Session, Value, Interest, Link as LinkOf, Links, Read, Subscription as SubscriptionTo}
-use Rattle.touched_rows.specs.Touched.{interest_notices_over, interest_told, is_link_among, link_notices_among, link_notices_over, one_read_told, one_update_told, read_notices_on, read_told_if, reads_told_on, update_notices_on, update_notices_to, update_told_if}
+use Rattle.touched_rows.specs.declared.touched.Touched.TheVariants.{All as Everything, LinksGone, Nothing, Session, Variable, Value, Interest, Link as LinkOf, Links, Read, Subscription as SubscriptionTo}
+use Rattle.touched_rows.specs.Touched.{channel_notices_on, channels_told_on, interest_notices_over, interest_told, is_link_among, link_notices_among, link_notices_over, link_told_on, one_read_told, one_update_told, read_notices_on, read_told_if, reads_told_on, update_notices_on, update_notices_to, update_told_if, updates_told_on, updates_withheld_on, withheld_on}
 use Rattle.touched_rows.specs.Touches.{IsReady, event_touches, follows}
 use Rattle.touched_rows.proofs.LinksGone.{is_links_gone, led_after_effect}
 use Rattle.touched_rows.proofs.Shapes.{links_told_shape, reads_told_shape}
@@ -35,6 +35,11 @@ use Rattle.touched_rows.proofs.Tellings.{interest_keeps, keeps_links, less_links
 use Rattle.touched_rows.proofs.Tidy.{reached_tidy}
 use Rattle.touched_rows.proofs.ToldAlone.{step_alone}
 use Rattle.touched_rows.proofs.WantedLinks.{SparesWanted, one_spares, some_spare, wanted_rights_kept}
+use Rattle.channel_table.specs.declared.subs.ClientSub.{ClientSub}
+use Rattle.gateway_state.proofs.SettledWithheld.{owing_changed}
+use Rattle.gateway_state.proofs.Kept.{kept_owed_to_all}
+use Rattle.gateway_state.proofs.KeptByRuns.{kept_channels}
+use Rattle.gateway_state.proofs.InOrder.{in_order_kept}
 
 -- ---- the same channels, with the same rights
 
@@ -101,21 +106,27 @@ module _ (x : Gateway) (notices : List LinkNotice) (spares : SparesWanted x noti
   abbrev after : Gateway
   after = fold link_told x notices
 
-  each_back : (channels : List Channel) → ((name : List ℕ) → list_any (is_on name) channels ≡ true → is_wanted x name ≡ true) → All (IsTold after) channels
-      → All (IsTold x) channels
-  each_back [] wanted told = All-nil (IsTold x)
-  each_back (c ∷ channels) wanted told =
+  abbrev AreWanted : List Channel → Type 0
+  AreWanted channels = (name : List ℕ) → list_any (is_on name) channels ≡ true → is_wanted x name ≡ true
+
+  each_kept : (channels : List Channel) → AreWanted channels → All (λ (c : Channel). rights_of after c ≡ rights_of x c) channels
+  each_kept [] wanted = All-nil (λ (c : Channel). rights_of after c ≡ rights_of x c)
+  each_kept (c ∷ channels) wanted =
       let here : is_wanted x c.real ≡ true = wanted c.real (ap (λ (t : Bool). t || list_any (is_on c.real) channels) ((bytes_eq-Decides c.real c.real).1 refl)) in
-      let others : (name : List ℕ) → list_any (is_on name) channels ≡ true → is_wanted x name ≡ true =
-      λ name there. wanted name (elim (is_on name c) as (λ t. (t || list_any (is_on name) channels) ≡ true) [ true ↦ refl | false ↦ there ]) in
-      All-cons (IsTold x) c channels (All-head (IsTold after) c channels told ∙ wanted_rights_kept x notices spares c here)
-      (each_back channels others (All-tail (IsTold after) c channels told))
+      let others : AreWanted channels = λ name there. wanted name (elim (is_on name c) as (λ t. (t || list_any (is_on name) channels) ≡ true) [ true ↦ refl | false ↦ there ]) in
+      All-cons (λ (row : Channel). rights_of after row ≡ rights_of x row) c channels (wanted_rights_kept x notices spares c here) (each_kept channels others)
+
+  rights_kept : All (λ (c : Channel). rights_of after c ≡ rights_of x c) x.clients.channels
+  rights_kept = each_kept x.clients.channels (λ name there. ap (λ (t : Bool). t || list_any (leads_to x.policy name) x.searches) there)
+
+  same_channels : after.clients.channels ≡ x.clients.channels
+  same_channels = ap (λ (v : Gateway). v.clients.channels) (links_told_shape notices x)
 
   links_back : AreTold after → AreTold x
-  links_back told =
-      let same : after.clients.channels ≡ x.clients.channels = ap (λ (v : Gateway). v.clients.channels) (links_told_shape notices x) in
-      each_back x.clients.channels (λ name there. ap (λ (t : Bool). t || list_any (leads_to x.policy name) x.searches) there)
-      (subst (λ (channels : List Channel). All (IsTold after) channels) same told)
+  links_back told k d within = subst (λ (channels : List Channel). All (IsTold after) channels) same_channels told k d within ∙ rights_kept k d within
+
+  links_on : AreTold x → AreTold after
+  links_on told = subst (λ (channels : List Channel). All (IsTold after) channels) (sym same_channels) (λ k d within. told k d within ∙ sym (rights_kept k d within))
 
 -- ---- what is told rests on what was told before
 
@@ -127,20 +138,41 @@ alike_update_if : (found : Option UpdateNotice) (w : Gateway) → AreAlike w (up
 alike_update_if None w = record { channels = refl; rights = λ c. refl }
 alike_update_if (Some notice) w = alike_update w notice
 
-back : (touched : Touched) (x : Gateway) → HasCidsInOrder x → (is_links_gone touched ≡ true → AreLed x) → AreTold (follows touched x) → IsReady touched x
+alike_held : (subs : List ClientSub) (w : Gateway) → AreAlike w (owed_to_all w subs)
+alike_held subs w = record {
+  channels = ap (λ (v : Gateway). v.clients.channels) (owing_changed subs w);
+  rights = λ c. ap (λ (v : Gateway). rights_of v c) (owing_changed subs w);
+}
+
+-- numbers are in order where a variable's link is told
+pub order_before_link : (name : List ℕ) (x : Gateway) → AreInOrder x → AreInOrder (updates_withheld_on name (channels_told_on name x))
+order_before_link name x order =
+    let told : Gateway = channels_told_on name x in
+    kept_owed_to_all AreInOrder in_order_kept.rows (withheld_on name told) told (kept_channels AreInOrder in_order_kept.rows (channel_notices_on name x) x order)
+
+back : (touched : Touched) (x : Gateway) → AreInOrder x → (is_links_gone touched ≡ true → AreLed x) → AreTold (follows touched x) → IsReady touched x
 back Everything x order led told = record {}
 back LinksGone x order led told = led refl
 back Nothing x order led told = record {}
 back (Session number) x order led told = told_back x (follows (Session number) x) (alike_updates (update_notices_to number x) x) told
+back (Variable name) x order led told =
+    let first : Gateway = channels_told_on name x in
+    let held : Gateway = updates_withheld_on name first in
+    let linked : Gateway = link_told_on name held in
+    let read : Gateway = reads_told_on name linked in
+    let end : Gateway = updates_told_on name read in
+    told_back first held (alike_held (withheld_on name first) first)
+    (links_back held (link_notices_over held (link_of held name)) (one_spares held held.upstream.counters.cid (order_before_link name x order).links name)
+    (told_back linked end (alike_after linked read end (alike_reads (read_notices_on name linked) linked) (alike_updates (update_notices_on name read) read)) told))
 back (Value name) x order led told =
     let read : Gateway = reads_told_on name x in
     told_back x (follows (Value name) x)
     (alike_after x read (follows (Value name) x) (alike_reads (read_notices_on name x) x) (alike_updates (update_notices_on name read) read)) told
 back (Interest name) x order led told = told_back x (interest_told name x) (alike_interest name x) told
 back (LinkOf name) x order led told =
-    links_back x (link_notices_over x (link_of x name)) (one_spares x x.upstream.counters.cid order name) told
+    links_back x (link_notices_over x (link_of x name)) (one_spares x x.upstream.counters.cid order.links name) told
 back (Links names) x order led told =
-    links_back x (link_notices_among names x) (some_spare x x.upstream.counters.cid order (is_link_among names)) told
+    links_back x (link_notices_among names x) (some_spare x x.upstream.counters.cid order.links (is_link_among names)) told
 back (Read name read) x order led told =
     let v : Gateway = interest_told name x in
     told_back x (one_read_told read v) (alike_after x v (one_read_told read v) (alike_interest name x) (alike_read_if (read_notice v read) v)) told
@@ -151,7 +183,7 @@ back (SubscriptionTo name sub) x order led told =
 -- after an event's direct effect clients know their rights, where what follows rests on that
 pub ready_after_effect : (w : Gateway) (event : Event) → IsReached w → IsReady (event_touches w event) (direct_effect w event)
 ready_after_effect w event reached =
-    back (event_touches w event) (direct_effect w event) (order_after_effect w event reached).links (led_after_effect w (reached_tidy w reached) event)
+    back (event_touches w event) (direct_effect w event) (order_after_effect w event reached) (led_after_effect w (reached_tidy w reached) event)
     (subst AreTold (step_alone w event reached) (reached_told (step w event) (reached_step w event reached)))
 
 -- the same of what it is said to touch and to leave
@@ -165,3 +197,9 @@ told_after_reads name x told = told_on x (reads_told_on name x) (alike_reads (re
 
 pub told_after_interest : (name : List ℕ) (x : Gateway) → AreTold x → AreTold (interest_told name x)
 told_after_interest name x told = told_on x (interest_told name x) (alike_interest name x) told
+
+pub told_after_withheld : (name : List ℕ) (x : Gateway) → AreTold x → AreTold (updates_withheld_on name x)
+told_after_withheld name x told = told_on x (updates_withheld_on name x) (alike_held (withheld_on name x) x) told
+
+pub told_after_link : (name : List ℕ) (x : Gateway) → AreInOrder x → AreTold x → AreTold (link_told_on name x)
+told_after_link name x order told = links_on x (link_notices_over x (link_of x name)) (one_spares x x.upstream.counters.cid order.links name) told

@@ -25,12 +25,13 @@ use Rattle.fanout.specs.declared.outbox.Out.{Out}
 use Rattle.rows.specs.Rows.{change_first}
 use Rattle.ca_message.specs.declared.to_server.ToServer.TheVariants as requests
 use Rattle.gateway_state.proofs.SettledSteps.{settled_stays}
-use Rattle.touched_rows.specs.declared.touched.Touched.TheVariants.{All, Nothing, Value, Interest}
+use Rattle.touched_rows.specs.declared.touched.Touched.TheVariants.{Nothing, Variable, Value, Interest}
 use Rattle.touched_rows.specs.Touches.{created_touches, created_touches_over, follows, reply_touches, rights_touches, rights_touches_over, update_touches, update_touches_over, value_touches}
 use Rattle.touched_rows.specs.Touched.{interest_told}
 use Rattle.touched_rows.proofs.Connecting.{told_after_connecting}
 use Rattle.touched_rows.proofs.Connections.{no_more_room_given}
-use Rattle.touched_rows.proofs.Failed.{nothing_after_refusal, told_after_dropping}
+use Rattle.touched_rows.proofs.Failed.{nothing_after_refusal}
+use Rattle.touched_rows.proofs.LinkChanged.{told_after_dropping, told_after_rights}
 use Rattle.touched_rows.proofs.Nothing.{nothing_after_failure, nothing_after_reply}
 use Rattle.touched_rows.proofs.Searched.{nothing_after_server_version}
 use Rattle.touched_rows.proofs.Tidy.{IsTidy}
@@ -105,9 +106,9 @@ module _ (w : Gateway) (tidy : IsTidy w) where
   told_rights server cid rights = by (find (is_link server cid) w.upstream.links) refl
     where
       over : (link : Link) → find (is_link server cid) w.upstream.links ≡ Some link → (creating : Bool) → is_creating link.state ≡ creating
-          → consequences (with_link_state server cid link.state rights w) ≡ follows (cond creating (Interest link.name) All) (with_link_state server cid link.state rights w)
+          → consequences (with_link_state server cid link.state rights w) ≡ follows (cond creating (Interest link.name) (Variable link.name)) (with_link_state server cid link.state rights w)
       over link is true creating = told_changed server cid link is creating link.state rights
-      over link is false creating = refl
+      over link is false creating = told_after_rights w tidy server cid link is rights
 
       by : (found : Option Link) → find (is_link server cid) w.upstream.links ≡ found
           → consequences (rights_given server cid rights found w) ≡ follows (rights_touches_over found) (rights_given server cid rights found w)
@@ -121,5 +122,5 @@ module _ (w : Gateway) (tidy : IsTidy w) where
   told_reply server (Ok (says.WriteNotify ioid status)) = settled_stays _ (settled_ended w tidy.settled server ioid status (find (is_write server ioid) w.upstream.writes))
   told_reply server (Ok (says.AccessRights cid rights)) = told_rights server cid rights
   told_reply server (Ok (says.CreateChannelFail cid)) = nothing_after_refusal w tidy.settled tidy.order tidy.links_apart server cid
-  told_reply server (Ok (says.ServerDisconnect cid)) = told_after_dropping w tidy.settled tidy.order tidy.links_apart server cid
+  told_reply server (Ok (says.ServerDisconnect cid)) = told_after_dropping w tidy server cid
   told_reply server (Err fault) = settled_stays w tidy.settled

@@ -5,14 +5,24 @@ use Rattle.channel_table.specs.declared.reads.WaitingRead.{WaitingRead}
 use Rattle.channel_table.specs.declared.subs.ClientSub.{ClientSub}
 use Rattle.channel_table.specs.Subs.{is_sub_of}
 use Rattle.link_table.specs.declared.links.Link.{Link}
+use Rattle.gateway_state.specs.declared.notice.ChannelNotice.{ChannelNotice}
 use Rattle.gateway_state.specs.declared.notice.LinkNotice.{LinkNotice}
 use Rattle.gateway_state.specs.declared.notice.ReadNotice.{ReadNotice}
 use Rattle.gateway_state.specs.declared.notice.UpdateNotice.{UpdateNotice}
 use Rattle.gateway_state.specs.Gateway.{Gateway}
-use Rattle.gateway_state.specs.Notices.{interest_notices, link_notices_of, link_told, read_notice, read_told}
+use Rattle.gateway_state.specs.Notices.{channel_notice, channel_told, interest_notices, link_notices_of, link_told, read_notice, read_told}
 use Rattle.gateway_state.specs.Servers.{waits_for}
-use Rattle.gateway_state.specs.Updates.{is_sub_to, update_notice, update_told}
-use Rattle.gateway_state.specs.Variables.{is_among, link_of}
+use Rattle.gateway_state.specs.Updates.{is_sub_to, is_withheld, owed_to_all, update_notice, update_told}
+use Rattle.gateway_state.specs.Variables.{is_among, is_on, link_of}
+
+-- CHANNELS
+
+abbrev pub channel_notices_on : List ℕ → Gateway → List ChannelNotice
+channel_notices_on name w = filter_map (channel_notice w) (filter (is_on name) w.clients.channels)
+
+-- on one variable, in the order of adding
+abbrev pub channels_told_on : List ℕ → Gateway → Gateway
+channels_told_on name w = fold channel_told w (channel_notices_on name w)
 
 -- LINKS
 
@@ -61,6 +71,13 @@ one_read_told read w = read_told_if (read_notice w read) w
 
 -- UPDATES
 
+abbrev pub withheld_on : List ℕ → Gateway → List ClientSub
+withheld_on name w = filter (is_withheld w) (filter (is_sub_to w name) w.clients.subs)
+
+-- subscriptions to one variable are owed the latest value as long as their channels may not be read
+abbrev pub updates_withheld_on : List ℕ → Gateway → Gateway
+updates_withheld_on name w = owed_to_all w (withheld_on name w)
+
 abbrev pub update_notices_on : List ℕ → Gateway → List UpdateNotice
 update_notices_on name w = filter_map (update_notice w) (filter (is_sub_to w name) w.clients.subs)
 
@@ -82,3 +99,10 @@ update_told_if (Some notice) w = update_told w notice
 -- to one subscription
 abbrev pub one_update_told : ClientSub → Gateway → Gateway
 one_update_told sub w = update_told_if (update_notice w sub) w
+
+-- ALL ON ONE VARIABLE
+
+-- its channels, its link, the reads that wait for it and the subscriptions to it, pass by pass
+abbrev pub variable_told : List ℕ → Gateway → Gateway
+variable_told name w =
+    updates_told_on name (reads_told_on name (link_told_on name (updates_withheld_on name (channels_told_on name w))))

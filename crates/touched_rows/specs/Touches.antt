@@ -41,8 +41,8 @@ use Rattle.gateway_state.specs.Told.{AreLed, AreTold}
 use Rattle.gateway_state.specs.Updates.{is_taking}
 use Rattle.gateway_state.specs.Variables.{channel_names, is_connected, is_creating, search_names}
 use Rattle.touched_rows.specs.declared.touched.Touched.{Touched}
-use Rattle.touched_rows.specs.declared.touched.Touched.TheVariants.{All, LinksGone, Nothing, Session, Value, Interest, Link as LinkOf, Links, Read, Subscription as SubscriptionTo}
-use Rattle.touched_rows.specs.Touched.{interest_told, link_told_on, links_told_among, one_read_told, one_update_told, reads_told_on, updates_told_on, updates_told_to}
+use Rattle.touched_rows.specs.declared.touched.Touched.TheVariants.{All, LinksGone, Nothing, Session, Variable, Value, Interest, Link as LinkOf, Links, Read, Subscription as SubscriptionTo}
+use Rattle.touched_rows.specs.Touched.{channels_told_on, interest_told, link_told_on, links_told_among, one_read_told, one_update_told, reads_told_on, updates_told_on, updates_told_to, variable_told}
 
 -- what follows where no more than this was touched
 abbrev pub follows : Touched → Gateway → Gateway
@@ -50,6 +50,7 @@ follows All w = consequences w
 follows LinksGone w = consequences w
 follows Nothing w = w
 follows (Session number) w = updates_told_to number w
+follows (Variable name) w = variable_told name w
 follows (Value name) w = updates_told_on name (reads_told_on name w)
 follows (Interest name) w = interest_told name w
 follows (LinkOf name) w = link_told_on name w
@@ -58,12 +59,14 @@ follows (Read name read) w = one_read_told read (interest_told name w)
 follows (SubscriptionTo name sub) w = one_update_told sub (interest_told name w)
 
 -- what tells these alone rests on that clients know their rights; where all was touched, it tells them
--- first, and where links are gone, it tells those whose channels went with them
+-- first, where links are gone, it tells those whose channels went with them, and where a variable was, those
+-- who have channels on it
 abbrev pub IsReady : Touched → Gateway → Type 0
 IsReady All w = Unit {0}
 IsReady LinksGone w = AreLed w
 IsReady Nothing w = Unit {0}
 IsReady (Session number) w = AreTold w
+IsReady (Variable name) w = AreTold (channels_told_on name w)
 IsReady (Value name) w = AreTold w
 IsReady (Interest name) w = AreTold w
 IsReady (LinkOf name) w = AreTold w
@@ -174,7 +177,7 @@ created_touches w server cid = created_touches_over (find (is_link server cid) w
 
 abbrev pub rights_touches_over : Option Link → Touched
 rights_touches_over None = Nothing
-rights_touches_over (Some link) = if is_creating link.state then Interest link.name else All
+rights_touches_over (Some link) = if is_creating link.state then Interest link.name else Variable link.name
 
 -- rights on such a channel; those on a channel that is there concern all who use it
 abbrev pub rights_touches : Gateway → ℕ → ℕ → Touched
@@ -182,7 +185,7 @@ rights_touches w server cid = rights_touches_over (find (is_link server cid) w.u
 
 abbrev pub gone_touches_over : Option Link → Touched
 gone_touches_over None = Nothing
-gone_touches_over (Some link) = if is_connected link.state then LinksGone else Nothing
+gone_touches_over (Some link) = if is_connected link.state then Variable link.name else Nothing
 
 -- a channel that a server drops concerns all who use it, where it was connected
 abbrev pub gone_touches : Gateway → ℕ → ℕ → Touched

@@ -15,6 +15,9 @@ pub enum Touched {
     Nothing,
     /// Updates to the subscriptions of this session, which may have room for them now.
     Session(u32),
+    /// Anything, to those who use this variable, whose link may be gone or have other rights: that their
+    /// channels are gone or what they may do with them, and what follows from that.
+    Variable(Name),
     /// Answers to the reads that wait for this variable, and updates to its subscriptions.
     Value(Name),
     /// What the readers of this variable want together, to its server.

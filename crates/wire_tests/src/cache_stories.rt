@@ -84,6 +84,21 @@ keep 5 0
 > 1
 ask 5 0
 > 1 in 0000002b 00000000
+# All who ask for an encoding that is kept share it, until the next value.
+hold 19 1 1: 00000000 3b9aca00 00000000 0000002a
+shares 5 1
+> false
+keep 5 1
+> 1
+shares 5 1
+> true
+shares 5 1
+> true
+shares 12 1
+> false
+hold 19 1 1: 00000000 3b9aca01 00000000 0000002b
+shares 5 1
+> false
 # Of nine encodings the first one goes, and is kept as the last one again.
 hold 19 1 9: 00000000 3b9aca01 00000000 0000002b
 keep 5 1

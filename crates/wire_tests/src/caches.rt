@@ -4,6 +4,7 @@
 //!   for; answered only if it is refused;
 //! - `ask TYPE COUNT`: how many elements are given, and their payload; or `none`;
 //! - `keep TYPE COUNT`: how many encodings are kept then;
+//! - `shares TYPE COUNT`: whether the payload that is given is kept beside;
 //! - `covers COUNT`: whether so many are;
 //! - `alarm TYPE COUNT: BYTES`: whether the alarm of this message is another;
 //! - `forget`.
@@ -17,6 +18,7 @@ pub(crate) fn call(cached: &mut Cached, verb: &str, call: &Call, told: &mut Told
         "hold" => hold(cached, call, told),
         "ask" => ask(cached, call, told),
         "keep" => keep(cached, call, told),
+        "shares" => shares(cached, call, told),
         "covers" => told.line(&cached.covers(call.number(0))),
         "alarm" => match View::new(call.short(0), call.number(1), &call.bytes) {
             Ok(view) => told.line(&cached.alarm_differs(&view)),
@@ -53,6 +55,14 @@ fn ask(cached: &Cached, call: &Call, told: &mut Told) {
 fn keep(cached: &mut Cached, call: &Call, told: &mut Told) {
     match cached.keep(call.alloc, call.short(0), call.number(1)) {
         Ok(()) => told.line(&cached.kept()),
+        Err(_) => told.line(&"out of memory"),
+    }
+}
+
+fn shares(cached: &Cached, call: &Call, told: &mut Told) {
+    match cached.answer(call.alloc, call.short(0), call.number(1)) {
+        Ok(Some((_, payload))) => told.line(&!payload.is_unique()),
+        Ok(None) => told.line(&"none"),
         Err(_) => told.line(&"out of memory"),
     }
 }

@@ -158,6 +158,42 @@ server-write-notify 101 0 1 20 1: 41424300 58*36
     )
 }
 
+// A payload that is already what is handed on is handed on itself.
+#[test]
+fn handed_on_without_a_copy(rt: HostRuntime) -> Result<(), Fail> {
+    tells(
+        &rt,
+        rt.alloc(),
+        "\
+hand-on 101 5 1 20: 00000007 00000000
+> shared 00000007 00000000
+hand-on 101 6 2 20: 4045000000000000 4046000000000000
+> shared 40450000 00000000 40460000 00000000
+hand-on 101 4 3 20: 01020300 00000000
+> shared 01020300 00000000
+hand-on 101 0 2 20: 58*80
+> shared 58*80
+hand-on 101 0 1 20: 58*40
+> shared 58*40
+hand-on 101 0 1 20: 414243 00*37
+> shared 414243 00*37
+# Padding that isn't zero, too little of it, and too much; bytes behind a text.
+hand-on 101 5 1 20: 00000007 00000001
+> copied 00000007 00000000
+hand-on 101 5 1 20: 00000007
+> copied 00000007 00000000
+hand-on 101 5 1 20: 00000007 00000000 00000000 00000000
+> copied 00000007 00000000
+hand-on 101 0 1 20: 414243 00 58 00*35
+> copied 414243 00*37
+hand-on 101 0 1 20: 414243 00*5
+> copied 414243 00*37
+hand-on 101 5 3 2: 00000007 00000000
+> BadCount 176
+",
+    )
+}
+
 // Forty bytes of text need no NUL, and of more than one STRING all bytes are handed on.
 #[test]
 fn long_texts(rt: HostRuntime) -> Result<(), Fail> {

@@ -36,7 +36,7 @@ impl Wire {
             "feed" | "take" | "drip" | "cut" | "refusals" => {
                 streams::call(&mut self.intake, verb, call, told);
             }
-            "hold" | "ask" | "keep" | "covers" | "alarm" | "forget" => {
+            "hold" | "ask" | "keep" | "shares" | "covers" | "alarm" | "forget" => {
                 caches::call(&mut self.cached, verb, call, told);
             }
             "append" | "mark" | "length" | "front" | "empty" => {
@@ -91,6 +91,8 @@ fn send(verb: &str, call: &Call, told: &mut Told) -> bool {
         to_clients::reread(kind, call, told);
     } else if let Some(kind) = verb.strip_prefix("reread-server-") {
         to_servers::reread(kind, call, told);
+    } else if verb == "hand-on" {
+        to_servers::hand_on(call, told);
     } else {
         return false;
     }

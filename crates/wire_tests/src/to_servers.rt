@@ -4,11 +4,18 @@
 //! - `server-version`, `server-user: NAME`, `server-host: NAME`, each name with its NUL;
 //! - `server-create CID: NAME`, `server-clear SID CID`;
 //! - `server-subscribe SID ID TYPE COUNT MASK`, `server-cancel SID ID TYPE COUNT`;
-//! - `server-write SID TYPE COUNT NATIVE: VALUE`, `server-write-notify SID TYPE COUNT NATIVE IOID: VALUE`.
+//! - `server-write SID TYPE COUNT NATIVE: VALUE`, `server-write-notify SID TYPE COUNT NATIVE IOID: VALUE`;
+//! - `hand-on SID TYPE COUNT NATIVE: VALUE`: a client's WRITE with this payload, which may be shared:
+//!   whether it is handed on itself (`shared`) or in a copy (`copied`), and the payload that is handed on.
 use crate::messages::tell;
 use crate::to_clients::tell_sent;
 use crate::words::{Call, Told};
-use ca_message::{NameText, ToServer, WriteFault, WrittenValue, read_request};
+use bytes::Bytes;
+use ca_header::{Header, Message};
+use ca_message::commands::CA_PROTO_WRITE;
+use ca_message::{
+    ClientRequest, NameText, ToServer, WriteFault, WrittenValue, read_message, read_request,
+};
 
 pub(crate) fn call(kind: &str, call: &Call, told: &mut Told) {
     if let Some(message) = message(kind, call, told) {
@@ -89,4 +96,59 @@ fn with_value<'a>(kind: &str, call: &'a Call, told: &mut Told) -> Option<ToServe
 fn tell_refused(fault: WriteFault, told: &mut Told) {
     told.name(&fault);
     told.line(&fault.code());
+}
+
+pub(crate) fn hand_on(call: &Call, told: &mut Told) {
+    match Bytes::copy_from_slice(call.alloc, &call.bytes) {
+        Ok(payload) => hand_on_write(&write_with(call, payload), call, told),
+        Err(_) => told.line(&"out of memory"),
+    }
+}
+
+fn write_with(call: &Call, payload: Bytes) -> Message {
+    let head = Header {
+        command: CA_PROTO_WRITE,
+        dtype: call.short(1),
+        p1: call.number(0),
+        p2: 0,
+        count: call.number(2),
+        size: 0,
+    };
+    Message { head, payload }
+}
+
+fn hand_on_write(message: &Message, call: &Call, told: &mut Told) {
+    match read_message(message) {
+        Ok(
+            ClientRequest::Write {
+                sid,
+                dtype,
+                count,
+                value,
+            },
+        ) => match WrittenValue::of(dtype, count, call.number(3), &value) {
+            Ok(value) => tell_handed_on(
+                &ToServer::Write { sid, value },
+                &message.payload,
+                call,
+                told,
+            ),
+            Err(fault) => tell_refused(fault, told),
+        },
+        _ => told.line(&"no write"),
+    }
+}
+
+fn tell_handed_on(message: &ToServer<'_>, payload: &Bytes, call: &Call, told: &mut Told) {
+    match message.payload(call.alloc) {
+        Ok(sent) => {
+            told.word(&if payload.is_unique() {
+                "copied"
+            } else {
+                "shared"
+            });
+            told.bytes(sent.as_slice());
+        }
+        Err(_) => told.line(&"out of memory"),
+    }
 }

@@ -1,10 +1,11 @@
-use Rattle.std.proofs.Common.{◌≡◌, ◌++◌, drop}
+use Rattle.std.proofs.Common.{◌≡◌, ◌≤◌, ◌+◌, ◌++◌, drop, length}
 use Rattle.std.specs.List.{filter_map}
 use Rattle.gateway_state.specs.Notices.{read_notice}
 use Rattle.touched_rows.specs.Touched.{read_notices_on}
 use Rattle.gateway_notices.proofs.reads.read_notices_on.Given as goal
 
--- the notices so far and those on the reads that are left are all
+-- the notices so far and those on the reads that are left are all, with a look for each that was passed
 abbrev pub invariant-loop-read : goal.invariant-loop-read
 invariant-loop-read l =
-    l.notices.items ++ filter_map (read_notice l.rows) (drop l.read-index l.read-items) ≡ read_notices_on l.name l.rows
+    (l.notices.items ++ filter_map (read_notice l.rows) (drop l.read-index l.read-items) ≡ read_notices_on l.name l.rows)
+    × (l.visits ≤ l.fn.visits + length l.read-items + l.read-index)

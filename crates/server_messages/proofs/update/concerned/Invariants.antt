@@ -1,8 +1,9 @@
-use Rattle.std.proofs.Common.{◌≡◌, ◌++◌, filter, drop}
+use Rattle.std.proofs.Common.{◌≡◌, ◌≤◌, ◌++◌, filter, drop, length}
 use Rattle.gateway_state.specs.Updates.{concerned, is_concerned}
 use Rattle.server_messages.proofs.update.concerned.Given as goal
 
--- those found so far and those among the subscriptions that are left are all
+-- those found so far and those among the subscriptions that are left are all, and no more than were passed
 abbrev pub invariant-loop-sub : goal.invariant-loop-sub
 invariant-loop-sub l =
-    l.subs.items ++ filter (is_concerned l.differs) (drop l.sub-index l.sub-items) ≡ concerned l.rows l.name l.differs
+    (l.subs.items ++ filter (is_concerned l.differs) (drop l.sub-index l.sub-items) ≡ concerned l.rows l.name l.differs)
+    × (length l.subs.items ≤ l.sub-index)

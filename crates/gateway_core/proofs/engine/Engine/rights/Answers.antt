@@ -1,5 +1,6 @@
 use Rattle.std.proofs.Common.{◌≡◌, Some, sym, ap, ◌∙◌}
 use Rattle.std.specs.Option.{option_map}
+use Rattle.gateway_core.specs.EngineState.{EngineState}
 use Rattle.gateway_state.specs.Gateway.{Gateway}
 use Rattle.gateway_state.specs.Rights.{rights_asked}
 use Rattle.gateway_state.proofs.ReachedStates.{told_rights_hold}
@@ -9,5 +10,5 @@ use Rattle.gateway_core.proofs.engine.Engine.rights.Goals as goal
 pub returns-clause-found : goal.returns-clause-found
 returns-clause-found c =
     let told = told_rights_hold c.in-Some.rows c.args.session c.args.sid (c.self.invariant c.in-Some.rows c.in-Some.is) in
-    let held : Some c.in-Some.rows ≡ c.args.self.now = sym c.in-Some.is ∙ c.self.view_is in
+    let held : Some c.in-Some.rows ≡ c.args.self.now.state = sym c.in-Some.is ∙ ap (λ (e : EngineState). e.state) c.self.view_is in
     ap Some (c.rights_told.ensures ∙ told) ∙ ap (option_map (λ (w : Gateway). rights_asked w c.args.session c.args.sid)) held

@@ -7,9 +7,9 @@ use Rattle.gateway_core.proofs.engine.Engine.run.Given as goal
 -- running what is left goes on from here to where running all of it would
 abbrev pub invariant-loop-event : goal.invariant-loop-event
 invariant-loop-event l = record {
-  standing : IsSome l.self;
-  numbers : option_map (λ w. runs_out w l.left.items) l.self ≡ option_map (λ w. runs_out w l.fn.events.items) l.fn.self;
-  rest : option_map (λ w. run w l.left.items) l.self ≡ option_map (λ w. run w l.fn.events.items) l.fn.self;
+  standing : IsSome l.self.state;
+  numbers : option_map (λ w. runs_out w l.left.items) l.self.state ≡ option_map (λ w. runs_out w l.fn.events.items) l.fn.self.state;
+  rest : option_map (λ w. run w l.left.items) l.self.state ≡ option_map (λ w. run w l.fn.events.items) l.fn.self.state;
 }
 
 abbrev pub decreases-loop-event : goal.decreases-loop-event

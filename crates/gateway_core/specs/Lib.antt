@@ -1,0 +1,2 @@
+pub mod EngineState
+pub mod Looks

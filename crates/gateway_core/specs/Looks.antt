@@ -1,0 +1,31 @@
+-- How many rows of clients an event may look at.
+use Rattle.std.specs.Prelude.{ℕ, ◌+◌, ◌*◌, Result, Ok, Err, Option, Some, None}
+use Rattle.std.specs.List.{find}
+use Rattle.ca_message.specs.declared.reply.ReplyFault.{ReplyFault}
+use Rattle.ca_message.specs.declared.reply.ServerReply.{ServerReply}
+use Rattle.ca_message.specs.declared.reply.ServerReply.TheVariants as says
+use Rattle.ca_message.specs.ServerReply.{reply_of}
+use Rattle.gateway_rows.specs.Own.{own_over}
+use Rattle.gateway_state.specs.declared.event.Event.{Event}
+use Rattle.gateway_state.specs.declared.event.Event.TheVariants as events
+use Rattle.gateway_state.specs.Gateway.{Gateway}
+use Rattle.link_table.specs.Links.{has_subscription}
+use Rattle.server_messages.specs.Looks.{reply_looks}
+
+-- by itself
+abbrev pub direct_looks : Gateway → Event → Option ℕ
+direct_looks w (events.Client number message) = Some 4
+direct_looks w (events.Server number message) = reply_looks w number (reply_of message.head message.payload)
+direct_looks w event = None
+
+-- an update may look eight times at each channel, subscription and waiting read of its variable, and four
+-- times more, however many rows there are
+abbrev pub update_looks : Gateway → ℕ → Result ServerReply ReplyFault → Option ℕ
+update_looks w server (Ok (says.EventAdd id status dtype count value)) =
+    Some (4 + 8 * own_over w (find (has_subscription server id) w.upstream.links))
+update_looks w server reply = None
+
+-- with all that follows from it
+abbrev pub event_looks : Gateway → Event → Option ℕ
+event_looks w (events.Server number message) = update_looks w number (reply_of message.head message.payload)
+event_looks w event = None

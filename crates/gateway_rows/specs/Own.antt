@@ -1,0 +1,33 @@
+-- How many rows a variable has, and how many rows of clients are looked at.
+use Rattle.std.specs.Prelude.{◌≤◌, ⊤, ℕ, ◌+◌, List, length, filter, Option, Some, None}
+use Rattle.link_table.specs.declared.links.Link.{Link}
+use Rattle.gateway_state.specs.Gateway.{Gateway}
+use Rattle.gateway_state.specs.Servers.{waits_for}
+use Rattle.gateway_state.specs.Updates.{is_sub_to}
+use Rattle.gateway_state.specs.Variables.{is_on}
+
+-- how many channels are on it
+abbrev pub channels_on : Gateway → List ℕ → ℕ
+channels_on w name = length (filter (is_on name) w.clients.channels)
+
+-- how many subscriptions are to it
+abbrev pub subs_on : Gateway → List ℕ → ℕ
+subs_on w name = length (filter (is_sub_to w name) w.clients.subs)
+
+-- how many reads wait for it
+abbrev pub reads_on : Gateway → List ℕ → ℕ
+reads_on w name = length (filter (waits_for w name) w.clients.reads)
+
+-- all of them
+abbrev pub own : Gateway → List ℕ → ℕ
+own w name = channels_on w name + subs_on w name + reads_on w name
+
+-- all rows of a link's variable, none where there is no link
+abbrev pub own_over : Gateway → Option Link → ℕ
+own_over w None = 0
+own_over w (Some link) = own w link.name
+
+-- at most so many more rows were looked at than before; nothing is said where there is no bound
+abbrev pub IsWithin : Option ℕ → ℕ → ℕ → Type 0
+IsWithin None before after = ⊤
+IsWithin (Some looks) before after = after ≤ before + looks
