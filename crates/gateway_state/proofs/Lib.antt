@@ -1,3 +1,4 @@
+pub mod ConnectionRows
 pub mod GivenMessages
 pub mod InOrder
 pub mod Kept

@@ -2,6 +2,7 @@ pub mod Answer
 pub mod Asked
 pub mod CachedRows
 pub mod Clients
+pub mod ConnectionKeys
 pub mod Connections
 pub mod Delivered
 pub mod Direct

@@ -1,12 +1,16 @@
 //! The outboxes of all connections.
-ghost use Rattle.std.specs.Prelude.{◌≡◌, ◌∷◌, ◌++◌, [], length, take, OnOk, OnErr, IfOk};
-ghost use Rattle.std.specs.List.{position, list_any, filter, find};
+ghost use Rattle.std.specs.Prelude.{◌≡◌, ◌∷◌, ◌++◌, [], false, length, take, OnOk, OnErr, IfOk};
+ghost use Rattle.std.specs.List.{list_any, filter, find};
 ghost use Rattle.std.specs.Option.{option_copied};
 ghost use Rattle.rows.specs.Rows.{change_first};
+ghost use Rattle.row_index.specs.Rows.{has_key, value_at};
+ghost use Rattle.channel_table.specs.Indexes.{changed_by};
+ghost use Rattle.gateway_state.specs.ConnectionKeys.{key_of, outbox_under};
 ghost use Rattle.gateway_state.specs.Connections.{is_to, is_not_to, given, marked_now, relieved, fresh, outbox_of};
 
 use crate::event::Dest;
 use fanout::{AppendFault, Out, Outbox};
+use row_index::{Key, RowMap};
 use std::alloc::{AllocError, Global};
 use std::marker::Model;
 
@@ -17,19 +21,23 @@ pub struct Connection {
     pub outbox: Outbox,
 }
 
-/// The connections that stand, in the order in which they came.
-#[derive(Debug, Drop)]
+/// The connections that stand, in the order in which they came, each found by its number.
+#[derive(Drop)]
 pub struct Connections {
-    rows: Vec<Connection>,
+    rows: RowMap<Connection>,
 }
 
 impl Model for Connections {
-    ghost use Rattle.std.specs.Prelude.{List};
+    ghost use Rattle.std.specs.Prelude.{List, map};
+    ghost use Rattle.row_index.specs.Rows.{row_of};
     ghost use Rattle.gateway_state.specs.declared.connections.Connection.{Connection};
+    ghost use Rattle.gateway_state.specs.ConnectionKeys.{AreKeyed};
 
     ghost Value = { List Connection };
 
-    ghost view = { λ c. c.rows.items };
+    ghost view = { λ c. map row_of c.rows };
+
+    ghost invariant = { λ c. AreKeyed c.rows };
 }
 
 impl Connections {
@@ -38,22 +46,28 @@ impl Connections {
         ensures { result ≡ [] }
     {
         Connections {
-            rows: Vec::new(alloc),
+            rows: RowMap::new(alloc),
         }
+    }
+
+    fn get(&self, dest: Dest) -> Option<&Connection>
+        ensures { option_copied result ≡ find (is_to dest) self.now }
+    {
+        self.rows.get(key_of(dest))
     }
 
     /// Whether the connection stands.
     pub fn stands(&self, dest: Dest) -> bool
         ensures { result ≡ list_any (is_to dest) self.now }
     {
-        stands(&self.rows, dest)
+        self.rows.contains(key_of(dest))
     }
 
     /// Whether the connection stands and must end.
     pub fn must_end(&self, dest: Dest) -> bool
         ensures { result ≡ (outbox_of dest self.now).marked }
     {
-        match find(&self.rows, dest) {
+        match self.get(dest) {
             Some(connection) => connection.outbox.marked(),
             None => false,
         }
@@ -63,7 +77,7 @@ impl Connections {
     pub fn queued(&self, dest: Dest) -> usize
         ensures { result ≡ length (outbox_of dest self.now).messages }
     {
-        match find(&self.rows, dest) {
+        match self.get(dest) {
             Some(connection) => connection.outbox.len(),
             None => 0,
         }
@@ -71,21 +85,22 @@ impl Connections {
 
     /// Adds a connection for which nothing waits. The caller sees to it that it doesn't stand.
     pub fn add(&mut self, alloc: Global, dest: Dest) -> Result<(), AllocError>
+        requires new { list_any (is_to dest) self.old ≡ false }
         ensures ok { OnOk result (self.new ≡ self.old ++ fresh dest ∷ []) }
         ensures err { OnErr result (self.new ≡ self.old) }
     {
-        self.rows.push(Connection {
+        let connection = Connection {
             dest,
             outbox: Outbox::new(alloc),
-        })?;
-        Ok(())
+        };
+        self.rows.add(key_of(dest), connection)
     }
 
     /// Removes a connection with what waits for it.
     pub fn remove(&mut self, dest: Dest)
         ensures { self.new ≡ filter (is_not_to dest) self.old }
     {
-        remove(&mut self.rows, dest);
+        self.rows.remove(key_of(dest));
     }
 
     /// Gives a message to a connection, where it stands and isn't marked.
@@ -93,14 +108,14 @@ impl Connections {
         ensures ok { OnOk result (self.new ≡ change_first (is_to dest) (given out) self.old) }
         ensures err { OnErr result (self.new ≡ self.old) }
     {
-        give(&mut self.rows, dest, out)
+        give(&mut self.rows, key_of(dest), out)
     }
 
     /// Marks a connection to end.
     pub fn mark(&mut self, dest: Dest)
         ensures { self.new ≡ change_first (is_to dest) marked_now self.old }
     {
-        mark(&mut self.rows, dest);
+        mark(&mut self.rows, key_of(dest));
     }
 
     /// Takes the oldest `count` messages of a connection in order, or all where there are fewer.
@@ -109,75 +124,56 @@ impl Connections {
         ensures found { IfOk result (λ outs. outs.items ≡ take count (outbox_of dest self.old).messages) }
         ensures err { OnErr result (self.new ≡ self.old) }
     {
-        take(&mut self.rows, alloc, dest, count)
+        take(&mut self.rows, alloc, key_of(dest), count)
     }
 }
 
-fn stands(rows: &[Connection], dest: Dest) -> bool
-    ensures { result ≡ list_any (is_to dest) rows.now }
+/// The key of a connection: its number, and which kind it is.
+fn key_of(dest: Dest) -> Key
+    ensures { result ≡ key_of dest }
 {
-    rows.iter().any(|row| row.dest == dest)
-}
-
-fn find(rows: &[Connection], dest: Dest) -> Option<&Connection>
-    ensures { option_copied result ≡ find (is_to dest) rows.now }
-{
-    rows.iter().find(|row| row.dest == dest)
-}
-
-fn place_of(rows: &[Connection], dest: Dest) -> Option<usize>
-    ensures { result ≡ position (is_to dest) rows.now }
-{
-    rows.iter().position(|row| row.dest == dest)
-}
-
-fn remove(rows: &mut Vec<Connection>, dest: Dest)
-    ensures { rows.new.items ≡ filter (is_not_to dest) rows.old.items }
-{
-    rows.retain(|row| row.dest != dest);
-}
-
-#[tactic(auto, using(rows::proofs::RowLemmas::set_is_change_first, rows::proofs::RowLemmas::change_first_none))]
-fn give(rows: &mut Vec<Connection>, dest: Dest, out: Out) -> Result<(), AllocError>
-    ensures ok { OnOk result (rows.new.items ≡ change_first (is_to dest) (given out) rows.old.items) }
-    ensures err { OnErr result (rows.new.items ≡ rows.old.items) }
-{
-    if let Some(place) = place_of(rows, dest) {
-        let row = &mut rows[place];
-        match row.outbox.append(out) {
-            Ok(()) | Err(AppendFault::Marked(_)) => Ok(()),
-            Err(AppendFault::OutOfMemory(_)) => Err(AllocError),
-        }
-    } else {
-        Ok(())
+    match dest {
+        Dest::Session(owner) => Key { owner, id: 0 },
+        Dest::Upstream(owner) => Key { owner, id: 1 },
     }
 }
 
-#[tactic(auto, using(rows::proofs::RowLemmas::set_is_change_first, rows::proofs::RowLemmas::change_first_none))]
-fn mark(rows: &mut Vec<Connection>, dest: Dest)
-    ensures { rows.new.items ≡ change_first (is_to dest) marked_now rows.old.items }
+#[tactic(auto, using(crate::proofs::ConnectionRows::written_is_changed, crate::proofs::ConnectionRows::written_again, crate::proofs::ConnectionRows::unfound_unchanged))]
+fn give(rows: &mut RowMap<Connection>, key: Key, out: Out) -> Result<(), AllocError>
+    ensures ok { OnOk result (rows.new ≡ change_first (has_key key) (changed_by (given out)) rows.old) }
+    ensures err { OnErr result (rows.new ≡ rows.old) }
 {
-    if let Some(place) = place_of(rows, dest) {
-        let row = &mut rows[place];
+    let Some(row) = rows.get_mut(key) else {
+        return Ok(());
+    };
+    match row.outbox.append(out) {
+        Ok(()) | Err(AppendFault::Marked(_)) => Ok(()),
+        Err(AppendFault::OutOfMemory(_)) => Err(AllocError),
+    }
+}
+
+#[tactic(auto, using(crate::proofs::ConnectionRows::written_is_changed, crate::proofs::ConnectionRows::unfound_unchanged))]
+fn mark(rows: &mut RowMap<Connection>, key: Key)
+    ensures { rows.new ≡ change_first (has_key key) (changed_by marked_now) rows.old }
+{
+    if let Some(row) = rows.get_mut(key) {
         row.outbox.mark();
     }
 }
 
-#[tactic(auto, using(rows::proofs::RowLemmas::set_is_change_first, rows::proofs::RowLemmas::change_first_none, rows::proofs::RowLemmas::find_is_there, rows::proofs::RowLemmas::find_none))]
+#[tactic(auto, using(crate::proofs::ConnectionRows::written_is_changed, crate::proofs::ConnectionRows::written_again, crate::proofs::ConnectionRows::unfound_unchanged))]
 fn take(
-    rows: &mut Vec<Connection>,
+    rows: &mut RowMap<Connection>,
     alloc: Global,
-    dest: Dest,
+    key: Key,
     count: usize,
 ) -> Result<Vec<Out>, AllocError>
-    ensures ok { OnOk result (rows.new.items ≡ change_first (is_to dest) (relieved count) rows.old.items) }
-    ensures found { IfOk result (λ outs. outs.items ≡ take count (outbox_of dest rows.old.items).messages) }
-    ensures err { OnErr result (rows.new.items ≡ rows.old.items) }
+    ensures ok { OnOk result (rows.new ≡ change_first (has_key key) (changed_by (relieved count)) rows.old) }
+    ensures found { IfOk result (λ outs. outs.items ≡ take count (outbox_under key rows.old).messages) }
+    ensures err { OnErr result (rows.new ≡ rows.old) }
 {
-    if let Some(place) = place_of(rows, dest) {
-        let row = &mut rows[place];
-        row.outbox.take(alloc, count)
-    } else {
-        Ok(Vec::new(alloc))
+    match rows.get_mut(key) {
+        Some(row) => row.outbox.take(alloc, count),
+        None => Ok(Vec::new(alloc)),
     }
 }
