@@ -20,5 +20,5 @@ tell_updates_on-requires c =
     let first = subst AreTold (sym c.in_ok-tell_channels_on.ensures) c.requires.told in
     let held = subst AreTold (sym c.in_ok-withhold_updates_on.ensures) (told_after_withheld name _ first) in
     let linked = subst AreTold (sym c.in_ok-tell_link_on.ensures.ok) (told_after_link name _ order held) in
-    let shared = subst AreTold (sym c.in_ok-share_on.ensures) linked in
-    record { told = subst AreTold (sym c.in_ok-tell_reads_on.ensures) (told_after_reads name _ shared) }
+    let shared = subst AreTold (sym c.in_ok-share_on.ensures.same) linked in
+    record { told = subst AreTold (sym c.in_ok-tell_reads_on.ensures.ok) (told_after_reads name _ shared) }
