@@ -54,14 +54,14 @@ module _ (w : Gateway) (before direct after : ℕ) where
             (subs_on_owed link.name (concerned w link.name differs) w) (reads_on_owed link.name (concerned w link.name differs) w)
         | false ↦ λ rest. quiet before direct after (own_over w (Some link)) first rest
       ]
-  looked_over dtype count payload link (Connected sid native native_count) None first rest = quiet before direct after (own_over w (Some link)) first rest
-  looked_over dtype count payload link Creating sub first rest = quiet before direct after (own_over w (Some link)) first rest
-  looked_over dtype count payload link Unusable sub first rest = quiet before direct after (own_over w (Some link)) first rest
+  looked_over dtype count payload link (Connected sid native native_count) None first = λ rest. quiet before direct after (own_over w (Some link)) first rest
+  looked_over dtype count payload link Creating sub first = λ rest. quiet before direct after (own_over w (Some link)) first rest
+  looked_over dtype count payload link Unusable sub first = λ rest. quiet before direct after (own_over w (Some link)) first rest
 
   looked_by : (status dtype count : ℕ) (payload : List ℕ) (found : Option Link) → direct ≤ before + 2 * own_over w found
       → IsWithin (looks_after (update_touches_over status dtype count payload found) (updated_by status dtype count payload found w)) direct after
       → after ≤ before + (4 + 8 * own_over w found)
-  looked_by status dtype count payload None first rest = quiet before direct after 0 first rest
+  looked_by status dtype count payload None first = λ rest. quiet before direct after 0 first rest
   looked_by status dtype count payload (Some link) first =
       let then : Gateway = updated_link link link.state link.subscription dtype count payload w in
       elim (eqb status ECA_NORMAL)
@@ -94,18 +94,18 @@ module _ (w : Gateway) (before direct after : ℕ) where
 -- by itself, and for what follows
 pub looked_in_all : (w : Gateway) (event : Event) (before direct after : ℕ) → IsWithin (direct_looks w event) before direct
     → IsWithin (looks_after (event_touches w event) (direct_effect w event)) direct after → IsWithin (event_looks w event) before after
-looked_in_all w (Opened number host) before direct after first rest = tt
-looked_in_all w (Lost number) before direct after first rest = tt
-looked_in_all w (Client number message) before direct after first rest = tt
-looked_in_all w (UpOpened number) before direct after first rest = tt
-looked_in_all w (UpLost number) before direct after first rest = tt
+looked_in_all w (Opened number host) before direct after first = λ rest. tt
+looked_in_all w (Lost number) before direct after first = λ rest. tt
+looked_in_all w (Client number message) before direct after first = λ rest. tt
+looked_in_all w (UpOpened number) before direct after first = λ rest. tt
+looked_in_all w (UpLost number) before direct after first = λ rest. tt
 looked_in_all w (Server number message) before direct after first =
     elim (acts w (Upstream number))
     as (λ t. IsWithin (looks_after (cond t (reply_touches w number (reply_of message.head message.payload)) Nothing) (cond t (server_said w number message) w)) direct after
     → IsWithin (update_looks w number (reply_of message.head message.payload)) before after)
     [ true ↦ looked_for w before direct after number (reply_of message.head message.payload) first | false ↦ looked_quietly w before direct after number (reply_of message.head message.payload) first ]
-looked_in_all w (Found name number) before direct after first rest = tt
-looked_in_all w (Search host name) before direct after first rest = tt
-looked_in_all w Sweep before direct after first rest = tt
-looked_in_all w (Edit policy) before direct after first rest = tt
-looked_in_all w (Drain dest count) before direct after first rest = tt
+looked_in_all w (Found name number) before direct after first = λ rest. tt
+looked_in_all w (Search host name) before direct after first = λ rest. tt
+looked_in_all w Sweep before direct after first = λ rest. tt
+looked_in_all w (Edit policy) before direct after first = λ rest. tt
+looked_in_all w (Drain dest count) before direct after first = λ rest. tt

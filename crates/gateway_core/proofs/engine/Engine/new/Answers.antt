@@ -3,4 +3,4 @@ use Rattle.gateway_core.proofs.engine.Engine.new.Goals as goal
 
 -- no event was performed
 pub invariant_of-result : goal.invariant_of-result
-invariant_of-result c = λ x is. reached_at_first c.args.config c.args.policy c.in-tuple.rows x c.new.ensures.rows is
+invariant_of-result c = λ x is. reached_at_first c.args.config c.args.policy c.new-rows.result.0 x c.new-rows.ensures.rows is
