@@ -5,6 +5,7 @@ pub mod Kept
 pub mod KeptByClients
 pub mod KeptByRuns
 pub mod KeptByServers
+pub mod LeadRows
 pub mod LinkNotices
 pub mod LinksApart
 pub mod LinksOnServers

@@ -8,6 +8,7 @@ pub mod Delivered
 pub mod Direct
 pub mod Gateway
 pub mod Interest
+pub mod Leads
 pub mod Notices
 pub mod Numbers
 pub mod Reached

@@ -13,6 +13,7 @@ mod interest;
 mod last_value;
 mod latest;
 pub mod laws;
+mod leads;
 mod limits;
 mod notice;
 mod reading;
@@ -26,6 +27,7 @@ pub use connections::{Connection, Connections};
 pub use event::{Dest, Event};
 pub use interest::{ALARM_EVENTS, PLAIN_TYPES, READ_EVENTS, Sub, TIME_FORM, VALUE_EVENTS};
 pub use last_value::LastValue;
+pub use leads::LEADS_LIMIT;
 pub use limits::{LOWEST_MINOR, SEARCH_LIMIT, UPDATE_LIMIT, UPDATE_MINOR};
 pub use notice::{
     ChannelNotice, LinkNotice, ReadNotice, ReadVerdict, SubVerdict, UpdateNotice, WriteVerdict,

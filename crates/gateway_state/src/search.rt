@@ -1,10 +1,11 @@
 //! Searches that are remembered.
 ghost use Rattle.std.specs.Prelude.{◌≡◌, [], ◌∷◌, ◌++◌, length, IfOk, OnOk, OnErr};
 ghost use Rattle.std.specs.List.{cons_option, list_any};
-ghost use Rattle.gateway_state.specs.Resolution.{real_in};
+ghost use Rattle.gateway_state.specs.Resolution.{lead_of, real_in};
 ghost use Rattle.gateway_state.specs.Searches.{leads_to, same_search};
 ghost use Rattle.gateway_state.specs.Variables.{search_names};
 
+use crate::leads::Leads;
 use crate::reals::Reals;
 use crate::resolution::lead_of;
 use pv_alias::Lead;
@@ -28,9 +29,12 @@ pub struct Searches {
     rows: Vec<Search>,
     /// What the rows lead to, in their order, without those that lead nowhere.
     reals: Reals,
+    /// What names were found to lead to under the policy.
+    leads: Leads,
 }
 
 impl Model for Searches {
+    ghost use Rattle.gateway_state.specs.Leads.{AreLeads};
     ghost use Rattle.gateway_state.specs.Searches.{SearchRows};
     ghost use Rattle.gateway_state.specs.Variables.{search_names};
     ghost use Rattle.rule_desk.specs.contracts.policy.Policy as the_policy;
@@ -43,7 +47,7 @@ impl Model for Searches {
 
     ghost view = { λ s. record { policy = s.policy; rows = s.rows.items } };
 
-    ghost invariant = { λ s. s.reals ≡ search_names s.policy s.rows.items };
+    ghost invariant = { λ s. (s.reals ≡ search_names s.policy s.rows.items) × AreLeads s.policy s.leads };
 }
 
 impl Searches {
@@ -55,6 +59,7 @@ impl Searches {
             policy,
             rows: Vec::new(alloc),
             reals: Reals::new(alloc),
+            leads: Leads::new(alloc),
         }
     }
 
@@ -93,6 +98,44 @@ impl Searches {
         self.reals.as_slice()
     }
 
+    /// Where the name leads that a host asks for; nothing where it is refused. No rule is run where it is
+    /// remembered.
+    pub fn lead_of(
+        &self,
+        alloc: Global,
+        host: &Host,
+        name: &Name,
+    ) -> Result<Option<Lead>, AllocError>
+        ensures { IfOk result (λ lead. lead ≡ lead_of self.now.policy host.now name.now) }
+    {
+        match self.leads.get(&self.policy, host, name)? {
+            Some(lead) => Ok(Some(lead)),
+            None => lead_of(alloc, &self.policy, host, name),
+        }
+    }
+
+    /// The same, which is remembered from now on until the policy changes, or until more than
+    /// `LEADS_LIMIT` are. A name that leads nowhere isn't remembered.
+    pub fn learn_lead(
+        &mut self,
+        alloc: Global,
+        host: &Host,
+        name: &Name,
+    ) -> Result<Option<Lead>, AllocError>
+        ensures lead { IfOk result (λ lead. lead ≡ lead_of self.old.policy host.now name.now) }
+        ensures same { self.new ≡ self.old }
+    {
+        let known = self.leads.get(&self.policy, host, name)?;
+        if known.is_some() {
+            return Ok(known);
+        }
+        let lead = lead_of(alloc, &self.policy, host, name)?;
+        if let Some(lead) = &lead {
+            self.leads.add(&self.policy, host, name, lead)?;
+        }
+        Ok(lead)
+    }
+
     /// Remembers one more.
     #[tactic(auto, using(crate::proofs::SearchedNames::names_with_one_more))]
     pub fn add(&mut self, alloc: Global, search: Search) -> Result<(), AllocError>
@@ -114,6 +157,7 @@ impl Searches {
         let reals = names(&self.rows, alloc, &policy)?;
         self.policy = policy;
         self.reals = reals;
+        self.leads = Leads::new(alloc);
         Ok(())
     }
 
