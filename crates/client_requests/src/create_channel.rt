@@ -161,7 +161,7 @@ pub(crate) fn create_channel(
     ensures used_up { IsErrOf result Refusal.NumbersUsedUp → is_past_numbers (channel_asked number cid name.now rows.old) ≡ true }
     ensures bound { visits.new ≤ visits.old + 4 }
 {
-    let lead = rows.lead_in(visits, number, name)?;
+    let lead = rows.learn_lead_in(visits, number, name)?;
     fix_host(rows, visits, number)?;
     let Some(lead) = lead else {
         fail_creation(rows, number, cid)?;

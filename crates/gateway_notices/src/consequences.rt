@@ -38,6 +38,17 @@ fn follow_all(rows: &mut Rows, visits: &mut Visits, anew: bool) -> Result<(), Re
     Ok(())
 }
 
+/// All passes, where names may lead elsewhere. What they lead to is learned first, so that the rules are
+/// run once for each channel.
+fn follow_anew(rows: &mut Rows, visits: &mut Visits) -> Result<(), Refusal>
+    requires order { AreInOrder rows.old }
+    ensures ok { OnOk result (rows.new ≡ consequences rows.old) }
+    ensures used_up { IsErrOf result Refusal.NumbersUsedUp → is_past_numbers (consequences rows.old) ≡ true }
+{
+    rows.learn_leads(visits)?;
+    follow_all(rows, visits, true)
+}
+
 /// All passes, over the rows of one variable.
 #[tactic(auto, using(touched_rows::proofs::Numbers::variable_follows_past, touched_rows::proofs::Ready::order_before_link, touched_rows::proofs::Ready::told_after_withheld, touched_rows::proofs::Ready::told_after_link, touched_rows::proofs::Ready::told_after_reads))]
 fn follow_variable(rows: &mut Rows, visits: &mut Visits, name: &Name) -> Result<(), Refusal>
@@ -65,7 +76,7 @@ pub fn follow(rows: &mut Rows, visits: &mut Visits, touched: Touched) -> Result<
     ensures bound { OnOk result (IsWithin (looks_after touched rows.old) visits.old visits.new) }
 {
     match touched {
-        Touched::All => follow_all(rows, visits, true),
+        Touched::All => follow_anew(rows, visits),
         Touched::LinksGone => follow_all(rows, visits, false),
         Touched::Nothing => Ok(()),
         Touched::Session(number) => Ok(tell_updates_to(rows, visits, number)?),

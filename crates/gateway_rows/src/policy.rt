@@ -1,22 +1,22 @@
 //! What the policy says of names. Each question of the policy is asked here and nowhere else, and takes
-//! memory; what remembered searches lead to is kept beside them.
+//! memory. What remembered searches and the names of channels lead to is kept beside the policy.
 ghost use Rattle.std.specs.Prelude.{◌≡◌, ◌≤◌, ◌+◌, IfOk};
 ghost use Rattle.gateway_state.specs.Resolution.{lead_of};
 ghost use Rattle.gateway_state.specs.Rights.{lead_in};
 
 use crate::state::Rows;
-use channel_table::Visits;
-use gateway_state::lead_of;
+use channel_table::{Table, Visits};
+use gateway_state::Searches;
 use pv_alias::Lead;
 use pv_name::{Host, Name};
-use std::alloc::AllocError;
+use std::alloc::{AllocError, Global};
 
 impl Rows {
     /// Where the name leads that a host asks for; nothing where it is refused.
     pub fn lead_of(&self, host: &Host, name: &Name) -> Result<Option<Lead>, AllocError>
         ensures { IfOk result (λ lead. lead ≡ lead_of self.now.policy host.now name.now) }
     {
-        lead_of(self.alloc, self.searches.policy(), host, name)
+        self.searches.lead_of(self.alloc, host, name)
     }
 
     /// The same for the host of a session; nothing where there is no such session.
@@ -34,4 +34,45 @@ impl Rows {
             None => Ok(None),
         }
     }
+
+    /// The same, and what it leads to is remembered: asking for it again runs no rule.
+    pub fn learn_lead_in(
+        &mut self,
+        visits: &mut Visits,
+        number: u32,
+        name: &Name,
+    ) -> Result<Option<Lead>, AllocError>
+        ensures found { IfOk result (λ lead. lead ≡ lead_in self.old number name.now) }
+        ensures same { self.new ≡ self.old }
+        ensures bound { visits.new ≤ visits.old + 1 }
+    {
+        match self.clients.session(visits, number) {
+            Some(session) => self.searches.learn_lead(self.alloc, &session.host, name),
+            None => Ok(None),
+        }
+    }
+
+    /// Remembers what the names of all channels lead to, so that asking for them again runs no rule.
+    /// Nothing else changes.
+    pub fn learn_leads(&mut self, visits: &mut Visits) -> Result<(), AllocError>
+        ensures { self.new ≡ self.old }
+    {
+        learn_leads(self.alloc, &self.clients, visits, &mut self.searches)
+    }
+}
+
+fn learn_leads(
+    alloc: Global,
+    clients: &Table,
+    visits: &mut Visits,
+    searches: &mut Searches,
+) -> Result<(), AllocError>
+    ensures { searches.new ≡ searches.old }
+{
+    for channel in &clients.channels(visits, alloc)? {
+        if let Some(session) = clients.session(visits, channel.session) {
+            let _lead = searches.learn_lead(alloc, &session.host, &channel.asked)?;
+        }
+    }
+    Ok(())
 }
