@@ -31,6 +31,32 @@ edit 0 0
     )
 }
 
+// What a name was found to lead to holds as long as the rules do: a server's other rights are told by the
+// rules that hold then.
+#[test]
+fn limits_what_servers_say_later(rt: HostRuntime) -> Result<(), Fail> {
+    tells(
+        &rt,
+        rt.alloc(),
+        b"@served
+edit 1 1
+.* ALLOW ops 1
+ops READ
+> s1 00160000000000000000000700000001
+server u1 00160000000000000000000100000000
+> s1 00160000000000000000000700000000
+server u1 00160000000000000000000100000003
+> s1 00160000000000000000000700000001
+edit 0 0
+> s1 00160000000000000000000700000003
+server u1 00160000000000000000000100000001
+> s1 00160000000000000000000700000001
+server u1 00160000000000000000000100000003
+> s1 00160000000000000000000700000003
+",
+    )
+}
+
 // A name that is denied, and one that leads elsewhere: the client is disconnected, and the link goes.
 #[test]
 fn takes_channels_away(rt: HostRuntime) -> Result<(), Fail> {
