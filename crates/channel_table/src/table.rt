@@ -277,7 +277,8 @@ impl Table {
             .copied()
     }
 
-    /// The reads that wait on channels on this real name, in the order of asking.
+    /// The reads that wait on channels on this real name, in the order of asking. It walks all reads that
+    /// wait; those that it gives are counted as looked at.
     pub fn reads_for(
         &self,
         visits: &mut Visits,
