@@ -16,7 +16,7 @@ use crate::numbers::Refusal;
 use crate::state::Rows;
 use crate::step::{drain, step};
 use fanout::Out;
-use gate_calls::{AskFault, Failed, NoMemory, StepFault};
+use gate_calls::{AskFault, Failed, Gate, NoMemory, StepFault};
 use gateway_state::{Config, Dest, Event, Policy, Reading, Sub};
 use pv_name::{Host, Name};
 use pv_search::{SearchAnswer, answer};
@@ -60,15 +60,16 @@ impl PlainGate {
             rows: Some(Rows::new(alloc, config, policy)),
         })
     }
+}
 
-    /// Performs one event.
-    pub fn step(&mut self, event: Event) -> Result<(), StepFault>
-        ensures ok { OnOk result (self.new ≡ option_map (λ w. step w event) self.old) }
-        ensures used_up { IsErrOf result StepFault.NumbersUsedUp → option_map (λ w. is_past_numbers (step w event)) self.old ≡ Some true }
-        ensures in_range { OnOk result (option_map (λ w. is_past_numbers (step w event)) self.old ≡ Some false) }
-        ensures failed { IsErrOf result StepFault.Failed ↔ IsNone self.old }
-        ensures err { OnErr result (self.new ≡ None) }
-    {
+impl Gate for PlainGate {
+    ghost state = { λ gate. gate };
+
+    fn new(alloc: Global, config: Config, policy: Policy) -> Result<PlainGate, NoMemory> {
+        PlainGate::new(alloc, config, policy)
+    }
+
+    fn step(&mut self, event: Event) -> Result<(), StepFault> {
         let Some(rows) = &mut self.rows else {
             return Err(StepFault::Failed);
         };
@@ -78,15 +79,8 @@ impl PlainGate {
         }
     }
 
-    /// Performs events in order, up to the first that is refused.
     #[tactic(auto, unfolding(gateway_state::specs::Step::run, gateway_state::specs::Numbers::runs_out))]
-    pub fn run(&mut self, events: Vec<Event>) -> Result<(), StepFault>
-        ensures ok { OnOk result (self.new ≡ option_map (λ w. run w events.items) self.old) }
-        ensures used_up { IsErrOf result StepFault.NumbersUsedUp → option_map (λ w. runs_out w events.items) self.old ≡ Some true }
-        ensures in_range { OnOk result (option_map (λ w. runs_out w events.items) self.old ≡ Some false) }
-        ensures failed { IsErrOf result StepFault.Failed ↔ IsNone self.old }
-        ensures err { OnErr result (self.new ≡ None) }
-    {
+    fn run(&mut self, events: Vec<Event>) -> Result<(), StepFault> {
         if self.rows.is_none() {
             return Err(StepFault::Failed);
         }
@@ -97,15 +91,7 @@ impl PlainGate {
         Ok(())
     }
 
-    /// Takes the first `count` messages of an outbox, or all, and hands them out in order.
-    pub fn drain(&mut self, dest: Dest, count: usize) -> Result<Vec<Out>, StepFault>
-        ensures ok { OnOk result (self.new ≡ option_map (λ w. step w (Event.Drain dest count)) self.old) }
-        ensures used_up { IsErrOf result StepFault.NumbersUsedUp → option_map (λ w. is_past_numbers (step w (Event.Drain dest count))) self.old ≡ Some true }
-        ensures in_range { OnOk result (option_map (λ w. is_past_numbers (step w (Event.Drain dest count))) self.old ≡ Some false) }
-        ensures found { IfOk result (λ outs. Some outs.items ≡ option_map (λ w. taken w (Event.Drain dest count) dest) self.old) }
-        ensures failed { IsErrOf result StepFault.Failed ↔ IsNone self.old }
-        ensures err { OnErr result (self.new ≡ None) }
-    {
+    fn drain(&mut self, dest: Dest, count: usize) -> Result<Vec<Out>, StepFault> {
         let Some(rows) = &mut self.rows else {
             return Err(StepFault::Failed);
         };
@@ -115,60 +101,35 @@ impl PlainGate {
         }
     }
 
-    /// Whether the connection stands.
-    pub fn is_open(&mut self, dest: Dest) -> Result<bool, Failed>
-        ensures found { IfOk result (λ answer. Some answer ≡ option_map (λ w. stands w dest) self.old) }
-        ensures failed { IsOk result ↔ IsSome self.old }
-        ensures same { self.new ≡ self.old }
-    {
+    fn is_open(&mut self, dest: Dest) -> Result<bool, Failed> {
         match &self.rows {
             Some(rows) => Ok(rows.stands(dest)),
             None => Err(Failed),
         }
     }
 
-    /// Whether the connection stands and must end.
-    pub fn must_end(&mut self, dest: Dest) -> Result<bool, Failed>
-        ensures found { IfOk result (λ answer. Some answer ≡ option_map (λ w. ends w dest) self.old) }
-        ensures failed { IsOk result ↔ IsSome self.old }
-        ensures same { self.new ≡ self.old }
-    {
+    fn must_end(&mut self, dest: Dest) -> Result<bool, Failed> {
         match &self.rows {
             Some(rows) => Ok(rows.ends(dest)),
             None => Err(Failed),
         }
     }
 
-    /// How many messages wait for the connection, 0 where it doesn't stand.
-    pub fn queued(&mut self, dest: Dest) -> Result<usize, Failed>
-        ensures found { IfOk result (λ answer. Some answer ≡ option_map (λ w. queued w dest) self.old) }
-        ensures failed { IsOk result ↔ IsSome self.old }
-        ensures same { self.new ≡ self.old }
-    {
+    fn queued(&mut self, dest: Dest) -> Result<usize, Failed> {
         match &self.rows {
             Some(rows) => Ok(rows.queued(dest)),
             None => Err(Failed),
         }
     }
 
-    /// The present subscription of a variable upstream, nothing where there is none.
-    pub fn subscription(&mut self, name: &Name) -> Result<Option<Sub>, Failed>
-        ensures found { IfOk result (λ answer. Some answer ≡ option_map (λ w. subscription_of w name.now) self.old) }
-        ensures failed { IsOk result ↔ IsSome self.old }
-        ensures same { self.new ≡ self.old }
-    {
+    fn subscription(&mut self, name: &Name) -> Result<Option<Sub>, Failed> {
         match &self.rows {
             Some(rows) => Ok(rows.subscription_of(name)),
             None => Err(Failed),
         }
     }
 
-    /// What a client may do with its channel (1: read, 2: write), nothing where it has no such channel.
-    pub fn rights(&mut self, session: u32, sid: u32) -> Result<Option<u32>, Failed>
-        ensures found { IfOk result (λ answer. Some answer ≡ option_map (λ w. rights_asked w session sid) self.old) }
-        ensures failed { IsOk result ↔ IsSome self.old }
-        ensures same { self.new ≡ self.old }
-    {
+    fn rights(&mut self, session: u32, sid: u32) -> Result<Option<u32>, Failed> {
         let Some(rows) = &self.rows else {
             return Err(Failed);
         };
@@ -176,18 +137,13 @@ impl PlainGate {
         Ok(rows.rights_told(session, sid))
     }
 
-    /// What a READ_NOTIFY would be answered now. The limit of reads that wait isn't part of it.
-    pub fn read(
+    fn read(
         &mut self,
         session: u32,
         sid: u32,
         dtype: u16,
         count: u32,
-    ) -> Result<Reading, AskFault>
-        ensures found { IfOk result (λ answer. Some answer ≡ option_map (λ w. reading w session sid dtype count) self.old) }
-        ensures failed { IsErrOf result AskFault.Failed ↔ IsNone self.old }
-        ensures same { self.new ≡ self.old }
-    {
+    ) -> Result<Reading, AskFault> {
         match &self.rows {
             Some(rows) => match rows.reading(session, sid, dtype, count) {
                 Ok(answer) => Ok(answer),
@@ -197,12 +153,7 @@ impl PlainGate {
         }
     }
 
-    /// The names to ask servers for: wanted, without a link, by rising bytes, each once.
-    pub fn asks(&mut self) -> Result<Vec<Name>, AskFault>
-        ensures found { IfOk result (λ names. Some names.items ≡ option_map asks self.old) }
-        ensures failed { IsErrOf result AskFault.Failed ↔ IsNone self.old }
-        ensures same { self.new ≡ self.old }
-    {
+    fn asks(&mut self) -> Result<Vec<Name>, AskFault> {
         match &self.rows {
             Some(rows) => match rows.asks() {
                 Ok(names) => Ok(names),
@@ -212,13 +163,7 @@ impl PlainGate {
         }
     }
 
-    /// What a client's datagram from this host comes to: the names that it searches for, and the datagram
-    /// to send back for those that lead to connected variables.
-    pub fn search(&mut self, host: &Host, datagram: &[u8]) -> Result<SearchAnswer, AskFault>
-        ensures found { IfOk result (λ answer. IfSome self.old (λ w. IsSearched w host.now datagram.now answer)) }
-        ensures failed { IsErrOf result AskFault.Failed ↔ IsNone self.old }
-        ensures same { self.new ≡ self.old }
-    {
+    fn search(&mut self, host: &Host, datagram: &[u8]) -> Result<SearchAnswer, AskFault> {
         match &self.rows {
             Some(rows) => match search(rows, host, datagram) {
                 Ok(answer) => Ok(answer),

@@ -13,7 +13,6 @@
 //! `client`, `server`); the passes; `step`, and the gate itself.
 #![tactic(auto)]
 
-mod calls;
 mod channels_pass;
 mod client;
 mod clients;
