@@ -48,7 +48,7 @@ fn tell_channel(rows: &mut Rows, notice: ChannelNotice) -> Result<(), AllocError
     match notice {
         ChannelNotice::Disconnected { session, sid, cid } => {
             rows.remove_channel(session, sid);
-            rows.tell(session, &ToClient::ServerDisconnect { cid })
+            rows.tell(session, ToClient::ServerDisconnect { cid })
         }
         ChannelNotice::RightsChanged {
             session,
@@ -58,7 +58,7 @@ fn tell_channel(rows: &mut Rows, notice: ChannelNotice) -> Result<(), AllocError
             rights,
         } => {
             put_channel(&mut rows.channels, session, sid, reach, rights);
-            rows.tell(session, &ToClient::AccessRights { cid, rights })
+            rows.tell(session, ToClient::AccessRights { cid, rights })
         }
     }
 }

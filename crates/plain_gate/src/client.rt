@@ -152,7 +152,7 @@ fn echo(rows: &mut Rows, number: u32, message: &Message) -> Result<(), AllocErro
         head: message.head,
         payload,
     });
-    rows.tell(number, &said)
+    rows.tell(number, said)
 }
 
 /// A client said which minor version it speaks.
@@ -178,7 +178,7 @@ fn clear_channel(
         return rows.refuse(number, NO_CHANNEL, ECA_BADCHID, head);
     }
     rows.remove_channel(number, sid);
-    rows.tell(number, &ToClient::ClearChannel { sid, cid })
+    rows.tell(number, ToClient::ClearChannel { sid, cid })
 }
 
 /// A message that is no request: texts that can't be read are ignored, but a CREATE_CHAN fails;

@@ -1,33 +1,34 @@
 //! Rows of clients, found from the front: sessions, channels, subscriptions and waiting reads.
 ghost use Rattle.std.specs.Prelude.{◌≡◌};
-ghost use Rattle.std.specs.List.{count_by, filter, find, position};
-ghost use Rattle.std.specs.Option.{option_copied};
 ghost use Rattle.rows.specs.Rows.{change_first, remove_first};
-ghost use Rattle.channel_table.specs.Channels.{is_channel, is_channel_of, is_not_channel, is_not_channel_of, with_reach_and_rights};
-ghost use Rattle.channel_table.specs.Reads.{is_not_read_of, is_not_read_on, is_read_of, same_read};
-ghost use Rattle.channel_table.specs.Sessions.{is_not_numbered, is_numbered};
-ghost use Rattle.channel_table.specs.Subs.{is_not_sub, is_not_sub_of, is_not_sub_on, is_sub, is_sub_of, with_owed};
+ghost use Rattle.channel_table.specs.Channels.{is_channel, is_channel_of, with_reach_and_rights};
+ghost use Rattle.channel_table.specs.Reads.{is_read_of, is_read_on, same_read};
+ghost use Rattle.channel_table.specs.Sessions.{is_numbered};
+ghost use Rattle.channel_table.specs.Subs.{is_sub, is_sub_of, is_sub_on, with_owed};
 ghost use Rattle.gateway_state.specs.Clients.{fixed, renamed, without_channel};
 ghost use Rattle.gateway_state.specs.Subscribing.{with_pause};
 ghost use Rattle.gateway_state.specs.Updates.{owed_to, owed_to_all};
 
+use crate::lists::{Key, place_of, remove};
 use crate::state::Rows;
-use crate::upstream::remove_writes_on;
+use crate::upstream::WritesOn;
 use channel_table::{Channel, ClientSub, Session, WaitingRead};
 use pv_name::Host;
 
 // Sessions
 
-pub(crate) fn find_session(rows: &[Session], number: u32) -> Option<&Session>
-    ensures { option_copied result ≡ find (is_numbered number) rows.now }
-{
-    rows.iter().find(|row| row.number == number)
+/// The session of this number.
+#[derive(Clone, Copy)]
+pub(crate) struct SessionNumbered {
+    pub number: u32,
 }
 
-fn session_place(rows: &[Session], number: u32) -> Option<usize>
-    ensures { result ≡ position (is_numbered number) rows.now }
-{
-    rows.iter().position(|row| row.number == number)
+impl Key<Session> for SessionNumbered {
+    ghost picks = { λ key. is_numbered key.number };
+
+    fn picks(&self, row: &Session) -> bool {
+        row.number == self.number
+    }
 }
 
 /// The session's host can no longer change.
@@ -35,7 +36,7 @@ fn session_place(rows: &[Session], number: u32) -> Option<usize>
 pub(crate) fn fix_host(rows: &mut Vec<Session>, number: u32)
     ensures { rows.new.items ≡ change_first (is_numbered number) fixed rows.old.items }
 {
-    if let Some(place) = session_place(rows, number) {
+    if let Some(place) = place_of(rows, SessionNumbered { number }) {
         let row = &mut rows[place];
         row.host_fixed = true;
     }
@@ -46,7 +47,7 @@ pub(crate) fn fix_host(rows: &mut Vec<Session>, number: u32)
 pub(crate) fn name_host(rows: &mut Vec<Session>, number: u32, host: Host)
     ensures { rows.new.items ≡ change_first (is_numbered number) (renamed host) rows.old.items }
 {
-    if let Some(place) = session_place(rows, number) {
+    if let Some(place) = place_of(rows, SessionNumbered { number }) {
         let row = &mut rows[place];
         if !row.host_fixed {
             row.host = host;
@@ -59,31 +60,41 @@ pub(crate) fn name_host(rows: &mut Vec<Session>, number: u32, host: Host)
 pub(crate) fn pause(rows: &mut Vec<Session>, number: u32, paused: bool)
     ensures { rows.new.items ≡ change_first (is_numbered number) (with_pause paused) rows.old.items }
 {
-    if let Some(place) = session_place(rows, number) {
+    if let Some(place) = place_of(rows, SessionNumbered { number }) {
         let row = &mut rows[place];
         row.paused = paused;
     }
 }
 
-pub(crate) fn remove_session(rows: &mut Vec<Session>, number: u32)
-    ensures { rows.new.items ≡ filter (is_not_numbered number) rows.old.items }
-{
-    rows.retain(|row| row.number != number);
-}
-
 // Channels
 
-pub(crate) fn channel_count(rows: &[Channel], session: u32) -> usize
-    ensures { result ≡ count_by (is_channel_of session) rows.now }
-{
-    rows.iter().filter(|row| row.session == session).count()
+/// The session's channel of this ID.
+#[derive(Clone, Copy)]
+pub(crate) struct ChannelAt {
+    pub session: u32,
+    pub sid: u32,
 }
 
-fn channel_place(rows: &[Channel], session: u32, sid: u32) -> Option<usize>
-    ensures { result ≡ position (is_channel session sid) rows.now }
-{
-    rows.iter()
-        .position(|row| row.session == session && row.sid == sid)
+impl Key<Channel> for ChannelAt {
+    ghost picks = { λ key. is_channel key.session key.sid };
+
+    fn picks(&self, row: &Channel) -> bool {
+        row.session == self.session && row.sid == self.sid
+    }
+}
+
+/// The channels of a session.
+#[derive(Clone, Copy)]
+pub(crate) struct ChannelsOf {
+    pub session: u32,
+}
+
+impl Key<Channel> for ChannelsOf {
+    ghost picks = { λ key. is_channel_of key.session };
+
+    fn picks(&self, row: &Channel) -> bool {
+        row.session == self.session
+    }
 }
 
 /// The channel has this reach, and its client was told of these rights.
@@ -92,45 +103,57 @@ pub(crate) fn put_channel(rows: &mut Vec<Channel>, session: u32, sid: u32, reach
     ensures { rows.new.items ≡
         change_first (is_channel session sid) (with_reach_and_rights reach rights) rows.old.items }
 {
-    if let Some(place) = channel_place(rows, session, sid) {
+    if let Some(place) = place_of(rows, ChannelAt { session, sid }) {
         let row = &mut rows[place];
         row.reach = reach;
         row.rights = rights;
     }
 }
 
-fn remove_channel(rows: &mut Vec<Channel>, session: u32, sid: u32)
-    ensures { rows.new.items ≡ filter (is_not_channel session sid) rows.old.items }
-{
-    rows.retain(|row| !(row.session == session && row.sid == sid));
-}
-
-pub(crate) fn remove_channels_of(rows: &mut Vec<Channel>, session: u32)
-    ensures { rows.new.items ≡ filter (is_not_channel_of session) rows.old.items }
-{
-    rows.retain(|row| row.session != session);
-}
-
 // Subscriptions
 
-pub(crate) fn find_sub(rows: &[ClientSub], session: u32, id: u32) -> Option<&ClientSub>
-    ensures { option_copied result ≡ find (is_sub session id) rows.now }
-{
-    rows.iter()
-        .find(|row| row.session == session && row.id == id)
+/// The session's subscription of this ID.
+#[derive(Clone, Copy)]
+pub(crate) struct SubAt {
+    pub session: u32,
+    pub id: u32,
 }
 
-pub(crate) fn sub_count(rows: &[ClientSub], session: u32) -> usize
-    ensures { result ≡ count_by (is_sub_of session) rows.now }
-{
-    rows.iter().filter(|row| row.session == session).count()
+impl Key<ClientSub> for SubAt {
+    ghost picks = { λ key. is_sub key.session key.id };
+
+    fn picks(&self, row: &ClientSub) -> bool {
+        row.session == self.session && row.id == self.id
+    }
 }
 
-fn sub_place(rows: &[ClientSub], session: u32, id: u32) -> Option<usize>
-    ensures { result ≡ position (is_sub session id) rows.now }
-{
-    rows.iter()
-        .position(|row| row.session == session && row.id == id)
+/// The subscriptions of a session.
+#[derive(Clone, Copy)]
+pub(crate) struct SubsOf {
+    pub session: u32,
+}
+
+impl Key<ClientSub> for SubsOf {
+    ghost picks = { λ key. is_sub_of key.session };
+
+    fn picks(&self, row: &ClientSub) -> bool {
+        row.session == self.session
+    }
+}
+
+/// The subscriptions on a channel.
+#[derive(Clone, Copy)]
+pub(crate) struct SubsOn {
+    pub session: u32,
+    pub sid: u32,
+}
+
+impl Key<ClientSub> for SubsOn {
+    ghost picks = { λ key. is_sub_on key.session key.sid };
+
+    fn picks(&self, row: &ClientSub) -> bool {
+        row.session == self.session && row.sid == self.sid
+    }
 }
 
 /// The subscription is owed an update, or no longer.
@@ -138,75 +161,76 @@ fn sub_place(rows: &[ClientSub], session: u32, id: u32) -> Option<usize>
 pub(crate) fn put_owed(rows: &mut Vec<ClientSub>, session: u32, id: u32, owed: bool)
     ensures { rows.new.items ≡ change_first (is_sub session id) (with_owed owed) rows.old.items }
 {
-    if let Some(place) = sub_place(rows, session, id) {
+    if let Some(place) = place_of(rows, SubAt { session, id }) {
         let row = &mut rows[place];
         row.owed = owed;
     }
 }
 
-pub(crate) fn remove_sub(rows: &mut Vec<ClientSub>, session: u32, id: u32)
-    ensures { rows.new.items ≡ filter (is_not_sub session id) rows.old.items }
-{
-    rows.retain(|row| !(row.session == session && row.id == id));
-}
-
-fn remove_subs_on(rows: &mut Vec<ClientSub>, session: u32, sid: u32)
-    ensures { rows.new.items ≡ filter (is_not_sub_on session sid) rows.old.items }
-{
-    rows.retain(|row| !(row.session == session && row.sid == sid));
-}
-
-pub(crate) fn remove_subs_of(rows: &mut Vec<ClientSub>, session: u32)
-    ensures { rows.new.items ≡ filter (is_not_sub_of session) rows.old.items }
-{
-    rows.retain(|row| row.session != session);
-}
-
 // Waiting reads
 
-pub(crate) fn read_count(rows: &[WaitingRead], session: u32) -> usize
-    ensures { result ≡ count_by (is_read_of session) rows.now }
-{
-    rows.iter().filter(|row| row.session == session).count()
+/// The reads that are equal to this one.
+#[derive(Clone, Copy)]
+pub(crate) struct ReadLike {
+    pub read: WaitingRead,
 }
 
-fn read_place(rows: &[WaitingRead], read: &WaitingRead) -> Option<usize>
-    ensures { result ≡ position (same_read read.now) rows.now }
-{
-    rows.iter().position(|row| *read == *row)
+impl Key<WaitingRead> for ReadLike {
+    ghost picks = { λ key. same_read key.read };
+
+    fn picks(&self, row: &WaitingRead) -> bool {
+        self.read == *row
+    }
+}
+
+/// The waiting reads of a session.
+#[derive(Clone, Copy)]
+pub(crate) struct ReadsOf {
+    pub session: u32,
+}
+
+impl Key<WaitingRead> for ReadsOf {
+    ghost picks = { λ key. is_read_of key.session };
+
+    fn picks(&self, row: &WaitingRead) -> bool {
+        row.session == self.session
+    }
+}
+
+/// The waiting reads on a channel.
+#[derive(Clone, Copy)]
+pub(crate) struct ReadsOn {
+    pub session: u32,
+    pub sid: u32,
+}
+
+impl Key<WaitingRead> for ReadsOn {
+    ghost picks = { λ key. is_read_on key.session key.sid };
+
+    fn picks(&self, row: &WaitingRead) -> bool {
+        row.session == self.session && row.sid == self.sid
+    }
 }
 
 /// Removes a read, the first of those that are equal.
 #[tactic(auto, using(rows::proofs::RowLemmas::remove_is_remove_first, rows::proofs::RowLemmas::remove_first_none))]
-pub(crate) fn remove_read(rows: &mut Vec<WaitingRead>, read: &WaitingRead)
-    ensures { rows.new.items ≡ remove_first (same_read read.now) rows.old.items }
+pub(crate) fn remove_read(rows: &mut Vec<WaitingRead>, read: WaitingRead)
+    ensures { rows.new.items ≡ remove_first (same_read read) rows.old.items }
 {
-    if let Some(place) = read_place(rows, read) {
+    if let Some(place) = place_of(rows, ReadLike { read }) {
         rows.remove(place);
     }
 }
 
-fn remove_reads_on(rows: &mut Vec<WaitingRead>, session: u32, sid: u32)
-    ensures { rows.new.items ≡ filter (is_not_read_on session sid) rows.old.items }
-{
-    rows.retain(|row| !(row.session == session && row.sid == sid));
-}
-
-pub(crate) fn remove_reads_of(rows: &mut Vec<WaitingRead>, session: u32)
-    ensures { rows.new.items ≡ filter (is_not_read_of session) rows.old.items }
-{
-    rows.retain(|row| row.session != session);
-}
-
 impl Rows {
     /// A channel goes with its subscriptions, waiting reads and waiting writes.
-    pub(crate) fn remove_channel(&mut self, number: u32, sid: u32)
-        ensures { self.new ≡ without_channel number sid self.old }
+    pub(crate) fn remove_channel(&mut self, session: u32, sid: u32)
+        ensures { self.new ≡ without_channel session sid self.old }
     {
-        remove_channel(&mut self.channels, number, sid);
-        remove_subs_on(&mut self.subs, number, sid);
-        remove_reads_on(&mut self.reads, number, sid);
-        remove_writes_on(&mut self.writes, number, sid);
+        remove(&mut self.channels, ChannelAt { session, sid });
+        remove(&mut self.subs, SubsOn { session, sid });
+        remove(&mut self.reads, ReadsOn { session, sid });
+        remove(&mut self.writes, WritesOn { session, sid });
     }
 
     fn owe(&mut self, sub: &ClientSub)

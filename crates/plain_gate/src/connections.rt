@@ -1,14 +1,13 @@
 //! Connections: what is said to them, and what waits for them.
 ghost use Rattle.std.specs.Prelude.{◌≡◌, take, OnOk, IfOk};
-ghost use Rattle.std.specs.List.{filter, find, position};
-ghost use Rattle.std.specs.Option.{option_copied};
 ghost use Rattle.rows.specs.Rows.{change_first};
 ghost use Rattle.gateway_state.specs.Asked.{acts, ends, queued, stands};
 ghost use Rattle.gateway_state.specs.Clients.{read_refused};
-ghost use Rattle.gateway_state.specs.Connections.{given, is_not_to, is_to, marked_now, outbox_of, relieved};
+ghost use Rattle.gateway_state.specs.Connections.{given, is_to, marked_now, outbox_of, relieved};
 ghost use Rattle.gateway_state.specs.Subscribing.{request_refused};
 ghost use Rattle.gateway_state.specs.Telling.{asked, told};
 
+use crate::lists::{Key, any, find, place_of};
 use crate::state::Rows;
 use ca_header::{Header, write_head};
 use ca_message::{ToClient, ToServer};
@@ -17,22 +16,18 @@ use fanout::{AppendFault, Out};
 use gateway_state::{Connection, Dest};
 use std::alloc::{AllocError, Global};
 
-fn find(rows: &[Connection], dest: Dest) -> Option<&Connection>
-    ensures { option_copied result ≡ find (is_to dest) rows.now }
-{
-    rows.iter().find(|row| row.dest == dest)
+/// The connection to or from there.
+#[derive(Clone, Copy)]
+pub(crate) struct ConnectionTo {
+    pub dest: Dest,
 }
 
-fn place_of(rows: &[Connection], dest: Dest) -> Option<usize>
-    ensures { result ≡ position (is_to dest) rows.now }
-{
-    rows.iter().position(|row| row.dest == dest)
-}
+impl Key<Connection> for ConnectionTo {
+    ghost picks = { λ key. is_to key.dest };
 
-pub(crate) fn remove(rows: &mut Vec<Connection>, dest: Dest)
-    ensures { rows.new.items ≡ filter (is_not_to dest) rows.old.items }
-{
-    rows.retain(|row| row.dest != dest);
+    fn picks(&self, row: &Connection) -> bool {
+        row.dest == self.dest
+    }
 }
 
 /// Gives a message to a connection, where it stands and isn't marked.
@@ -40,7 +35,7 @@ pub(crate) fn remove(rows: &mut Vec<Connection>, dest: Dest)
 fn give(rows: &mut Vec<Connection>, dest: Dest, out: Out) -> Result<(), AllocError>
     ensures { OnOk result (rows.new.items ≡ change_first (is_to dest) (given out) rows.old.items) }
 {
-    if let Some(place) = place_of(rows, dest) {
+    if let Some(place) = place_of(rows, ConnectionTo { dest }) {
         let row = &mut rows[place];
         match row.outbox.append(out) {
             Ok(()) | Err(AppendFault::Marked(_)) => Ok(()),
@@ -56,7 +51,7 @@ fn give(rows: &mut Vec<Connection>, dest: Dest, out: Out) -> Result<(), AllocErr
 pub(crate) fn mark(rows: &mut Vec<Connection>, dest: Dest)
     ensures { rows.new.items ≡ change_first (is_to dest) marked_now rows.old.items }
 {
-    if let Some(place) = place_of(rows, dest) {
+    if let Some(place) = place_of(rows, ConnectionTo { dest }) {
         let row = &mut rows[place];
         row.outbox.mark();
     }
@@ -73,7 +68,7 @@ pub(crate) fn take(
     ensures ok { OnOk result (rows.new.items ≡ change_first (is_to dest) (relieved count) rows.old.items) }
     ensures found { IfOk result (λ outs. outs.items ≡ take count (outbox_of dest rows.old.items).messages) }
 {
-    if let Some(place) = place_of(rows, dest) {
+    if let Some(place) = place_of(rows, ConnectionTo { dest }) {
         let row = &mut rows[place];
         row.outbox.take(alloc, count)
     } else {
@@ -86,14 +81,14 @@ impl Rows {
     pub(crate) fn stands(&self, dest: Dest) -> bool
         ensures { result ≡ stands self.now dest }
     {
-        self.connections.iter().any(|row| row.dest == dest)
+        any(&self.connections, ConnectionTo { dest })
     }
 
     /// Whether a connection stands and must end.
     pub(crate) fn ends(&self, dest: Dest) -> bool
         ensures { result ≡ ends self.now dest }
     {
-        match find(&self.connections, dest) {
+        match find(&self.connections, ConnectionTo { dest }) {
             Some(connection) => connection.outbox.marked(),
             None => false,
         }
@@ -103,7 +98,7 @@ impl Rows {
     pub(crate) fn queued(&self, dest: Dest) -> usize
         ensures { result ≡ queued self.now dest }
     {
-        match find(&self.connections, dest) {
+        match find(&self.connections, ConnectionTo { dest }) {
             Some(connection) => connection.outbox.len(),
             None => 0,
         }
@@ -118,8 +113,8 @@ impl Rows {
 
     /// Tells a client something.
     #[tactic(auto, unfolding(gateway_state::specs::Telling::sent, gateway_state::specs::Telling::outgoing))]
-    pub(crate) fn tell(&mut self, number: u32, said: &ToClient) -> Result<(), AllocError>
-        ensures { OnOk result (self.new ≡ told number said.now self.old) }
+    pub(crate) fn tell(&mut self, number: u32, said: ToClient) -> Result<(), AllocError>
+        ensures { OnOk result (self.new ≡ told number said self.old) }
     {
         let payload = said.payload(self.alloc)?;
         let head = write_head(&said.head());
@@ -129,8 +124,8 @@ impl Rows {
 
     /// Asks a server for something.
     #[tactic(auto, unfolding(gateway_state::specs::Telling::sent, gateway_state::specs::Telling::outgoing_upstream))]
-    pub(crate) fn ask(&mut self, number: u32, said: &ToServer<'_>) -> Result<(), AllocError>
-        ensures { OnOk result (self.new ≡ asked number said.now self.old) }
+    pub(crate) fn ask(&mut self, number: u32, said: ToServer<'_>) -> Result<(), AllocError>
+        ensures { OnOk result (self.new ≡ asked number said.entry self.old) }
     {
         let payload = said.payload(self.alloc)?;
         let head = write_head(&said.head());
@@ -149,7 +144,7 @@ impl Rows {
         ensures { OnOk result (self.new ≡ request_refused number cid code head.now self.old) }
     {
         let request = *head;
-        self.tell(number, &ToClient::Error { cid, code, request })
+        self.tell(number, ToClient::Error { cid, code, request })
     }
 
     /// Tells a client that its read is refused.
@@ -162,6 +157,6 @@ impl Rows {
             count: read.count,
             code,
         };
-        self.tell(read.session, &said)
+        self.tell(read.session, said)
     }
 }

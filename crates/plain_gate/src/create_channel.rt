@@ -4,7 +4,8 @@ ghost use Rattle.gateway_state.specs.Clients.{channel_asked, created_on, created
 ghost use Rattle.gateway_state.specs.Numbers.{is_past_numbers};
 ghost use Rattle.gateway_state.specs.Variables.{link_of};
 
-use crate::clients::{channel_count, find_session, fix_host};
+use crate::clients::{ChannelsOf, SessionNumbered, fix_host};
+use crate::lists::{count, find};
 use crate::names::native_in;
 use crate::numbers::Refusal;
 use crate::state::Rows;
@@ -19,14 +20,14 @@ use std::alloc::AllocError;
 pub(crate) fn fail_creation(rows: &mut Rows, number: u32, cid: u32) -> Result<(), AllocError>
     ensures { OnOk result (rows.new ≡ creation_failed number cid rows.old) }
 {
-    rows.tell(number, &ToClient::CreateChannelFail { cid })
+    rows.tell(number, ToClient::CreateChannelFail { cid })
 }
 
 /// No connected variable was found: the session's host looks for the name.
 fn leave_unconnected(rows: &mut Rows, number: u32, cid: u32, name: &Name) -> Result<(), AllocError>
     ensures { OnOk result (rows.new ≡ not_connected number cid name.now rows.old) }
 {
-    if let Some(session) = find_session(&rows.sessions, number) {
+    if let Some(session) = find(&rows.sessions, SessionNumbered { number }) {
         let host = session.host.copy()?;
         rows.remember(&host, name)?;
     }
@@ -63,14 +64,14 @@ fn create_on(
         return Err(Refusal::OutOfMemory);
     }
     let Native { dtype, count } = native;
-    rows.tell(number, &ToClient::AccessRights { cid, rights })?;
+    rows.tell(number, ToClient::AccessRights { cid, rights })?;
     let said = ToClient::CreateChannel {
         cid,
         sid,
         dtype,
         count,
     };
-    Ok(rows.tell(number, &said)?)
+    Ok(rows.tell(number, said)?)
 }
 
 fn create_as(
@@ -109,7 +110,7 @@ pub(crate) fn create_channel(
     let Some(lead) = lead else {
         return Ok(fail_creation(rows, number, cid)?);
     };
-    if channel_count(&rows.channels, number) >= CHANNEL_LIMIT {
+    if count(&rows.channels, ChannelsOf { session: number }) >= CHANNEL_LIMIT {
         return Ok(fail_creation(rows, number, cid)?);
     }
     create_as(rows, number, cid, name, lead)

@@ -3,9 +3,10 @@ ghost use Rattle.std.specs.Prelude.{◌≡◌, ◌++◌, filter, map, IfOk, OnOk
 ghost use Rattle.gateway_state.specs.Interest.{channel_want, interest_of, is_for, is_reader, is_subscriber, minor_of, sent_count, sub_want, subscription_of};
 ghost use Rattle.mask_merge.specs.Merged.{events, greatest, merged};
 
+use crate::lists::find;
 use crate::names::may_read;
 use crate::state::Rows;
-use crate::upstream::find_server;
+use crate::upstream::ServerNumbered;
 use crate::values::meant_count;
 use channel_table::{Channel, ClientSub};
 use gateway_state::{READ_EVENTS, Sub, UPDATE_MINOR};
@@ -93,7 +94,7 @@ impl Rows {
     pub(crate) fn minor_of(&self, server: u32) -> u32
         ensures { result ≡ minor_of self.now server }
     {
-        match find_server(&self.servers, server) {
+        match find(&self.servers, ServerNumbered { number: server }) {
             Some(row) => row.minor,
             None => 0,
         }

@@ -21,6 +21,7 @@ mod create_channel;
 mod gate;
 mod interest;
 mod links_pass;
+mod lists;
 mod names;
 mod numbers;
 mod opening;

@@ -4,9 +4,10 @@ ghost use Rattle.gateway_state.specs.Notices.{dropped, interest_notices, link_no
 ghost use Rattle.gateway_state.specs.Numbers.{is_past_numbers};
 
 use crate::interest::{is_for, sent_count};
+use crate::lists::remove;
 use crate::numbers::Refusal;
 use crate::state::Rows;
-use crate::upstream::{put_subscription, remove_message};
+use crate::upstream::{MessageOf, put_subscription};
 use crate::values::time_of;
 use ca_message::ToServer;
 use gateway_state::LinkNotice;
@@ -112,7 +113,7 @@ fn subscribe(
         count: sent,
         mask,
     };
-    rows.ask(server, &said)?;
+    rows.ask(server, said)?;
     Ok(())
 }
 
@@ -123,7 +124,7 @@ fn drop_link(rows: &mut Rows, server: u32, cid: u32, state: LinkState) -> Result
     match state {
         LinkState::Creating | LinkState::Unusable => Ok(()),
         LinkState::Connected { sid, .. } => {
-            rows.ask(server, &ToServer::ClearChannel { sid, cid })
+            rows.ask(server, ToServer::ClearChannel { sid, cid })
         }
     }
 }
@@ -147,10 +148,10 @@ fn tell_link(rows: &mut Rows, notice: LinkNotice) -> Result<(), Refusal>
                 dtype,
                 count: subscription.sent,
             };
-            Ok(rows.ask(server, &said)?)
+            Ok(rows.ask(server, said)?)
         }
         LinkNotice::Unread { cid } => {
-            remove_message(&mut rows.cache, cid);
+            remove(&mut rows.cache, MessageOf { cid });
             Ok(())
         }
         LinkNotice::Subscribed {

@@ -9,7 +9,8 @@ ghost use Rattle.gateway_state.specs.Rights.{channel_of, is_found, is_served, le
 ghost use Rattle.gateway_state.specs.Searches.{leads_to, same_search};
 ghost use Rattle.gateway_state.specs.Variables.{asks, channel_names, is_channel_on, is_connected, is_creating, is_linked, is_missing, is_on, is_wanted, link_of, search_names, with_name, with_unlinked};
 
-use crate::clients::find_session;
+use crate::clients::{ChannelAt, SessionNumbered};
+use crate::lists::find;
 use crate::state::Rows;
 use ca_message::commands::CA_PROTO_ACCESS_RIGHT_READ;
 use channel_table::Channel;
@@ -26,7 +27,7 @@ impl Rows {
     pub(crate) fn lead_in(&self, number: u32, name: &Name) -> Result<Option<Lead>, AllocError>
         ensures { IfOk result (λ lead. lead ≡ lead_in self.now number name.now) }
     {
-        match find_session(&self.sessions, number) {
+        match find(&self.sessions, SessionNumbered { number }) {
             Some(session) => lead_of(self.alloc, &self.policy, &session.host, name),
             None => Ok(None),
         }
@@ -43,9 +44,7 @@ impl Rows {
     pub(crate) fn channel_of(&self, session: u32, sid: u32) -> Option<&Channel>
         ensures { option_copied result ≡ channel_of self.now session sid }
     {
-        self.channels
-            .iter()
-            .find(|row| row.session == session && row.sid == sid)
+        find(&self.channels, ChannelAt { session, sid })
     }
 
     /// Whether a session's channel stands and is on a variable.

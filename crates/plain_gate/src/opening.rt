@@ -1,19 +1,20 @@
 //! Connections that come and go.
 ghost use Rattle.std.specs.Prelude.{◌≡◌, OnOk};
+ghost use Rattle.ca_message.specs.declared.to_server.ToServer.TheVariants as requests;
 ghost use Rattle.gateway_state.specs.Sessions.{introduced, lost, opened, up_lost, up_opened};
+ghost use Rattle.gateway_state.specs.Telling.{asked};
 
-use crate::clients::{remove_channels_of, remove_reads_of, remove_session, remove_subs_of};
-use crate::connections::remove;
+use crate::clients::{ChannelsOf, ReadsOf, SessionNumbered, SubsOf};
+use crate::connections::ConnectionTo;
+use crate::lists::remove;
 use crate::state::Rows;
-use crate::upstream::{
-    remove_links_of, remove_messages_by, remove_server, remove_writes_of, remove_writes_to,
-};
+use crate::upstream::{LinksOf, MessagesBy, ServerNumbered, WritesOf, WritesTo};
 use ca_message::{NameText, ToClient, ToServer};
 use channel_table::{SESSION_LIMIT, Session};
 use fanout::Outbox;
 use gateway_state::{Connection, Dest};
 use link_table::{SERVER_LIMIT, Server};
-use pv_name::Host;
+use pv_name::{Host, Name};
 use std::alloc::AllocError;
 
 /// A client connected from an address.
@@ -33,19 +34,21 @@ pub(crate) fn open_session(rows: &mut Rows, number: u32, host: Host) -> Result<(
         host_fixed: false,
         paused: false,
     })?;
-    rows.tell(number, &ToClient::Version)
+    rows.tell(number, ToClient::Version)
 }
 
 /// A client's connection is gone.
 pub(crate) fn lose_session(rows: &mut Rows, number: u32)
     ensures { rows.new ≡ lost rows.old number }
 {
-    remove(&mut rows.connections, Dest::Session(number));
-    remove_session(&mut rows.sessions, number);
-    remove_channels_of(&mut rows.channels, number);
-    remove_subs_of(&mut rows.subs, number);
-    remove_reads_of(&mut rows.reads, number);
-    remove_writes_of(&mut rows.writes, number);
+    let session = number;
+    let dest = Dest::Session(number);
+    remove(&mut rows.connections, ConnectionTo { dest });
+    remove(&mut rows.sessions, SessionNumbered { number });
+    remove(&mut rows.channels, ChannelsOf { session });
+    remove(&mut rows.subs, SubsOf { session });
+    remove(&mut rows.reads, ReadsOf { session });
+    remove(&mut rows.writes, WritesOf { session });
 }
 
 /// A server is connected.
@@ -69,18 +72,32 @@ fn introduce(rows: &mut Rows, number: u32) -> Result<(), AllocError>
 {
     let client_name = rows.config.client_name.copy()?;
     let host_name = rows.config.host_name.copy()?;
-    rows.ask(number, &ToServer::Version)?;
-    rows.ask(number, &ToServer::ClientName(NameText::from(&client_name)))?;
-    rows.ask(number, &ToServer::HostName(NameText::from(&host_name)))
+    rows.ask(number, ToServer::Version)?;
+    say_client_name(rows, number, &client_name)?;
+    say_host_name(rows, number, &host_name)
+}
+
+fn say_client_name(rows: &mut Rows, number: u32, name: &Name) -> Result<(), AllocError>
+    ensures { OnOk result (rows.new ≡ asked number (requests.ClientName name.now) rows.old) }
+{
+    rows.ask(number, ToServer::ClientName(NameText::from(name)))
+}
+
+fn say_host_name(rows: &mut Rows, number: u32, name: &Name) -> Result<(), AllocError>
+    ensures { OnOk result (rows.new ≡ asked number (requests.HostName name.now) rows.old) }
+{
+    rows.ask(number, ToServer::HostName(NameText::from(name)))
 }
 
 /// A server's connection is gone.
 pub(crate) fn lose_server(rows: &mut Rows, number: u32)
     ensures { rows.new ≡ up_lost rows.old number }
 {
-    remove(&mut rows.connections, Dest::Upstream(number));
-    remove_server(&mut rows.servers, number);
-    remove_links_of(&mut rows.links, number);
-    remove_writes_to(&mut rows.writes, number);
-    remove_messages_by(&mut rows.cache, number);
+    let server = number;
+    let dest = Dest::Upstream(number);
+    remove(&mut rows.connections, ConnectionTo { dest });
+    remove(&mut rows.servers, ServerNumbered { number });
+    remove(&mut rows.links, LinksOf { server });
+    remove(&mut rows.writes, WritesTo { server });
+    remove(&mut rows.cache, MessagesBy { server });
 }

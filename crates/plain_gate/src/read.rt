@@ -3,7 +3,8 @@ ghost use Rattle.std.specs.Prelude.{◌≡◌, Some, IfOk, OnOk};
 ghost use Rattle.gateway_state.specs.Answer.{cached_value};
 ghost use Rattle.gateway_state.specs.Clients.{accepted, is_one_too_many, read_asked, read_verdict, verdict_natively};
 
-use crate::clients::{put_channel, read_count};
+use crate::clients::{ReadsOf, put_channel};
+use crate::lists::count;
 use crate::names::native_in;
 use crate::state::Rows;
 use crate::values::{meant_count, read_refusal};
@@ -25,7 +26,10 @@ fn is_one_too_many(
 ) -> Result<bool, AllocError>
     ensures { IfOk result (λ too_many. too_many ≡ is_one_too_many rows.now channel.now.session (cached_value rows.now link.now.cid native.count read.dtype read.count)) }
 {
-    if read_count(&rows.reads, channel.session) < READ_LIMIT {
+    let waiting = ReadsOf {
+        session: channel.session,
+    };
+    if count(&rows.reads, waiting) < READ_LIMIT {
         return Ok(false);
     }
     match rows.cached_value(link.cid, native.count, read.dtype, read.count)? {

@@ -65,18 +65,18 @@ fn tell_read(rows: &mut Rows, notice: ReadNotice) -> Result<(), AllocError>
 {
     match notice {
         ReadNotice::Refused(read, code) => {
-            remove_read(&mut rows.reads, &read);
+            remove_read(&mut rows.reads, read);
             rows.refuse_read(read, code)
         }
         ReadNotice::Answered(read, count, value) => {
-            remove_read(&mut rows.reads, &read);
+            remove_read(&mut rows.reads, read);
             let said = ToClient::ReadNotify {
                 ioid: read.ioid,
                 dtype: read.dtype,
                 count,
                 value,
             };
-            rows.tell(read.session, &said)
+            rows.tell(read.session, said)
         }
     }
 }

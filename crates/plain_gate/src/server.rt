@@ -3,11 +3,12 @@ ghost use Rattle.std.specs.Prelude.{◌≡◌, true, IsErrOf, OnOk};
 ghost use Rattle.gateway_state.specs.Numbers.{is_past_numbers};
 ghost use Rattle.gateway_state.specs.Servers.{channel_dropped, channel_made, channel_returned, creation_refused, found, is_usable, linked, rights_said, server_said};
 
+use crate::lists::find;
 use crate::names::is_creating;
 use crate::numbers::Refusal;
 use crate::state::Rows;
 use crate::update::update;
-use crate::upstream::{find_link, put_minor, put_state};
+use crate::upstream::{LinkAt, put_minor, put_state};
 use crate::values::{fits_payload, time_of};
 use crate::write::end_write;
 use ca_header::Message;
@@ -67,7 +68,7 @@ pub(crate) fn hear_server(rows: &mut Rows, server: u32, message: Message) -> Res
 fn return_channel(rows: &mut Rows, server: u32, sid: u32, cid: u32) -> Result<(), AllocError>
     ensures { OnOk result (rows.new ≡ channel_returned server sid cid rows.old) }
 {
-    rows.ask(server, &ToServer::ClearChannel { sid, cid })
+    rows.ask(server, ToServer::ClearChannel { sid, cid })
 }
 
 /// Whether updates of a channel with this native type and count can be taken.
@@ -88,7 +89,7 @@ fn make_channel(
 ) -> Result<(), AllocError>
     ensures { OnOk result (rows.new ≡ channel_made rows.old server cid sid dtype count) }
 {
-    let Some(link) = find_link(&rows.links, server, cid) else {
+    let Some(link) = find(&rows.links, LinkAt { server, cid }) else {
         return return_channel(rows, server, sid, cid);
     };
     if !is_creating(link.state) {
@@ -108,7 +109,7 @@ fn make_channel(
 fn hear_rights(rows: &mut Rows, server: u32, cid: u32, rights: u32)
     ensures { rows.new ≡ rights_said rows.old server cid rights }
 {
-    if let Some(link) = find_link(&rows.links, server, cid) {
+    if let Some(link) = find(&rows.links, LinkAt { server, cid }) {
         let state = link.state;
         put_state(&mut rows.links, server, cid, state, rights);
     }
@@ -118,7 +119,7 @@ fn hear_rights(rows: &mut Rows, server: u32, cid: u32, rights: u32)
 fn hear_refusal(rows: &mut Rows, server: u32, cid: u32)
     ensures { rows.new ≡ creation_refused rows.old server cid }
 {
-    if let Some(link) = find_link(&rows.links, server, cid) {
+    if let Some(link) = find(&rows.links, LinkAt { server, cid }) {
         if is_creating(link.state) {
             rows.remove_link(server, cid);
         }
@@ -129,7 +130,7 @@ fn hear_refusal(rows: &mut Rows, server: u32, cid: u32)
 fn hear_disconnect(rows: &mut Rows, server: u32, cid: u32)
     ensures { rows.new ≡ channel_dropped rows.old server cid }
 {
-    if let Some(_) = find_link(&rows.links, server, cid) {
+    if let Some(_) = find(&rows.links, LinkAt { server, cid }) {
         rows.remove_link(server, cid);
     }
 }
@@ -174,5 +175,5 @@ fn make_link(rows: &mut Rows, server: u32, name: Name) -> Result<(), Refusal>
         cid,
         name: NameText::from(&asked),
     };
-    Ok(rows.ask(server, &said)?)
+    Ok(rows.ask(server, said)?)
 }

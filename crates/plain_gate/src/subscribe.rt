@@ -2,7 +2,8 @@
 ghost use Rattle.std.specs.Prelude.{◌≡◌, OnOk};
 ghost use Rattle.gateway_state.specs.Subscribing.{is_on_sid, short_subscription, sub_of, sub_verdict, subscription_asked, subscription_cancelled, subscription_refusal};
 
-use crate::clients::{find_sub, remove_sub, sub_count};
+use crate::clients::{SubAt, SubsOf};
+use crate::lists::{count, find, remove};
 use crate::names::native_in;
 use crate::state::Rows;
 use crate::values::value_refusal;
@@ -19,15 +20,22 @@ use std::alloc::AllocError;
 fn subscription_refusal(rows: &Rows, sub: ClientSub, native: Native) -> Option<u32>
     ensures { result ≡ subscription_refusal rows.now sub native }
 {
-    if find_sub(&rows.subs, sub.session, sub.id).is_some() {
+    let same = SubAt {
+        session: sub.session,
+        id: sub.id,
+    };
+    if find(&rows.subs, same).is_some() {
         return Some(ECA_INTERNAL);
     }
+    let its = SubsOf {
+        session: sub.session,
+    };
     if let Some(code) = value_refusal(native, sub.dtype, sub.count) {
         return Some(code);
     }
     if sub.mask & KNOWN_EVENTS == 0 {
         Some(ECA_BADMASK)
-    } else if sub_count(&rows.subs, sub.session) >= SUB_LIMIT {
+    } else if count(&rows.subs, its) >= SUB_LIMIT {
         Some(ECA_ALLOCMEM)
     } else {
         None
@@ -88,7 +96,13 @@ pub(crate) fn refuse_short(rows: &mut Rows, number: u32, head: &Header) -> Resul
 fn is_sub_on(rows: &Rows, number: u32, id: u32, sid: u32) -> bool
     ensures { result ≡ is_on_sid sid (sub_of rows.now number id) }
 {
-    match find_sub(&rows.subs, number, id) {
+    match find(
+        &rows.subs,
+        SubAt {
+            session: number,
+            id,
+        },
+    ) {
         Some(sub) => sub.sid == sid,
         None => false,
     }
@@ -113,12 +127,18 @@ pub(crate) fn cancel_subscription(
     if !is_sub_on(rows, number, id, sid) {
         return rows.refuse(number, cid, ECA_INTERNAL, head);
     }
-    remove_sub(&mut rows.subs, number, id);
+    remove(
+        &mut rows.subs,
+        SubAt {
+            session: number,
+            id,
+        },
+    );
     let said = ToClient::EventCancelled {
         sid,
         id,
         dtype,
         count,
     };
-    rows.tell(number, &said)
+    rows.tell(number, said)
 }

@@ -4,8 +4,9 @@ ghost use Rattle.gateway_state.specs.Servers.{has_other_alarm, is_value, read_fa
 ghost use Rattle.gateway_state.specs.Updates.{concerned, is_concerned};
 
 use crate::clients::remove_read;
+use crate::lists::find;
 use crate::state::Rows;
-use crate::upstream::{find_message, find_subscribed, put_message};
+use crate::upstream::{LinkSubscribed, MessageOf, put_message};
 use crate::values::time_of;
 use bytes::Bytes;
 use ca_message::codes::{ECA_GETFAIL, ECA_NORMAL};
@@ -33,7 +34,7 @@ fn reads_for(rows: &Rows, name: &Name) -> Result<Vec<WaitingRead>, AllocError>
 fn fail_read(rows: &mut Rows, read: WaitingRead) -> Result<(), AllocError>
     ensures { OnOk result (rows.new ≡ read_failed rows.old read) }
 {
-    remove_read(&mut rows.reads, &read);
+    remove_read(&mut rows.reads, read);
     rows.refuse_read(read, ECA_GETFAIL)
 }
 
@@ -68,7 +69,7 @@ fn has_other_alarm(rows: &Rows, cid: u32, dtype: u16, count: u32, payload: &[u8]
     let Ok(view) = View::new(dtype, count, payload) else {
         return false;
     };
-    match find_message(&rows.cache, cid) {
+    match find(&rows.cache, MessageOf { cid }) {
         Some(last) => last.held.alarm_differs(&view),
         None => true,
     }
@@ -86,7 +87,7 @@ pub(crate) fn update(
 ) -> Result<(), AllocError>
     ensures { OnOk result (rows.new ≡ updated rows.old server id status dtype count payload) }
 {
-    let Some(link) = find_subscribed(&rows.links, server, id) else {
+    let Some(link) = find(&rows.links, LinkSubscribed { server, id }) else {
         return Ok(());
     };
     if status != ECA_NORMAL {

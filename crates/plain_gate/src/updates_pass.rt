@@ -3,7 +3,8 @@ ghost use Rattle.std.specs.Prelude.{◌≡◌, IfOk, OnOk};
 ghost use Rattle.gateway_state.specs.Updates.{is_open_to, is_paused, is_taking, is_withheld, update_notice, update_notices, update_over, update_told, updates_told, updates_withheld, withheld};
 ghost use Rattle.gateway_state.specs.Variables.{link_of};
 
-use crate::clients::{find_session, put_owed};
+use crate::clients::{SessionNumbered, put_owed};
+use crate::lists::find;
 use crate::names::{may_read, native_in};
 use crate::state::Rows;
 use ca_message::ToClient;
@@ -47,7 +48,7 @@ pub(crate) fn withhold_updates(rows: &mut Rows) -> Result<(), AllocError>
 fn is_paused(rows: &Rows, number: u32) -> bool
     ensures { result ≡ is_paused rows.now number }
 {
-    match find_session(&rows.sessions, number) {
+    match find(&rows.sessions, SessionNumbered { number }) {
         Some(session) => session.paused,
         None => false,
     }
@@ -137,7 +138,7 @@ fn tell_update(rows: &mut Rows, notice: UpdateNotice) -> Result<(), AllocError>
         count: notice.count,
         value: notice.payload,
     };
-    rows.tell(notice.session, &said)
+    rows.tell(notice.session, said)
 }
 
 /// Gives the updates that are due.

@@ -1,14 +1,13 @@
 //! Rows towards servers, found from the front: servers, links, waiting writes and last messages.
-ghost use Rattle.std.specs.Prelude.{◌≡◌, OnOk};
-ghost use Rattle.std.specs.List.{count_by, filter, find, position};
-ghost use Rattle.std.specs.Option.{option_copied};
+ghost use Rattle.std.specs.Prelude.{◌≡◌, ◌==◌, OnOk};
 ghost use Rattle.rows.specs.Rows.{change_first};
-ghost use Rattle.link_table.specs.Links.{has_id, has_subscription, is_link, is_not_link, is_not_of, with_state, with_subscription};
-ghost use Rattle.link_table.specs.Servers.{is_not_server, is_server, with_minor};
-ghost use Rattle.link_table.specs.Writes.{is_not_write, is_not_write_of, is_not_write_on, is_not_write_to, is_write, is_write_of};
-ghost use Rattle.gateway_state.specs.CachedRows.{is_cached_by_another, is_cached_elsewhere, is_cached_of, with_row};
+ghost use Rattle.link_table.specs.Links.{has_id, has_subscription, is_link, is_of, with_state, with_subscription};
+ghost use Rattle.link_table.specs.Servers.{is_server, with_minor};
+ghost use Rattle.link_table.specs.Writes.{is_write, is_write_of, is_write_on, is_write_to};
+ghost use Rattle.gateway_state.specs.CachedRows.{is_cached_of, with_row};
 ghost use Rattle.gateway_state.specs.Servers.{without_link};
 
+use crate::lists::{Key, place_of, remove};
 use crate::state::Rows;
 use gateway_state::LastMessage;
 use link_table::{Link, LinkState, Server, Subscription, WaitingWrite};
@@ -16,16 +15,18 @@ use std::alloc::AllocError;
 
 // Servers
 
-pub(crate) fn find_server(rows: &[Server], number: u32) -> Option<&Server>
-    ensures { option_copied result ≡ find (is_server number) rows.now }
-{
-    rows.iter().find(|row| row.number == number)
+/// The server of this number.
+#[derive(Clone, Copy)]
+pub(crate) struct ServerNumbered {
+    pub number: u32,
 }
 
-fn server_place(rows: &[Server], number: u32) -> Option<usize>
-    ensures { result ≡ position (is_server number) rows.now }
-{
-    rows.iter().position(|row| row.number == number)
+impl Key<Server> for ServerNumbered {
+    ghost picks = { λ key. is_server key.number };
+
+    fn picks(&self, row: &Server) -> bool {
+        row.number == self.number
+    }
 }
 
 /// The server said this minor version.
@@ -33,32 +34,56 @@ fn server_place(rows: &[Server], number: u32) -> Option<usize>
 pub(crate) fn put_minor(rows: &mut Vec<Server>, number: u32, minor: u32)
     ensures { rows.new.items ≡ change_first (is_server number) (with_minor minor) rows.old.items }
 {
-    if let Some(place) = server_place(rows, number) {
+    if let Some(place) = place_of(rows, ServerNumbered { number }) {
         let row = &mut rows[place];
         row.minor = minor;
     }
 }
 
-pub(crate) fn remove_server(rows: &mut Vec<Server>, number: u32)
-    ensures { rows.new.items ≡ filter (is_not_server number) rows.old.items }
-{
-    rows.retain(|row| row.number != number);
-}
-
 // Links
 
-pub(crate) fn find_link(rows: &[Link], server: u32, cid: u32) -> Option<&Link>
-    ensures { option_copied result ≡ find (is_link server cid) rows.now }
-{
-    rows.iter()
-        .find(|row| row.server == server && row.cid == cid)
+/// The server's link of this ID.
+#[derive(Clone, Copy)]
+pub(crate) struct LinkAt {
+    pub server: u32,
+    pub cid: u32,
 }
 
-pub(crate) fn find_subscribed(rows: &[Link], server: u32, id: u32) -> Option<&Link>
-    ensures { option_copied result ≡ find (has_subscription server id) rows.now }
-{
-    rows.iter()
-        .find(|row| row.server == server && has_id(row.subscription, id))
+impl Key<Link> for LinkAt {
+    ghost picks = { λ key. is_link key.server key.cid };
+
+    fn picks(&self, row: &Link) -> bool {
+        row.server == self.server && row.cid == self.cid
+    }
+}
+
+/// The links of a server.
+#[derive(Clone, Copy)]
+pub(crate) struct LinksOf {
+    pub server: u32,
+}
+
+impl Key<Link> for LinksOf {
+    ghost picks = { λ key. is_of key.server };
+
+    fn picks(&self, row: &Link) -> bool {
+        row.server == self.server
+    }
+}
+
+/// The server's link whose subscription has this ID.
+#[derive(Clone, Copy)]
+pub(crate) struct LinkSubscribed {
+    pub server: u32,
+    pub id: u32,
+}
+
+impl Key<Link> for LinkSubscribed {
+    ghost picks = { λ key. has_subscription key.server key.id };
+
+    fn picks(&self, row: &Link) -> bool {
+        row.server == self.server && has_id(row.subscription, self.id)
+    }
 }
 
 fn has_id(subscription: Option<Subscription>, id: u32) -> bool
@@ -70,19 +95,12 @@ fn has_id(subscription: Option<Subscription>, id: u32) -> bool
     }
 }
 
-fn link_place(rows: &[Link], server: u32, cid: u32) -> Option<usize>
-    ensures { result ≡ position (is_link server cid) rows.now }
-{
-    rows.iter()
-        .position(|row| row.server == server && row.cid == cid)
-}
-
 /// The link has come so far, and has these access rights.
 #[tactic(auto, using(rows::proofs::RowLemmas::set_is_change_first, rows::proofs::RowLemmas::change_first_none))]
 pub(crate) fn put_state(rows: &mut Vec<Link>, server: u32, cid: u32, state: LinkState, rights: u32)
     ensures { rows.new.items ≡ change_first (is_link server cid) (with_state state rights) rows.old.items }
 {
-    if let Some(place) = link_place(rows, server, cid) {
+    if let Some(place) = place_of(rows, LinkAt { server, cid }) {
         let row = &mut rows[place];
         row.state = state;
         row.rights = rights;
@@ -99,89 +117,110 @@ pub(crate) fn put_subscription(
 )
     ensures { rows.new.items ≡ change_first (is_link server cid) (with_subscription subscription) rows.old.items }
 {
-    if let Some(place) = link_place(rows, server, cid) {
+    if let Some(place) = place_of(rows, LinkAt { server, cid }) {
         let row = &mut rows[place];
         row.subscription = subscription;
     }
 }
 
-fn remove_link(rows: &mut Vec<Link>, server: u32, cid: u32)
-    ensures { rows.new.items ≡ filter (is_not_link server cid) rows.old.items }
-{
-    rows.retain(|row| !(row.server == server && row.cid == cid));
-}
-
-pub(crate) fn remove_links_of(rows: &mut Vec<Link>, server: u32)
-    ensures { rows.new.items ≡ filter (is_not_of server) rows.old.items }
-{
-    rows.retain(|row| row.server != server);
-}
-
 // Waiting writes
 
-pub(crate) fn find_write(rows: &[WaitingWrite], server: u32, id: u32) -> Option<&WaitingWrite>
-    ensures { option_copied result ≡ find (is_write server id) rows.now }
-{
-    rows.iter().find(|row| row.server == server && row.id == id)
+/// The write to a server of this ID.
+#[derive(Clone, Copy)]
+pub(crate) struct WriteAt {
+    pub server: u32,
+    pub id: u32,
 }
 
-pub(crate) fn write_count(rows: &[WaitingWrite], session: u32) -> usize
-    ensures { result ≡ count_by (is_write_of session) rows.now }
-{
-    rows.iter().filter(|row| row.session == session).count()
+impl Key<WaitingWrite> for WriteAt {
+    ghost picks = { λ key. is_write key.server key.id };
+
+    fn picks(&self, row: &WaitingWrite) -> bool {
+        row.server == self.server && row.id == self.id
+    }
 }
 
-pub(crate) fn remove_write(rows: &mut Vec<WaitingWrite>, server: u32, id: u32)
-    ensures { rows.new.items ≡ filter (is_not_write server id) rows.old.items }
-{
-    rows.retain(|row| !(row.server == server && row.id == id));
+/// The waiting writes of a session.
+#[derive(Clone, Copy)]
+pub(crate) struct WritesOf {
+    pub session: u32,
 }
 
-pub(crate) fn remove_writes_on(rows: &mut Vec<WaitingWrite>, session: u32, sid: u32)
-    ensures { rows.new.items ≡ filter (is_not_write_on session sid) rows.old.items }
-{
-    rows.retain(|row| !(row.session == session && row.sid == sid));
+impl Key<WaitingWrite> for WritesOf {
+    ghost picks = { λ key. is_write_of key.session };
+
+    fn picks(&self, row: &WaitingWrite) -> bool {
+        row.session == self.session
+    }
 }
 
-pub(crate) fn remove_writes_of(rows: &mut Vec<WaitingWrite>, session: u32)
-    ensures { rows.new.items ≡ filter (is_not_write_of session) rows.old.items }
-{
-    rows.retain(|row| row.session != session);
+/// The waiting writes on a channel.
+#[derive(Clone, Copy)]
+pub(crate) struct WritesOn {
+    pub session: u32,
+    pub sid: u32,
 }
 
-pub(crate) fn remove_writes_to(rows: &mut Vec<WaitingWrite>, server: u32)
-    ensures { rows.new.items ≡ filter (is_not_write_to server) rows.old.items }
-{
-    rows.retain(|row| row.server != server);
+impl Key<WaitingWrite> for WritesOn {
+    ghost picks = { λ key. is_write_on key.session key.sid };
+
+    fn picks(&self, row: &WaitingWrite) -> bool {
+        row.session == self.session && row.sid == self.sid
+    }
+}
+
+/// The waiting writes to a server.
+#[derive(Clone, Copy)]
+pub(crate) struct WritesTo {
+    pub server: u32,
+}
+
+impl Key<WaitingWrite> for WritesTo {
+    ghost picks = { λ key. is_write_to key.server };
+
+    fn picks(&self, row: &WaitingWrite) -> bool {
+        row.server == self.server
+    }
 }
 
 // Last messages
 
-pub(crate) fn find_message(rows: &[LastMessage], cid: u32) -> Option<&LastMessage>
-    ensures { option_copied result ≡ find (is_cached_of cid) rows.now }
-{
-    rows.iter().find(|row| row.cid == cid)
+/// A link's last message.
+#[derive(Clone, Copy)]
+pub(crate) struct MessageOf {
+    pub cid: u32,
+}
+
+impl Key<LastMessage> for MessageOf {
+    ghost picks = { λ key. is_cached_of key.cid };
+
+    fn picks(&self, row: &LastMessage) -> bool {
+        row.cid == self.cid
+    }
+}
+
+/// The last messages of a server's links.
+#[derive(Clone, Copy)]
+pub(crate) struct MessagesBy {
+    pub server: u32,
+}
+
+impl Key<LastMessage> for MessagesBy {
+    ghost picks = { λ key row. row.server == key.server };
+
+    fn picks(&self, row: &LastMessage) -> bool {
+        row.server == self.server
+    }
 }
 
 /// Keeps a message in place of the one that its link had.
 pub(crate) fn put_message(rows: &mut Vec<LastMessage>, row: LastMessage) -> Result<(), AllocError>
     ensures { OnOk result (rows.new.items ≡ with_row row rows.old.items) }
 {
-    remove_message(rows, row.cid);
+    let cid = row.cid;
+    remove(rows, MessageOf { cid });
     rows.push(row)?;
     Ok(())
-}
-
-pub(crate) fn remove_message(rows: &mut Vec<LastMessage>, cid: u32)
-    ensures { rows.new.items ≡ filter (is_cached_elsewhere cid) rows.old.items }
-{
-    rows.retain(|row| row.cid != cid);
-}
-
-pub(crate) fn remove_messages_by(rows: &mut Vec<LastMessage>, server: u32)
-    ensures { rows.new.items ≡ filter (is_cached_by_another server) rows.old.items }
-{
-    rows.retain(|row| row.server != server);
 }
 
 impl Rows {
@@ -189,7 +228,7 @@ impl Rows {
     pub(crate) fn remove_link(&mut self, server: u32, cid: u32)
         ensures { self.new ≡ without_link server cid self.old }
     {
-        remove_message(&mut self.cache, cid);
-        remove_link(&mut self.links, server, cid);
+        remove(&mut self.cache, MessageOf { cid });
+        remove(&mut self.links, LinkAt { server, cid });
     }
 }

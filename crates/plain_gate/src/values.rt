@@ -4,9 +4,10 @@ ghost use Rattle.dbr_layout.specs.Dbr.{dbr_of};
 ghost use Rattle.gateway_state.specs.Answer.{cached_as, cached_value, fits_payload, is_type_served, meant_count, reading, reading_of, refusal, value_refusal};
 ghost use Rattle.gateway_state.specs.Servers.{time_of};
 
+use crate::lists::find;
 use crate::names::{may_read, native_in};
 use crate::state::Rows;
-use crate::upstream::find_message;
+use crate::upstream::MessageOf;
 use ca_message::codes::{ECA_BADCOUNT, ECA_BADTYPE, ECA_NORDACCESS, ECA_TOLARGE};
 use dbr_layout::{Dbr, converts};
 use gateway_state::{Given, LastMessage, Native, PLAIN_TYPES, Reading, TIME_FORM};
@@ -24,7 +25,7 @@ impl Rows {
     ) -> Result<Option<Given>, AllocError>
         ensures { IfOk result (λ given. given ≡ cached_value self.now cid native dtype count) }
     {
-        match find_message(&self.cache, cid) {
+        match find(&self.cache, MessageOf { cid }) {
             Some(last) => cached_as(self.alloc, native, dtype, count, last),
             None => Ok(None),
         }

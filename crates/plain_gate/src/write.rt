@@ -3,9 +3,10 @@ ghost use Rattle.std.specs.Prelude.{◌≡◌, true, IfOk, IsErrOf, OnOk};
 ghost use Rattle.gateway_state.specs.Numbers.{is_past_numbers};
 ghost use Rattle.gateway_state.specs.Writing.{may_write, new_write, with_write, write_answered, write_asked, write_ended, write_handed_on, write_judged, write_notify_asked, write_verdict};
 
+use crate::lists::{count, find, remove};
 use crate::numbers::Refusal;
 use crate::state::Rows;
-use crate::upstream::{find_write, remove_write, write_count};
+use crate::upstream::{WriteAt, WritesOf};
 use ca_header::Header;
 use ca_message::codes::{ECA_BADCHID, ECA_NOWTACCESS, ECA_PUTFAIL};
 use ca_message::commands::{CA_PROTO_ACCESS_RIGHT_WRITE, NO_CHANNEL};
@@ -94,7 +95,7 @@ pub(crate) fn hear_write(
         WriteVerdict::Ignored => Ok(()),
         WriteVerdict::Refused { cid, code } => rows.refuse(write.session, cid, code, head),
         WriteVerdict::Accepted { server, sid, value } => {
-            rows.ask(server, &ToServer::Write { sid, value })
+            rows.ask(server, ToServer::Write { sid, value })
         }
     }
 }
@@ -109,7 +110,7 @@ fn answer_write(rows: &mut Rows, write: Write, ioid: u32, status: u32) -> Result
         count: write.count,
         status,
     };
-    rows.tell(write.session, &said)
+    rows.tell(write.session, said)
 }
 
 /// Notes that the write waits, under the next ID, which it gives.
@@ -150,7 +151,10 @@ fn hand_on(
     ensures ok { OnOk result (rows.new ≡ write_handed_on write.session write.sid ioid write.dtype write.count server sid value.entry rows.old) }
     ensures used_up { IsErrOf result Refusal.NumbersUsedUp → is_past_numbers (write_handed_on write.session write.sid ioid write.dtype write.count server sid value.entry rows.old) ≡ true }
 {
-    if write_count(&rows.writes, write.session) >= WRITE_LIMIT {
+    let waiting = WritesOf {
+        session: write.session,
+    };
+    if count(&rows.writes, waiting) >= WRITE_LIMIT {
         return Ok(answer_write(rows, write, ioid, ECA_PUTFAIL)?);
     }
     let id = add_write(rows, write, ioid, server)?;
@@ -159,7 +163,7 @@ fn hand_on(
         ioid: id,
         value,
     };
-    Ok(rows.ask(server, &said)?)
+    Ok(rows.ask(server, said)?)
 }
 
 /// A client writes a value, and wants to be told how that ended.
@@ -192,7 +196,7 @@ pub(crate) fn end_write(
 ) -> Result<(), AllocError>
     ensures { OnOk result (rows.new ≡ write_ended rows.old server id status) }
 {
-    let Some(waiting) = find_write(&rows.writes, server, id) else {
+    let Some(waiting) = find(&rows.writes, WriteAt { server, id }) else {
         return Ok(());
     };
     let ioid = waiting.ioid;
@@ -202,6 +206,6 @@ pub(crate) fn end_write(
         dtype: waiting.dtype,
         count: waiting.count,
     };
-    remove_write(&mut rows.writes, server, id);
+    remove(&mut rows.writes, WriteAt { server, id });
     answer_write(rows, write, ioid, status)
 }

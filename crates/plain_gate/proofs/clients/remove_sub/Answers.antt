@@ -1,8 +1,0 @@
-use Rattle.std.proofs.Common.{rules}
-use Rattle.std.proofs.lemmas.Fn.{filter_same}
-use Rattle.channel_table.specs.Subs.{is_not_sub}
-use Rattle.plain_gate.proofs.clients.remove_sub.Goals as goal
-
--- the closure answers the test and stays as it is
-pub returns : goal.returns
-returns c = filter_same _ (is_not_sub c.args.session c.args.id) _ (λ row kept closure called. search rules) _ _ c.retain.ensures.filtered
