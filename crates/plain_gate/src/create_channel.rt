@@ -1,6 +1,6 @@
 //! CREATE_CHAN.
-ghost use Rattle.std.specs.Prelude.{◌≡◌, true, IsErrOf, OnOk};
-ghost use Rattle.gateway_state.specs.Clients.{channel_asked, created_on, created_with, creation_failed, not_connected};
+ghost use Rattle.std.specs.Prelude.{◌≡◌, true, IfOk, IsErrOf, OnOk};
+ghost use Rattle.gateway_state.specs.Clients.{channel_asked, created_on, created_with, creation_failed, not_connected, with_channel};
 ghost use Rattle.gateway_state.specs.Numbers.{is_past_numbers};
 ghost use Rattle.gateway_state.specs.Variables.{link_of};
 
@@ -34,35 +34,54 @@ fn leave_unconnected(rows: &mut Rows, number: u32, cid: u32, name: &Name) -> Res
     fail_creation(rows, number, cid)
 }
 
-/// Makes a channel, which nothing was read on yet.
-#[tactic(auto, unfolding(gateway_state::specs::Telling::sent, gateway_state::specs::Numbers::is_past_numbers))]
-fn create_on(
+/// Makes a channel, which nothing was read on yet, under the next ID, which it gives.
+#[tactic(auto, unfolding(gateway_state::specs::Numbers::is_past_numbers))]
+fn add_channel(
     rows: &mut Rows,
     number: u32,
     cid: u32,
-    asked: Name,
-    real: Name,
+    asked: &Name,
+    real: &Name,
     rights: u32,
-    native: Native,
-) -> Result<(), Refusal>
-    ensures ok { OnOk result (rows.new ≡ created_with number cid asked real rights native rows.old) }
-    ensures used_up { IsErrOf result Refusal.NumbersUsedUp → is_past_numbers (created_with number cid asked real rights native rows.old) ≡ true }
+) -> Result<u32, Refusal>
+    ensures ok { OnOk result (rows.new ≡ with_channel number cid asked.now real.now rights rows.old) }
+    ensures id { IfOk result (λ sid. sid ≡ rows.old.upstream.counters.sid) }
+    ensures used_up { IsErrOf result Refusal.NumbersUsedUp → is_past_numbers (with_channel number cid asked.now real.now rights rows.old) ≡ true }
 {
     let Some(sid) = rows.numbers.give_out(Counter::Sid) else {
         return Err(Refusal::NumbersUsedUp);
     };
+    let asked = asked.copy()?;
     let channel = Channel {
         session: number,
         sid,
         cid,
         asked,
-        real,
+        real: real.copy()?,
         reach: 0,
         rights,
     };
-    if rows.channels.push(channel).is_err() {
-        return Err(Refusal::OutOfMemory);
+    match rows.channels.push(channel) {
+        Ok(()) => Ok(sid),
+        Err(_) => Err(Refusal::OutOfMemory),
     }
+}
+
+/// Makes a channel, and tells the client of it.
+#[tactic(auto, unfolding(gateway_state::specs::Telling::sent, gateway_state::specs::Numbers::is_past_numbers))]
+fn create_on(
+    rows: &mut Rows,
+    number: u32,
+    cid: u32,
+    asked: &Name,
+    real: &Name,
+    rights: u32,
+    native: Native,
+) -> Result<(), Refusal>
+    ensures ok { OnOk result (rows.new ≡ created_with number cid asked.now real.now rights native rows.old) }
+    ensures used_up { IsErrOf result Refusal.NumbersUsedUp → is_past_numbers (created_with number cid asked.now real.now rights native rows.old) ≡ true }
+{
+    let sid = add_channel(rows, number, cid, asked, real, rights)?;
     let Native { dtype, count } = native;
     rows.tell(number, ToClient::AccessRights { cid, rights })?;
     let said = ToClient::CreateChannel {
@@ -79,10 +98,10 @@ fn create_as(
     number: u32,
     cid: u32,
     asked: &Name,
-    lead: Lead,
+    lead: &Lead,
 ) -> Result<(), Refusal>
-    ensures ok { OnOk result (rows.new ≡ created_on number cid asked.now lead (link_of rows.old lead.real) rows.old) }
-    ensures used_up { IsErrOf result Refusal.NumbersUsedUp → is_past_numbers (created_on number cid asked.now lead (link_of rows.old lead.real) rows.old) ≡ true }
+    ensures ok { OnOk result (rows.new ≡ created_on number cid asked.now lead.now (link_of rows.old lead.now.real) rows.old) }
+    ensures used_up { IsErrOf result Refusal.NumbersUsedUp → is_past_numbers (created_on number cid asked.now lead.now (link_of rows.old lead.now.real) rows.old) ≡ true }
 {
     let Some(link) = rows.link_of(&lead.real) else {
         return Ok(leave_unconnected(rows, number, cid, asked)?);
@@ -91,8 +110,7 @@ fn create_as(
         return Ok(leave_unconnected(rows, number, cid, asked)?);
     };
     let rights = link.rights & group_rights(&rows.policy.groups, lead.group.as_ref());
-    let asked = asked.copy()?;
-    create_on(rows, number, cid, asked, lead.real, rights, native)
+    create_on(rows, number, cid, asked, &lead.real, rights, native)
 }
 
 /// A client wants a channel on a name.
@@ -113,5 +131,5 @@ pub(crate) fn create_channel(
     if count(&rows.channels, ChannelsOf { session: number }) >= CHANNEL_LIMIT {
         return Ok(fail_creation(rows, number, cid)?);
     }
-    create_as(rows, number, cid, name, lead)
+    create_as(rows, number, cid, name, &lead)
 }

@@ -19,8 +19,8 @@ use pv_name::Name;
 use std::alloc::AllocError;
 
 /// A server sent a message.
-pub(crate) fn hear_server(rows: &mut Rows, server: u32, message: Message) -> Result<(), AllocError>
-    ensures { OnOk result (rows.new ≡ server_said rows.old server message) }
+pub(crate) fn hear_server(rows: &mut Rows, server: u32, message: &Message) -> Result<(), AllocError>
+    ensures { OnOk result (rows.new ≡ server_said rows.old server message.now) }
 {
     match read_reply(&message.head, &message.payload) {
         Ok(ServerReply::Version { minor }) => {
@@ -35,10 +35,7 @@ pub(crate) fn hear_server(rows: &mut Rows, server: u32, message: Message) -> Res
                 count,
                 ..
             },
-        ) => {
-            let payload = message.payload.clone()?;
-            update(rows, server, id, status, dtype, count, payload)
-        }
+        ) => { update(rows, server, id, status, dtype, count, &message.payload) }
         Ok(
             ServerReply::CreateChannel {
                 cid,
@@ -136,11 +133,11 @@ fn hear_disconnect(rows: &mut Rows, server: u32, cid: u32)
 }
 
 /// A server has a variable.
-pub(crate) fn find_at(rows: &mut Rows, name: Name, server: u32) -> Result<(), Refusal>
-    ensures ok { OnOk result (rows.new ≡ found rows.old name server) }
-    ensures used_up { IsErrOf result Refusal.NumbersUsedUp → is_past_numbers (found rows.old name server) ≡ true }
+pub(crate) fn find_at(rows: &mut Rows, name: &Name, server: u32) -> Result<(), Refusal>
+    ensures ok { OnOk result (rows.new ≡ found rows.old name.now server) }
+    ensures used_up { IsErrOf result Refusal.NumbersUsedUp → is_past_numbers (found rows.old name.now server) ≡ true }
 {
-    if rows.is_missing(&name)?
+    if rows.is_missing(name)?
         && rows.acts(Dest::Upstream(server))
         && rows.links.len() < LINK_LIMIT
     {
@@ -152,18 +149,17 @@ pub(crate) fn find_at(rows: &mut Rows, name: Name, server: u32) -> Result<(), Re
 
 /// Makes a link, and asks the server for a channel.
 #[tactic(auto, unfolding(gateway_state::specs::Telling::sent, gateway_state::specs::Numbers::is_past_numbers))]
-fn make_link(rows: &mut Rows, server: u32, name: Name) -> Result<(), Refusal>
-    ensures ok { OnOk result (rows.new ≡ linked rows.old server name) }
-    ensures used_up { IsErrOf result Refusal.NumbersUsedUp → is_past_numbers (linked rows.old server name) ≡ true }
+fn make_link(rows: &mut Rows, server: u32, name: &Name) -> Result<(), Refusal>
+    ensures ok { OnOk result (rows.new ≡ linked rows.old server name.now) }
+    ensures used_up { IsErrOf result Refusal.NumbersUsedUp → is_past_numbers (linked rows.old server name.now) ≡ true }
 {
     let Some(cid) = rows.numbers.give_out(Counter::Cid) else {
         return Err(Refusal::NumbersUsedUp);
     };
-    let asked = name.copy()?;
     let link = Link {
         cid,
         server,
-        name,
+        name: name.copy()?,
         state: LinkState::Creating,
         rights: 0,
         subscription: None,
@@ -173,7 +169,7 @@ fn make_link(rows: &mut Rows, server: u32, name: Name) -> Result<(), Refusal>
     }
     let said = ToServer::CreateChannel {
         cid,
-        name: NameText::from(&asked),
+        name: NameText::from(name),
     };
     Ok(rows.ask(server, said)?)
 }

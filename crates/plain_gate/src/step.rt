@@ -85,12 +85,12 @@ fn perform(rows: &mut Rows, event: Event) -> Result<(), Refusal>
         }
         Event::Server(number, message) => {
             if rows.acts(Dest::Upstream(number)) {
-                Ok(hear_server(rows, number, message)?)
+                Ok(hear_server(rows, number, &message)?)
             } else {
                 Ok(())
             }
         }
-        Event::Found(name, number) => find_at(rows, name, number),
+        Event::Found(name, number) => find_at(rows, &name, number),
         Event::Search(host, name) => Ok(search_for(rows, &host, &name)?),
         Event::Edit(policy) => {
             rows.policy = policy;

@@ -83,9 +83,9 @@ pub(crate) fn update(
     status: u32,
     dtype: u16,
     count: u32,
-    payload: Bytes,
+    payload: &Bytes,
 ) -> Result<(), AllocError>
-    ensures { OnOk result (rows.new ≡ updated rows.old server id status dtype count payload) }
+    ensures { OnOk result (rows.new ≡ updated rows.old server id status dtype count payload.now) }
 {
     let Some(link) = find(&rows.links, LinkSubscribed { server, id }) else {
         return Ok(());
@@ -100,14 +100,14 @@ pub(crate) fn update(
     let Some(subscription) = link.subscription else {
         return Ok(());
     };
-    if !is_value(native, subscription.count, dtype, count, &payload) {
+    if !is_value(native, subscription.count, dtype, count, payload) {
         return Ok(());
     }
     let (server, cid) = (link.server, link.cid);
-    let differs = has_other_alarm(rows, cid, dtype, count, &payload);
+    let differs = has_other_alarm(rows, cid, dtype, count, payload);
     let owed = concerned(rows, &link.name, differs)?;
     rows.owe_all(&owed);
-    let held = LastValue::new(dtype, count, payload, subscription.count);
+    let held = LastValue::new(dtype, count, payload.clone()?, subscription.count);
     put_message(&mut rows.cache, LastMessage { server, cid, held })
 }
 
