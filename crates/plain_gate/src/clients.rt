@@ -1,4 +1,4 @@
-//! Rows of clients, found from the front: sessions, channels, subscriptions and waiting reads.
+//! Rows of clients, and their keys: sessions, channels, subscriptions and waiting reads.
 ghost use Rattle.std.specs.Prelude.{◌≡◌};
 ghost use Rattle.rows.specs.Rows.{change_first, remove_first};
 ghost use Rattle.channel_table.specs.Channels.{is_channel, is_channel_of, with_reach_and_rights};

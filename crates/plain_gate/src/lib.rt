@@ -8,9 +8,10 @@
 //! That both meet the same clauses is proved of each by itself. What no clause says, as whether
 //! memory was refused, is seen by running both on the same events and comparing.
 //!
-//! The layers: the rows and their lists (`state`, `clients`, `upstream`, `connections`, `numbers`);
-//! what is asked of them (`names`, `values`, `interest`); what an event does by itself (`opening`,
-//! `client`, `server`); the passes; `step`, and the gate itself.
+//! The layers: lists of any rows, looked through from the front by keys (`lists`); the rows and their
+//! keys (`state`, `clients`, `upstream`, `connections`, `numbers`); what is asked of them (`names`,
+//! `values`, `interest`); what an event does by itself (`opening`, `client`, `server`); the passes;
+//! `step`, and the gate itself.
 #![tactic(auto)]
 
 mod channels_pass;

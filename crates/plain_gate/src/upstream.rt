@@ -1,4 +1,4 @@
-//! Rows towards servers, found from the front: servers, links, waiting writes and last messages.
+//! Rows towards servers, and their keys: servers, links, waiting writes and last messages.
 ghost use Rattle.std.specs.Prelude.{◌≡◌, ◌==◌, OnOk};
 ghost use Rattle.rows.specs.Rows.{change_first};
 ghost use Rattle.link_table.specs.Links.{has_id, has_subscription, is_link, is_of, with_state, with_subscription};
