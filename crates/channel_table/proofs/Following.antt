@@ -59,7 +59,7 @@ follow_removed channels old new session id sub channel apart found on rows remov
 }
 
 -- a channel that passes for one pair of IDs passes for another exactly where the pairs are equal
-ids_agree : (a b session sid : ℕ) (channel : Channel) → is_channel a b channel ≡ true → is_channel session sid channel ≡ (a == session && b == sid)
+pub ids_agree : (a b session sid : ℕ) (channel : Channel) → is_channel a b channel ≡ true → is_channel session sid channel ≡ (a == session && b == sid)
 ids_agree a b session sid channel e =
     elim (channel.session == a) as (λ t. channel.session == a ≡ t → (t && channel.sid == b) ≡ true → is_channel session sid channel ≡ (a == session && b == sid)) [
       | true ↦ λ first second. let x = eqb-true channel.session a first in let y = eqb-true channel.sid b second in (λ i. x i == session && y i == sid)
@@ -79,7 +79,7 @@ follow_without channels subs session sid bare before =
     }
 
 -- a subscription on these IDs is on the channel of these IDs
-on_ids : {B : Type 0} (w : ℕ → ℕ → B) (session sid : ℕ) (sub : ClientSub) → is_sub_on session sid sub ≡ true → w sub.session sub.sid ≡ w session sid
+pub on_ids : {B : Type 0} (w : ℕ → ℕ → B) (session sid : ℕ) (sub : ClientSub) → is_sub_on session sid sub ≡ true → w sub.session sub.sid ≡ w session sid
 on_ids w session sid sub e =
     elim (sub.session == session) as (λ t. sub.session == session ≡ t → (t && sub.sid == sid) ≡ true → w sub.session sub.sid ≡ w session sid) [
       | true ↦ λ first second. let x = eqb-true sub.session session first in let y = eqb-true sub.sid sid second in (λ i. w (x i) (y i))

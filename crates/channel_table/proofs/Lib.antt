@@ -1,6 +1,9 @@
+pub mod Asking
+pub mod Counting
 pub mod Following
 pub mod Indexed
 pub mod Keyed
 pub mod Listed
 pub mod Lists
 pub mod Removal
+pub mod TalliesByName

@@ -4,3 +4,4 @@ pub mod Indexes
 pub mod Reads
 pub mod Sessions
 pub mod Subs
+pub mod Told

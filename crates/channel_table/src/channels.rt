@@ -6,7 +6,7 @@ ghost use Rattle.rows.specs.Rows.{change_first};
 ghost use Rattle.row_index.specs.Lists.{SameLists};
 ghost use Rattle.row_index.specs.Rows.{has_key, value_at};
 ghost use Rattle.channel_table.specs.Channels.{is_channel, is_not_channel, is_channel_of, is_on, with_reach_and_rights};
-ghost use Rattle.channel_table.specs.Indexes.{changed_by, IsListedOn, IsUnlistedOn};
+ghost use Rattle.channel_table.specs.Indexes.{changed_by, channel_key, IsApart, IsListedOn, IsUnlistedOn};
 
 use crate::keys::nth_key;
 use pv_name::Name;
@@ -61,6 +61,13 @@ impl Channels {
             rows: RowMap::new(alloc),
             on: NameLists::new(alloc),
         }
+    }
+
+    /// Does nothing. Its contract is a law: no two channels have the same IDs.
+    pub(crate) fn are_apart(&self)
+        ensures { IsApart channel_key self.now }
+    {
+        self.rows.has_keys_apart();
     }
 
     pub(crate) fn len(&self) -> usize

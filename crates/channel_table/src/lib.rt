@@ -8,6 +8,7 @@
 //!   like count those of a session.
 //! - `channel_of` and `sub_of` give the rows of a session one by one, and `channel_on`, `sub_on` and
 //!   `read_on` those of a real name: of the channels on it, and of what hangs on these.
+//! - `want_on` tells what the subscriptions to a real name and the channels on it want together.
 //! - `put_session`, `put_channel` and `put_sub` change a row that stands.
 //! - `remove_session` and `remove_channel` take the rows that name theirs along.
 //!
@@ -16,7 +17,8 @@
 //! Adding, removing and counting rows look at none.
 //!
 //! Channels and subscriptions are kept under their IDs, and their keys in lists by real name, so that
-//! a look-up costs the same beside many rows as beside few. A removal walks what is on the same name,
+//! a look-up costs the same beside many rows as beside few. What is asked for of each real name is
+//! counted as rows come, go and change. A removal walks what is on the same name,
 //! and the rows of its own session; that of a session or a channel walks the waiting reads too.
 //!
 //! A contract sees a `Table` as four lists. Each call changes the rows that it names alone, a refused
@@ -43,6 +45,7 @@
 //! ```
 #![tactic(auto)]
 
+mod asks;
 mod channels;
 mod keys;
 pub mod laws;
@@ -50,8 +53,11 @@ mod reads;
 mod sessions;
 mod subs;
 mod table;
+mod telling;
+mod told;
 mod visits;
 
+pub use asks::READ_RIGHT;
 pub use channels::Channel;
 pub use reads::WaitingRead;
 pub use sessions::Session;

@@ -7,8 +7,11 @@ ghost use Rattle.row_index.specs.Lists.{of, AddsTo, RemovesFrom, SameLists};
 ghost use Rattle.row_index.specs.Rows.{has_key, value_at};
 ghost use Rattle.channel_table.specs.Indexes.{changed_by, sub_key, row_at, rows_at, IsApart};
 ghost use Rattle.channel_table.specs.Subs.{is_sub, is_not_sub, is_sub_of, is_sub_on, with_owed};
+ghost use Rattle.channel_table.specs.Told.{all_exchanged, exchanged_on};
 
+use crate::asks;
 use crate::keys::nth_key;
+use mask_merge::Tally;
 use pv_name::Name;
 use row_index::{Key, NameLists, RowMap};
 use std::alloc::{AllocError, Global};
@@ -123,6 +126,23 @@ impl Subs {
         first(&self.rows, self.on.of(name), session, sid)
     }
 
+    /// What the subscriptions on a channel ask for, in the tally of its name: its client may read now,
+    /// or may no longer.
+    pub(crate) fn exchange_on(
+        &self,
+        tally: &mut Tally,
+        name: &Name,
+        session: u32,
+        sid: u32,
+        before: bool,
+        after: bool,
+    )
+        ensures { tally.new ≡ all_exchanged before after session sid (rows_at sub_key self.now.rows (of self.now.on name.now)) tally.old }
+    {
+        let keys = self.on.of(name);
+        exchange_all(tally, &self.rows, keys, session, sid, before, after);
+    }
+
     /// Adds a subscription that leads to this real name. At an error nothing changes.
     pub(crate) fn add(&mut self, name: &Name, sub: ClientSub) -> Result<(), AllocError>
         requires new { list_any (is_sub sub.session sub.id) self.old.rows ≡ false }
@@ -171,6 +191,34 @@ fn first(rows: &RowMap<ClientSub>, keys: &[Key], session: u32, sid: u32) -> Opti
     keys.iter()
         .filter_map(|key| rows.get(*key).copied())
         .find(|row| row.session == session && row.sid == sid)
+}
+
+/// Of these rows those on a channel ask for something else.
+fn exchange_all(
+    tally: &mut Tally,
+    rows: &RowMap<ClientSub>,
+    keys: &[Key],
+    session: u32,
+    sid: u32,
+    before: bool,
+    after: bool,
+)
+    ensures { tally.new ≡ all_exchanged before after session sid (filter_map (λ key. value_at key rows.now) keys.now) tally.old }
+{
+    for key in keys {
+        if let Some(sub) = rows.get(*key) {
+            exchange(tally, sub, session, sid, before, after);
+        }
+    }
+}
+
+/// A row asks for something else, if it is on a channel.
+fn exchange(tally: &mut Tally, sub: &ClientSub, session: u32, sid: u32, before: bool, after: bool)
+    ensures { tally.new ≡ exchanged_on before after session sid sub.now tally.old }
+{
+    if sub.session == session && sub.sid == sid {
+        tally.exchange(asks::of_sub(before, sub), asks::of_sub(after, sub));
+    }
 }
 
 fn put(rows: &mut RowMap<ClientSub>, key: Key, owed: bool)

@@ -8,13 +8,17 @@ ghost use Rattle.channel_table.specs.Channels.{is_channel, is_not_channel, is_ch
 ghost use Rattle.channel_table.specs.ClientRows.{has_session, has_channel, has_sub, channel_count, sub_count, read_count, is_sub_to, is_read_for};
 ghost use Rattle.channel_table.specs.Reads.{same_read, is_not_read_of, is_not_read_on};
 ghost use Rattle.channel_table.specs.Sessions.{is_numbered, is_not_numbered, with_host_and_pause};
+ghost use Rattle.channel_table.specs.Told.{want_on};
 ghost use Rattle.channel_table.specs.Subs.{is_sub, is_not_sub, is_sub_of, is_not_sub_of, is_sub_on, is_not_sub_on, with_owed};
 
 use crate::channels::{Channel, Channels};
 use crate::reads::{self, WaitingRead};
 use crate::sessions::{self, Session};
 use crate::subs::{ClientSub, Subs};
+use crate::telling;
+use crate::told::Told;
 use crate::visits::Visits;
+use mask_merge::Want;
 use pv_name::{Host, Name};
 use std::alloc::{AllocError, Global};
 use std::marker::Model;
@@ -48,12 +52,13 @@ pub struct Table {
     sessions: Vec<Session>,
     channels: Channels,
     subs: Subs,
+    told: Told,
     reads: Vec<WaitingRead>,
 }
 
 impl Model for Table {
     ghost use Rattle.channel_table.specs.ClientRows.{ClientRows};
-    ghost use Rattle.channel_table.specs.Indexes.{FollowChannels};
+    ghost use Rattle.channel_table.specs.Told.{FollowRows};
 
     ghost Value = { ClientRows };
 
@@ -64,7 +69,7 @@ impl Model for Table {
       reads = t.reads.items;
     } };
 
-    ghost invariant = { λ t. FollowChannels t.channels t.subs };
+    ghost invariant = { λ t. FollowRows t.channels t.subs t.told };
 }
 
 impl Table {
@@ -83,6 +88,7 @@ impl Table {
             sessions: Vec::new(alloc),
             channels: Channels::new(alloc),
             subs: Subs::new(alloc),
+            told: Told::new(alloc),
             reads: Vec::new(alloc),
         }
     }
@@ -299,6 +305,14 @@ impl Table {
         Ok(reads)
     }
 
+    /// What the subscriptions to a real name and the channels on it want of it together, of a native
+    /// count, as far as their clients were told that they may read. It looks at no row.
+    pub fn want_on(&self, name: &Name, native: u32) -> Option<Want>
+        ensures { result ≡ want_on self.now.channels self.now.subs native name.now }
+    {
+        self.told.want_of(name, native)
+    }
+
     /// Adds a session. The caller sees to it that none of its number stands.
     pub fn add_session(&mut self, session: Session) -> Result<(), TableFault>
         ensures ok { OnOk result (self.new ≡ record self.old { sessions = self.old.sessions ++ session ∷ [] }) }
@@ -336,7 +350,7 @@ impl Table {
         if self.channels.count_of(channel.session) >= CHANNEL_LIMIT {
             return Err(TableFault::Full);
         }
-        match self.channels.add(channel) {
+        match telling::add_channel(&mut self.channels, &mut self.told, channel) {
             Ok(()) => Ok(()),
             Err(_) => Err(TableFault::OutOfMemory),
         }
@@ -362,7 +376,7 @@ impl Table {
         if self.subs.count_of(sub.session) >= SUB_LIMIT {
             return Err(TableFault::Full);
         }
-        match self.subs.add(&channel.real, sub) {
+        match telling::add_sub(&mut self.subs, &mut self.told, channel, sub) {
             Ok(()) => Ok(()),
             Err(_) => Err(TableFault::OutOfMemory),
         }
@@ -439,7 +453,10 @@ impl Table {
         ensures bound { visits.new ≤ visits.old + 1 }
     {
         visits.count(1);
-        self.channels.put(session, sid, reach, rights);
+        self.channels.are_apart();
+        self.subs.are_apart();
+        let (channels, told) = (&mut self.channels, &mut self.told);
+        telling::put_channel(channels, &self.subs, told, session, sid, reach, rights);
     }
 
     /// Changes a subscription that stands: whether an update is owed.
@@ -488,7 +505,8 @@ impl Table {
         };
         self.subs.are_apart();
         if let Some(channel) = self.channels.get(sub.session, sub.sid) {
-            self.subs.remove(&channel.real, session, id);
+            let (subs, told) = (&mut self.subs, &mut self.told);
+            telling::remove_sub(subs, told, channel, &sub, session, id);
         }
     }
 
@@ -523,7 +541,8 @@ impl Table {
         self.subs.are_apart();
         match self.subs.first_on(&channel.real, session, sid) {
             Some(sub) => {
-                self.subs.remove(&channel.real, session, sub.id);
+                let (subs, told) = (&mut self.subs, &mut self.told);
+                telling::remove_sub(subs, told, channel, &sub, session, sub.id);
                 true
             }
             None => false,
@@ -538,7 +557,8 @@ impl Table {
           reads = filter (is_not_read_on session sid) self.old.reads;
         } }
     {
-        self.channels.remove(session, sid);
+        self.channels.are_apart();
+        telling::remove_channel(&mut self.channels, &mut self.told, session, sid);
         reads::remove_on(&mut self.reads, session, sid);
     }
 

@@ -32,7 +32,7 @@ fn follow_all(rows: &mut Rows, visits: &mut Visits, anew: bool) -> Result<(), Re
 {
     tell_channels(rows, visits, anew)?;
     withhold_updates(rows, visits)?;
-    tell_links(rows, visits)?;
+    tell_links(rows)?;
     tell_reads(rows, visits)?;
     tell_updates(rows, visits)?;
     Ok(())
@@ -59,7 +59,7 @@ fn follow_variable(rows: &mut Rows, visits: &mut Visits, name: &Name) -> Result<
 {
     tell_channels_on(rows, visits, name)?;
     withhold_updates_on(rows, visits, name)?;
-    tell_link_on(rows, visits, name)?;
+    tell_link_on(rows, name)?;
     share_on(rows, visits, name)?;
     tell_reads_on(rows, visits, name)?;
     tell_updates_on(rows, visits, name)?;
@@ -86,15 +86,15 @@ pub fn follow(rows: &mut Rows, visits: &mut Visits, touched: Touched) -> Result<
             tell_reads_on(rows, visits, &name)?;
             Ok(tell_updates_on(rows, visits, &name)?)
         }
-        Touched::Interest(name) => tell_interest(rows, visits, &name),
-        Touched::Link(name) => tell_link_on(rows, visits, &name),
-        Touched::Links(names) => tell_links_among(rows, visits, &names),
+        Touched::Interest(name) => tell_interest(rows, &name),
+        Touched::Link(name) => tell_link_on(rows, &name),
+        Touched::Links(names) => tell_links_among(rows, &names),
         Touched::Read(name, read) => {
-            tell_interest(rows, visits, &name)?;
+            tell_interest(rows, &name)?;
             Ok(tell_one_read(rows, visits, read)?)
         }
         Touched::Subscription(name, sub) => {
-            tell_interest(rows, visits, &name)?;
+            tell_interest(rows, &name)?;
             share_with(rows, visits, &name, &sub)?;
             Ok(tell_one_update(rows, visits, sub)?)
         }

@@ -11,7 +11,6 @@ ghost use Rattle.touched_rows.specs.Touched.{interest_notices_over, interest_tol
 
 use crate::lookup::{is_known, look_up};
 use ca_message::ToServer;
-use channel_table::Visits;
 use gateway_rows::{Refusal, Rows, is_for, sent_count, time_of};
 use gateway_state::LinkNotice;
 use link_table::{Counter, Link, LinkState, Subscription, TableFault};
@@ -23,7 +22,6 @@ use touched_rows::Names;
 /// What a server is owed because of what the readers of a connected link's variable want.
 fn add_interest_notices(
     rows: &Rows,
-    visits: &mut Visits,
     notices: &mut Vec<LinkNotice>,
     link: &Link,
 ) -> Result<(), AllocError>
@@ -33,7 +31,7 @@ fn add_interest_notices(
     let LinkState::Connected { sid, dtype, count } = link.state else {
         return Ok(());
     };
-    let want = rows.interest_of(visits, &link.name, count)?;
+    let want = rows.interest_of(&link.name, count);
     if is_for(want, link.subscription) {
         return Ok(());
     }
@@ -63,14 +61,13 @@ fn add_interest_notices(
 
 fn add_link_notices(
     rows: &Rows,
-    visits: &mut Visits,
     notices: &mut Vec<LinkNotice>,
     link: &Link,
 ) -> Result<(), AllocError>
     requires told { AreTold rows.now }
     ensures { OnOk result (notices.new.items ≡ notices.old.items ++ link_notices_of rows.now link.now) }
 {
-    add_interest_notices(rows, visits, notices, link)?;
+    add_interest_notices(rows, notices, link)?;
     if !rows.is_wanted(&link.name) {
         notices.push(LinkNotice::Dropped {
             server: link.server,
@@ -81,13 +78,13 @@ fn add_link_notices(
     Ok(())
 }
 
-fn link_notices(rows: &Rows, visits: &mut Visits) -> Result<Vec<LinkNotice>, AllocError>
+fn link_notices(rows: &Rows) -> Result<Vec<LinkNotice>, AllocError>
     requires told { AreTold rows.now }
     ensures { IfOk result (λ notices. notices.items ≡ link_notices rows.now) }
 {
     let mut notices = Vec::new(rows.alloc);
     for link in rows.upstream.links(rows.alloc)? {
-        add_link_notices(rows, visits, &mut notices, link)?;
+        add_link_notices(rows, &mut notices, link)?;
     }
     Ok(notices)
 }
@@ -216,78 +213,62 @@ fn tell_each(rows: &mut Rows, notices: &[LinkNotice]) -> Result<(), Refusal>
 }
 
 /// Asks servers for what is wanted of each variable, and drops links that are no longer wanted.
-pub(crate) fn tell_links(rows: &mut Rows, visits: &mut Visits) -> Result<(), Refusal>
+pub(crate) fn tell_links(rows: &mut Rows) -> Result<(), Refusal>
     requires order { AreInOrder rows.old }
     requires told { AreTold rows.old }
     ensures ok { OnOk result (rows.new ≡ links_told rows.old) }
     ensures used_up { IsErrOf result Refusal.NumbersUsedUp → is_past_numbers (links_told rows.old) ≡ true }
 {
-    let notices = link_notices(rows, visits)?;
+    let notices = link_notices(rows)?;
     tell_each(rows, &notices)
 }
 
-fn interest_notices_on(
-    rows: &Rows,
-    visits: &mut Visits,
-    name: &Name,
-) -> Result<Vec<LinkNotice>, AllocError>
+fn interest_notices_on(rows: &Rows, name: &Name) -> Result<Vec<LinkNotice>, AllocError>
     requires told { AreTold rows.now }
     ensures { IfOk result (λ notices. notices.items ≡ interest_notices_over rows.now (link_of rows.now name.now)) }
 {
     let mut notices = Vec::new(rows.alloc);
     if let Some(link) = rows.link_of(name) {
-        add_interest_notices(rows, visits, &mut notices, link)?;
+        add_interest_notices(rows, &mut notices, link)?;
     }
     Ok(notices)
 }
 
 /// Asks one variable's server for what is wanted of it.
-pub(crate) fn tell_interest(
-    rows: &mut Rows,
-    visits: &mut Visits,
-    name: &Name,
-) -> Result<(), Refusal>
+pub(crate) fn tell_interest(rows: &mut Rows, name: &Name) -> Result<(), Refusal>
     requires order { AreInOrder rows.old }
     requires told { AreTold rows.old }
     ensures ok { OnOk result (rows.new ≡ interest_told name.now rows.old) }
     ensures used_up { IsErrOf result Refusal.NumbersUsedUp → is_past_numbers (interest_told name.now rows.old) ≡ true }
 {
-    let notices = interest_notices_on(rows, visits, name)?;
+    let notices = interest_notices_on(rows, name)?;
     tell_each(rows, &notices)
 }
 
-fn link_notices_on(
-    rows: &Rows,
-    visits: &mut Visits,
-    name: &Name,
-) -> Result<Vec<LinkNotice>, AllocError>
+fn link_notices_on(rows: &Rows, name: &Name) -> Result<Vec<LinkNotice>, AllocError>
     requires told { AreTold rows.now }
     ensures { IfOk result (λ notices. notices.items ≡ link_notices_over rows.now (link_of rows.now name.now)) }
 {
     let mut notices = Vec::new(rows.alloc);
     if let Some(link) = rows.link_of(name) {
-        add_link_notices(rows, visits, &mut notices, link)?;
+        add_link_notices(rows, &mut notices, link)?;
     }
     Ok(notices)
 }
 
 /// The same, and drops its link where it is no longer wanted.
-pub(crate) fn tell_link_on(rows: &mut Rows, visits: &mut Visits, name: &Name) -> Result<(), Refusal>
+pub(crate) fn tell_link_on(rows: &mut Rows, name: &Name) -> Result<(), Refusal>
     requires order { AreInOrder rows.old }
     requires told { AreTold rows.old }
     ensures ok { OnOk result (rows.new ≡ link_told_on name.now rows.old) }
     ensures used_up { IsErrOf result Refusal.NumbersUsedUp → is_past_numbers (link_told_on name.now rows.old) ≡ true }
 {
-    let notices = link_notices_on(rows, visits, name)?;
+    let notices = link_notices_on(rows, name)?;
     tell_each(rows, &notices)
 }
 
 /// The notices on the links of these variables.
-fn link_notices_among(
-    rows: &Rows,
-    visits: &mut Visits,
-    names: &Names,
-) -> Result<Vec<LinkNotice>, AllocError>
+fn link_notices_among(rows: &Rows, names: &Names) -> Result<Vec<LinkNotice>, AllocError>
     requires told { AreTold rows.now }
     ensures { IfOk result (λ notices. notices.items ≡ link_notices_among names.now rows.now) }
 {
@@ -295,23 +276,19 @@ fn link_notices_among(
     let mut notices = Vec::new(rows.alloc);
     for link in rows.upstream.links(rows.alloc)? {
         if is_known(&known, &link.name) {
-            add_link_notices(rows, visits, &mut notices, link)?;
+            add_link_notices(rows, &mut notices, link)?;
         }
     }
     Ok(notices)
 }
 
 /// The same of each of these variables, in the order of their links.
-pub(crate) fn tell_links_among(
-    rows: &mut Rows,
-    visits: &mut Visits,
-    names: &Names,
-) -> Result<(), Refusal>
+pub(crate) fn tell_links_among(rows: &mut Rows, names: &Names) -> Result<(), Refusal>
     requires order { AreInOrder rows.old }
     requires told { AreTold rows.old }
     ensures ok { OnOk result (rows.new ≡ links_told_among names.now rows.old) }
     ensures used_up { IsErrOf result Refusal.NumbersUsedUp → is_past_numbers (links_told_among names.now rows.old) ≡ true }
 {
-    let notices = link_notices_among(rows, visits, names)?;
+    let notices = link_notices_among(rows, names)?;
     tell_each(rows, &notices)
 }

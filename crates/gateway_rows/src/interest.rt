@@ -1,80 +1,23 @@
 //! What the readers of a variable want together.
-ghost use Rattle.std.specs.Prelude.{◌≡◌, ◌++◌, Some, map, filter, OnOk, IfOk};
-ghost use Rattle.gateway_state.specs.Interest.{channel_want, interest_of, is_for, minor_of, sent_count, sub_want, subscription_of};
+ghost use Rattle.std.specs.Prelude.{◌≡◌};
+ghost use Rattle.gateway_state.specs.Interest.{interest_of, is_for, minor_of, sent_count, subscription_of};
 ghost use Rattle.gateway_state.specs.Told.{AreTold};
-ghost use Rattle.gateway_rows.specs.ToldReaders.{is_told_reader, is_told_subscriber, is_told_through};
 
-use crate::answer::meant_count;
-use crate::rights::may_read;
 use crate::state::Rows;
-use channel_table::{Channel, ClientSub, Visits};
-use gateway_state::{READ_EVENTS, Sub, UPDATE_MINOR};
+use gateway_state::{Sub, UPDATE_MINOR};
 use link_table::{LinkState, Subscription};
-use mask_merge::{Tally, Want};
+use mask_merge::Want;
 use pv_name::Name;
-use std::alloc::AllocError;
 
 impl Rows {
-    fn is_subscriber(&self, visits: &mut Visits, name: &Name, sub: &ClientSub) -> bool
-        ensures { result ≡ is_told_subscriber self.now name.now sub.now }
-    {
-        match self.channel_of(visits, sub.session, sub.sid) {
-            Some(channel) => is_read_through(name, channel),
-            None => false,
-        }
-    }
-
-    #[tactic(auto, using(crate::proofs::Readers::subscribers_are_on))]
-    fn add_subscribers(
-        &self,
-        visits: &mut Visits,
-        tally: &mut Tally,
-        name: &Name,
-        native: u32,
-    ) -> Result<(), AllocError>
-        ensures { OnOk result (tally.new ≡ tally.old ++ map (sub_want native) (filter (is_told_subscriber self.now name.now) self.now.clients.subs)) }
-    {
-        for sub in &self.subs_on(visits, name)? {
-            if self.is_subscriber(visits, name, sub) {
-                tally.add(sub.mask, meant_count(native, sub.count))?;
-            }
-        }
-        Ok(())
-    }
-
-    #[tactic(auto, using(crate::proofs::Readers::readers_are_on))]
-    fn add_readers(
-        &self,
-        visits: &mut Visits,
-        tally: &mut Tally,
-        name: &Name,
-    ) -> Result<(), AllocError>
-        ensures { OnOk result (tally.new ≡ tally.old ++ map channel_want (filter (is_told_reader name.now) self.now.clients.channels)) }
-    {
-        for channel in self.channels_on(visits, name)? {
-            if is_reader(name, channel) {
-                tally.add(READ_EVENTS, channel.reach)?;
-            }
-        }
-        Ok(())
-    }
-
     /// What the readers of a variable with this native count want together, nothing where there is
-    /// none.
-    #[tactic(auto, using(crate::proofs::Readers::readers_as_told))]
-    pub fn interest_of(
-        &self,
-        visits: &mut Visits,
-        name: &Name,
-        native: u32,
-    ) -> Result<Option<Want>, AllocError>
+    /// none. The table of clients has it counted, so this looks at no row.
+    #[tactic(auto, using(crate::proofs::Readers::interest_as_counted))]
+    pub fn interest_of(&self, name: &Name, native: u32) -> Option<Want>
         requires told { AreTold self.now }
-        ensures { IfOk result (λ want. want ≡ interest_of self.now name.now native) }
+        ensures { result ≡ interest_of self.now name.now native }
     {
-        let mut tally = Tally::new(self.alloc);
-        self.add_subscribers(visits, &mut tally, name, native)?;
-        self.add_readers(visits, &mut tally, name)?;
-        Ok(tally.want())
+        self.clients.want_on(name, native)
     }
 
     /// The present subscription of a variable.
@@ -102,20 +45,6 @@ impl Rows {
             None => 0,
         }
     }
-}
-
-/// Whether a channel is read itself, by the rights that its client was last told.
-fn is_reader(name: &Name, channel: &Channel) -> bool
-    ensures { result ≡ is_told_reader name.now channel.now }
-{
-    channel.real == *name && channel.reach > 0 && may_read(channel.rights)
-}
-
-/// Whether a variable may be read over a channel, by the same rights.
-fn is_read_through(name: &Name, channel: &Channel) -> bool
-    ensures { result ≡ is_told_through name.now (Some channel.now) }
-{
-    channel.real == *name && may_read(channel.rights)
 }
 
 /// Whether the subscription is for what is wanted.

@@ -15,7 +15,7 @@ max-fold : (a : ℕ) (xs : List ℕ) → fold max a xs ≡ max a (fold max 0 xs)
 max-fold a [] = omega arith
 max-fold a (x ∷ xs) = omega (arith, max-fold (max a x) xs, max-fold (max 0 x) xs)
 
-greatest-step : (x : Want) (xs : List Want) → greatest (x ∷ xs) ≡ max (count_of x) (greatest xs)
+pub greatest-step : (x : Want) (xs : List Want) → greatest (x ∷ xs) ≡ max (count_of x) (greatest xs)
 greatest-step x xs = omega (arith, max-fold (max 0 x.count) (map count_of xs))
 
 -- the same for each event
@@ -23,7 +23,7 @@ bit-fold : (i a : ℕ) (xs : List ℕ) → bit_at (fold bit_or a xs) i ≡ max (
 bit-fold i a [] = omega (arith, bit_at-zero i)
 bit-fold i a (x ∷ xs) = omega (arith, bit-fold i (bit_or a x) xs, bit-fold i x xs, bit_at_or a x i)
 
-event-step : (i : ℕ) (x : Want) (xs : List Want) → bit_at (events (x ∷ xs)) i ≡ max (bit_at x.mask i) (bit_at (events xs) i)
+pub event-step : (i : ℕ) (x : Want) (xs : List Want) → bit_at (events (x ∷ xs)) i ≡ max (bit_at x.mask i) (bit_at (events xs) i)
 event-step i x xs = bit-fold i x.mask (map mask_of xs)
 
 -- any greatest number of wants: of their counts, or of one bit of their masks

@@ -1,2 +1,4 @@
+pub mod Counts
+pub mod Kept
 pub mod Laws
 pub mod Merged

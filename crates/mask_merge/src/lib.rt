@@ -1,32 +1,46 @@
 //! What the readers of a process variable want of it together: the events that any of them asks for,
 //! with VALUE and ALARM, and the greatest count of elements.
 //!
-//! - [`Tally::add`] and [`Tally::remove`] keep what each reader wants: a mask of events and a count.
-//! - [`Tally::want`] is what a server is to be asked for, or `None` where nobody wants anything.
+//! - [`Tally::add`] and [`Tally::remove`] count what each reader wants: a mask of events and a count of
+//!   elements. [`Tally::add_silent`] and [`Tally::remove_silent`] count those that want nothing now, as
+//!   they may not read.
+//! - [`Tally::exchange`] is for a reader that wants something else than it did, or nothing, or something
+//!   again.
+//! - [`Tally::want`] is what a server is to be asked for, or `None` where nobody wants anything;
+//!   [`Tally::want_of`] is the same where a count of 0 stands for the native count.
+//!
+//! A contract sees a `Tally` as counts: how many readers ask for LOG, how many are silent, and the
+//! counts of elements that the others want, rising. They are enough to know what all want
+//! ([`counts_are_enough`]), and they follow each reader that comes, leaves or changes
+//! ([`counts_follow_one_more`], [`counts_follow_one_less`], [`an_exchange_is_one_less_and_one_more`]),
+//! in whatever order ([`counts_have_no_order`]).
 //!
 //! Each reader's want is met, and no more is asked for than that ([`each_want_is_met`],
 //! [`no_more_is_asked_for`]). Order and repetition don't matter, and a reader that left leaves nothing
 //! behind ([`order_and_repetition_do_not_matter`], [`coming_and_leaving_changes_nothing`]). Only `add`
-//! takes memory; where that is refused, nothing changes. A contract sees a `Tally` as the list of what
-//! each reader wants.
+//! and `add_silent` take memory; where that is refused, nothing changes.
 //!
 //! ```
 //! let mut tally = Tally::new(rt.alloc());
 //! tally.add(1, 3)?;
 //! tally.add(4, 10)?;
 //! assert_eq!(rt; tally.want(), Some(Want { mask: 5, count: 10 }));
-//! tally.remove(4, 10);
-//! assert_eq!(rt; tally.want(), Some(Want { mask: 5, count: 3 }));
+//! tally.exchange(Some(Want { mask: 1, count: 3 }), Some(Want { mask: 2, count: 20 }));
+//! assert_eq!(rt; tally.want(), Some(Want { mask: 7, count: 20 }));
+//! tally.remove(2, 20);
+//! assert_eq!(rt; tally.want(), Some(Want { mask: 5, count: 10 }));
 //! ```
 #![tactic(auto)]
 
+mod kept;
 mod laws;
 mod tally;
 mod want;
 
 pub use laws::{
-    coming_and_leaving_changes_nothing, each_want_is_met, no_more_is_asked_for, numbers_are_these,
-    order_and_repetition_do_not_matter,
+    an_exchange_is_one_less_and_one_more, coming_and_leaving_changes_nothing, counts_are_enough,
+    counts_follow_one_less, counts_follow_one_more, counts_have_no_order, each_want_is_met,
+    no_more_is_asked_for, numbers_are_these, order_and_repetition_do_not_matter,
 };
 pub use tally::Tally;
-pub use want::{ALWAYS_ASKED, KNOWN_EVENTS, Want};
+pub use want::{ALWAYS_ASKED, KNOWN_EVENTS, LOG_EVENT, Want};

@@ -1,101 +1,113 @@
 //! The tally of what readers want.
-ghost use Rattle.std.specs.Prelude.{◌≡◌, [], ◌∷◌, ◌++◌, OnOk, OnErr};
-ghost use Rattle.std.specs.List.{position};
-ghost use Rattle.rows.specs.Rows.{remove_first};
-ghost use Rattle.mask_merge.specs.Merged.{is_want, events, greatest, merged};
+ghost use Rattle.std.specs.Prelude.{◌≡◌, Some, None, IsTrue, OnOk, OnErr};
+ghost use Rattle.mask_merge.specs.Counts.{nothing_counted, is_nothing, counted_with, counted_without, exchanged, wanted, wanted_of};
 
-use crate::want::{ALWAYS_ASKED, KNOWN_EVENTS, Want};
+use crate::kept::{Kept, count_in, count_out, is_held, make_room, wanted_by};
+use crate::want::Want;
 use std::alloc::{AllocError, Global};
 use std::marker::Model;
 
-/// What each reader of a variable wants. A contract sees it as a list.
+/// How many readers of a variable ask for LOG and how many want nothing now, and how many elements
+/// each of the others wants. A contract sees it as these counts.
 #[derive(Debug, Drop)]
 pub struct Tally {
-    wants: Vec<Want>,
+    kept: Kept,
 }
 
 impl Model for Tally {
-    ghost use Rattle.std.specs.Prelude.{List};
-    ghost use Rattle.mask_merge.specs.declared.want.Want.{Want};
+    ghost use Rattle.mask_merge.specs.Counts.{Counts};
+    ghost use Rattle.mask_merge.specs.Kept.{counts_of, Fits};
 
-    ghost Value = { List Want };
+    ghost Value = { Counts };
 
-    ghost view = { λ t. t.wants.items };
+    ghost view = { λ t. counts_of t.kept };
+
+    ghost invariant = { λ t. Fits t.kept };
 }
 
 impl Tally {
-    /// Nobody wants anything. This takes no memory.
+    /// Nobody is counted. This takes no memory.
     pub fn new(alloc: Global) -> Tally
-        ensures { result ≡ [] }
+        ensures { result ≡ nothing_counted }
     {
         Tally {
-            wants: Vec::new(alloc),
+            kept: Kept {
+                logs: 0,
+                silent: 0,
+                counts: Vec::new(alloc),
+            },
         }
     }
 
-    /// Adds what one more reader wants. An equal want may be there.
-    pub fn add(&mut self, mask: u16, count: u32) -> Result<(), AllocError>
-        ensures ok { OnOk result (self.new ≡ self.old ++ record { mask = mask; count = count } ∷ []) }
-        ensures err { OnErr result (self.new ≡ self.old) }
+    /// Whether nobody is counted, not even a reader that wants nothing now.
+    pub fn is_empty(&self) -> bool
+        ensures value { result ≡ is_nothing self.now }
+        ensures nothing { IsTrue result → self.now ≡ nothing_counted }
     {
-        self.wants.push(Want { mask, count })?;
-        Ok(())
-    }
-
-    /// Removes what a reader wanted, the first of those that are equal.
-    pub fn remove(&mut self, mask: u16, count: u32)
-        ensures { self.new ≡ remove_first (is_want mask count) self.old }
-    {
-        remove_want(&mut self.wants, mask, count);
+        self.kept.counts.is_empty() && self.kept.silent == 0
     }
 
     /// What all want together, as a server is asked for it: nothing where nobody wants anything.
     pub fn want(&self) -> Option<Want>
-        ensures { result ≡ merged self.now }
+        ensures { result ≡ wanted self.now }
     {
-        if self.wants.is_empty() {
-            return None;
+        self.want_of(0)
+    }
+
+    /// What all want together of a variable with this native count, for which a count of 0 stands.
+    pub fn want_of(&self, native: u32) -> Option<Want>
+        ensures { result ≡ wanted_of native self.now }
+    {
+        wanted_by(native, self.kept.logs, &self.kept.counts)
+    }
+
+    /// Counts one reader more, which wants these events and this count. Equal ones may be there.
+    pub fn add(&mut self, mask: u16, count: u32) -> Result<(), AllocError>
+        ensures ok { OnOk result (self.new ≡ counted_with (Some (record { mask = mask; count = count })) self.old) }
+        ensures err { OnErr result (self.new ≡ self.old) }
+    {
+        make_room(&mut self.kept)?;
+        count_in(&mut self.kept, Some(Want { mask, count }));
+        Ok(())
+    }
+
+    /// Counts one reader more that wants nothing now. There is room then for what it may come to want.
+    pub fn add_silent(&mut self) -> Result<(), AllocError>
+        ensures ok { OnOk result (self.new ≡ counted_with None self.old) }
+        ensures err { OnErr result (self.new ≡ self.old) }
+    {
+        make_room(&mut self.kept)?;
+        count_in(&mut self.kept, None);
+        Ok(())
+    }
+
+    /// Counts one reader less, which wanted these events and this count, where such a one is counted.
+    pub fn remove(&mut self, mask: u16, count: u32)
+        ensures { self.new ≡ counted_without (Some (record { mask = mask; count = count })) self.old }
+    {
+        let want = Some(Want { mask, count });
+        if is_held(&self.kept, want) {
+            count_out(&mut self.kept, want);
         }
-        Some(Want {
-            mask: events(&self.wants) & KNOWN_EVENTS | ALWAYS_ASKED,
-            count: greatest(&self.wants),
-        })
     }
-}
 
-fn place_of(wants: &[Want], mask: u16, count: u32) -> Option<usize>
-    ensures { result ≡ position (is_want mask count) wants.now }
-{
-    wants
-        .iter()
-        .position(|want| want.mask == mask && want.count == count)
-}
-
-#[tactic(auto, using(rows::proofs::RowLemmas::remove_is_remove_first, rows::proofs::RowLemmas::remove_first_none))]
-fn remove_want(wants: &mut Vec<Want>, mask: u16, count: u32)
-    ensures { wants.new.items ≡ remove_first (is_want mask count) wants.old.items }
-{
-    if let Some(place) = place_of(wants, mask, count) {
-        wants.remove(place);
+    /// Counts one reader less that wanted nothing, where such a one is counted.
+    pub fn remove_silent(&mut self)
+        ensures { self.new ≡ counted_without None self.old }
+    {
+        if is_held(&self.kept, None) {
+            count_out(&mut self.kept, None);
+        }
     }
-}
 
-fn events(wants: &[Want]) -> u16
-    ensures { result ≡ events wants.now }
-{
-    let mut events = 0;
-    for want in wants {
-        events |= want.mask;
+    /// Counts a reader that wants something else than it did, where such a one is counted; `None` is
+    /// one that wants nothing. This takes no memory.
+    pub fn exchange(&mut self, old: Option<Want>, new: Option<Want>)
+        ensures { self.new ≡ exchanged old new self.old }
+    {
+        if is_held(&self.kept, old) {
+            count_out(&mut self.kept, old);
+            count_in(&mut self.kept, new);
+        }
     }
-    events
-}
-
-fn greatest(wants: &[Want]) -> u32
-    ensures { result ≡ greatest wants.now }
-{
-    let mut greatest = 0;
-    for want in wants {
-        greatest = greatest.max(want.count);
-    }
-    greatest
 }

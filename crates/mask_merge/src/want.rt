@@ -3,6 +3,9 @@
 /// The events that a subscription's mask may ask for: VALUE, LOG and ALARM.
 pub const KNOWN_EVENTS: u16 = 7;
 
+/// The event LOG, which is asked for where a reader asks for it.
+pub const LOG_EVENT: u16 = 2;
+
 /// The events that are always asked for, VALUE and ALARM.
 pub const ALWAYS_ASKED: u16 = 5;
 

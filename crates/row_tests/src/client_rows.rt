@@ -13,6 +13,8 @@
 //! - `count S`: how many channels, subscriptions and reads the session has;
 //! - `on NAME`: whether a channel is on the variable, how many channels, subscriptions and reads are,
 //!   and these one by one. Channels 50 to 99 are on B:SP, others on A:SP;
+//! - `want NAME NATIVE`: the events and the count that its rows want together where its native count is
+//!   this, or `none`;
 //! - `of S`: the channels and subscriptions of the session, one by one;
 //! - `show`: all rows, of sessions those below 10;
 //! - `visits`: how many rows were looked at since the beginning.
@@ -65,6 +67,7 @@ fn call(
             &Name::read(alloc, word(line, 1)?.as_bytes())?,
             told,
         ),
+        "want" => show_want(alloc, table, line, told),
         "of" => show_of(table, visits, number(line, 1)?, told),
         _ => add(alloc, table, visits, line, told),
     }
@@ -288,6 +291,16 @@ fn show_on(table: &Table, visits: &mut Visits, name: &Name, told: &mut String) -
         if let Some(row) = table.read_on(visits, name, n) {
             show_read(row, told)?;
         }
+    }
+    Ok(())
+}
+
+/// What is wanted of a variable.
+fn show_want(alloc: Global, table: &Table, line: &str, told: &mut String) -> Result<(), Fail> {
+    let name = Name::read(alloc, word(line, 1)?.as_bytes())?;
+    match table.want_on(&name, number(line, 2)?) {
+        Some(want) => writeln!(told, "want {} {}", want.mask, want.count)?,
+        None => told.push_str("none\n")?,
     }
     Ok(())
 }

@@ -1,5 +1,5 @@
 //! Tallies that readers join and leave.
-use mask_merge::Tally;
+use mask_merge::{Tally, Want};
 use std::alloc::Global;
 use std::process::Abort;
 use std::test::Fail;
@@ -47,9 +47,39 @@ fn what_a_reader_wanted_leaves_with_it(rt: HostRuntime) -> Result<(), Fail> {
     let readers = [(1, 3), (2, 10), (2, 10), (4, 3)].as_slice();
     let cases: [Case; 4] = [
         (readers, &[(2, 10)], Some((7, 10))),
-        (readers, &[(2, 10), (2, 3)], Some((7, 10))),
-        (readers, &[(2, 10), (2, 3), (2, 10)], Some((5, 3))),
+        (readers, &[(2, 10), (2, 11)], Some((7, 10))),
+        (readers, &[(2, 10), (2, 11), (2, 10)], Some((5, 3))),
         (readers, &[(2, 10), (2, 10), (1, 3), (4, 3)], None),
     ];
     tells(&rt, rt.alloc(), &cases)
+}
+
+#[test]
+fn a_reader_that_may_not_read_wants_nothing(rt: HostRuntime) -> Result<(), Fail> {
+    let mut tally = Tally::new(rt.alloc());
+    let want = Some(Want { mask: 2, count: 9 });
+    tally.add_silent()?;
+    tally.add(1, 3)?;
+    assert_eq!(rt; tally.want(), Some(Want { mask: 5, count: 3 }));
+    tally.exchange(None, want);
+    assert_eq!(rt; tally.want(), Some(Want { mask: 7, count: 9 }));
+    tally.exchange(want, None);
+    assert_eq!(rt; tally.want(), Some(Want { mask: 5, count: 3 }));
+    tally.remove(1, 3);
+    assert_eq!(rt; tally.want(), None);
+    assert!(rt; !tally.is_empty());
+    tally.remove_silent();
+    assert!(rt; tally.is_empty());
+    Ok(())
+}
+
+#[test]
+fn a_count_of_0_stands_for_the_native_count(rt: HostRuntime) -> Result<(), Fail> {
+    let mut tally = Tally::new(rt.alloc());
+    tally.add(1, 3)?;
+    assert_eq!(rt; tally.want_of(8), Some(Want { mask: 5, count: 3 }));
+    tally.add(1, 0)?;
+    assert_eq!(rt; tally.want_of(8), Some(Want { mask: 5, count: 8 }));
+    assert_eq!(rt; tally.want_of(2), Some(Want { mask: 5, count: 3 }));
+    Ok(())
 }

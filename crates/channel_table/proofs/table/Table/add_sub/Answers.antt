@@ -1,7 +1,9 @@
 use Rattle.std.proofs.Common.{◌≡◌, true, false, Ok, Err, OnOk, refl, sym, ap, ◌∙◌, arith, true≢false}
 use Rattle.channel_table.specs.Channels.{is_channel}
-use Rattle.channel_table.specs.ClientRows.{has_channel, sub_count}
+use Rattle.channel_table.specs.ClientRows.{has_channel, has_sub, sub_count}
 use Rattle.channel_table.proofs.Following.{follow_added, follow_same}
+use Rattle.channel_table.specs.Told.{asks_on}
+use Rattle.channel_table.proofs.Asking.{told_added, told_same}
 use Rattle.channel_table.proofs.Lists.{found_is_there, unfound_is_absent}
 use Rattle.channel_table.proofs.table.Table.add_sub.Goals.{in-Ok, in-Err}
 use Rattle.channel_table.proofs.table.Table.add_sub.Goals as goal
@@ -27,23 +29,37 @@ returns-then-count_of-ge-SUB_LIMIT-clause-full c =
     let count = c.count_of.ensures ∙ ap (sub_count c.args.sub.session) c.self.view_is in
     (λ e. (there, omega arith), λ h. refl)
 
--- listed under the real name of its channel
+-- listed under the real name of its channel, and counted there
 pub invariant_of-self : goal.invariant_of-self
 invariant_of-self c =
-    elim c.match-add.branch [
-      | in-Ok w ↦ follow_added _ _ _ c.args.sub c.in-Some.channel.now (sym c.in-Some.ensures) w.in-Ok.ensures.ok_rows w.in-Ok.ensures.ok_on c.self.invariant
-      | in-Err w ↦ follow_same _ _ _ w.in-Err.ensures.err_rows w.in-Err.ensures.err_on c.self.invariant
+    let found = sym c.in-Some.ensures in
+    elim c.match-add_sub.branch [
+      | in-Ok w ↦ record {
+        rows = follow_added _ _ _ c.args.sub c.in-Some.channel.now found w.in-Ok.ensures.ok_rows w.in-Ok.ensures.ok_on c.self.invariant.rows;
+        told = told_added _ _ _ c.args.sub c.in-Some.channel.now _ _ found w.in-Ok.ensures.ok_rows w.in-Ok.ensures.ok_told c.self.invariant.told;
+      }
+      | in-Err w ↦ record {
+        rows = follow_same _ _ _ w.in-Err.ensures.err_rows w.in-Err.ensures.err_on c.self.invariant.rows;
+        told = told_same _ _ _ _ _ w.in-Err.ensures.err_rows w.in-Err.ensures.err_told c.self.invariant.told;
+      }
     ]
+
+-- what is counted under each name is what rows ask for
+pub add_sub-requires : goal.add_sub-requires
+add_sub-requires c = record {
+  new = ap (has_sub c.args.sub.session c.args.sub.id) c.self.view_is ∙ c.requires.new;
+  counts = λ name. record { asks = asks_on c.self.inside.channels c.self.inside.subs.rows name; is = c.self.invariant.told name };
+}
 
 pub returns-clause-there : goal.returns-clause-there
 returns-clause-there c =
     let there : has_channel c.args.sub.session c.args.sub.sid c.args.self.now ≡ true = ap (has_channel c.args.sub.session c.args.sub.sid) (sym c.self.view_is) ∙ found_is_there (is_channel c.args.sub.session c.args.sub.sid) c.self.inside.channels c.in-Some.channel.now (sym c.in-Some.ensures) in
-    elim c.match-add.result as (λ r. OnOk r (has_channel c.args.sub.session c.args.sub.sid c.args.self.now ≡ true)) [ Ok _ ↦ there | Err _ ↦ tt ]
+    elim c.match-add_sub.result as (λ r. OnOk r (has_channel c.args.sub.session c.args.sub.sid c.args.self.now ≡ true)) [ Ok _ ↦ there | Err _ ↦ tt ]
 
 pub returns-clause-missing : goal.returns-clause-missing
 returns-clause-missing c =
     let there : has_channel c.args.sub.session c.args.sub.sid c.args.self.now ≡ true = ap (has_channel c.args.sub.session c.args.sub.sid) (sym c.self.view_is) ∙ found_is_there (is_channel c.args.sub.session c.args.sub.sid) c.self.inside.channels c.in-Some.channel.now (sym c.in-Some.ensures) in
-    elim c.match-add.branch [
+    elim c.match-add_sub.branch [
       | in-Ok w ↦ (λ e. cc (e, w.result-is), λ h. absurd (true≢false (sym there ∙ h)))
       | in-Err w ↦ (λ e. cc (e, w.result-is), λ h. absurd (true≢false (sym there ∙ h)))
     ]

@@ -15,6 +15,6 @@ returns c =
     let bare = ap (λ (t : ClientRows). list_any (is_channel_of c.args.number) t.channels) c.self.view_is ∙ c.requires.bare in
     let sessions = c.remove.ensures ∙ ap (λ (t : ClientRows). filter (is_not_numbered c.args.number) t.sessions) c.self.view_is in
     let channels = sym (none_dropped (is_channel_of c.args.number) c.self.inside.channels bare) ∙ ap (λ (t : ClientRows). filter (is_not_channel_of c.args.number) t.channels) c.self.view_is in
-    let subs = sym (none_dropped (is_sub_of c.args.number) c.self.inside.subs.rows (none_without c.self.inside.channels c.self.inside.subs c.args.number bare c.self.invariant)) ∙ ap (λ (t : ClientRows). filter (is_not_sub_of c.args.number) t.subs) c.self.view_is in
+    let subs = sym (none_dropped (is_sub_of c.args.number) c.self.inside.subs.rows (none_without c.self.inside.channels c.self.inside.subs c.args.number bare c.self.invariant.rows)) ∙ ap (λ (t : ClientRows). filter (is_not_sub_of c.args.number) t.subs) c.self.view_is in
     let reads = c.remove_of.ensures ∙ ap (λ (t : ClientRows). filter (is_not_read_of c.args.number) t.reads) c.self.view_is in
     (λ i. record { sessions = sessions i; channels = channels i; subs = subs i; reads = reads i })

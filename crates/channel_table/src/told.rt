@@ -1,0 +1,147 @@
+//! What is asked for of each real name, counted.
+ghost use Rattle.std.specs.Prelude.{◌≡◌, ℕ, List, None, OnOk, OnErr, bytes_eq, if◌then◌else◌};
+ghost use Rattle.indexmap.specs.IndexMap.{get};
+ghost use Rattle.mask_merge.specs.Counts.{counted_with, counted_without, exchanged, nothing_counted, wanted_of};
+ghost use Rattle.channel_table.specs.Indexes.{sub_key, rows_at};
+ghost use Rattle.channel_table.specs.Told.{all_exchanged, told_of, Retells, SameTold};
+ghost use Rattle.row_index.specs.Lists.{of};
+
+use crate::subs::Subs;
+use indexmap::IndexMap;
+use mask_merge::{Tally, Want};
+use pv_name::Name;
+use std::alloc::{AllocError, Global};
+use std::marker::Model;
+
+/// What the subscriptions to each real name and the channels on it ask for. A name of which nothing
+/// stands takes no memory.
+#[derive(Drop)]
+pub(crate) struct Told {
+    tallies: IndexMap<Name, Tally>,
+    alloc: Global,
+}
+
+impl Model for Told {
+    ghost use Rattle.std.specs.Prelude.{ℕ, List};
+    ghost use Rattle.mask_merge.specs.Counts.{Counts};
+
+    ghost Value = { List (List ℕ × Counts) };
+
+    ghost view = { λ t. t.tallies.entries };
+}
+
+impl Told {
+    pub(crate) fn new(alloc: Global) -> Told
+        ensures { (name : List ℕ) → told_of result name ≡ nothing_counted }
+    {
+        Told {
+            tallies: IndexMap::new(alloc),
+            alloc,
+        }
+    }
+
+    /// What is asked for of a name together, where its native count is this.
+    pub(crate) fn want_of(&self, name: &Name, native: u32) -> Option<Want>
+        ensures { result ≡ wanted_of native (told_of self.now name.now) }
+    {
+        match self.tallies.get(name) {
+            Some(tally) => tally.want_of(native),
+            None => None,
+        }
+    }
+
+    /// One more row asks for something, or for nothing yet.
+    pub(crate) fn add(&mut self, name: &Name, ask: Option<Want>) -> Result<(), AllocError>
+        ensures ok { OnOk result (Retells name.now (counted_with ask) self.old self.new) }
+        ensures err { OnErr result (SameTold self.old self.new) }
+    {
+        match self.tallies.get_mut(name) {
+            Some(tally) => add_to(tally, ask),
+            None => self.add_first(name, ask),
+        }
+    }
+
+    // The first row on a name.
+    fn add_first(&mut self, name: &Name, ask: Option<Want>) -> Result<(), AllocError>
+        requires { told_of self.old name.now ≡ nothing_counted }
+        ensures ok { OnOk result (Retells name.now (counted_with ask) self.old self.new) }
+        ensures err { OnErr result (SameTold self.old self.new) }
+    {
+        let Ok(copy) = name.copy() else {
+            return Err(AllocError);
+        };
+        let mut tally = Tally::new(self.alloc);
+        add_to(&mut tally, ask)?;
+        match self.tallies.insert(copy, tally) {
+            Ok(_) => Ok(()),
+            Err(_) => Err(AllocError),
+        }
+    }
+
+    /// One row less asks for this.
+    pub(crate) fn remove(&mut self, name: &Name, ask: Option<Want>)
+        ensures { Retells name.now (counted_without ask) self.old self.new }
+    {
+        let Some(tally) = self.tallies.get_mut(name) else {
+            return;
+        };
+        remove_from(tally, ask);
+        if tally.is_empty() {
+            forget(&mut self.tallies, name);
+        }
+    }
+
+    /// A row asks for something else. This takes no memory.
+    pub(crate) fn exchange(&mut self, name: &Name, before: Option<Want>, after: Option<Want>)
+        ensures { Retells name.now (exchanged before after) self.old self.new }
+    {
+        if let Some(tally) = self.tallies.get_mut(name) {
+            tally.exchange(before, after);
+        }
+    }
+
+    /// The client of a channel on this name may read now, or may no longer: what the subscriptions on
+    /// the channel ask for. This takes no memory.
+    pub(crate) fn exchange_on(
+        &mut self,
+        name: &Name,
+        subs: &Subs,
+        session: u32,
+        sid: u32,
+        before: bool,
+        after: bool,
+    )
+        ensures { Retells name.now (all_exchanged before after session sid (rows_at sub_key subs.now.rows (of subs.now.on name.now))) self.old self.new }
+    {
+        let Some(tally) = self.tallies.get_mut(name) else {
+            return;
+        };
+        subs.exchange_on(tally, name, session, sid, before, after);
+    }
+}
+
+fn add_to(tally: &mut Tally, ask: Option<Want>) -> Result<(), AllocError>
+    ensures ok { OnOk result (tally.new ≡ counted_with ask tally.old) }
+    ensures err { OnErr result (tally.new ≡ tally.old) }
+{
+    match ask {
+        Some(want) => tally.add(want.mask, want.count),
+        None => tally.add_silent(),
+    }
+}
+
+fn remove_from(tally: &mut Tally, ask: Option<Want>)
+    ensures { tally.new ≡ counted_without ask tally.old }
+{
+    match ask {
+        Some(want) => tally.remove(want.mask, want.count),
+        None => tally.remove_silent(),
+    }
+}
+
+// Takes out a tally, with its name.
+fn forget(tallies: &mut IndexMap<Name, Tally>, name: &Name)
+    ensures { (n : List ℕ) → get bytes_eq tallies.new n ≡ (if bytes_eq name.now n then None else get bytes_eq tallies.old n) }
+{
+    tallies.swap_remove(name);
+}

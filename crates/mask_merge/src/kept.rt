@@ -1,0 +1,155 @@
+//! What a tally keeps: counts, and room for the count of each reader.
+ghost use Rattle.std.specs.Prelude.{◌≡◌, ◌≤◌, ◌<◌, true, length, position, vec_len, vec_capacity, OnOk};
+ghost use Rattle.std.specs.List.{position_or_len};
+ghost use Rattle.rows.specs.Rows.{remove_first};
+ghost use Rattle.mask_merge.specs.Counts.{asks_log, is_count, put_rising, counted_with, left_of, holds, log_mask, greatest_of, wanted_by};
+ghost use Rattle.mask_merge.specs.Kept.{counts_of, is_not_less, Fits, HasRoom};
+
+use crate::want::{ALWAYS_ASKED, KNOWN_EVENTS, LOG_EVENT, Want};
+use std::alloc::AllocError;
+
+#[derive(Debug, Drop)]
+pub(crate) struct Kept {
+    pub(crate) logs: usize,
+    pub(crate) silent: usize,
+    pub(crate) counts: Vec<u32>,
+}
+
+fn asks_log(mask: u16) -> bool
+    ensures { result ≡ asks_log mask }
+{
+    mask & LOG_EVENT == LOG_EVENT
+}
+
+/// Whether such a reader can be among those that are counted.
+pub(crate) fn is_held(kept: &Kept, ask: Option<Want>) -> bool
+    ensures { result ≡ holds ask (counts_of kept.now) }
+{
+    let Some(want) = ask else {
+        return kept.silent > 0;
+    };
+    if !kept.counts.contains(&want.count) {
+        return false;
+    }
+    if asks_log(want.mask) {
+        kept.logs > 0
+    } else {
+        kept.logs < kept.counts.len()
+    }
+}
+
+/// Makes room for one reader more.
+pub(crate) fn make_room(kept: &mut Kept) -> Result<(), AllocError>
+    requires fits { Fits kept.old }
+    ensures room { OnOk result (HasRoom kept.new) }
+    ensures fits { Fits kept.new }
+    ensures same { counts_of kept.new ≡ counts_of kept.old }
+{
+    kept.counts.reserve(kept.silent + 1)
+}
+
+/// Counts one reader more. There is room for it, so no memory is taken.
+pub(crate) fn count_in(kept: &mut Kept, ask: Option<Want>)
+    requires fits { Fits kept.old }
+    requires room { HasRoom kept.old }
+    ensures fits { Fits kept.new }
+    ensures counted { counts_of kept.new ≡ counted_with ask (counts_of kept.old) }
+{
+    let Some(want) = ask else {
+        kept.silent += 1;
+        return;
+    };
+    put(&mut kept.counts, want.count);
+    if asks_log(want.mask) {
+        kept.logs += 1;
+    }
+}
+
+/// Counts one reader less, which leaves room for another.
+pub(crate) fn count_out(kept: &mut Kept, ask: Option<Want>)
+    requires fits { Fits kept.old }
+    requires held { holds ask (counts_of kept.old) ≡ true }
+    ensures fits { Fits kept.new }
+    ensures room { HasRoom kept.new }
+    ensures left { counts_of kept.new ≡ left_of ask (counts_of kept.old) }
+{
+    let Some(want) = ask else {
+        kept.silent -= 1;
+        return;
+    };
+    take_away(&mut kept.counts, want.count);
+    if asks_log(want.mask) {
+        kept.logs -= 1;
+    }
+}
+
+fn first_not_less(counts: &[u32], count: u32) -> Option<usize>
+    ensures { result ≡ position (is_not_less count) counts.now }
+{
+    counts.iter().position(|other| *other >= count)
+}
+
+#[tactic(auto, using(crate::proofs::PlaceLemmas::place_or_end))]
+fn place_for(counts: &[u32], count: u32) -> usize
+    ensures { result ≡ position_or_len (is_not_less count) counts.now }
+{
+    first_not_less(counts, count).unwrap_or(counts.len())
+}
+
+#[tactic(auto, using(crate::proofs::PlaceLemmas::put_at_place, crate::proofs::PlaceLemmas::place_within))]
+fn put(counts: &mut Vec<u32>, count: u32)
+    requires room { vec_len counts.old < vec_capacity counts.old }
+    ensures items { counts.new.items ≡ put_rising count counts.old.items }
+    ensures room { vec_capacity counts.old ≤ vec_capacity counts.new }
+{
+    let place = place_for(counts, count);
+    counts.insert(place, count).unwrap();
+}
+
+fn place_of(counts: &[u32], count: u32) -> Option<usize>
+    ensures { result ≡ position (is_count count) counts.now }
+{
+    counts.iter().position(|other| *other == count)
+}
+
+#[tactic(auto, using(rows::proofs::RowLemmas::remove_is_remove_first, rows::proofs::RowLemmas::remove_first_none))]
+fn take_away(counts: &mut Vec<u32>, count: u32)
+    ensures items { counts.new.items ≡ remove_first (is_count count) counts.old.items }
+    ensures room { vec_capacity counts.new ≡ vec_capacity counts.old }
+{
+    if let Some(place) = place_of(counts, count) {
+        counts.remove(place);
+    }
+}
+
+fn log_mask(logs: usize) -> u16
+    ensures { result ≡ log_mask logs }
+{
+    if logs > 0 { LOG_EVENT } else { 0 }
+}
+
+fn greatest_of(native: u32, counts: &[u32]) -> u32
+    requires { 0 < length counts.now }
+    ensures { result ≡ greatest_of native counts.now }
+{
+    let last = counts[counts.len() - 1];
+    if counts[0] == 0 {
+        native.max(last)
+    } else {
+        last
+    }
+}
+
+/// What so many that ask for LOG and these rising counts want together.
+#[tactic(auto, using(crate::proofs::PlaceLemmas::wanted_there))]
+pub(crate) fn wanted_by(native: u32, logs: usize, counts: &[u32]) -> Option<Want>
+    ensures { result ≡ wanted_by native logs counts.now }
+{
+    if counts.is_empty() {
+        return None;
+    }
+    Some(Want {
+        mask: log_mask(logs) & KNOWN_EVENTS | ALWAYS_ASKED,
+        count: greatest_of(native, counts),
+    })
+}
