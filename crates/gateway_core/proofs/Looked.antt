@@ -6,13 +6,28 @@ use Rattle.ca_message.specs.declared.codes.TheConstants.{ECA_NORMAL}
 use Rattle.ca_message.specs.declared.reply.ReplyFault.{ReplyFault}
 use Rattle.ca_message.specs.declared.reply.ServerReply.{ServerReply}
 use Rattle.ca_message.specs.declared.reply.ServerReply.TheVariants as says
+use Rattle.ca_message.specs.declared.request.ClientRequest.{ClientRequest}
+use Rattle.ca_message.specs.declared.request.ClientRequest.TheVariants as requests
+use Rattle.ca_message.specs.declared.request.RequestFault.{RequestFault}
+use Rattle.ca_message.specs.ClientRequest.{request_of}
 use Rattle.ca_message.specs.ServerReply.{reply_of}
-use Rattle.gateway_core.specs.Looks.{direct_looks, event_looks, update_looks}
+use Rattle.channel_table.specs.declared.channels.Channel.{Channel}
+use Rattle.channel_table.specs.declared.reads.WaitingRead.{WaitingRead}
+use Rattle.channel_table.specs.declared.subs.ClientSub.{ClientSub}
+use Rattle.gateway_state.specs.declared.notice.ReadVerdict.{ReadVerdict}
+use Rattle.gateway_state.specs.declared.notice.ReadVerdict.TheVariants as reads
+use Rattle.gateway_state.specs.declared.notice.SubVerdict.{SubVerdict}
+use Rattle.gateway_state.specs.declared.notice.SubVerdict.TheVariants as subs
+use Rattle.gateway_state.specs.Clients.{read_verdict}
+use Rattle.gateway_state.specs.Requests.{client_said}
+use Rattle.gateway_state.specs.Rights.{channel_of}
+use Rattle.gateway_state.specs.Subscribing.{is_on_sid, new_sub, sub_of, sub_verdict}
+use Rattle.gateway_core.specs.Looks.{direct_looks, event_looks, request_looks, update_looks}
 use Rattle.gateway_notices.specs.Looks.{looks_after}
 use Rattle.gateway_rows.specs.Own.{IsWithin, channels_on, own_over, reads_on, subs_on}
 use Rattle.gateway_rows.proofs.OwnStays.{reads_on_owed, subs_on_owed}
 use Rattle.gateway_state.specs.declared.cached.LastMessage.{LastMessage}
-use Rattle.gateway_state.specs.declared.event.Dest.TheVariants.{Upstream}
+use Rattle.gateway_state.specs.declared.event.Dest.TheVariants.{Session, Upstream}
 use Rattle.gateway_state.specs.declared.event.Event.{Event}
 use Rattle.gateway_state.specs.declared.event.Event.TheVariants.{Opened, Lost, Client, UpOpened, UpLost, Server, Found, Search, Sweep, Edit, Drain}
 use Rattle.gateway_state.specs.Asked.{acts}
@@ -26,8 +41,8 @@ use Rattle.link_table.specs.declared.links.LinkState.TheVariants.{Creating, Conn
 use Rattle.link_table.specs.declared.links.Subscription.{Subscription}
 use Rattle.link_table.specs.Links.{has_subscription}
 use Rattle.server_messages.specs.Looks.{reply_looks}
-use Rattle.touched_rows.specs.declared.touched.Touched.TheVariants.{Nothing, Value}
-use Rattle.touched_rows.specs.Touches.{event_touches, reply_touches, update_touches_over, value_touches}
+use Rattle.touched_rows.specs.declared.touched.Touched.TheVariants.{Interest, Nothing, Value}
+use Rattle.touched_rows.specs.Touches.{cancel_touches_by, clear_touches_by, event_touches, new_read, read_touches_by, reply_touches, request_touches, sub_touches_by, update_touches_over, value_touches}
 use Rattle.value_cache.specs.Held.{held_after}
 
 -- nothing followed
@@ -38,6 +53,77 @@ quiet before direct after own first rest = omega (arith, first, rest)
 told : (before direct after channels subs reads subs-then reads-then : ℕ) → direct ≤ before + 2 * (channels + subs + reads)
     → after ≤ direct + (6 * subs-then + 2 * reads-then) → subs-then ≡ subs → reads-then ≡ reads → after ≤ before + (4 + 8 * (channels + subs + reads))
 told before direct after channels subs reads subs-then reads-then first rest as-many-subs as-many-reads = omega (arith, first, rest, as-many-subs, as-many-reads)
+
+-- ---- what follows from a request is told of few rows
+
+module _ (then : Gateway) (direct after : ℕ) where
+  few : after ≤ direct + 0 → after ≤ direct + 4
+  few rest = omega (arith, rest)
+
+  made_within : (sub : ClientSub) (on : Option Channel) (verdict : SubVerdict) → IsWithin (looks_after (sub_touches_by sub on verdict) then) direct after → after ≤ direct + 4
+  made_within sub on subs.NoChannel = few
+  made_within sub on subs.Ignored = few
+  made_within sub on (subs.Refused cid code) = few
+  made_within sub None subs.Accepted = few
+  made_within sub (Some c) subs.Accepted = λ rest. rest
+
+  read_within : (read : WaitingRead) (on : Option Channel) (verdict : ReadVerdict) → IsWithin (looks_after (read_touches_by read on verdict) then) direct after → after ≤ direct + 4
+  read_within read on reads.NoChannel = few
+  read_within read on reads.Ignored = few
+  read_within read on (reads.Refused code) = few
+  read_within read None (reads.Accepted reach rights) = few
+  read_within read (Some c) (reads.Accepted reach rights) = λ rest. omega (arith, rest)
+
+  cancel_within : (sid : ℕ) (sub : Option ClientSub) (on : Option Channel) → IsWithin (looks_after (cancel_touches_by sid sub on) then) direct after → after ≤ direct + 4
+  cancel_within sid sub None = few
+  cancel_within sid sub (Some c) =
+      elim (is_on_sid sid sub) as (λ t. IsWithin (looks_after (cond t (Interest c.real) Nothing) then) direct after → after ≤ direct + 4) [ true ↦ few | false ↦ few ]
+
+  clear_within : (on : Option Channel) → IsWithin (looks_after (clear_touches_by on) then) direct after → after ≤ direct + 4
+  clear_within None = few
+  clear_within (Some c) = few
+
+  all_within : (before : ℕ) → direct ≤ before + 4 → after ≤ direct + 4 → after ≤ before + 8
+  all_within before first rest = omega (arith, first, rest)
+
+  request_within : (w : Gateway) (before number : ℕ) (request : Result ClientRequest RequestFault) → direct ≤ before + 4
+      → IsWithin (looks_after (request_touches w number request) then) direct after → IsWithin (request_looks request) before after
+  request_within w before number (Ok (requests.Version minor)) first rest = all_within before first (few rest)
+  request_within w before number (Ok (requests.EventAdd sid id dtype count mask)) first rest =
+      let sub : ClientSub = new_sub number sid id dtype count mask in
+      all_within before first (made_within sub (channel_of w number sid) (sub_verdict w sub) rest)
+  request_within w before number (Ok (requests.EventCancel sid id dtype count)) first rest = all_within before first (cancel_within sid (sub_of w number id) (channel_of w number sid) rest)
+  request_within w before number (Ok (requests.Write sid dtype count value)) first rest = all_within before first (few rest)
+  request_within w before number (Ok requests.EventsOff) first rest = all_within before first (few rest)
+  request_within w before number (Ok requests.EventsOn) first rest = tt
+  request_within w before number (Ok (requests.ClearChannel sid cid)) first rest = all_within before first (clear_within (channel_of w number sid) rest)
+  request_within w before number (Ok (requests.ReadNotify sid ioid dtype count)) first rest =
+      all_within before first (read_within (new_read number sid ioid dtype count) (channel_of w number sid) (read_verdict w number sid dtype count) rest)
+  request_within w before number (Ok (requests.CreateChannel cid minor name)) first rest = all_within before first (few rest)
+  request_within w before number (Ok (requests.WriteNotify sid ioid dtype count value)) first rest = all_within before first (few rest)
+  request_within w before number (Ok (requests.ClientName name)) first rest = all_within before first (few rest)
+  request_within w before number (Ok (requests.HostName host)) first rest = tt
+  request_within w before number (Ok requests.Echo) first rest = all_within before first (few rest)
+  request_within w before number (Err fault) first rest = all_within before first (few rest)
+
+  -- a client that isn't heard
+  unheard_within : (before : ℕ) (request : Result ClientRequest RequestFault) → direct ≤ before + 4 → after ≤ direct + 0 → IsWithin (request_looks request) before after
+  unheard_within before (Ok (requests.Version minor)) first rest = all_within before first (few rest)
+  unheard_within before (Ok (requests.EventAdd sid id dtype count mask)) first rest = all_within before first (few rest)
+  unheard_within before (Ok (requests.EventCancel sid id dtype count)) first rest = all_within before first (few rest)
+  unheard_within before (Ok (requests.Write sid dtype count value)) first rest = all_within before first (few rest)
+  unheard_within before (Ok requests.EventsOff) first rest = all_within before first (few rest)
+  unheard_within before (Ok requests.EventsOn) first rest = tt
+  unheard_within before (Ok (requests.ClearChannel sid cid)) first rest = all_within before first (few rest)
+  unheard_within before (Ok (requests.ReadNotify sid ioid dtype count)) first rest = all_within before first (few rest)
+  unheard_within before (Ok (requests.CreateChannel cid minor name)) first rest = all_within before first (few rest)
+  unheard_within before (Ok (requests.WriteNotify sid ioid dtype count value)) first rest = all_within before first (few rest)
+  unheard_within before (Ok (requests.ClientName name)) first rest = all_within before first (few rest)
+  unheard_within before (Ok (requests.HostName host)) first rest = tt
+  unheard_within before (Ok requests.Echo) first rest = all_within before first (few rest)
+  unheard_within before (Err fault) first rest = all_within before first (few rest)
+
+-- ---- servers' messages
 
 module _ (w : Gateway) (before direct after : ℕ) where
   looked_over : (dtype count : ℕ) (payload : List ℕ) (link : Link) (state : LinkState) (sub : Option Subscription) → direct ≤ before + 2 * own_over w (Some link)
@@ -96,7 +182,11 @@ pub looked_in_all : (w : Gateway) (event : Event) (before direct after : ℕ) �
     → IsWithin (looks_after (event_touches w event) (direct_effect w event)) direct after → IsWithin (event_looks w event) before after
 looked_in_all w (Opened number host) before direct after first = λ rest. tt
 looked_in_all w (Lost number) before direct after first = λ rest. tt
-looked_in_all w (Client number message) before direct after first = λ rest. tt
+looked_in_all w (Client number message) before direct after first =
+    let request = request_of message.head message.payload in
+    elim (acts w (Session number))
+    as (λ t. IsWithin (looks_after (cond t (request_touches w number request) Nothing) (cond t (client_said w number message) w)) direct after → IsWithin (request_looks request) before after)
+    [ true ↦ request_within (client_said w number message) direct after w before number request first | false ↦ unheard_within w direct after before request first ]
 looked_in_all w (UpOpened number) before direct after first = λ rest. tt
 looked_in_all w (UpLost number) before direct after first = λ rest. tt
 looked_in_all w (Server number message) before direct after first =

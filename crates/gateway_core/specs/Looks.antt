@@ -4,6 +4,10 @@ use Rattle.std.specs.List.{find}
 use Rattle.ca_message.specs.declared.reply.ReplyFault.{ReplyFault}
 use Rattle.ca_message.specs.declared.reply.ServerReply.{ServerReply}
 use Rattle.ca_message.specs.declared.reply.ServerReply.TheVariants as says
+use Rattle.ca_message.specs.declared.request.ClientRequest.{ClientRequest}
+use Rattle.ca_message.specs.declared.request.ClientRequest.TheVariants as requests
+use Rattle.ca_message.specs.declared.request.RequestFault.{RequestFault}
+use Rattle.ca_message.specs.ClientRequest.{request_of}
 use Rattle.ca_message.specs.ServerReply.{reply_of}
 use Rattle.gateway_rows.specs.Own.{own_over}
 use Rattle.gateway_state.specs.declared.event.Event.{Event}
@@ -25,7 +29,15 @@ update_looks w server (Ok (says.EventAdd id status dtype count value)) =
     Some (4 + 8 * own_over w (find (has_subscription server id) w.upstream.links))
 update_looks w server reply = None
 
+-- a request may look at eight rows, however many there are. The name of a host concerns all channels of its
+-- session, and updates that are wanted again all of its subscriptions
+abbrev pub request_looks : Result ClientRequest RequestFault → Option ℕ
+request_looks (Ok (requests.HostName host)) = None
+request_looks (Ok requests.EventsOn) = None
+request_looks request = Some 8
+
 -- with all that follows from it
 abbrev pub event_looks : Gateway → Event → Option ℕ
+event_looks w (events.Client number message) = request_looks (request_of message.head message.payload)
 event_looks w (events.Server number message) = update_looks w number (reply_of message.head message.payload)
 event_looks w event = None
