@@ -33,16 +33,17 @@ use Rattle.gateway_state.specs.declared.event.Event.TheVariants.{Opened, Lost, C
 use Rattle.gateway_state.specs.Asked.{acts}
 use Rattle.gateway_state.specs.Direct.{direct_effect}
 use Rattle.gateway_state.specs.Gateway.{Gateway}
+use Rattle.gateway_state.specs.Variables.{is_creating}
 use Rattle.gateway_state.specs.Servers.{concerned_owed, has_other_alarm, is_value, reads_failed, replied, server_said, updated_by, updated_link, with_cached}
 use Rattle.gateway_state.specs.Updates.{concerned}
 use Rattle.link_table.specs.declared.links.Link.{Link}
 use Rattle.link_table.specs.declared.links.LinkState.{LinkState}
 use Rattle.link_table.specs.declared.links.LinkState.TheVariants.{Creating, Connected, Unusable}
 use Rattle.link_table.specs.declared.links.Subscription.{Subscription}
-use Rattle.link_table.specs.Links.{has_subscription}
+use Rattle.link_table.specs.Links.{has_subscription, is_link}
 use Rattle.server_messages.specs.Looks.{reply_looks}
 use Rattle.touched_rows.specs.declared.touched.Touched.TheVariants.{Interest, Nothing, Value}
-use Rattle.touched_rows.specs.Touches.{cancel_touches_by, clear_touches_by, event_touches, new_read, read_touches_by, reply_touches, request_touches, sub_touches_by, update_touches_over, value_touches}
+use Rattle.touched_rows.specs.Touches.{cancel_touches_by, clear_touches_by, created_touches_over, event_touches, new_read, read_touches_by, reply_touches, request_touches, sub_touches_by, update_touches_over, value_touches}
 use Rattle.value_cache.specs.Held.{held_after}
 
 -- nothing followed
@@ -155,47 +156,56 @@ module _ (w : Gateway) (before direct after : ℕ) where
       → after ≤ before + (4 + 8 * own_over w (Some link)))
       [ true ↦ looked_over dtype count payload link link.state link.subscription first | false ↦ λ rest. quiet before direct after (own_over w (Some link)) first rest ]
 
+  none : direct ≤ before + 0 → after ≤ direct + 0 → after ≤ before + 0
+  none first rest = omega (arith, first, rest)
+
+  -- a channel that a server made
+  made : (then : Gateway) (found : Option Link) → direct ≤ before + 0 → IsWithin (looks_after (created_touches_over found) then) direct after → after ≤ before + 0
+  made then None first = none first
+  made then (Some link) first =
+      elim (is_creating link.state) as (λ t. IsWithin (looks_after (cond t (Interest link.name) Nothing) then) direct after → after ≤ before + 0) [ true ↦ none first | false ↦ none first ]
+
   looked_for : (server : ℕ) (reply : Result ServerReply ReplyFault) → IsWithin (reply_looks w server reply) before direct
       → IsWithin (looks_after (reply_touches w server reply) (replied w server reply)) direct after → IsWithin (update_looks w server reply) before after
-  looked_for server (Ok (says.Version minor)) first rest = tt
+  looked_for server (Ok (says.Version minor)) first rest = none first rest
   looked_for server (Ok (says.EventAdd id status dtype count value)) first rest = looked_by status dtype count value (find (has_subscription server id) w.upstream.links) first rest
-  looked_for server (Ok (says.CreateChannel cid sid dtype count)) first rest = tt
-  looked_for server (Ok (says.WriteNotify ioid status)) first rest = tt
+  looked_for server (Ok (says.CreateChannel cid sid dtype count)) first rest = made (replied w server (Ok (says.CreateChannel cid sid dtype count))) (find (is_link server cid) w.upstream.links) first rest
+  looked_for server (Ok (says.WriteNotify ioid status)) first rest = none first rest
   looked_for server (Ok (says.AccessRights cid rights)) first rest = tt
-  looked_for server (Ok (says.CreateChannelFail cid)) first rest = tt
+  looked_for server (Ok (says.CreateChannelFail cid)) first rest = none first rest
   looked_for server (Ok (says.ServerDisconnect cid)) first rest = tt
-  looked_for server (Err fault) first rest = tt
+  looked_for server (Err fault) first rest = none first rest
 
   looked_quietly : (server : ℕ) (reply : Result ServerReply ReplyFault) → IsWithin (reply_looks w server reply) before direct
       → after ≤ direct + 0 → IsWithin (update_looks w server reply) before after
-  looked_quietly server (Ok (says.Version minor)) first rest = tt
+  looked_quietly server (Ok (says.Version minor)) first rest = none first rest
   looked_quietly server (Ok (says.EventAdd id status dtype count value)) first rest = quiet before direct after (own_over w (find (has_subscription server id) w.upstream.links)) first rest
-  looked_quietly server (Ok (says.CreateChannel cid sid dtype count)) first rest = tt
-  looked_quietly server (Ok (says.WriteNotify ioid status)) first rest = tt
+  looked_quietly server (Ok (says.CreateChannel cid sid dtype count)) first rest = none first rest
+  looked_quietly server (Ok (says.WriteNotify ioid status)) first rest = none first rest
   looked_quietly server (Ok (says.AccessRights cid rights)) first rest = tt
-  looked_quietly server (Ok (says.CreateChannelFail cid)) first rest = tt
+  looked_quietly server (Ok (says.CreateChannelFail cid)) first rest = none first rest
   looked_quietly server (Ok (says.ServerDisconnect cid)) first rest = tt
-  looked_quietly server (Err fault) first rest = tt
+  looked_quietly server (Err fault) first rest = none first rest
 
 -- by itself, and for what follows
 pub looked_in_all : (w : Gateway) (event : Event) (before direct after : ℕ) → IsWithin (direct_looks w event) before direct
     → IsWithin (looks_after (event_touches w event) (direct_effect w event)) direct after → IsWithin (event_looks w event) before after
-looked_in_all w (Opened number host) before direct after first = λ rest. tt
-looked_in_all w (Lost number) before direct after first = λ rest. tt
+looked_in_all w (Opened number host) before direct after first = none w before direct after first
+looked_in_all w (Lost number) before direct after first = λ rest. omega (arith, first, rest)
 looked_in_all w (Client number message) before direct after first =
     let request = request_of message.head message.payload in
     elim (acts w (Session number))
     as (λ t. IsWithin (looks_after (cond t (request_touches w number request) Nothing) (cond t (client_said w number message) w)) direct after → IsWithin (request_looks request) before after)
     [ true ↦ request_within (client_said w number message) direct after w before number request first | false ↦ unheard_within w direct after before request first ]
-looked_in_all w (UpOpened number) before direct after first = λ rest. tt
+looked_in_all w (UpOpened number) before direct after first = none w before direct after first
 looked_in_all w (UpLost number) before direct after first = λ rest. tt
 looked_in_all w (Server number message) before direct after first =
     elim (acts w (Upstream number))
     as (λ t. IsWithin (looks_after (cond t (reply_touches w number (reply_of message.head message.payload)) Nothing) (cond t (server_said w number message) w)) direct after
     → IsWithin (update_looks w number (reply_of message.head message.payload)) before after)
     [ true ↦ looked_for w before direct after number (reply_of message.head message.payload) first | false ↦ looked_quietly w before direct after number (reply_of message.head message.payload) first ]
-looked_in_all w (Found name number) before direct after first = λ rest. tt
-looked_in_all w (Search host name) before direct after first = λ rest. tt
-looked_in_all w Sweep before direct after first = λ rest. tt
+looked_in_all w (Found name number) before direct after first = none w before direct after first
+looked_in_all w (Search host name) before direct after first = none w before direct after first
+looked_in_all w Sweep before direct after first = none w before direct after first
 looked_in_all w (Edit policy) before direct after first = λ rest. tt
 looked_in_all w (Drain dest count) before direct after first = λ rest. tt

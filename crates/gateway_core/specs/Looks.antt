@@ -9,6 +9,7 @@ use Rattle.ca_message.specs.declared.request.ClientRequest.TheVariants as reques
 use Rattle.ca_message.specs.declared.request.RequestFault.{RequestFault}
 use Rattle.ca_message.specs.ClientRequest.{request_of}
 use Rattle.ca_message.specs.ServerReply.{reply_of}
+use Rattle.channel_table.specs.ClientRows.{channel_count}
 use Rattle.gateway_rows.specs.Own.{own_over}
 use Rattle.gateway_state.specs.declared.event.Event.{Event}
 use Rattle.gateway_state.specs.declared.event.Event.TheVariants as events
@@ -18,16 +19,20 @@ use Rattle.server_messages.specs.Looks.{reply_looks}
 
 -- by itself
 abbrev pub direct_looks : Gateway → Event → Option ℕ
+direct_looks w (events.Lost number) = Some (channel_count number w.clients)
 direct_looks w (events.Client number message) = Some 4
 direct_looks w (events.Server number message) = reply_looks w number (reply_of message.head message.payload)
-direct_looks w event = None
+direct_looks w event = Some 0
 
--- an update may look eight times at each channel, subscription and waiting read of its variable, and four
--- times more, however many rows there are
+-- An update may look eight times at each channel, subscription and waiting read of its variable, and four
+-- times more, however many rows there are. Rights, and a channel that goes, are told to all who use the
+-- variable; nothing else that a server says is looked at for a client
 abbrev pub update_looks : Gateway → ℕ → Result ServerReply ReplyFault → Option ℕ
 update_looks w server (Ok (says.EventAdd id status dtype count value)) =
     Some (4 + 8 * own_over w (find (has_subscription server id) w.upstream.links))
-update_looks w server reply = None
+update_looks w server (Ok (says.AccessRights cid rights)) = None
+update_looks w server (Ok (says.ServerDisconnect cid)) = None
+update_looks w server reply = Some 0
 
 -- a request may look at eight rows, however many there are. The name of a host concerns all channels of its
 -- session, and updates that are wanted again all of its subscriptions
@@ -36,8 +41,13 @@ request_looks (Ok (requests.HostName host)) = None
 request_looks (Ok requests.EventsOn) = None
 request_looks request = Some 8
 
--- with all that follows from it
+-- With all that follows from it. A lost client's channels are looked at once; a lost server, an edit, and
+-- room in an outbox that was full, concern many rows
 abbrev pub event_looks : Gateway → Event → Option ℕ
+event_looks w (events.Lost number) = Some (channel_count number w.clients)
+event_looks w (events.UpLost number) = None
+event_looks w (events.Edit policy) = None
+event_looks w (events.Drain dest count) = None
 event_looks w (events.Client number message) = request_looks (request_of message.head message.payload)
 event_looks w (events.Server number message) = update_looks w number (reply_of message.head message.payload)
-event_looks w event = None
+event_looks w event = Some 0

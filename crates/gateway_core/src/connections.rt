@@ -1,6 +1,7 @@
 //! Connections that come and go.
-ghost use Rattle.std.specs.Prelude.{◌≡◌, filter, OnOk, IfOk};
+ghost use Rattle.std.specs.Prelude.{◌≡◌, ◌≤◌, ◌+◌, filter, OnOk, IfOk};
 ghost use Rattle.channel_table.specs.Channels.{is_channel_of};
+ghost use Rattle.channel_table.specs.ClientRows.{channel_count};
 ghost use Rattle.gateway_state.specs.Sessions.{opened, lost, introduced, up_opened, up_lost};
 ghost use Rattle.gateway_state.specs.Variables.{channel_names};
 ghost use Rattle.touched_rows.specs.Touches.{names_of};
@@ -45,7 +46,8 @@ fn names_of(
     visits: &mut Visits,
     number: u32,
 ) -> Result<Names, AllocError>
-    ensures { IfOk result (λ names. names ≡ channel_names (filter (is_channel_of number) clients.now.channels)) }
+    ensures names { IfOk result (λ names. names ≡ channel_names (filter (is_channel_of number) clients.now.channels)) }
+    ensures bound { OnOk result (visits.new ≤ visits.old + channel_count number clients.now) }
 {
     let mut names = Names::new(alloc);
     for n in 0..clients.channel_count(number) {
@@ -64,6 +66,7 @@ pub(crate) fn lose_session(
 ) -> Result<Names, AllocError>
     ensures ok { OnOk result (rows.new ≡ lost rows.old number) }
     ensures names { IfOk result (λ names. names ≡ names_of rows.old number) }
+    ensures bound { OnOk result (visits.new ≤ visits.old + channel_count number rows.old.clients) }
 {
     let names = names_of(rows.alloc, &rows.clients, visits, number)?;
     rows.connections.remove(Dest::Session(number));

@@ -17,6 +17,7 @@ use std::alloc::AllocError;
 use touched_rows::Touched;
 
 /// A server sent a message.
+#[tactic(auto, using(gateway_rows::proofs::OwnStays::within_none))]
 pub fn hear_server(
     rows: &mut Rows,
     visits: &mut Visits,
