@@ -121,12 +121,13 @@ module _ (x : Gateway) (dest : Dest) where
       marking = λ to w grown. same_still w (messages_of dest (change_first (is_to to) marked_now w.connections)) (marked_same dest to w.connections) grown;
     };
     connection_added = λ new w grown. same_still w (messages_of dest (w.connections ++ fresh new ∷ [])) (added_same dest new w.connections) grown;
-    sessions = λ rows w grown. grown;
+    session_added = λ row w there grown. grown;
+    session_changed = λ number change w same grown. grown;
     servers = λ rows w grown. grown;
     cache = λ rows w grown. grown;
     searches = λ rows w grown. grown;
     policy = λ policy w grown. grown;
-    channel_added = λ session cid name real rights w grown. grown;
+    channel_added = λ session cid name real rights w fixed grown. grown;
     channel_changed = λ session sid reach rights w grown. grown;
     channel_removed = λ session sid w grown. grown;
     sub_added = λ sub w free there grown. grown;
@@ -134,7 +135,7 @@ module _ (x : Gateway) (dest : Dest) where
     sub_removed = λ session id w grown. grown;
     read_added = λ read w there grown. grown;
     read_removed = λ read w grown. grown;
-    write_added = λ write w there grown. grown;
+    write_added = λ write w there next grown. grown;
     write_removed = λ server id w grown. grown;
     link_changed = λ server cid state rights w grown. grown;
     subscription_made = λ server cid mask count sent w grown. grown;

@@ -18,12 +18,13 @@ in_order_kept = record {
   rows = record {
     messages = messages_kept AreInOrder (λ dest change w order. record { channels = order.channels; links = order.links; ids = order.ids });
     connection_added = λ dest w order. record { channels = order.channels; links = order.links; ids = order.ids };
-    sessions = λ rows w order. record { channels = order.channels; links = order.links; ids = order.ids };
+    session_added = λ row w there order. record { channels = order.channels; links = order.links; ids = order.ids };
+    session_changed = λ number change w same order. record { channels = order.channels; links = order.links; ids = order.ids };
     servers = λ rows w order. record { channels = order.channels; links = order.links; ids = order.ids };
     cache = λ rows w order. record { channels = order.channels; links = order.links; ids = order.ids };
     searches = λ rows w order. record { channels = order.channels; links = order.links; ids = order.ids };
     policy = λ policy w order. record { channels = order.channels; links = order.links; ids = order.ids };
-    channel_added = λ session cid name real rights w order. record {
+    channel_added = λ session cid name real rights w fixed order. record {
       channels = rising_pushed sid_of 0 w.upstream.counters.sid w.clients.channels
           (record { session = session; sid = w.upstream.counters.sid; cid = cid; asked = name; real = real; reach = 0; rights = rights })
           refl order.channels;
@@ -45,7 +46,7 @@ in_order_kept = record {
     sub_removed = λ session id w order. record { channels = order.channels; links = order.links; ids = order.ids };
     read_added = λ read w there order. record { channels = order.channels; links = order.links; ids = order.ids };
     read_removed = λ read w order. record { channels = order.channels; links = order.links; ids = order.ids };
-    write_added = λ write w on order. record { channels = order.channels; links = order.links; ids = order.ids };
+    write_added = λ write w on next order. record { channels = order.channels; links = order.links; ids = order.ids };
     write_removed = λ server id w order. record { channels = order.channels; links = order.links; ids = order.ids };
     link_changed = λ server cid state rights w order. record {
       channels = order.channels;

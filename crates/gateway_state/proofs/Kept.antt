@@ -1,7 +1,7 @@
 -- What every state of a run has, if each change of rows keeps it.
 use Rattle.std.proofs.Common.{◌≡◌, ℕ, ◌+◌, List, [], ◌∷◌, ◌++◌, Bool, true, false, cond, Some, None, refl}
 use Rattle.std.specs.Prelude.{is_some}
-use Rattle.std.specs.List.{list_any}
+use Rattle.std.specs.List.{find, list_any}
 use Rattle.rows.specs.Rows.{change_first}
 use Rattle.ca_message.specs.declared.to_client.ToClient.{ToClient}
 use Rattle.ca_message.specs.declared.to_server.ToServer.{ToServer}
@@ -10,6 +10,7 @@ use Rattle.channel_table.specs.declared.reads.WaitingRead.{WaitingRead}
 use Rattle.channel_table.specs.declared.sessions.Session.{Session}
 use Rattle.channel_table.specs.declared.subs.ClientSub.{ClientSub}
 use Rattle.channel_table.specs.Channels.{is_channel}
+use Rattle.channel_table.specs.Sessions.{is_numbered}
 use Rattle.link_table.specs.declared.links.LinkState.{LinkState}
 use Rattle.link_table.specs.declared.links.LinkState.TheVariants.{Creating}
 use Rattle.link_table.specs.declared.servers.Server.{Server}
@@ -31,7 +32,7 @@ use Rattle.gateway_state.specs.Notices.{with_reach, with_subscription_of, withou
 use Rattle.gateway_state.specs.Servers.{with_link_state, without_link}
 use Rattle.gateway_state.specs.Sessions.{lost, up_lost}
 use Rattle.gateway_state.specs.Subscribing.{sub_of, with_sub, without_sub}
-use Rattle.gateway_state.specs.Settled.{is_write_on_link}
+use Rattle.gateway_state.specs.Settled.{is_host_fixed, is_write_on_link}
 use Rattle.gateway_state.specs.Telling.{asked, marked, outgoing, outgoing_upstream, sent, told}
 use Rattle.gateway_state.specs.Updates.{owed_to, owed_to_all, with_owed_of}
 use Rattle.gateway_state.specs.Variables.{is_linked}
@@ -101,6 +102,11 @@ new_channel session cid name real rights w = record {
   rights = rights;
 }
 
+-- a change of a session leaves it the same session, and its host fixed where it is
+pub record KeepsSession (change : Session → Session) : Type 0 where
+  pub same_number : (row : Session) → (change row).number ≡ row.number
+  pub stays_fixed : (row : Session) → row.host_fixed ≡ true → (change row).host_fixed ≡ true
+
 -- what is said keeps it, and a mark does
 pub record KeepsMessages (P : Gateway → Type 0) : Type 0 where
   pub telling : (number : ℕ) (said : ToClient) (w : Gateway) → P w → P (told number said w)
@@ -112,12 +118,15 @@ pub record KeepsMessages (P : Gateway → Type 0) : Type 0 where
 pub record KeepsRows (P : Gateway → Type 0) : Type 0 where
   pub messages : KeepsMessages P
   pub connection_added : (dest : Dest) (w : Gateway) → P w → P (with_connections (w.connections ++ fresh dest ∷ []) w)
-  pub sessions : (rows : List Session) (w : Gateway) → P w → P (with_sessions rows w)
+  pub session_added : (row : Session) (w : Gateway) → stands w (dests.Session row.number) ≡ true → P w → P (with_sessions (w.clients.sessions ++ row ∷ []) w)
+  pub session_changed : (number : ℕ) (change : Session → Session) (w : Gateway) → KeepsSession change → P w
+      → P (with_sessions (change_first (is_numbered number) change w.clients.sessions) w)
   pub servers : (rows : List Server) (w : Gateway) → P w → P (with_servers rows w)
   pub cache : (rows : List LastMessage) (w : Gateway) → P w → P (with_cache rows w)
   pub searches : (rows : List Search) (w : Gateway) → P w → P (with_searches rows w)
   pub policy : (policy : Policy) (w : Gateway) → P w → P (with_policy policy w)
-  pub channel_added : (session cid : ℕ) (name real : List ℕ) (rights : ℕ) (w : Gateway) → P w → P (with_channel session cid name real rights w)
+  pub channel_added : (session cid : ℕ) (name real : List ℕ) (rights : ℕ) (w : Gateway) → is_host_fixed (find (is_numbered session) w.clients.sessions) ≡ true → P w
+      → P (with_channel session cid name real rights w)
   pub channel_changed : (session sid reach rights : ℕ) (w : Gateway) → P w → P (with_reach session sid reach rights w)
   pub channel_removed : (session sid : ℕ) (w : Gateway) → P w → P (without_channel session sid w)
   pub sub_added : (sub : ClientSub) (w : Gateway) → is_some (sub_of w sub.session sub.id) ≡ false
@@ -126,7 +135,7 @@ pub record KeepsRows (P : Gateway → Type 0) : Type 0 where
   pub sub_removed : (session id : ℕ) (w : Gateway) → P w → P (without_sub session id w)
   pub read_added : (read : WaitingRead) (w : Gateway) → list_any (is_channel read.session read.sid) w.clients.channels ≡ true → P w → P (with_read read w)
   pub read_removed : (read : WaitingRead) (w : Gateway) → P w → P (without_read read w)
-  pub write_added : (write : WaitingWrite) (w : Gateway) → is_write_on_link w write ≡ true → P w → P (with_write write w)
+  pub write_added : (write : WaitingWrite) (w : Gateway) → is_write_on_link w write ≡ true → write.id ≡ w.upstream.counters.write → P w → P (with_write write w)
   pub write_removed : (server id : ℕ) (w : Gateway) → P w → P (without_write server id w)
   pub link_changed : (server cid : ℕ) (state : LinkState) (rights : ℕ) (w : Gateway) → P w → P (with_link_state server cid state rights w)
   pub subscription_made : (server cid mask count sent : ℕ) (w : Gateway) → P w → P (with_new_subscription server cid mask count sent w)

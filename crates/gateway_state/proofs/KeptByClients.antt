@@ -43,22 +43,24 @@ use Rattle.gateway_state.specs.declared.notice.WriteVerdict.TheVariants as Write
 use Rattle.gateway_state.specs.declared.reading.Native.{Native}
 use Rattle.gateway_state.specs.Answer.{native_in, value_refusal}
 use Rattle.pv_alias.specs.declared.lead.Lead.{Lead}
+use Rattle.rule_desk.specs.declared.policy.Policy.{Policy}
+use Rattle.gateway_state.specs.declared.connections.Connection.{Connection}
 use Rattle.gateway_state.specs.Asked.{stands}
 use Rattle.gateway_state.specs.Clients.{channel_asked, cleared, created, created_as, created_on, created_on_native, creation_failed, judged, not_connected, read_verdict, remembered, remembered_by, rights_on, versioned, with_channel, with_host_fixed, without_channel, verdict_on, fixed, renamed}
-use Rattle.gateway_state.specs.Connections.{fresh}
+use Rattle.gateway_state.specs.Connections.{fresh, is_to}
 use Rattle.gateway_state.specs.declared.search.Search.{Search}
 use Rattle.gateway_state.specs.Gateway.{Gateway}
 use Rattle.gateway_state.specs.Requests.{client_said, requested, unreadable}
-use Rattle.gateway_state.specs.Rights.{channel_of, lead_in, rights_of}
+use Rattle.gateway_state.specs.Rights.{channel_of, lead_for, lead_in, rights_of}
 use Rattle.gateway_state.specs.Searches.{same_search}
 use Rattle.gateway_state.specs.Sessions.{opened, with_session}
-use Rattle.gateway_state.specs.Settled.{is_of_server, is_write_on_link, link_under}
+use Rattle.gateway_state.specs.Settled.{is_host_fixed, is_of_server, is_write_on_link, link_under}
 use Rattle.gateway_state.specs.Subscribing.{cancelled_on, cid_in, is_on_sid, limit_unless, new_sub, paused_to, sub_judged, sub_of, sub_verdict, sub_verdict_natively, sub_verdict_on, sub_verdict_over, sub_verdict_unless, subscription_limit, subscription_refusal, with_pause, without_sub}
 use Rattle.gateway_state.specs.Telling.{marked, told}
 use Rattle.gateway_state.specs.Variables.{link_of}
 use Rattle.gateway_state.specs.Writing.{may_write, new_write, notified_by, with_write, write_answered, write_handed_on, write_judged, write_verdict, write_verdict_in, write_verdict_on, write_verdict_over, write_waits, written_by}
 use Rattle.gateway_state.proofs.RowTests.{none_found}
-use Rattle.gateway_state.proofs.Kept.{KeepsRows, kept_either, with_connections, with_read, with_searches}
+use Rattle.gateway_state.proofs.Kept.{KeepsRows, KeepsSession, kept_either, with_connections, with_read, with_searches}
 
 -- there is a row where the first that passes is found
 found_there : {A : Type 0} (test : A → Bool) (rows : List A) (row : A) → find test rows ≡ Some row → list_any test rows ≡ true
@@ -139,6 +141,38 @@ write_on_link w number sid dtype count ioid payload server upstream_sid handed e
     by None is = absurd cc
     by (Some c) is = server_over w c (link_of w c.real) dtype count payload server upstream_sid handed is
 
+-- a session whose host is fixed, renamed or paused is the same session
+fixed_keeps : KeepsSession fixed
+fixed_keeps = record { same_number = λ row. refl; stays_fixed = λ row is. refl }
+
+renamed_keeps : (host : List ℕ) → KeepsSession (renamed host)
+renamed_keeps host = record {
+  same_number = λ row. elim row.host_fixed as (λ t. (cond t row (record row { host = host })).number ≡ row.number) [ true ↦ refl | false ↦ refl ];
+  stays_fixed = λ row is. elim row.host_fixed as (λ t. (cond t row (record row { host = host })).host_fixed ≡ true) [ true ↦ is | false ↦ is ];
+}
+
+paused_keeps : (paused : Bool) → KeepsSession (with_pause paused)
+paused_keeps paused = record { same_number = λ row. refl; stays_fixed = λ row is. is }
+
+-- where a session's name leads somewhere, the session stands, and its host is fixed before it gets a channel
+fixed_now : (policy : Policy) (name : List ℕ) (lead : Lead) (number : ℕ) (rows : List Session) → lead_for policy name (find (is_numbered number) rows) ≡ Some lead
+    → is_host_fixed (find (is_numbered number) (change_first (is_numbered number) fixed rows)) ≡ true
+fixed_now policy name lead number [] leads = absurd cc
+fixed_now policy name lead number (row ∷ rows) leads = by (is_numbered number row) refl leads (λ later. fixed_now policy name lead number rows later)
+  where
+    by : (same : Bool) → is_numbered number row ≡ same → lead_for policy name (cond same (Some row) (find (is_numbered number) rows)) ≡ Some lead
+        → (lead_for policy name (find (is_numbered number) rows) ≡ Some lead → is_host_fixed (find (is_numbered number) (change_first (is_numbered number) fixed rows)) ≡ true)
+        → is_host_fixed (find (is_numbered number) (cond same (fixed row ∷ rows) (row ∷ change_first (is_numbered number) fixed rows))) ≡ true
+    by true is leads rest = rw is refl
+    by false is leads rest = rw is (rest leads)
+
+-- a connection that was added stands
+added_stands : (number : ℕ) (rows : List Connection) → list_any (is_to (ToSession number)) (rows ++ fresh (ToSession number) ∷ []) ≡ true
+added_stands number [] = rw (eq-eqb number number refl) refl
+added_stands number (row ∷ rows) =
+    elim (is_to (ToSession number) row) as (λ t. (t || list_any (is_to (ToSession number)) (rows ++ fresh (ToSession number) ∷ [])) ≡ true)
+    [ true ↦ refl | false ↦ added_stands number rows ]
+
 module _ (P : Gateway → Type 0) (kept : KeepsRows P) where
   -- connections that come
 
@@ -146,18 +180,22 @@ module _ (P : Gateway → Type 0) (kept : KeepsRows P) where
   kept_opened w number host holds =
       let new : Session = record { number = number; host = host; host_fixed = false; paused = false } in
       let first : Gateway = with_connections (w.connections ++ fresh (ToSession number) ∷ []) w in
-      let second = kept.sessions (w.clients.sessions ++ new ∷ []) first (kept.connection_added (ToSession number) w holds) in
+      let second = kept.session_added new first (added_stands number w.connections) (kept.connection_added (ToSession number) w holds) in
       kept_either P (stands w (ToSession number) || leb SESSION_LIMIT (length w.clients.sessions)) w (told number replies.Version (with_session w number host))
       (λ _. holds) (kept.messages.telling number replies.Version (with_session w number host) second)
 
   -- new channels
 
-  kept_created : (number cid : ℕ) (name : List ℕ) (lead : Lead) (link : Link) (native : Native) (w : Gateway) → P w → P (created number cid name lead link native w)
-  kept_created number cid name lead link native w holds =
+  -- the session stands, with its host fixed
+  abbrev HasHost : ℕ → Gateway → Type 0
+  HasHost number w = is_host_fixed (find (is_numbered number) w.clients.sessions) ≡ true
+
+  kept_created : (number cid : ℕ) (name : List ℕ) (lead : Lead) (link : Link) (native : Native) (w : Gateway) → HasHost number w → P w → P (created number cid name lead link native w)
+  kept_created number cid name lead link native w fixed holds =
       let rights : ℕ = rights_on w lead link in
       let first : Gateway = with_channel number cid name lead.real rights w in
       kept.messages.telling number (replies.CreateChannel cid w.upstream.counters.sid native.dtype native.count) (told number (replies.AccessRights cid rights) first)
-      (kept.messages.telling number (replies.AccessRights cid rights) first (kept.channel_added number cid name lead.real rights w holds))
+      (kept.messages.telling number (replies.AccessRights cid rights) first (kept.channel_added number cid name lead.real rights w fixed holds))
 
   pub kept_remembered : (host name : List ℕ) (w : Gateway) → P w → P (remembered host name w)
   kept_remembered host name w holds =
@@ -174,26 +212,29 @@ module _ (P : Gateway → Type 0) (kept : KeepsRows P) where
       let row : Option Session = find (is_numbered number) w.clients.sessions in
       kept.messages.telling number (replies.CreateChannelFail cid) (remembered_by row name w) (kept_remembered_by row name w holds)
 
-  kept_created_on_native : (number cid : ℕ) (name : List ℕ) (lead : Lead) (link : Link) (native : Option Native) (w : Gateway) → P w → P (created_on_native number cid name lead link native w)
-  kept_created_on_native number cid name lead link None w holds = kept_not_connected number cid name w holds
-  kept_created_on_native number cid name lead link (Some native) w holds = kept_created number cid name lead link native w holds
+  kept_created_on_native : (number cid : ℕ) (name : List ℕ) (lead : Lead) (link : Link) (native : Option Native) (w : Gateway) → HasHost number w → P w
+      → P (created_on_native number cid name lead link native w)
+  kept_created_on_native number cid name lead link None w fixed holds = kept_not_connected number cid name w holds
+  kept_created_on_native number cid name lead link (Some native) w fixed holds = kept_created number cid name lead link native w fixed holds
 
-  kept_created_on : (number cid : ℕ) (name : List ℕ) (lead : Lead) (link : Option Link) (w : Gateway) → P w → P (created_on number cid name lead link w)
-  kept_created_on number cid name lead None w holds = kept_not_connected number cid name w holds
-  kept_created_on number cid name lead (Some link) w holds = kept_created_on_native number cid name lead link (native_in link.state) w holds
+  kept_created_on : (number cid : ℕ) (name : List ℕ) (lead : Lead) (link : Option Link) (w : Gateway) → HasHost number w → P w → P (created_on number cid name lead link w)
+  kept_created_on number cid name lead None w fixed holds = kept_not_connected number cid name w holds
+  kept_created_on number cid name lead (Some link) w fixed holds = kept_created_on_native number cid name lead link (native_in link.state) w fixed holds
 
-  kept_created_as : (number cid : ℕ) (name : List ℕ) (lead : Option Lead) (w : Gateway) → P w → P (created_as number cid name lead w)
-  kept_created_as number cid name None w holds = kept.messages.telling number (replies.CreateChannelFail cid) w holds
-  kept_created_as number cid name (Some lead) w holds =
+  kept_created_as : (number cid : ℕ) (name : List ℕ) (lead : Option Lead) (w : Gateway) → ((to : Lead) → lead ≡ Some to → HasHost number w) → P w
+      → P (created_as number cid name lead w)
+  kept_created_as number cid name None w fixed holds = kept.messages.telling number (replies.CreateChannelFail cid) w holds
+  kept_created_as number cid name (Some lead) w fixed holds =
       kept_either P (leb CHANNEL_LIMIT (channel_count number w.clients)) (creation_failed number cid w) (created_on number cid name lead (link_of w lead.real) w)
-      (λ _. kept.messages.telling number (replies.CreateChannelFail cid) w holds) (kept_created_on number cid name lead (link_of w lead.real) w holds)
+      (λ _. kept.messages.telling number (replies.CreateChannelFail cid) w holds) (kept_created_on number cid name lead (link_of w lead.real) w (fixed lead refl) holds)
 
   kept_with_host_fixed : (number : ℕ) (w : Gateway) → P w → P (with_host_fixed number w)
-  kept_with_host_fixed number w holds = kept.sessions (change_first (is_numbered number) fixed w.clients.sessions) w holds
+  kept_with_host_fixed number w holds = kept.session_changed number fixed w fixed_keeps holds
 
   kept_channel_asked : (number cid : ℕ) (name : List ℕ) (w : Gateway) → P w → P (channel_asked number cid name w)
   kept_channel_asked number cid name w holds =
-      kept_created_as number cid name (lead_in w number name) (with_host_fixed number w) (kept_with_host_fixed number w holds)
+      kept_created_as number cid name (lead_in w number name) (with_host_fixed number w)
+      (λ lead leads. fixed_now w.policy name lead number w.clients.sessions leads) (kept_with_host_fixed number w holds)
 
   -- channels that go, and reads
 
@@ -230,7 +271,7 @@ module _ (P : Gateway → Type 0) (kept : KeepsRows P) where
       (kept.messages.telling number (replies.Error c.cid ECA_INTERNAL head) w holds)
 
   kept_paused_to : (number : ℕ) (paused : Bool) (w : Gateway) → P w → P (paused_to number paused w)
-  kept_paused_to number paused w holds = kept.sessions (change_first (is_numbered number) (with_pause paused) w.clients.sessions) w holds
+  kept_paused_to number paused w holds = kept.session_changed number (with_pause paused) w (paused_keeps paused) holds
 
   -- writes
 
@@ -246,7 +287,7 @@ module _ (P : Gateway → Type 0) (kept : KeepsRows P) where
       let write : WaitingWrite = new_write w server number sid dtype count ioid in
       kept_either P (leb WRITE_LIMIT (write_count number w.upstream)) (write_answered number ioid dtype count ECA_PUTFAIL w) (write_waits write upstream_sid value w)
       (λ _. kept.messages.telling number (replies.WriteNotify ioid dtype count ECA_PUTFAIL) w holds)
-      (kept.messages.asking server (to_servers.WriteNotify upstream_sid write.id value) (with_write write w) (kept.write_added write w on holds))
+      (kept.messages.asking server (to_servers.WriteNotify upstream_sid write.id value) (with_write write w) (kept.write_added write w on refl holds))
 
   kept_notified_by : (number sid ioid dtype count : ℕ) (head : Header) (verdict : WriteVerdict) (w : Gateway)
       → ((server upstream_sid : ℕ) (value : Written) → verdict ≡ WriteVerdicts.Accepted server upstream_sid value → is_write_on_link w (new_write w server number sid dtype count ioid) ≡ true)
@@ -297,7 +338,7 @@ module _ (P : Gateway → Type 0) (kept : KeepsRows P) where
       kept_notified_by number sid ioid dtype count message.head (write_verdict w number sid dtype count value) w
       (λ server upstream_sid written is. write_on_link w number sid dtype count ioid value server upstream_sid written is) holds
   kept_requested w number message (Ok (requests.ClientName name)) holds = holds
-  kept_requested w number message (Ok (requests.HostName host)) holds = kept.sessions (change_first (is_numbered number) (renamed host) w.clients.sessions) w holds
+  kept_requested w number message (Ok (requests.HostName host)) holds = kept.session_changed number (renamed host) w (renamed_keeps host) holds
   kept_requested w number message (Ok requests.Echo) holds = kept.messages.telling number (replies.Echo message) w holds
   kept_requested w number message (Err fault) holds = kept_unreadable w number message.head holds
 

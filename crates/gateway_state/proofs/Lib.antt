@@ -1,5 +1,6 @@
 pub mod ConnectionRows
 pub mod GivenMessages
+pub mod HostsFixed
 pub mod InOrder
 pub mod Kept
 pub mod KeptByClients
@@ -18,6 +19,7 @@ pub mod RisingRows
 pub mod RowTests
 pub mod RowsOnChannels
 pub mod SearchedNames
+pub mod SessionsConnected
 pub mod SettledChannels
 pub mod SettledLinks
 pub mod SettledMeaning
@@ -29,6 +31,7 @@ pub mod SettledUpdates
 pub mod SettledWithheld
 pub mod SubsApart
 pub mod ToldRights
+pub mod WriteIdsBelow
 pub mod WritesOnLinks
 pub mod LatestLemmas
 pub mod ListedLemmas

@@ -67,12 +67,13 @@ links_on_servers_kept = record {
     connection_added = λ dest w on.
         all_weaker (is_on_server w) (λ (link : Link). list_any (is_to (Upstream link.server)) (w.connections ++ fresh dest ∷ [])) w.upstream.links
         (λ link there. list_any-append (is_to (Upstream link.server)) w.connections (fresh dest ∷ []) ∙ rw there refl) on;
-    sessions = λ rows w on. on;
+    session_added = λ row w there on. on;
+    session_changed = λ number change w same on. on;
     servers = λ rows w on. on;
     cache = λ rows w on. on;
     searches = λ rows w on. on;
     policy = λ policy w on. on;
-    channel_added = λ session cid name real rights w on. on;
+    channel_added = λ session cid name real rights w fixed on. on;
     channel_changed = λ session sid reach rights w on. on;
     channel_removed = λ session sid w on. on;
     sub_added = λ sub w free there on. on;
@@ -80,7 +81,7 @@ links_on_servers_kept = record {
     sub_removed = λ session id w on. on;
     read_added = λ read w there on. on;
     read_removed = λ read w on. on;
-    write_added = λ write w there on. on;
+    write_added = λ write w there next on. on;
     write_removed = λ server id w on. on;
     link_changed = λ server cid state rights w on. all_changed (is_on_server w) (is_link server cid) (with_state state rights) w.upstream.links (λ link. refl) ∙ on;
     subscription_made = λ server cid mask count sent w on.

@@ -83,3 +83,22 @@ none_found test [] none = refl
 none_found test (row ∷ rows) none =
     elim (test row) as (λ t. is_some (cond t (Some row) (find test rows)) ≡ false → (t || list_any test rows) ≡ false)
     [ true ↦ λ h. cc | false ↦ λ h. none_found test rows h ] none
+
+-- where every row passes a test that excludes another, no row passes the other
+pub none_passes : {A : Type 0} (test other : A → Bool) (rows : List A) → ((row : A) → test row ≡ true → other row ≡ false) → list_all test rows ≡ true → list_any other rows ≡ false
+none_passes test other [] excluded all = refl
+none_passes test other (row ∷ rows) excluded all =
+    let parts = and_parts (test row) (list_all test rows) all in
+    rw (excluded row parts.0) (none_passes test other rows excluded parts.1)
+
+-- what is found is found among the rows that stay, where all that pass the test do
+pub found_left : {A : Type 0} (test stays : A → Bool) (rows : List A) → ((row : A) → test row ≡ true → stays row ≡ true) → find test (filter stays rows) ≡ find test rows
+found_left test stays [] both = refl
+found_left test stays (row ∷ rows) both = by (test row) (stays row) refl refl (found_left test stays rows both)
+  where
+    by : (passes kept : Bool) → test row ≡ passes → stays row ≡ kept → find test (filter stays rows) ≡ find test rows
+        → find test (cond kept (row ∷ filter stays rows) (filter stays rows)) ≡ cond passes (Some row) (find test rows)
+    by true true is is_kept rest = rw is refl
+    by true false is is_kept rest = absurd (true≢false (sym (both row is) ∙ is_kept))
+    by false true is is_kept rest = rw is rest
+    by false false is is_kept rest = rest

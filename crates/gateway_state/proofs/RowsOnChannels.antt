@@ -38,12 +38,13 @@ rows_on_channels_kept = record {
   rows = record {
     messages = messages_kept HasRowsOnChannels (λ dest change w on. record { reads = on.reads; subs = on.subs });
     connection_added = λ dest w on. record { reads = on.reads; subs = on.subs };
-    sessions = λ rows w on. record { reads = on.reads; subs = on.subs };
+    session_added = λ row w there on. record { reads = on.reads; subs = on.subs };
+    session_changed = λ number change w same on. record { reads = on.reads; subs = on.subs };
     servers = λ rows w on. record { reads = on.reads; subs = on.subs };
     cache = λ rows w on. record { reads = on.reads; subs = on.subs };
     searches = λ rows w on. record { reads = on.reads; subs = on.subs };
     policy = λ policy w on. record { reads = on.reads; subs = on.subs };
-    channel_added = λ session cid name real rights w on. record {
+    channel_added = λ session cid name real rights w fixed on. record {
       reads = on_more read_session read_sid w.clients.channels (new_channel session cid name real rights w) w.clients.reads on.reads;
       subs = on_more sub_session sub_sid w.clients.channels (new_channel session cid name real rights w) w.clients.subs on.subs;
     };
@@ -71,7 +72,7 @@ rows_on_channels_kept = record {
       subs = on.subs;
     };
     read_removed = λ read w on. record { reads = all_removed (is_on_channel w) (same_read read) w.clients.reads on.reads; subs = on.subs };
-    write_added = λ write w there on. record { reads = on.reads; subs = on.subs };
+    write_added = λ write w there next on. record { reads = on.reads; subs = on.subs };
     write_removed = λ server id w on. record { reads = on.reads; subs = on.subs };
     link_changed = λ server cid state rights w on. record { reads = on.reads; subs = on.subs };
     subscription_made = λ server cid mask count sent w on. record { reads = on.reads; subs = on.subs };

@@ -215,12 +215,13 @@ writes_fit_kept = record {
   rows = record {
     messages = messages_kept HasWritesFit (λ dest change w on. record { apart = on.apart; fit = on.fit });
     connection_added = λ dest w on. record { apart = on.apart; fit = on.fit };
-    sessions = λ rows w on. record { apart = on.apart; fit = on.fit };
+    session_added = λ row w there on. record { apart = on.apart; fit = on.fit };
+    session_changed = λ number change w same on. record { apart = on.apart; fit = on.fit };
     servers = λ rows w on. record { apart = on.apart; fit = on.fit };
     cache = λ rows w on. record { apart = on.apart; fit = on.fit };
     searches = λ rows w on. record { apart = on.apart; fit = on.fit };
     policy = λ policy w on. record { apart = on.apart; fit = on.fit };
-    channel_added = λ session cid name real rights w on. record { apart = on.apart; fit = fit_more w (new_channel session cid name real rights w) on.fit };
+    channel_added = λ session cid name real rights w fixed on. record { apart = on.apart; fit = fit_more w (new_channel session cid name real rights w) on.fit };
     channel_changed = λ session sid reach rights w on. record { apart = on.apart; fit = fit_changed w session sid reach rights on.fit };
     channel_removed = λ session sid w on. record {
       apart = on.apart;
@@ -231,7 +232,7 @@ writes_fit_kept = record {
     sub_removed = λ session id w on. record { apart = on.apart; fit = on.fit };
     read_added = λ read w there on. record { apart = on.apart; fit = on.fit };
     read_removed = λ read w on. record { apart = on.apart; fit = on.fit };
-    write_added = λ write w there on. record {
+    write_added = λ write w there next on. record {
       apart = on.apart;
       fit = list_all-append (fits w.clients.channels w.upstream.links) w.upstream.writes (write ∷ []) ∙ rw (on.fit, fits_new w write on.apart there) refl;
     };

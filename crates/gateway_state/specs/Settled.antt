@@ -1,10 +1,12 @@
 -- What every state that a run reaches has: nobody is owed anything.
 use Rattle.std.specs.Prelude.{◌≡◌, ℕ, ◌+◌, ◌≤◌, List, [], ◌∷◌, length, filter, Bool, true, false, ◌==◌, nat_lt, Option, Some, None, option_map}
-use Rattle.std.specs.List.{list_all, list_any}
+use Rattle.std.specs.List.{find, list_all, list_any}
 use Rattle.channel_table.specs.declared.channels.Channel.{Channel}
 use Rattle.channel_table.specs.declared.reads.WaitingRead.{WaitingRead}
+use Rattle.channel_table.specs.declared.sessions.Session.{Session}
 use Rattle.channel_table.specs.declared.subs.ClientSub.{ClientSub}
 use Rattle.channel_table.specs.ClientRows.{has_channel}
+use Rattle.channel_table.specs.Sessions.{is_numbered}
 use Rattle.channel_table.specs.Subs.{is_sub}
 use Rattle.link_table.specs.declared.links.Link.{Link}
 use Rattle.link_table.specs.declared.links.LinkState.{LinkState}
@@ -13,7 +15,7 @@ use Rattle.link_table.specs.declared.links.Subscription.{Subscription}
 use Rattle.link_table.specs.declared.writes.WaitingWrite.{WaitingWrite}
 use Rattle.link_table.specs.Links.{is_named}
 use Rattle.mask_merge.specs.declared.want.Want.{Want}
-use Rattle.gateway_state.specs.declared.event.Dest.TheVariants.{Upstream}
+use Rattle.gateway_state.specs.declared.event.Dest.TheVariants as dests
 use Rattle.gateway_state.specs.declared.interest.Sub.{Sub}
 use Rattle.gateway_state.specs.declared.reading.Native.{Native}
 use Rattle.gateway_state.specs.Answer.{cached_value, native_in}
@@ -77,11 +79,32 @@ HasLinksApart w = (name : List ℕ) → length (filter (is_named name) w.upstrea
 
 -- the link's server stands
 abbrev pub is_on_server : Gateway → Link → Bool
-is_on_server w link = stands w (Upstream link.server)
+is_on_server w link = stands w (dests.Upstream link.server)
 
 -- each link belongs to a server that stands
 abbrev pub HasLinksOnServers : Gateway → Type 0
 HasLinksOnServers w = list_all (is_on_server w) w.upstream.links ≡ true
+
+-- the session has a connection
+abbrev pub is_session_connected : Gateway → Session → Bool
+is_session_connected w row = stands w (dests.Session row.number)
+
+-- each session has a connection
+abbrev pub HasSessionsConnected : Gateway → Type 0
+HasSessionsConnected w = list_all (is_session_connected w) w.clients.sessions ≡ true
+
+-- the session stands, and its host is fixed
+abbrev pub is_host_fixed : Option Session → Bool
+is_host_fixed None = false
+is_host_fixed (Some row) = row.host_fixed
+
+-- the channel's session stands, and its host is fixed
+abbrev pub has_host_fixed : Gateway → Channel → Bool
+has_host_fixed w c = is_host_fixed (find (is_numbered c.session) w.clients.sessions)
+
+-- each channel belongs to a session whose host is fixed
+abbrev pub HasHostsFixed : Gateway → Type 0
+HasHostsFixed w = list_all (has_host_fixed w) w.clients.channels ≡ true
 
 -- no session has two subscriptions under one ID
 abbrev pub AreApart : List ClientSub → Type 0
@@ -120,6 +143,14 @@ is_write_on_link w write = is_of_server write.server (link_under w (channel_of w
 
 abbrev pub HasWritesOnLinks : Gateway → Type 0
 HasWritesOnLinks w = list_all (is_write_on_link w) w.upstream.writes ≡ true
+
+-- the write has an ID below this one
+abbrev pub has_write_id_below : ℕ → WaitingWrite → Bool
+has_write_id_below next write = nat_lt write.id next
+
+-- each waiting write has an ID below the counter
+abbrev pub HasWriteIdsBelow : Gateway → Type 0
+HasWriteIdsBelow w = list_all (has_write_id_below w.upstream.counters.write) w.upstream.writes ≡ true
 
 -- a channel is served, and has the rights that its client was last told
 pub record IsUpToDate (w : Gateway) (c : Channel) : Type 0 where
