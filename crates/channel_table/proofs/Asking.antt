@@ -1,5 +1,5 @@
 -- What is counted under each name follows the rows.
-use Rattle.std.proofs.Common.{◌≡◌, ℕ, List, [], ◌∷◌, ◌++◌, Bool, true, false, cond, not, ◌&&◌, ◌==◌, nat_lt, Option, Some, None, map, append-nil, bytes_eq, subst, refl, sym, ap, ◌∙◌, true≢false}
+use Rattle.std.proofs.Common.{◌≡◌, ℕ, List, [], ◌∷◌, ◌++◌, Bool, true, false, cond, not, ◌&&◌, ◌==◌, Option, Some, None, map, append-nil, bytes_eq, subst, refl, sym, ap, ◌∙◌, true≢false}
 use Rattle.std.specs.List.{filter, find, list_any, list_all}
 use Rattle.std.proofs.lemmas.Bool.{eqb-true}
 use Rattle.mask_merge.specs.declared.want.Want.{Want}
@@ -18,7 +18,7 @@ use Rattle.channel_table.specs.Told.{IsRetold, IsTold, IsUncounted, Retells, Sam
 use Rattle.channel_table.proofs.Counting.{Between, between, asks_agree, asks_beside, counted_changed, counted_less, counted_more, subs_exchanged}
 use Rattle.row_index.proofs.Named.{same_bytes}
 use Rattle.channel_table.proofs.Following.{ids_agree, on_ids}
-use Rattle.channel_table.proofs.Lists.{found_passes, none_dropped, unfound_is_absent, filter_agree_where, found_before, found_changed, find_among, none_is_all}
+use Rattle.channel_table.proofs.Lists.{found_passes, none_dropped, unfound_is_absent, found_before, found_changed, find_among, none_is_all}
 
 -- no row
 pub told_none : (channels : List Channel) (subs : List ClientSub) (tallies : List (List ℕ × Counts)) → channels ≡ [] → subs ≡ [] → ((name : List ℕ) → told_of tallies name ≡ nothing_counted) → IsTold channels subs tallies

@@ -5,5 +5,6 @@ pub mod Indexed
 pub mod Keyed
 pub mod Listed
 pub mod Lists
+pub mod Numbered
 pub mod Removal
 pub mod TalliesByName

@@ -5,8 +5,13 @@ use Rattle.row_index.specs.declared.key.Key.{Key}
 use Rattle.row_index.specs.Lists.{of, AddsTo, RemovesFrom, SameLists}
 use Rattle.row_index.specs.Rows.{same_key, row_of, HasKeysApart}
 use Rattle.channel_table.specs.declared.channels.Channel.{Channel}
+use Rattle.channel_table.specs.declared.sessions.Session.{Session}
 use Rattle.channel_table.specs.declared.subs.ClientSub.{ClientSub}
 use Rattle.channel_table.specs.Channels.{is_channel, is_on, is_channel_on}
+
+-- the key of a session: there is one of its number
+abbrev pub session_key : Session → Key
+session_key session = record { owner = session.number; id = 0 }
 
 -- the key of a channel
 abbrev pub channel_key : Channel → Key
@@ -53,6 +58,10 @@ row_at key rows (Some k) = find (λ row. same_key (key row) k) rows
 -- the rows that keys find
 abbrev pub rows_at : {V : Type 0} → (V → Key) → List V → List Key → List V
 rows_at key rows keys = filter_map (λ k. find (λ row. same_key (key row) k) rows) keys
+
+-- the sessions are each under its key
+abbrev pub IsSessionIndex : List (Key × Session) → Type 0
+IsSessionIndex entries = entries ≡ keyed session_key (map row_of entries)
 
 -- the channels are each under its key, and each name has the keys of the channels on it
 pub record IsChannelIndex (entries : List (Key × Channel)) (lists : List (List ℕ × List Key)) : Type 0 where

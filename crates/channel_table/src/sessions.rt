@@ -1,11 +1,16 @@
 //! Rows of sessions.
-ghost use Rattle.std.specs.Prelude.{◌≡◌};
-ghost use Rattle.std.specs.List.{list_any, filter, find, position};
+ghost use Rattle.std.specs.Prelude.{◌≡◌, [], ◌∷◌, ◌++◌, false, length, OnOk, OnErr};
+ghost use Rattle.std.specs.List.{list_any, filter, find};
 ghost use Rattle.std.specs.Option.{option_copied};
 ghost use Rattle.rows.specs.Rows.{change_first};
+ghost use Rattle.row_index.specs.Rows.{has_key};
+ghost use Rattle.channel_table.specs.Indexes.{changed_by};
 ghost use Rattle.channel_table.specs.Sessions.{is_numbered, is_not_numbered, with_host_and_pause};
 
 use pv_name::Host;
+use row_index::{Key, RowMap};
+use std::alloc::{AllocError, Global};
+use std::marker::Model;
 
 /// A client's connection.
 #[derive(Debug, Drop)]
@@ -20,37 +25,99 @@ pub struct Session {
     pub paused: bool,
 }
 
-pub(crate) fn stands(rows: &[Session], number: u32) -> bool
-    ensures { result ≡ list_any (is_numbered number) rows.now }
-{
-    rows.iter().any(|row| row.number == number)
+/// All sessions, found by their numbers.
+#[derive(Drop)]
+pub(crate) struct Sessions {
+    rows: RowMap<Session>,
 }
 
-pub(crate) fn find(rows: &[Session], number: u32) -> Option<&Session>
-    ensures { option_copied result ≡ find (is_numbered number) rows.now }
-{
-    rows.iter().find(|row| row.number == number)
+impl Model for Sessions {
+    ghost use Rattle.std.specs.Prelude.{List, map};
+    ghost use Rattle.row_index.specs.Rows.{row_of};
+    ghost use Rattle.channel_table.specs.declared.sessions.Session.{Session};
+    ghost use Rattle.channel_table.specs.Indexes.{IsSessionIndex};
+
+    ghost Value = { List Session };
+
+    ghost view = { λ s. map row_of s.rows };
+
+    ghost invariant = { λ s. IsSessionIndex s.rows };
 }
 
-pub(crate) fn remove(rows: &mut Vec<Session>, number: u32)
-    ensures { rows.new.items ≡ filter (is_not_numbered number) rows.old.items }
-{
-    rows.retain(|row| row.number != number);
+impl Sessions {
+    pub(crate) fn new(alloc: Global) -> Sessions
+        ensures { result ≡ [] }
+    {
+        Sessions {
+            rows: RowMap::new(alloc),
+        }
+    }
+
+    pub(crate) fn len(&self) -> usize
+        ensures { result ≡ length self.now }
+    {
+        self.rows.len()
+    }
+
+    pub(crate) fn get(&self, number: u32) -> Option<&Session>
+        ensures { option_copied result ≡ find (is_numbered number) self.now }
+    {
+        let key = Key {
+            owner: number,
+            id: 0,
+        };
+        self.rows.get(key)
+    }
+
+    pub(crate) fn contains(&self, number: u32) -> bool
+        ensures { result ≡ list_any (is_numbered number) self.now }
+    {
+        let key = Key {
+            owner: number,
+            id: 0,
+        };
+        self.rows.contains(key)
+    }
+
+    /// Adds a session. At an error it is let go, and the others are as before.
+    pub(crate) fn add(&mut self, session: Session) -> Result<(), AllocError>
+        requires new { list_any (is_numbered session.number) self.old ≡ false }
+        ensures ok { OnOk result (self.new ≡ self.old ++ session ∷ []) }
+        ensures err { OnErr result (self.new ≡ self.old) }
+    {
+        let key = Key {
+            owner: session.number,
+            id: 0,
+        };
+        self.rows.add(key, session)
+    }
+
+    pub(crate) fn put(&mut self, number: u32, host: Host, host_fixed: bool, paused: bool)
+        ensures { self.new ≡
+            change_first (is_numbered number) (with_host_and_pause host host_fixed paused) self.old }
+    {
+        let key = Key {
+            owner: number,
+            id: 0,
+        };
+        put(&mut self.rows, key, host, host_fixed, paused);
+    }
+
+    pub(crate) fn remove(&mut self, number: u32)
+        ensures { self.new ≡ filter (is_not_numbered number) self.old }
+    {
+        let key = Key {
+            owner: number,
+            id: 0,
+        };
+        self.rows.remove(key);
+    }
 }
 
-fn place_of(rows: &[Session], number: u32) -> Option<usize>
-    ensures { result ≡ position (is_numbered number) rows.now }
+fn put(rows: &mut RowMap<Session>, key: Key, host: Host, host_fixed: bool, paused: bool)
+    ensures { rows.new ≡ change_first (has_key key) (changed_by (with_host_and_pause host host_fixed paused)) rows.old }
 {
-    rows.iter().position(|row| row.number == number)
-}
-
-#[tactic(auto, using(rows::proofs::RowLemmas::set_is_change_first, rows::proofs::RowLemmas::change_first_none))]
-pub(crate) fn put(rows: &mut Vec<Session>, number: u32, host: Host, host_fixed: bool, paused: bool)
-    ensures { rows.new.items ≡
-        change_first (is_numbered number) (with_host_and_pause host host_fixed paused) rows.old.items }
-{
-    if let Some(place) = place_of(rows, number) {
-        let row = &mut rows[place];
+    if let Some(row) = rows.get_mut(key) {
         row.host = host;
         row.host_fixed = host_fixed;
         row.paused = paused;

@@ -13,7 +13,7 @@ ghost use Rattle.channel_table.specs.Subs.{is_sub, is_not_sub, is_sub_of, is_not
 
 use crate::channels::{Channel, Channels};
 use crate::reads::{self, WaitingRead};
-use crate::sessions::{self, Session};
+use crate::sessions::{Session, Sessions};
 use crate::subs::{ClientSub, Subs};
 use crate::telling;
 use crate::told::Told;
@@ -49,7 +49,7 @@ pub enum TableFault {
 /// The rows of clients, each list in the order in which they were added.
 #[derive(Drop)]
 pub struct Table {
-    sessions: Vec<Session>,
+    sessions: Sessions,
     channels: Channels,
     subs: Subs,
     told: Told,
@@ -63,7 +63,7 @@ impl Model for Table {
     ghost Value = { ClientRows };
 
     ghost view = { λ t. record {
-      sessions = t.sessions.items;
+      sessions = t.sessions;
       channels = t.channels;
       subs = t.subs.rows;
       reads = t.reads.items;
@@ -85,7 +85,7 @@ impl Table {
         ensures { result ≡ record { sessions = []; channels = []; subs = []; reads = [] } }
     {
         Table {
-            sessions: Vec::new(alloc),
+            sessions: Sessions::new(alloc),
             channels: Channels::new(alloc),
             subs: Subs::new(alloc),
             told: Told::new(alloc),
@@ -138,7 +138,7 @@ impl Table {
         ensures bound { visits.new ≤ visits.old + 1 }
     {
         visits.count(1);
-        sessions::find(&self.sessions, number)
+        self.sessions.get(number)
     }
 
     /// The session's channel of this ID.
@@ -315,6 +315,7 @@ impl Table {
 
     /// Adds a session. The caller sees to it that none of its number stands.
     pub fn add_session(&mut self, session: Session) -> Result<(), TableFault>
+        requires new { has_session session.number self.old ≡ false }
         ensures ok { OnOk result (self.new ≡ record self.old { sessions = self.old.sessions ++ session ∷ [] }) }
         ensures room { OnOk result (length self.old.sessions < SESSION_LIMIT) }
         ensures missing { result ≢ Err TableFault.Missing }
@@ -324,7 +325,7 @@ impl Table {
         if self.sessions.len() >= SESSION_LIMIT {
             return Err(TableFault::Full);
         }
-        match self.sessions.push(session) {
+        match self.sessions.add(session) {
             Ok(()) => Ok(()),
             Err(_) => Err(TableFault::OutOfMemory),
         }
@@ -344,7 +345,7 @@ impl Table {
             × (CHANNEL_LIMIT ≤ channel_count channel.session self.old)) }
         ensures err { OnErr result (self.new ≡ self.old) }
     {
-        if !sessions::stands(&self.sessions, channel.session) {
+        if !self.sessions.contains(channel.session) {
             return Err(TableFault::Missing);
         }
         if self.channels.count_of(channel.session) >= CHANNEL_LIMIT {
@@ -433,7 +434,7 @@ impl Table {
         ensures bound { visits.new ≤ visits.old + 1 }
     {
         visits.count(1);
-        sessions::put(&mut self.sessions, number, host, host_fixed, paused);
+        self.sessions.put(number, host, host_fixed, paused);
     }
 
     /// Changes a channel that stands: its reach and the rights last told.
@@ -591,7 +592,7 @@ impl Table {
           reads = filter (is_not_read_of number) self.old.reads;
         } }
     {
-        sessions::remove(&mut self.sessions, number);
+        self.sessions.remove(number);
         reads::remove_of(&mut self.reads, number);
     }
 }

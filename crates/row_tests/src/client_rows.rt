@@ -3,9 +3,9 @@
 //! A story is a text. Its lines are calls on a table that is empty at first, and behind `> ` stands
 //! what they answer:
 //!
-//! - `session N`, `channel S SID`, `sub S SID ID`, `read S SID IOID`: a row is added, but no channel
-//!   and no subscription that stands. The last number may be a range, as `0-1023`, which adds so many.
-//!   An answer is given where a row is refused;
+//! - `session N`, `channel S SID`, `sub S SID ID`, `read S SID IOID`: a row is added, but no session,
+//!   channel or subscription that stands. The last number may be a range, as `0-1023`, which adds so
+//!   many. An answer is given where a row is refused;
 //! - `put session N HOST`, `put channel S SID REACH RIGHTS`, `put sub S ID`: the session counts as
 //!   one of that host, which is fixed, and is paused; the subscription is owed nothing;
 //! - `find session N`, `find channel S SID`, `find sub S ID`: the row, or `none`;
@@ -112,7 +112,7 @@ fn add_one(
     told: &mut String,
 ) -> Result<(), Fail> {
     let added = match word(line, 0)? {
-        "session" => table.add_session(session(alloc, last)?),
+        "session" => add_session(table, visits, session(alloc, last)?),
         "channel" => add_channel(table, visits, channel(alloc, number(line, 1)?, last)?),
         "sub" => add_sub(table, visits, sub(number(line, 1)?, number(line, 2)?, last)),
         _ => table.add_read(read(number(line, 1)?, number(line, 2)?, last)),
@@ -124,6 +124,15 @@ fn add_one(
         Err(TableFault::OutOfMemory) => return Err("out of memory".into()),
     }
     Ok(())
+}
+
+/// Adds a session, but none that stands already.
+#[tactic(auto, using(channel_table::proofs::Lists::unfound_is_absent))]
+fn add_session(table: &mut Table, visits: &mut Visits, session: Session) -> Result<(), TableFault> {
+    match table.session(visits, session.number) {
+        Some(_) => Ok(()),
+        None => table.add_session(session),
+    }
 }
 
 /// Adds a channel, but none that stands already.

@@ -58,7 +58,7 @@ show
 }
 
 // Each look counts, also one that finds nothing, and a list of rows as many times as it has rows. Adding
-// looks at channels and subscriptions for whether they stand.
+// looks at sessions, channels and subscriptions for whether they stand.
 #[test]
 fn each_look_at_a_row_is_counted(rt: HostRuntime) -> Result<(), Fail> {
     tells(
@@ -67,27 +67,27 @@ fn each_look_at_a_row_is_counted(rt: HostRuntime) -> Result<(), Fail> {
         TWO_CLIENTS,
         "\
 visits
-> 6
+> 8
 find session 2
 > session 2 10.0.0.5
 find sub 2 6
 > none
 visits
-> 8
+> 10
 put session 2 10.0.0.6
 put channel 2 21 3 1
 put sub 9 9
 visits
-> 11
+> 13
 remove sub 2 5
 count 2
 > 1 0 1
 visits
-> 11
+> 13
 of 2
 > channel 2 21 A:SP reach 3 rights 1
 visits
-> 14
+> 16
 on A:SP
 > true 3 2 3
 > channel 1 11 A:SP reach 0 rights 3
@@ -99,7 +99,7 @@ on A:SP
 > read 1 12 12
 > read 2 21 21
 visits
-> 25
+> 27
 show
 > session 1 10.0.0.5
 > session 2 10.0.0.6 fixed paused
@@ -112,7 +112,7 @@ show
 > read 1 12 12
 > read 2 21 21
 visits
-> 43
+> 45
 ",
     )
 }
@@ -397,11 +397,11 @@ remove sub 1 1
 want A:SP 8
 > none
 visits
-> 9
+> 10
 want A:SP 8
 > none
 visits
-> 9
+> 10
 ",
     )
 }

@@ -1,4 +1,4 @@
-use Rattle.std.proofs.Common.{◌≡◌, List, ◌++◌, ◌∷◌, [], Option, true, refl, Some, ap, subst, ◌∙◌}
+use Rattle.std.proofs.Common.{◌≡◌, Option, true, refl, ap, subst, ◌∙◌}
 use Rattle.std.specs.Cmp.{nat_eq_equiv}
 use Rattle.std.specs.List.{filter, find}
 use Rattle.channel_table.specs.declared.channels.Channel.{Channel}

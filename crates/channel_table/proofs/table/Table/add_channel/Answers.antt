@@ -1,4 +1,3 @@
-use Rattle.std.proofs.Common.{refl}
 use Rattle.channel_table.proofs.Following.{follow_more}
 use Rattle.channel_table.proofs.Asking.{told_more_channel, told_same_channels}
 use Rattle.channel_table.proofs.table.Table.add_channel.Goals.{in-Ok, in-Err}
