@@ -39,9 +39,22 @@ RemovesFrom name key old new = Changes bytes_eq name (filter (is_not_key key)) o
 abbrev pub SameLists : List (List ℕ × List Key) → List (List ℕ × List Key) → Type 0
 SameLists old new = (n : List ℕ) → of new n ≡ of old n
 
--- the IDs of an owner, in the order of adding
-abbrev pub ids_of : List (ℕ × List ℕ) → ℕ → List ℕ
-ids_of lists owner = listed nat_eq lists owner
+module _ {X : Type 0} where
+  -- what is listed under an owner, in the order of adding
+  abbrev pub of_owner : List (ℕ × List X) → ℕ → List X
+  of_owner lists owner = listed nat_eq lists owner
+
+  -- the new lists are the old ones, but that the one of this owner has one more, as its last
+  abbrev pub AddsToOwner : ℕ → X → List (ℕ × List X) → List (ℕ × List X) → Type 0
+  AddsToOwner owner one old new = Changes nat_eq owner (with_last one) old new
+
+  -- each owner has the same listed in both
+  abbrev pub SameOwnerLists : List (ℕ × List X) → List (ℕ × List X) → Type 0
+  SameOwnerLists old new = (owner : ℕ) → of_owner new owner ≡ of_owner old owner
+
+-- the new lists are the old ones, but that the one of this owner lacks the key
+abbrev pub RemovesFromOwner : ℕ → Key → List (ℕ × List Key) → List (ℕ × List Key) → Type 0
+RemovesFromOwner owner key old new = Changes nat_eq owner (filter (is_not_key key)) old new
 
 -- the same ID
 abbrev pub is_id : ℕ → ℕ → Bool

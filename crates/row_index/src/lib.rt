@@ -1,4 +1,4 @@
-//! Rows that are found by their keys, and keys that are found by a name.
+//! Rows that are found by their keys, and keys that are found by a name or by an owner.
 //!
 //! - A [`RowMap`] has its rows in the order of adding, each under a [`Key`] of its own: whose the row
 //!   is, and its ID there. `get`, `get_mut` and `contains` find a row by its key, `count_of` and `of`
@@ -6,10 +6,13 @@
 //!   n-th of an owner cost the same however many there are; `remove` may walk the IDs of the one owner.
 //! - A [`NameLists`] has a list of keys for each name, in the order of adding. A name with no key takes
 //!   no memory.
+//! - An [`OwnerKeys`] has such a list for each owner, by its number: the keys of rows that an owner has
+//!   and that stand under the keys of others.
 //!
 //! `add` may be refused memory, and then changes nothing. `remove` takes none. A contract sees a
-//! `RowMap` as the list of its entries, each a key and a value (`specs/Rows.antt`), and `NameLists` by
-//! the list that each name has (`of` in `specs/Lists.antt`).
+//! `RowMap` as the list of its entries, each a key and a value (`specs/Rows.antt`), `NameLists` by the
+//! list that each name has, and `OwnerKeys` by that of each owner (`of` and `of_owner` in
+//! `specs/Lists.antt`).
 //!
 //! ```
 //! let mut rows = RowMap::new(rt.alloc());
@@ -32,4 +35,5 @@ mod slots;
 
 pub use key::Key;
 pub use name_lists::NameLists;
+pub use owner_lists::{OwnerKeys, OwnerLists};
 pub use row_map::RowMap;

@@ -92,7 +92,7 @@ impl NameLists {
     }
 }
 
-fn remove_key(keys: &mut Vec<Key>, key: Key)
+pub(crate) fn remove_key(keys: &mut Vec<Key>, key: Key)
     ensures { keys.new.items ≡ filter (is_not_key key) keys.old.items }
 {
     keys.retain(|other| *other != key);

@@ -1,31 +1,38 @@
-//! Lists of IDs by owners.
-ghost use Rattle.std.specs.Prelude.{◌≡◌, ◌≤◌, ◌<◌, ℕ, List, [], None, OnOk, OnErr, IfSome, nat_eq, length, get_or, if◌then◌else◌};
+//! Lists by owners.
+ghost use Rattle.std.specs.Prelude.{◌≡◌, ◌≤◌, ◌<◌, ℕ, [], None, OnOk, OnErr, IfSome, nat_eq, length, get_or, if◌then◌else◌};
 ghost use Rattle.std.specs.List.{filter};
 ghost use Rattle.indexmap.specs.IndexMap.{get};
-ghost use Rattle.row_index.specs.Lists.{ids_of, is_id, is_not_id, with_last, Changes};
+ghost use Rattle.row_index.specs.Lists.{of_owner, is_id, is_not_id, is_not_key, AddsToOwner, RemovesFromOwner, SameOwnerLists, Changes};
 
+use crate::key::Key;
+use crate::name_lists::remove_key;
 use indexmap::IndexMap;
 use std::alloc::{AllocError, Global};
 use std::marker::Model;
 
-/// The IDs of each owner, in the order of adding. An owner with no ID takes no memory.
+/// Lists, each under the number of an owner, in the order of adding. An owner with nothing listed
+/// takes no memory.
 #[derive(Drop)]
-pub(crate) struct OwnerLists {
-    lists: IndexMap<u32, Vec<u32>>,
+pub struct OwnerLists<X> {
+    lists: IndexMap<u32, Vec<X>>,
     alloc: Global,
 }
 
-impl Model for OwnerLists {
+/// The keys of each owner.
+pub type OwnerKeys = OwnerLists<Key>;
+
+impl<X> Model for OwnerLists<X> {
     ghost use Rattle.std.specs.Prelude.{ℕ, List, map};
 
-    ghost Value = { List (ℕ × List ℕ) };
+    ghost Value = { List (ℕ × List X) };
 
     ghost view = { λ l. map (λ list. (list.0, list.1.items)) l.lists.entries };
 }
 
-impl OwnerLists {
-    pub(crate) fn new(alloc: Global) -> OwnerLists
-        ensures { (owner : ℕ) → ids_of result owner ≡ [] }
+impl<X: Copy> OwnerLists<X> {
+    /// Nothing listed. This takes no memory.
+    pub fn new(alloc: Global) -> OwnerLists<X>
+        ensures { (owner : ℕ) → of_owner result owner ≡ [] }
     {
         OwnerLists {
             lists: IndexMap::new(alloc),
@@ -33,45 +40,65 @@ impl OwnerLists {
         }
     }
 
-    pub(crate) fn of(&self, owner: u32) -> &[u32]
-        ensures { result.now ≡ ids_of self.now owner }
+    /// What is listed under this owner, in the order of adding.
+    pub fn of(&self, owner: u32) -> &[X]
+        ensures { result.now ≡ of_owner self.now owner }
     {
         match self.lists.get(&owner) {
-            Some(ids) => ids,
+            Some(listed) => listed,
             None => &[],
         }
     }
 
-    pub(crate) fn add(&mut self, owner: u32, id: u32) -> Result<(), AllocError>
-        ensures ok { OnOk result (Changes nat_eq owner (with_last id) self.old self.new) }
-        ensures err { OnErr result ((o : ℕ) → ids_of self.new o ≡ ids_of self.old o) }
+    /// Lists one more under this owner, as its last. At an error nothing changes.
+    pub fn add(&mut self, owner: u32, one: X) -> Result<(), AllocError>
+        ensures ok { OnOk result (AddsToOwner owner one self.old self.new) }
+        ensures err { OnErr result (SameOwnerLists self.old self.new) }
     {
         match self.lists.get_mut(&owner) {
-            Some(ids) => {
-                ids.push(id)?;
+            Some(listed) => {
+                listed.push(one)?;
                 Ok(())
             }
-            None => self.add_first(owner, id),
+            None => self.add_first(owner, one),
         }
     }
 
-    // Adds the first ID of this owner.
-    fn add_first(&mut self, owner: u32, id: u32) -> Result<(), AllocError>
-        requires { ids_of self.old owner ≡ [] }
-        ensures ok { OnOk result (Changes nat_eq owner (with_last id) self.old self.new) }
-        ensures err { OnErr result ((o : ℕ) → ids_of self.new o ≡ ids_of self.old o) }
+    // Lists the first one under this owner.
+    fn add_first(&mut self, owner: u32, one: X) -> Result<(), AllocError>
+        requires { of_owner self.old owner ≡ [] }
+        ensures ok { OnOk result (AddsToOwner owner one self.old self.new) }
+        ensures err { OnErr result (SameOwnerLists self.old self.new) }
     {
-        let mut ids = Vec::new(self.alloc);
-        ids.push(id)?;
-        match self.lists.insert(owner, ids) {
+        let mut listed = Vec::new(self.alloc);
+        listed.push(one)?;
+        match self.lists.insert(owner, listed) {
             Ok(_) => Ok(()),
             Err(_) => Err(AllocError),
         }
     }
+}
 
+impl OwnerLists<Key> {
+    /// Removes a key under this owner, if it stands there. This takes no memory, and walks the keys
+    /// of this owner alone.
+    pub fn remove(&mut self, owner: u32, key: Key)
+        ensures { RemovesFromOwner owner key self.old self.new }
+    {
+        let Some(keys) = self.lists.get_mut(&owner) else {
+            return;
+        };
+        remove_key(keys, key);
+        if keys.is_empty() {
+            forget(&mut self.lists, owner);
+        }
+    }
+}
+
+impl OwnerLists<u32> {
     /// Removes an ID that the owner has once at most. The one that was added last goes without a walk.
     pub(crate) fn remove(&mut self, owner: u32, id: u32)
-        requires { length (filter (is_id id) (ids_of self.old owner)) ≤ 1 }
+        requires { length (filter (is_id id) (of_owner self.old owner)) ≤ 1 }
         ensures { Changes nat_eq owner (filter (is_not_id id)) self.old self.new }
     {
         let Some(ids) = self.lists.get_mut(&owner) else {
@@ -127,7 +154,7 @@ fn keep_others(ids: &mut Vec<u32>, id: u32)
 }
 
 // Takes out an owner's list.
-fn forget(lists: &mut IndexMap<u32, Vec<u32>>, owner: u32)
+fn forget<X: Copy>(lists: &mut IndexMap<u32, Vec<X>>, owner: u32)
     ensures { (o : ℕ) → get nat_eq lists.new o ≡ (if nat_eq owner o then None else get nat_eq lists.old o) }
 {
     lists.swap_remove(&owner);

@@ -15,7 +15,7 @@ use std::marker::Model;
 #[derive(Drop)]
 pub struct RowMap<V> {
     rows: Slots<V>,
-    owners: OwnerLists,
+    owners: OwnerLists<u32>,
 }
 
 impl<V> Model for RowMap<V> {
@@ -23,14 +23,14 @@ impl<V> Model for RowMap<V> {
     ghost use Rattle.row_index.specs.declared.key.Key.{Key as RowKey};
     ghost use Rattle.std.specs.Prelude.{◌≡◌, ℕ, map};
     ghost use Rattle.std.specs.List.{filter};
-    ghost use Rattle.row_index.specs.Lists.{ids_of};
+    ghost use Rattle.row_index.specs.Lists.{of_owner};
     ghost use Rattle.row_index.specs.Rows.{is_owned_by, id_of};
 
     ghost Value = { List (RowKey × V) };
 
     ghost view = { λ m. m.rows };
 
-    ghost invariant = { λ m. (owner : ℕ) → ids_of m.owners owner ≡ map id_of (filter (is_owned_by owner) m.rows) };
+    ghost invariant = { λ m. (owner : ℕ) → of_owner m.owners owner ≡ map id_of (filter (is_owned_by owner) m.rows) };
 }
 
 impl<V> RowMap<V> {

@@ -1,29 +1,28 @@
 use Rattle.std.proofs.lemmas.Bool.{eqb-true}
-use Rattle.std.proofs.Common.{ℕ, nat_eq, List, is_some, Some, ◌++◌, ◌∷◌, [], ap, sym, ◌∙◌}
+use Rattle.std.proofs.Common.{nat_eq, is_some, Some, ap, sym, ◌∙◌}
 use Rattle.std.proofs.lemmas.Result.{MatchResult-from_err}
-use Rattle.row_index.specs.Lists.{ids_of}
+use Rattle.row_index.specs.Lists.{of_owner, with_last}
 use Rattle.row_index.proofs.Named.{of_there, of_nowhere, of_updated, of_kept}
 use Rattle.row_index.proofs.owner_lists.OwnerLists.add.Goals as goal
 
 pub add_first-requires : goal.add_first-requires
-add_first-requires c =
+add_first-requires g c =
     rw c.get_mut.follows.holds-at-none (sym (of_nowhere nat_eq eqb-true c.args.owner c.self.inside.lists.entries c.in-None.ensures.value))
 
 pub returns-in_ok-push-in-Some-clause-ok : goal.returns-in_ok-push-in-Some-clause-ok
-returns-in_ok-push-in-Some-clause-ok c =
-    let ended : List ℕ → List ℕ = λ keys. keys ++ c.args.id ∷ [] in
+returns-in_ok-push-in-Some-clause-ok g c =
     let old = c.self.inside.lists.entries in
-    let there = of_there nat_eq eqb-true c.args.owner old c.in-Some.ids.now c.in-Some.ensures.value in
+    let there = of_there nat_eq eqb-true c.args.owner old c.in-Some.listed.now c.in-Some.ensures.value in
     let written = c.get_mut.follows.holds c.push.new.self in
     rw (← c.self.view_is) (
-    of_updated nat_eq eqb-true ended c.args.owner old (c.get_mut.follows.lender c.push.new.self).entries (Some c.push.new.self) (written.3 (sym (ap is_some c.in-Some.ensures.value))).0
-    (c.in_ok-push-in-Some.ensures.items ∙ ap (λ keys. keys ++ c.args.id ∷ []) there)
+    of_updated nat_eq eqb-true (with_last c.args.one) c.args.owner old (c.get_mut.follows.lender c.push.new.self).entries (Some c.push.new.self) (written.3 (sym (ap is_some c.in-Some.ensures.value))).0
+    (c.in_ok-push-in-Some.ensures.items ∙ ap (with_last c.args.one) there)
     )
 
 pub returns-in_err-push-in-Some-clause-err : goal.returns-in_err-push-in-Some-clause-err
-returns-in_err-push-in-Some-clause-err c =
+returns-in_err-push-in-Some-clause-err g c =
     let old = c.self.inside.lists.entries in
-    let there = of_there nat_eq eqb-true c.args.owner old c.in-Some.ids.now c.in-Some.ensures.value in
+    let there = of_there nat_eq eqb-true c.args.owner old c.in-Some.listed.now c.in-Some.ensures.value in
     let written = c.get_mut.follows.holds c.push.new.self in
     let kept = of_kept nat_eq eqb-true c.args.owner old (c.get_mut.follows.lender c.push.new.self).entries (Some c.push.new.self) (written.3 (sym (ap is_some c.in-Some.ensures.value))).0 (c.in_err-push-in-Some.ensures.items ∙ there) in
-    MatchResult-from_err c.from_residual.result _ _ c.from_residual.ensures.0 (λ _. λ n. kept n ∙ ap (λ lists. ids_of lists n) c.self.view_is)
+    MatchResult-from_err c.from_residual.result _ _ c.from_residual.ensures.0 (λ _. λ n. kept n ∙ ap (λ lists. of_owner lists n) c.self.view_is)

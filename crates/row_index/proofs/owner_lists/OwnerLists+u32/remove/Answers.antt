@@ -3,7 +3,7 @@ use Rattle.std.specs.List.{filter}
 use Rattle.std.proofs.lemmas.Bool.{eqb-true}
 use Rattle.row_index.specs.Lists.{is_not_id}
 use Rattle.row_index.proofs.Named.{of_there, of_updated, of_without, taken_out, no_items}
-use Rattle.row_index.proofs.owner_lists.OwnerLists.remove.Goals as goal
+use Rattle.row_index.proofs.owner_lists.OwnerLists+u32.remove.Goals as goal
 
 pub returns-in_default : goal.returns-in_default
 returns-in_default c =

@@ -1,0 +1,38 @@
+use Rattle.std.proofs.Common.{nat_eq, ◌≡◌, List, is_some, refl, length, vec_len, Some, None, ap, sym, ◌∙◌}
+use Rattle.std.specs.List.{filter}
+use Rattle.std.proofs.lemmas.Bool.{eqb-true}
+use Rattle.row_index.specs.declared.key.Key.{Key}
+use Rattle.row_index.specs.Lists.{is_not_key}
+use Rattle.row_index.proofs.Named.{of_there, of_updated, of_without, taken_out, no_items}
+use Rattle.row_index.proofs.owner_lists.OwnerLists+Key.remove.Goals as goal
+
+pub returns-in_default : goal.returns-in_default
+returns-in_default c =
+    rw (c.get_mut.follows.holds-at-none, ← c.self.view_is) (of_without nat_eq eqb-true (filter (is_not_key c.args.key)) c.args.owner c.self.inside.lists.entries c.in_default.ensures.value refl)
+
+pub returns-else-is_empty : goal.returns-else-is_empty
+returns-else-is_empty c =
+    let without : List Key → List Key = filter (is_not_key c.args.key) in
+    let old = c.self.inside.lists.entries in
+    let there = of_there nat_eq eqb-true c.args.owner old c.in-Some.keys.now c.in-Some.ensures.value in
+    let written = c.get_mut.follows.holds c.remove_key.new.keys in
+    rw (← c.self.view_is) (
+    of_updated nat_eq eqb-true without c.args.owner old (c.get_mut.follows.lender c.remove_key.new.keys).entries (Some c.remove_key.new.keys) (written.3 (sym (ap is_some c.in-Some.ensures.value))).0
+    (c.remove_key.ensures ∙ ap without there)
+    )
+
+pub returns-then-is_empty : goal.returns-then-is_empty
+returns-then-is_empty c =
+    let without : List Key → List Key = filter (is_not_key c.args.key) in
+    let old = c.self.inside.lists.entries in
+    let mid = (c.get_mut.follows.lender c.remove_key.new.keys).entries in
+    let there = of_there nat_eq eqb-true c.args.owner old c.in-Some.keys.now c.in-Some.ensures.value in
+    let written = c.get_mut.follows.holds c.remove_key.new.keys in
+    let none : vec_len c.remove_key.new.keys ≡ 0 = eqb-true (vec_len c.remove_key.new.keys) 0 (sym c.if-is_empty.ensures) in
+    let len = c.remove_key.new.keys.ok in
+    let empty : length c.remove_key.new.keys.items ≡ 0 = sym len.0 ∙ none in
+    rw (← c.self.view_is) (
+    of_updated nat_eq eqb-true without c.args.owner old c.forget.new.lists.entries None
+    (taken_out nat_eq eqb-true c.args.owner old mid c.forget.new.lists.entries (Some c.remove_key.new.keys) (written.3 (sym (ap is_some c.in-Some.ensures.value))).0 c.forget.ensures)
+    (sym (no_items c.remove_key.new.keys.items empty) ∙ c.remove_key.ensures ∙ ap without there)
+    )
