@@ -14,6 +14,7 @@ pub mod NewNumbers
 pub mod NumberLemmas
 pub mod OnChannels
 pub mod OrderKept
+pub mod PlacesOf
 pub mod ReachedStates
 pub mod RisingRows
 pub mod RowTests

@@ -10,6 +10,7 @@ pub mod Gateway
 pub mod Interest
 pub mod Leads
 pub mod Notices
+pub mod Places
 pub mod Numbers
 pub mod Reached
 pub mod Requests

@@ -16,6 +16,7 @@ pub mod laws;
 mod leads;
 mod limits;
 mod notice;
+mod places;
 mod reading;
 mod reals;
 mod resolution;

@@ -6,10 +6,11 @@ ghost use Rattle.gateway_state.specs.Searches.{leads_to, same_search};
 ghost use Rattle.gateway_state.specs.Variables.{search_names};
 
 use crate::leads::Leads;
+use crate::places::Places;
 use crate::reals::Reals;
 use crate::resolution::lead_of;
 use pv_alias::Lead;
-use pv_name::{Host, Name, same_host};
+use pv_name::{Host, Name};
 use rule_desk::Policy;
 use std::alloc::{AllocError, Global};
 use std::marker::Model;
@@ -22,11 +23,14 @@ pub struct Search {
 }
 
 /// The policy that holds, and the searches that are remembered, in the order in which they came. The
-/// real names that they lead to under it are kept beside them, so that a look at them asks no policy.
+/// real names that they lead to under it are kept beside them, so that a look at them asks no policy, and
+/// their places by the names that they are for.
 #[derive(Drop)]
 pub struct Searches {
     policy: Policy,
     rows: Vec<Search>,
+    /// Where the rows for each name stand.
+    places: Places,
     /// What the rows lead to, in their order, without those that lead nowhere.
     reals: Reals,
     /// What names were found to lead to under the policy.
@@ -35,6 +39,7 @@ pub struct Searches {
 
 impl Model for Searches {
     ghost use Rattle.gateway_state.specs.Leads.{AreLeads};
+    ghost use Rattle.gateway_state.specs.Places.{ArePlaces};
     ghost use Rattle.gateway_state.specs.Searches.{SearchRows};
     ghost use Rattle.gateway_state.specs.Variables.{search_names};
     ghost use Rattle.rule_desk.specs.contracts.policy.Policy as the_policy;
@@ -47,7 +52,7 @@ impl Model for Searches {
 
     ghost view = { λ s. record { policy = s.policy; rows = s.rows.items } };
 
-    ghost invariant = { λ s. (s.reals ≡ search_names s.policy s.rows.items) × AreLeads s.policy s.leads };
+    ghost invariant = { λ s. (s.reals ≡ search_names s.policy s.rows.items) × AreLeads s.policy s.leads × ArePlaces s.rows.items s.places };
 }
 
 impl Searches {
@@ -58,6 +63,7 @@ impl Searches {
         Searches {
             policy,
             rows: Vec::new(alloc),
+            places: Places::new(alloc),
             reals: Reals::new(alloc),
             leads: Leads::new(alloc),
         }
@@ -80,7 +86,7 @@ impl Searches {
     pub fn contains(&self, host: &Host, name: &Name) -> bool
         ensures { result ≡ list_any (same_search host.now name.now) self.now.rows }
     {
-        contains(&self.rows, host, name)
+        self.places.has(&self.rows, host, name)
     }
 
     /// Whether one of them leads to this real name.
@@ -144,9 +150,17 @@ impl Searches {
     {
         let lead = lead_of(alloc, &self.policy, &search.host, &search.name)?;
         self.rows.reserve(1)?;
-        add_real(&mut self.reals, lead)?;
-        self.rows.push_reserved(search);
-        Ok(())
+        let place = self.places.add(&self.rows, &search)?;
+        match add_real(&mut self.reals, lead) {
+            Ok(()) => {
+                self.rows.push_reserved(search);
+                Ok(())
+            }
+            Err(e) => {
+                self.places.remove(&search, place);
+                Err(e)
+            }
+        }
     }
 
     /// From now on another policy holds.
@@ -166,6 +180,7 @@ impl Searches {
         ensures { self.new ≡ record self.old { rows = [] } }
     {
         self.rows.clear();
+        self.places.clear();
         self.reals.clear();
     }
 }
@@ -179,13 +194,6 @@ fn add_real(reals: &mut Reals, lead: Option<Lead>) -> Result<(), AllocError>
         Some(lead) => { reals.add(lead.real) }
         None => Ok(()),
     }
-}
-
-fn contains(rows: &[Search], host: &Host, name: &Name) -> bool
-    ensures { result ≡ list_any (same_search host.now name.now) rows.now }
-{
-    rows.iter()
-        .any(|row| row.name == *name && same_host(&row.host, host))
 }
 
 fn names(rows: &[Search], alloc: Global, policy: &Policy) -> Result<Reals, AllocError>
