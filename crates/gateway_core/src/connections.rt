@@ -3,6 +3,7 @@ ghost use Rattle.std.specs.Prelude.{◌≡◌, ◌≤◌, ◌+◌, filter, OnOk,
 ghost use Rattle.channel_table.specs.Channels.{is_channel_of};
 ghost use Rattle.channel_table.specs.ClientRows.{channel_count};
 ghost use Rattle.gateway_state.specs.Sessions.{opened, lost, introduced, up_opened, up_lost};
+ghost use Rattle.gateway_state.specs.Settled.{HasSessionsConnected};
 ghost use Rattle.gateway_state.specs.Variables.{channel_names};
 ghost use Rattle.touched_rows.specs.Touches.{names_of};
 
@@ -16,7 +17,9 @@ use std::alloc::{AllocError, Global};
 use touched_rows::Names;
 
 /// A client connected from an address.
+#[tactic(auto, using(gateway_state::proofs::SessionsConnected::session_is_new))]
 pub(crate) fn open_session(rows: &mut Rows, number: u32, host: Host) -> Result<(), AllocError>
+    requires connected { HasSessionsConnected rows.old }
     ensures { OnOk result (rows.new ≡ opened rows.old number host) }
 {
     if rows.stands(Dest::Session(number)) {
