@@ -13,7 +13,7 @@ use Rattle.channel_table.specs.declared.channels.Channel.{Channel}
 use Rattle.channel_table.specs.declared.subs.ClientSub.{ClientSub}
 use Rattle.channel_table.specs.Channels.{is_channel, is_not_channel, is_on, is_channel_on, with_reach_and_rights}
 use Rattle.channel_table.specs.Subs.{is_sub, is_not_sub, is_sub_on, with_owed}
-use Rattle.channel_table.specs.Indexes.{FollowChannels, IsApart, SubRows, rows_at, channel_key, sub_key, is_standing, is_to}
+use Rattle.channel_table.specs.Indexes.{FollowSubs, IsApart, SubRows, rows_at, channel_key, sub_key, is_standing, is_to}
 use Rattle.channel_table.specs.Told.{IsRetold, IsTold, IsUncounted, Retells, SameTold, all_exchanged, retold_channel, ask_of_reach, ask_of_sub, asks_on, channel_ask, differs, may_read, rights_exchanged, reads_over, sub_ask, told_of}
 use Rattle.channel_table.proofs.Counting.{Between, between, asks_agree, asks_beside, counted_changed, counted_less, counted_more, subs_exchanged}
 use Rattle.row_index.proofs.Named.{same_bytes}
@@ -180,12 +180,12 @@ module _ (channels : List Channel) (subs : List ClientSub) (k : Key) (channel : 
 
   -- subscriptions on the channel ask for it by its rights
   on_before : (sub : ClientSub) → is_sub_on k.owner k.id sub ≡ true → sub_ask channels sub ≡ ask_of_sub (may_read channel.rights) sub
-  on_before sub on = ap (λ o. ask_of_sub (reads_over o) sub) (on_ids (λ a b. find (is_channel a b) channels) k.owner k.id sub on ∙ found)
+  on_before sub on = ap (λ o. ask_of_sub (reads_over o) sub) (on_ids (λ a b. find (is_channel a b) channels) k.owner k.id sub.session sub.sid on ∙ found)
 
   on_after : (sub : ClientSub) → is_sub_on k.owner k.id sub ≡ true → sub_ask with_change sub ≡ ask_of_sub (may_read rights) sub
   on_after sub on =
       ap (λ o. ask_of_sub (reads_over o) sub)
-      (on_ids (λ a b. find (is_channel a b) with_change) k.owner k.id sub on ∙ changed_is_found (is_channel k.owner k.id) (with_reach_and_rights reach rights) (λ row. refl) channels channel found)
+      (on_ids (λ a b. find (is_channel a b) with_change) k.owner k.id sub.session sub.sid on ∙ changed_is_found (is_channel k.owner k.id) (with_reach_and_rights reach rights) (λ row. refl) channels channel found)
 
   -- others ask as before
   other_ids : (sub : ClientSub) → is_sub_on k.owner k.id sub ≡ false → (row : Channel) → is_channel k.owner k.id row ≡ true → is_channel sub.session sub.sid row ≡ false
@@ -235,7 +235,7 @@ module _ (channels : List Channel) (subs : List ClientSub) (k : Key) (channel : 
       by : (sub : ClientSub) → is_to channels n sub ≡ true → sub_ask channels sub ≡ sub_ask with_change sub
       by sub to =
           elim (is_sub_on k.owner k.id sub) as (λ t. is_sub_on k.owner k.id sub ≡ t → sub_ask channels sub ≡ sub_ask with_change sub) [
-            | true ↦ λ on. absurd (true≢false (sym to ∙ ap (is_channel_on n) (on_ids (λ a b. find (is_channel a b) channels) k.owner k.id sub on ∙ found) ∙ other))
+            | true ↦ λ on. absurd (true≢false (sym to ∙ ap (is_channel_on n) (on_ids (λ a b. find (is_channel a b) channels) k.owner k.id sub.session sub.sid on ∙ found) ∙ other))
             | false ↦ λ aside. beside sub aside
           ] refl
 
@@ -278,7 +278,7 @@ module _ (channels : List Channel) (subs : List ClientSub) (k : Key) (channel : 
         by_key n = ids_of_row (λ session sid. rights_exchanged (may_read channel.rights) (may_read rights) session sid (filter (is_to channels n) subs) (counted (asks_on channels subs n))) k.owner k.id channel own_ids
 
 -- a channel with another reach and other rights, where it stands
-pub told_put : (channels after : List Channel) (subs : SubRows) (k : Key) (reach rights : ℕ) (old new : List (List ℕ × Counts)) → IsApart channel_key channels → IsApart sub_key subs.rows → FollowChannels channels subs
+pub told_put : (channels after : List Channel) (subs : SubRows) (k : Key) (reach rights : ℕ) (old new : List (List ℕ × Counts)) → IsApart channel_key channels → IsApart sub_key subs.rows → FollowSubs channels subs
     → after ≡ change_first (is_channel k.owner k.id) (with_reach_and_rights reach rights) channels → IsRetold (find (is_channel k.owner k.id) channels) reach rights subs old new → IsTold channels subs.rows old → IsTold after subs.rows new
 told_put channels after subs k reach rights old new apart subs_apart follow is retells told =
     elim (find (is_channel k.owner k.id) channels) as (λ o. find (is_channel k.owner k.id) channels ≡ o → IsRetold o reach rights subs old new → IsTold after subs.rows new) [

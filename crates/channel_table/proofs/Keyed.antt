@@ -4,7 +4,7 @@ use Rattle.std.specs.List.{filter, find, count_by, list_any}
 use Rattle.std.specs.Option.{option_map}
 use Rattle.std.proofs.lemmas.List.{length-map}
 use Rattle.std.proofs.lemmas.List.Sums.{length-filter}
-use Rattle.rows.specs.Rows.{change_first}
+use Rattle.rows.specs.Rows.{change_first, remove_first}
 use Rattle.row_index.specs.declared.key.Key.{Key}
 use Rattle.row_index.specs.Rows.{same_key, row_of, has_key, lacks_key, is_owned_by, value_at, put_at, HasKeysApart}
 use Rattle.row_index.proofs.Keys.{same_key_is_same, same_key_itself}
@@ -104,6 +104,25 @@ module _ {V : Type 0} (key : V → Key) where
     rw (same_key_itself (key row)) refl,
     later_found row rows rows (sym (value_at_keyed (key row) rows) ∙ apart.0) (each_is_found rows apart.1),
   )
+
+  -- so is one that a test finds
+  pub found_again : (p : V → Bool) (rows : List V) (row : V) → IsApart key rows → find p rows ≡ Some row → find (λ r. same_key (key r) (key row)) rows ≡ Some row
+  found_again p rows row apart found = found_each (λ x. find (λ r. same_key (key r) (key x)) rows ≡ Some x) p rows row (each_is_found rows apart) found
+
+  -- without its key the first row that passes is gone
+  pub first_goes : (p : V → Bool) (rows : List V) (row : V) → IsApart key rows → find p rows ≡ Some row → filter (λ r. not (same_key (key r) (key row))) rows ≡ remove_first p rows
+  first_goes p [] row apart e = refl
+  first_goes p (first ∷ rows) row apart e =
+      elim (p first) as (λ t. cond t (Some first) (find p rows) ≡ Some row → filter (λ r. not (same_key (key r) (key row))) (first ∷ rows) ≡ cond t rows (first ∷ remove_first p rows)) [
+        | true ↦ λ h.
+            let is : first ≡ row = cc in
+            let here : same_key (key first) (key row) ≡ true = ap (λ r. same_key (key first) (key r)) (sym is) ∙ same_key_itself (key first) in
+            let none : find (λ r. same_key (key r) (key row)) rows ≡ None = ap (λ x. find (λ r. same_key (key r) (key x)) rows) (sym is) ∙ sym (value_at_keyed (key first) rows) ∙ apart.0 in
+            rw here (none_dropped (λ r. same_key (key r) (key row)) rows (unfound_is_absent (λ r. same_key (key r) (key row)) rows none))
+        | false ↦ λ h.
+            let other = other_key (key first) rows row (sym (value_at_keyed (key first) rows) ∙ apart.0) (found_again p rows row apart.1 h) in
+            rw other (ap (λ rest. first ∷ rest) (first_goes p rows row apart.1 h))
+      ] e
 
   -- where keys are apart, a test that fails for the row of a key keeps the same without this row
   pub fails_alone : (k : Key) (q : V → Bool) (rows : List V) (row : V) → IsApart key rows → find (λ r. same_key (key r) k) rows ≡ Some row → q row ≡ false → filter q (filter (λ r. not (same_key (key r) k)) rows) ≡ filter q rows

@@ -5,6 +5,9 @@ pub mod Indexed
 pub mod Keyed
 pub mod Listed
 pub mod Lists
+pub mod Mapped
 pub mod Numbered
 pub mod Removal
 pub mod TalliesByName
+pub mod Waiting
+pub mod Walked

@@ -5,7 +5,7 @@ use Rattle.std.proofs.lemmas.List.Elements.{filter_passes}
 use Rattle.std.proofs.lemmas.List.Sums.{length-filter}
 use Rattle.std.proofs.lemmas.Option.{slice_get_cases, slice_get_within, get_or_from_slice_get}
 use Rattle.std.specs.List.{count_by, filter, find, list_all, list_any, slice_get}
-use Rattle.rows.specs.Rows.{change_first}
+use Rattle.rows.specs.Rows.{change_first, remove_first}
 
 module _ {A : Type 0} where
   -- the row that is found passes
@@ -160,6 +160,42 @@ module _ {A : Type 0} where
   one_fewer_left p (x ∷ xs) e =
       elim (p x) as (λ t. (t || list_any p xs) ≡ true → length (cond (not t) (x ∷ filter (λ y. not (p y)) xs) (filter (λ y. not (p y)) xs)) < length (x ∷ xs))
       [ true ↦ λ h. (let rest = fewer_left (λ y. not (p y)) xs in omega arith) | false ↦ λ h. (let rest = one_fewer_left p xs h in omega arith) ] e
+
+  -- none passes among those that don't
+  pub none_among_others : (p : A → Bool) (xs : List A) → list_any p (filter (λ x. not (p x)) xs) ≡ false
+  none_among_others p [] = refl
+  none_among_others p (x ∷ xs) =
+      elim (p x) as (λ t. p x ≡ t → list_any p (cond (not t) (x ∷ filter (λ y. not (p y)) xs) (filter (λ y. not (p y)) xs)) ≡ false)
+      [ true ↦ λ _. none_among_others p xs | false ↦ λ e. rw e (none_among_others p xs) ] refl
+
+  -- the row that is found is one that passes what it passes
+  pub there_where_found : (p q : A → Bool) (xs : List A) (x : A) → find p xs ≡ Some x → q x ≡ true → list_any q xs ≡ true
+  there_where_found p q [] x e passes = cc
+  there_where_found p q (y ∷ ys) x e passes =
+      elim (p y) as (λ t. cond t (Some y) (find p ys) ≡ Some x → (q y || list_any q ys) ≡ true) [
+        | true ↦ λ h. let same : y ≡ x = cc in rw (ap q same ∙ passes) refl
+        | false ↦ λ h. elim (q y) as (λ t. (t || list_any q ys) ≡ true) [ true ↦ refl | false ↦ there_where_found p q ys x h passes ]
+      ] e
+
+  -- with no row that passes none is the first
+  pub none_is_first : (p : A → Bool) (xs : List A) → list_any p xs ≡ false → remove_first p xs ≡ xs
+  none_is_first p [] e = refl
+  none_is_first p (x ∷ xs) e =
+      elim (p x) as (λ t. (t || list_any p xs) ≡ false → cond t xs (x ∷ remove_first p xs) ≡ x ∷ xs) [ true ↦ λ h. cc | false ↦ λ h. ap (λ rest. x ∷ rest) (none_is_first p xs h) ] e
+
+  -- without the first that passes there are fewer
+  pub fewer_without_first : (p : A → Bool) (xs : List A) → list_any p xs ≡ true → length (remove_first p xs) < length xs
+  fewer_without_first p [] e = cc
+  fewer_without_first p (x ∷ xs) e =
+      elim (p x) as (λ t. (t || list_any p xs) ≡ true → length (cond t xs (x ∷ remove_first p xs)) < length (x ∷ xs))
+      [ true ↦ λ h. omega arith | false ↦ λ h. (let rest = fewer_without_first p xs h in omega arith) ] e
+
+  -- and a test that fails for it keeps the same
+  pub kept_without_first : (p q : A → Bool) → ((x : A) → p x ≡ true → q x ≡ false) → (xs : List A) → filter q (remove_first p xs) ≡ filter q xs
+  kept_without_first p q fails [] = refl
+  kept_without_first p q fails (x ∷ xs) =
+      elim (p x) as (λ t. p x ≡ t → filter q (cond t xs (x ∷ remove_first p xs)) ≡ filter q (x ∷ xs))
+      [ true ↦ λ e. rw (fails x e) refl | false ↦ λ _. ap (λ rest. cond (q x) (x ∷ rest) rest) (kept_without_first p q fails xs) ] refl
 
   -- tests that agree on each row that passes s keep the same of such rows
   pub filter_agree_where : (s p q : A → Bool) → ((x : A) → s x ≡ true → p x ≡ q x) → (xs : List A) → list_all s xs ≡ true → filter p xs ≡ filter q xs

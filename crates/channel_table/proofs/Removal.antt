@@ -1,5 +1,5 @@
 -- A channel or a session removed with what hangs on it, one row after the other.
-use Rattle.std.proofs.Common.{◌≡◌, ℕ, ◌<◌, List, Bool, true, false, not, ◌&&◌, ◌==◌, Some, length, slice_get, refl, sym, ap, ◌∙◌}
+use Rattle.std.proofs.Common.{◌≡◌, ℕ, ◌<◌, List, Bool, true, false, not, ◌&&◌, ◌==◌, Some, length, slice_get, refl, sym, ◌∙◌}
 use Rattle.std.specs.Cmp.{nat_eq_equiv}
 use Rattle.std.specs.List.{filter, list_any}
 use Rattle.channel_table.specs.declared.channels.Channel.{Channel}
@@ -7,23 +7,27 @@ use Rattle.channel_table.specs.declared.reads.WaitingRead.{WaitingRead}
 use Rattle.channel_table.specs.declared.subs.ClientSub.{ClientSub}
 use Rattle.channel_table.specs.ClientRows.{ClientRows}
 use Rattle.channel_table.specs.Channels.{is_channel, is_not_channel, is_channel_of, is_not_channel_of}
-use Rattle.channel_table.specs.Reads.{is_not_read_of, is_not_read_on}
+use Rattle.channel_table.specs.Reads.{is_not_read_of, is_not_read_on, is_read_on}
 use Rattle.channel_table.specs.Subs.{is_sub_on, is_not_sub_of, is_not_sub_on}
 use Rattle.channel_table.proofs.Lists.{filter_among, nth_is_there, nth_passes, none_dropped, one_fewer_left}
 
--- with its subscriptions gone one by one, a bare channel goes with its reads
-pub channel_gone : (session sid : ℕ) (old some bare new : ClientRows)
+-- with a channel's subscriptions gone one by one, those on others are left
+pub subs_gone : (session sid : ℕ) (old some left : ClientRows)
     → some ≡ record old { subs = some.subs } → filter (is_not_sub_on session sid) some.subs ≡ filter (is_not_sub_on session sid) old.subs
-    → bare ≡ record some { subs = bare.subs } → filter (is_not_sub_on session sid) bare.subs ≡ filter (is_not_sub_on session sid) some.subs
-    → list_any (is_sub_on session sid) bare.subs ≡ false
-    → new ≡ record bare { channels = filter (is_not_channel session sid) bare.channels; reads = filter (is_not_read_on session sid) bare.reads }
-    → new ≡ record old { channels = filter (is_not_channel session sid) old.channels; subs = filter (is_not_sub_on session sid) old.subs; reads = filter (is_not_read_on session sid) old.reads }
-channel_gone session sid old some bare new first first_kept last last_kept none is =
-    let sessions = ap (λ (t : ClientRows). t.sessions) last ∙ ap (λ (t : ClientRows). t.sessions) first in
-    let channels = ap (λ (t : ClientRows). t.channels) last ∙ ap (λ (t : ClientRows). t.channels) first in
-    let subs = sym (none_dropped (is_sub_on session sid) bare.subs none) ∙ last_kept ∙ first_kept in
-    let reads = ap (λ (t : ClientRows). t.reads) last ∙ ap (λ (t : ClientRows). t.reads) first in
-    is ∙ (λ i. record { sessions = sessions i; channels = filter (is_not_channel session sid) (channels i); subs = subs i; reads = filter (is_not_read_on session sid) (reads i) })
+    → left ≡ record some { subs = left.subs } → filter (is_not_sub_on session sid) left.subs ≡ filter (is_not_sub_on session sid) some.subs
+    → list_any (is_sub_on session sid) left.subs ≡ false → left ≡ record old { subs = filter (is_not_sub_on session sid) old.subs }
+subs_gone session sid old some left first first_kept last last_kept none =
+    let subs = sym (none_dropped (is_sub_on session sid) left.subs none) ∙ last_kept ∙ first_kept in
+    last ∙ (λ i. record (first i) { subs = subs i })
+
+-- and so its reads
+pub reads_gone : (session sid : ℕ) (old some left : ClientRows)
+    → some ≡ record old { reads = some.reads } → filter (is_not_read_on session sid) some.reads ≡ filter (is_not_read_on session sid) old.reads
+    → left ≡ record some { reads = left.reads } → filter (is_not_read_on session sid) left.reads ≡ filter (is_not_read_on session sid) some.reads
+    → list_any (is_read_on session sid) left.reads ≡ false → left ≡ record old { reads = filter (is_not_read_on session sid) old.reads }
+reads_gone session sid old some left first first_kept last last_kept none =
+    let reads = sym (none_dropped (is_read_on session sid) left.reads none) ∙ last_kept ∙ first_kept in
+    last ∙ (λ i. record (first i) { reads = reads i })
 
 other_both : (a b : Bool) → not a ≡ true → not (a && b) ≡ true
 other_both true b e = cc

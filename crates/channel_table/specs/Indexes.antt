@@ -1,13 +1,16 @@
 -- How the table keeps rows: each under its key, and the keys in lists by real names.
-use Rattle.std.specs.Prelude.{◌≡◌, ℕ, List, Bool, true, map, filter, filter_map, Option, Some, None}
+use Rattle.std.specs.Prelude.{◌≡◌, ℕ, List, Bool, true, not, map, filter, filter_map, Option, Some, None}
 use Rattle.std.specs.List.{find, list_any, list_all}
 use Rattle.row_index.specs.declared.key.Key.{Key}
 use Rattle.row_index.specs.Lists.{of, AddsTo, RemovesFrom, SameLists}
 use Rattle.row_index.specs.Rows.{same_key, row_of, HasKeysApart}
 use Rattle.channel_table.specs.declared.channels.Channel.{Channel}
+use Rattle.channel_table.specs.declared.reads.KeptRead.{KeptRead}
+use Rattle.channel_table.specs.declared.reads.WaitingRead.{WaitingRead}
 use Rattle.channel_table.specs.declared.sessions.Session.{Session}
 use Rattle.channel_table.specs.declared.subs.ClientSub.{ClientSub}
 use Rattle.channel_table.specs.Channels.{is_channel, is_on, is_channel_on}
+use Rattle.channel_table.specs.Reads.{is_read_on, same_read}
 
 -- the key of a session: there is one of its number
 abbrev pub session_key : Session → Key
@@ -20,6 +23,18 @@ channel_key channel = record { owner = channel.session; id = channel.sid }
 -- the key of a subscription
 abbrev pub sub_key : ClientSub → Key
 sub_key sub = record { owner = sub.session; id = sub.id }
+
+-- the key of a waiting read, under the ID that the table gave it
+abbrev pub read_key : KeptRead → Key
+read_key row = record { owner = row.read.session; id = row.id }
+
+-- the key of the channel that a subscription is on
+abbrev pub sub_home : ClientSub → Key
+sub_home sub = record { owner = sub.session; id = sub.sid }
+
+-- the key of the channel that a read waits on
+abbrev pub read_home : KeptRead → Key
+read_home row = record { owner = row.read.session; id = row.read.sid }
 
 -- the rows, each under its key
 abbrev pub keyed : {V : Type 0} → (V → Key) → List V → List (Key × V)
@@ -37,6 +52,43 @@ IsApart key rows = HasKeysApart (keyed key rows)
 pub record SubRows : Type 0 where
   pub rows : List ClientSub
   pub on : List (List ℕ × List Key)
+
+-- waiting reads, and the lists of their keys by the real names that they wait for
+pub record ReadRows : Type 0 where
+  pub rows : List KeptRead
+  pub on : List (List ℕ × List Key)
+
+-- the read of a row
+abbrev pub read_in : KeptRead → WaitingRead
+read_in row = row.read
+
+-- the reads of the rows
+abbrev pub reads_in : ReadRows → List WaitingRead
+reads_in reads = map read_in reads.rows
+
+-- the read under this key
+abbrev pub is_kept : Key → KeptRead → Bool
+is_kept key row = same_key (read_key row) key
+
+-- another
+abbrev pub is_not_kept : Key → KeptRead → Bool
+is_not_kept key row = not (is_kept key row)
+
+-- the read of a row is on the session's channel of this ID
+abbrev pub is_kept_on : ℕ → ℕ → KeptRead → Bool
+is_kept_on session sid row = is_read_on session sid row.read
+
+-- the read of a row is equal to this one
+abbrev pub is_kept_like : WaitingRead → KeptRead → Bool
+is_kept_like read row = same_read read row.read
+
+-- a row whose channel, of the key home, stands
+abbrev pub hangs : {V : Type 0} → (V → Key) → List Channel → V → Bool
+hangs home channels row = list_any (is_channel (home row).owner (home row).id) channels
+
+-- a row whose channel stands, and is on this real name
+abbrev pub leads : {V : Type 0} → (V → Key) → List Channel → List ℕ → V → Bool
+leads home channels name row = is_channel_on name (find (is_channel (home row).owner (home row).id) channels)
 
 -- the subscription's channel stands
 abbrev pub is_standing : List Channel → ClientSub → Bool
@@ -72,6 +124,10 @@ pub record IsChannelIndex (entries : List (Key × Channel)) (lists : List (List 
 abbrev pub IsSubIndex : List (Key × ClientSub) → Type 0
 IsSubIndex entries = entries ≡ keyed sub_key (map row_of entries)
 
+-- the reads are each under its key
+abbrev pub IsReadIndex : List (Key × KeptRead) → Type 0
+IsReadIndex entries = entries ≡ keyed read_key (map row_of entries)
+
 -- a channel that was found is listed under its real name
 abbrev pub IsListedOn : Option Channel → Key → List (List ℕ × List Key) → List (List ℕ × List Key) → Type 0
 IsListedOn None key old new = SameLists old new
@@ -82,7 +138,16 @@ abbrev pub IsUnlistedOn : Option Channel → Key → List (List ℕ × List Key)
 IsUnlistedOn None key old new = SameLists old new
 IsUnlistedOn (Some channel) key old new = RemovesFrom channel.real key old new
 
--- each subscription's channel stands, and each name has the keys of the subscriptions to it
-pub record FollowChannels (channels : List Channel) (subs : SubRows) : Type 0 where
-  pub standing : list_all (is_standing channels) subs.rows ≡ true
-  pub listed : AreListed sub_key (is_to channels) subs.rows subs.on
+-- each row's channel, of the key home, stands, and each name has the keys of the rows that lead to it
+module _ {V : Type 0} (key home : V → Key) where
+  pub record FollowChannels (channels : List Channel) (rows : List V) (on : List (List ℕ × List Key)) : Type 0 where
+    pub standing : list_all (hangs home channels) rows ≡ true
+    pub listed : AreListed key (leads home channels) rows on
+
+-- the subscriptions follow their channels
+abbrev pub FollowSubs : List Channel → SubRows → Type 0
+FollowSubs channels subs = FollowChannels sub_key sub_home channels subs.rows subs.on
+
+-- the waiting reads follow their channels
+abbrev pub FollowReads : List Channel → ReadRows → Type 0
+FollowReads channels reads = FollowChannels read_key read_home channels reads.rows reads.on

@@ -12,7 +12,7 @@ use Rattle.channel_table.specs.declared.asks.TheConstants.{READ_RIGHT}
 use Rattle.channel_table.specs.declared.channels.Channel.{Channel}
 use Rattle.channel_table.specs.declared.subs.ClientSub.{ClientSub}
 use Rattle.channel_table.specs.Channels.{is_channel, is_on}
-use Rattle.channel_table.specs.Indexes.{FollowChannels, SubRows, is_to, rows_at, sub_key}
+use Rattle.channel_table.specs.Indexes.{FollowReads, FollowSubs, ReadRows, SubRows, is_to, rows_at, sub_key}
 use Rattle.channel_table.specs.Subs.{is_sub_on}
 
 -- the rights let a client read
@@ -115,7 +115,8 @@ pub record IsCount (counts : Counts) : Type 0 where
 abbrev pub AreCounts : List (List ℕ × Counts) → Type 0
 AreCounts tallies = (name : List ℕ) → IsCount (told_of tallies name)
 
--- rows of subscriptions follow their channels, and so does what is counted under each name
-pub record FollowRows (channels : List Channel) (subs : SubRows) (tallies : List (List ℕ × Counts)) : Type 0 where
-  pub rows : FollowChannels channels subs
+-- subscriptions and waiting reads follow their channels, and so does what is counted under each name
+pub record FollowRows (channels : List Channel) (subs : SubRows) (reads : ReadRows) (tallies : List (List ℕ × Counts)) : Type 0 where
+  pub subs_follow : FollowSubs channels subs
+  pub reads_follow : FollowReads channels reads
   pub told : IsTold channels subs.rows tallies

@@ -16,10 +16,11 @@
 //! rows as many times as it has rows. So a contract above can say how many rows an event looks at.
 //! Adding, removing and counting rows look at none.
 //!
-//! Sessions, channels and subscriptions are kept under their IDs, and the keys of the latter two in
-//! lists by real name, so that a look-up costs the same beside many rows as beside few. What is asked
-//! for of each real name is counted as rows come, go and change. A removal walks what is on the same
-//! name, and the rows of its own session; that of a session or a channel walks the waiting reads too.
+//! Sessions, channels, subscriptions and reads are kept under their IDs (a read under one that the table
+//! gives it, since equal reads may stand together), and the keys of the latter three in lists by real
+//! name, so that a look-up costs the same beside many rows as beside few. What is asked for of each real
+//! name is counted as rows come, go and change. A removal walks what is on the same name, and the rows
+//! of its own session.
 //!
 //! A contract sees a `Table` as four lists. Each call changes the rows that it names alone, a refused
 //! one none, and a limit refuses exactly where it is reached; limits are in `laws::numbers_are_these`.

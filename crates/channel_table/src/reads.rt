@@ -1,8 +1,17 @@
 //! Rows of waiting reads.
-ghost use Rattle.std.specs.Prelude.{◌≡◌};
-ghost use Rattle.std.specs.List.{filter, position, count_by};
-ghost use Rattle.rows.specs.Rows.{remove_first};
-ghost use Rattle.channel_table.specs.Reads.{same_read, is_read_of, is_not_read_of, is_not_read_on};
+ghost use Rattle.std.specs.Prelude.{◌≡◌, ℕ, List, [], ◌∷◌, ◌++◌, false, length, map, slice_get, IfOk, OnOk, OnErr};
+ghost use Rattle.std.specs.List.{filter, filter_map, find, count_by, list_any};
+ghost use Rattle.std.specs.Option.{option_map};
+ghost use Rattle.row_index.specs.Lists.{of, AddsTo, RemovesFrom, SameLists};
+ghost use Rattle.row_index.specs.Rows.{is_owned_by, row_of, value_at};
+ghost use Rattle.channel_table.specs.Indexes.{is_kept, is_kept_like, is_kept_on, is_not_kept, read_in, read_key, reads_in, row_at, rows_at, IsApart};
+ghost use Rattle.channel_table.specs.Reads.{is_read_of};
+
+use crate::keys::nth_key;
+use pv_name::Name;
+use row_index::{Key, NameLists, RowMap};
+use std::alloc::{AllocError, Global};
+use std::marker::Model;
 
 /// A read that a client waits for.
 #[derive(Clone, Copy, Debug, PartialEq, Eq)]
@@ -19,35 +28,254 @@ pub struct WaitingRead {
     pub ioid: u32,
 }
 
-pub(crate) fn count(rows: &[WaitingRead], session: u32) -> usize
-    ensures { result ≡ count_by (is_read_of session) rows.now }
-{
-    rows.iter().filter(|row| row.session == session).count()
+/// A waiting read with an ID of its own in its session, since equal reads may stand together.
+#[derive(Clone, Copy)]
+pub(crate) struct KeptRead {
+    pub(crate) id: u32,
+    pub(crate) read: WaitingRead,
 }
 
-pub(crate) fn remove_of(rows: &mut Vec<WaitingRead>, session: u32)
-    ensures { rows.new.items ≡ filter (is_not_read_of session) rows.old.items }
-{
-    rows.retain(|row| row.session != session);
+/// All waiting reads, found by their sessions and by the real names that they wait for.
+#[derive(Drop)]
+pub(crate) struct Reads {
+    rows: RowMap<KeptRead>,
+    on: NameLists,
 }
 
-pub(crate) fn remove_on(rows: &mut Vec<WaitingRead>, session: u32, sid: u32)
-    ensures { rows.new.items ≡ filter (is_not_read_on session sid) rows.old.items }
-{
-    rows.retain(|row| !(row.session == session && row.sid == sid));
+impl Model for Reads {
+    ghost use Rattle.std.specs.Prelude.{map};
+    ghost use Rattle.row_index.specs.Rows.{row_of};
+    ghost use Rattle.channel_table.specs.Indexes.{ReadRows, IsReadIndex};
+
+    ghost Value = { ReadRows };
+
+    ghost view = { λ r. record { rows = map row_of r.rows; on = r.on } };
+
+    ghost invariant = { λ r. IsReadIndex r.rows };
 }
 
-fn place_of(rows: &[WaitingRead], read: &WaitingRead) -> Option<usize>
-    ensures { result ≡ position (same_read read.now) rows.now }
-{
-    rows.iter().position(|row| *read == *row)
-}
-
-#[tactic(auto, using(rows::proofs::RowLemmas::remove_is_remove_first, rows::proofs::RowLemmas::remove_first_none))]
-pub(crate) fn remove(rows: &mut Vec<WaitingRead>, read: &WaitingRead)
-    ensures { rows.new.items ≡ remove_first (same_read read.now) rows.old.items }
-{
-    if let Some(place) = place_of(rows, read) {
-        rows.remove(place);
+impl Reads {
+    pub(crate) fn new(alloc: Global) -> Reads
+        ensures rows { result.rows ≡ [] }
+        ensures on { (name : List ℕ) → of result.on name ≡ [] }
+    {
+        Reads {
+            rows: RowMap::new(alloc),
+            on: NameLists::new(alloc),
+        }
     }
+
+    /// Does nothing. Its contract is a law: no two reads of a session have the same ID.
+    pub(crate) fn are_apart(&self)
+        ensures { IsApart read_key self.now.rows }
+    {
+        self.rows.has_keys_apart();
+    }
+
+    pub(crate) fn len(&self) -> usize
+        ensures { result ≡ length (reads_in self.now) }
+    {
+        self.rows.len()
+    }
+
+    pub(crate) fn all(&self, alloc: Global) -> Result<Vec<WaitingRead>, AllocError>
+        ensures { IfOk result (λ reads. reads.items ≡ reads_in self.now) }
+    {
+        let rows = self.rows.rows(alloc)?;
+        copied(&rows, alloc)
+    }
+
+    pub(crate) fn count_of(&self, session: u32) -> usize
+        ensures { result ≡ count_by (is_read_of session) (reads_in self.now) }
+    {
+        self.rows.count_of(session)
+    }
+
+    pub(crate) fn count_on(&self, name: &Name) -> usize
+        ensures { result ≡ length (of self.now.on name.now) }
+    {
+        self.on.of(name).len()
+    }
+
+    pub(crate) fn nth_on(&self, name: &Name, n: usize) -> Option<WaitingRead>
+        ensures { result ≡ option_map read_in (row_at read_key self.now.rows (slice_get (of self.now.on name.now) n)) }
+    {
+        match nth_key(&self.on, name, n) {
+            Some(key) => read_at(&self.rows, key),
+            None => None,
+        }
+    }
+
+    /// The reads that wait for a real name.
+    pub(crate) fn all_on(&self, name: &Name, alloc: Global) -> Result<Vec<WaitingRead>, AllocError>
+        ensures { IfOk result (λ reads. reads.items ≡ map read_in (rows_at read_key self.now.rows (of self.now.on name.now))) }
+    {
+        reads_at(&self.rows, self.on.of(name), alloc)
+    }
+
+    /// The first read on a channel, among those of its session.
+    pub(crate) fn first_on(&self, session: u32, sid: u32) -> Option<KeptRead>
+        ensures { result ≡ find (is_kept_on session sid) self.now.rows }
+    {
+        first_on(&self.rows, session, sid)
+    }
+
+    /// The first read that is equal to this one, among those of its session.
+    pub(crate) fn first_like(&self, read: &WaitingRead) -> Option<KeptRead>
+        ensures { result ≡ find (is_kept_like read.now) self.now.rows }
+    {
+        first_like(&self.rows, read)
+    }
+
+    /// An ID that no read of the session has: one more than the last one's, where that is free. There is
+    /// none where all are taken.
+    pub(crate) fn free_id(&self, session: u32) -> Result<u32, AllocError>
+        ensures { IfOk result (λ id. list_any (is_kept (record { owner = session; id = id })) self.now.rows ≡ false) }
+    {
+        let next = self.next_id(session);
+        if self.contains(session, next) {
+            self.any_free_id(session)
+        } else {
+            Ok(next)
+        }
+    }
+
+    // One more than the ID of the session's last read, and 0 behind the type's last.
+    fn next_id(&self, session: u32) -> u32 {
+        let last = self.rows.count_of(session).saturating_sub(1);
+        match self.rows.of(session, last) {
+            Some(row) => row.id.wrapping_add(1),
+            None => 0,
+        }
+    }
+
+    fn any_free_id(&self, session: u32) -> Result<u32, AllocError>
+        ensures { IfOk result (λ id. list_any (is_kept (record { owner = session; id = id })) self.now.rows ≡ false) }
+    {
+        for id in 0..=u32::MAX {
+            if !self.contains(session, id) {
+                return Ok(id);
+            }
+        }
+        Err(AllocError)
+    }
+
+    fn contains(&self, session: u32, id: u32) -> bool
+        ensures { result ≡ list_any (is_kept (record { owner = session; id = id })) self.now.rows }
+    {
+        let key = Key { owner: session, id };
+        self.rows.contains(key)
+    }
+
+    /// Adds a read that waits for this real name, under an ID that is free. At an error nothing changes.
+    pub(crate) fn add(&mut self, name: &Name, row: KeptRead) -> Result<(), AllocError>
+        requires new { list_any (is_kept (read_key row)) self.old.rows ≡ false }
+        ensures ok_rows { OnOk result (self.new.rows ≡ self.old.rows ++ row ∷ []) }
+        ensures ok_on { OnOk result (AddsTo name.now (read_key row) self.old.on self.new.on) }
+        ensures err_rows { OnErr result (self.new.rows ≡ self.old.rows) }
+        ensures err_on { OnErr result (SameLists self.old.on self.new.on) }
+    {
+        let key = Key {
+            owner: row.read.session,
+            id: row.id,
+        };
+        self.rows.add(key, row)?;
+        match self.on.add(name, key) {
+            Ok(()) => Ok(()),
+            Err(e) => {
+                self.rows.remove(key);
+                Err(e)
+            }
+        }
+    }
+
+    /// Removes a read that waits for this real name.
+    pub(crate) fn remove(&mut self, name: &Name, row: KeptRead)
+        ensures rows { self.new.rows ≡ filter (is_not_kept (read_key row)) self.old.rows }
+        ensures on { RemovesFrom name.now (read_key row) self.old.on self.new.on }
+    {
+        let key = Key {
+            owner: row.read.session,
+            id: row.id,
+        };
+        self.on.remove(name, key);
+        self.rows.remove(key);
+    }
+}
+
+/// The reads of these rows.
+fn copied(rows: &[&KeptRead], alloc: Global) -> Result<Vec<WaitingRead>, AllocError>
+    ensures { IfOk result (λ reads. reads.items ≡ map (λ row. row.now.read) rows.now) }
+{
+    let mut reads = Vec::new(alloc);
+    for row in rows {
+        reads.push(row.read)?;
+    }
+    Ok(reads)
+}
+
+fn read_at(rows: &RowMap<KeptRead>, key: Key) -> Option<WaitingRead>
+    ensures { result ≡ option_map read_in (value_at key rows.now) }
+{
+    match rows.get(key) {
+        Some(row) => Some(row.read),
+        None => None,
+    }
+}
+
+/// The reads under these keys.
+fn reads_at(
+    rows: &RowMap<KeptRead>,
+    keys: &[Key],
+    alloc: Global,
+) -> Result<Vec<WaitingRead>, AllocError>
+    ensures { IfOk result (λ reads. reads.items ≡ map read_in (filter_map (λ key. value_at key rows.now) keys.now)) }
+{
+    let mut reads = Vec::new(alloc);
+    for key in keys {
+        if let Some(row) = rows.get(*key) {
+            reads.push(row.read)?;
+        }
+    }
+    Ok(reads)
+}
+
+/// The first of a session's reads that is on a channel.
+fn first_on(rows: &RowMap<KeptRead>, session: u32, sid: u32) -> Option<KeptRead>
+    ensures { result ≡ find (is_kept_on session sid) (map row_of (filter (is_owned_by session) rows.now)) }
+{
+    for n in 0..rows.count_of(session) {
+        if let Some(row) = rows.of(session, n) {
+            if is_on(row, session, sid) {
+                return Some(*row);
+            }
+        }
+    }
+    None
+}
+
+fn is_on(row: &KeptRead, session: u32, sid: u32) -> bool
+    ensures { result ≡ is_kept_on session sid row.now }
+{
+    row.read.session == session && row.read.sid == sid
+}
+
+/// The first read of its session that is equal to this one.
+fn first_like(rows: &RowMap<KeptRead>, read: &WaitingRead) -> Option<KeptRead>
+    ensures { result ≡ find (is_kept_like read.now) (map row_of (filter (is_owned_by read.now.session) rows.now)) }
+{
+    for n in 0..rows.count_of(read.session) {
+        if let Some(row) = rows.of(read.session, n) {
+            if is_like(row, read) {
+                return Some(*row);
+            }
+        }
+    }
+    None
+}
+
+fn is_like(row: &KeptRead, read: &WaitingRead) -> bool
+    ensures { result ≡ is_kept_like read.now row.now }
+{
+    *read == row.read
 }

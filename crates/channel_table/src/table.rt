@@ -4,15 +4,15 @@ ghost use Rattle.std.specs.Io.Iter.{u64_saturate};
 ghost use Rattle.std.specs.List.{filter, find, list_any};
 ghost use Rattle.std.specs.Option.{option_copied};
 ghost use Rattle.rows.specs.Rows.{change_first, remove_first};
-ghost use Rattle.channel_table.specs.Channels.{is_channel, is_not_channel, is_channel_of, is_not_channel_of, is_on, is_channel_on, with_reach_and_rights};
+ghost use Rattle.channel_table.specs.Channels.{is_channel, is_not_channel, is_channel_of, is_not_channel_of, is_on, with_reach_and_rights};
 ghost use Rattle.channel_table.specs.ClientRows.{has_session, has_channel, has_sub, channel_count, sub_count, read_count, is_sub_to, is_read_for};
-ghost use Rattle.channel_table.specs.Reads.{same_read, is_not_read_of, is_not_read_on};
+ghost use Rattle.channel_table.specs.Reads.{same_read, is_not_read_of, is_read_on, is_not_read_on};
 ghost use Rattle.channel_table.specs.Sessions.{is_numbered, is_not_numbered, with_host_and_pause};
 ghost use Rattle.channel_table.specs.Told.{want_on};
 ghost use Rattle.channel_table.specs.Subs.{is_sub, is_not_sub, is_sub_of, is_not_sub_of, is_sub_on, is_not_sub_on, with_owed};
 
 use crate::channels::{Channel, Channels};
-use crate::reads::{self, WaitingRead};
+use crate::reads::{KeptRead, Reads, WaitingRead};
 use crate::sessions::{Session, Sessions};
 use crate::subs::{ClientSub, Subs};
 use crate::telling;
@@ -53,11 +53,12 @@ pub struct Table {
     channels: Channels,
     subs: Subs,
     told: Told,
-    reads: Vec<WaitingRead>,
+    reads: Reads,
 }
 
 impl Model for Table {
     ghost use Rattle.channel_table.specs.ClientRows.{ClientRows};
+    ghost use Rattle.channel_table.specs.Indexes.{reads_in};
     ghost use Rattle.channel_table.specs.Told.{FollowRows};
 
     ghost Value = { ClientRows };
@@ -66,10 +67,10 @@ impl Model for Table {
       sessions = t.sessions;
       channels = t.channels;
       subs = t.subs.rows;
-      reads = t.reads.items;
+      reads = reads_in t.reads;
     } };
 
-    ghost invariant = { λ t. FollowRows t.channels t.subs t.told };
+    ghost invariant = { λ t. FollowRows t.channels t.subs t.reads t.told };
 }
 
 impl Table {
@@ -89,7 +90,7 @@ impl Table {
             channels: Channels::new(alloc),
             subs: Subs::new(alloc),
             told: Told::new(alloc),
-            reads: Vec::new(alloc),
+            reads: Reads::new(alloc),
         }
     }
 
@@ -122,13 +123,13 @@ impl Table {
     }
 
     /// All waiting reads, in the order in which they were added.
-    pub fn reads<'a>(&'a self, visits: &mut Visits) -> &'a [WaitingRead]
-        ensures all { result.now ≡ self.now.reads }
+    pub fn reads(&self, visits: &mut Visits, alloc: Global) -> Result<Vec<WaitingRead>, AllocError>
+        ensures all { IfOk result (λ rows. rows.items ≡ self.now.reads) }
         ensures visits { visits.new ≡ u64_saturate (visits.old + length self.now.reads) }
         ensures bound { visits.new ≤ visits.old + length self.now.reads }
     {
         visits.count(self.reads.len());
-        &self.reads
+        self.reads.all(alloc)
     }
 
     /// The session of this number.
@@ -179,7 +180,7 @@ impl Table {
     pub fn read_count(&self, session: u32) -> usize
         ensures { result ≡ read_count session self.now }
     {
-        reads::count(&self.reads, session)
+        self.reads.count_of(session)
     }
 
     /// The session's nth channel, counted from 0 in the order in which they were added.
@@ -263,10 +264,7 @@ impl Table {
     pub fn reads_on(&self, name: &Name) -> usize
         ensures { result ≡ length (filter (is_read_for self.now name.now) self.now.reads) }
     {
-        self.reads
-            .iter()
-            .filter(|row| self.leads_to(row.session, row.sid, name))
-            .count()
+        self.reads.count_on(name)
     }
 
     /// The nth read that waits on a channel on this real name.
@@ -276,15 +274,12 @@ impl Table {
         ensures bound { visits.new ≤ visits.old + 1 }
     {
         visits.count(1);
-        self.reads
-            .iter()
-            .filter(|row| self.leads_to(row.session, row.sid, name))
-            .nth(n)
-            .copied()
+        self.reads.are_apart();
+        self.reads.nth_on(name, n)
     }
 
-    /// The reads that wait on channels on this real name, in the order of asking. It walks all reads that
-    /// wait; those that it gives are counted as looked at.
+    /// The reads that wait on channels on this real name, in the order of asking. They are counted as
+    /// looked at.
     pub fn reads_for(
         &self,
         visits: &mut Visits,
@@ -295,12 +290,8 @@ impl Table {
         ensures visits { IfOk result (λ reads. visits.new ≡ u64_saturate (visits.old + length reads.items)) }
         ensures bound { IfOk result (λ reads. visits.new ≤ visits.old + length reads.items) }
     {
-        let mut reads = Vec::new(alloc);
-        for read in &self.reads {
-            if self.leads_to(read.session, read.sid, name) {
-                reads.push(*read)?;
-            }
-        }
+        self.reads.are_apart();
+        let reads = self.reads.all_on(name, alloc)?;
         visits.count(reads.len());
         Ok(reads)
     }
@@ -398,22 +389,27 @@ impl Table {
         if !self.channels.contains(read.session, read.sid) {
             return Err(TableFault::Missing);
         }
-        if reads::count(&self.reads, read.session) >= READ_LIMIT {
+        if self.reads.count_of(read.session) >= READ_LIMIT {
             return Err(TableFault::Full);
         }
-        match self.reads.push(read) {
+        match self.keep_read(read) {
             Ok(()) => Ok(()),
             Err(_) => Err(TableFault::OutOfMemory),
         }
     }
 
-    /// Adds a read past the limit too, and without a look at its channel: for a caller that tests
-    /// both itself, and answers what is past the limit before anything else happens.
+    /// Adds a read past the limit too, to a channel that stands: for a caller that tests both itself,
+    /// and answers what is past the limit before anything else happens.
     pub fn keep_read(&mut self, read: WaitingRead) -> Result<(), AllocError>
+        requires there { has_channel read.session read.sid self.old ≡ true }
         ensures ok { OnOk result (self.new ≡ record self.old { reads = self.old.reads ++ read ∷ [] }) }
         ensures err { OnErr result (self.new ≡ self.old) }
     {
-        self.reads.push(read)?;
+        let Some(channel) = self.channels.get(read.session, read.sid) else {
+            return Err(AllocError);
+        };
+        let id = self.reads.free_id(read.session)?;
+        self.reads.add(&channel.real, KeptRead { id, read })?;
         Ok(())
     }
 
@@ -493,7 +489,8 @@ impl Table {
           reads = filter (is_not_read_on session sid) self.old.reads;
         } }
     {
-        while self.remove_sub_on(session, sid) {}
+        self.remove_subs_on(session, sid);
+        self.remove_reads_on(session, sid);
         self.remove_bare_channel(session, sid);
     }
 
@@ -515,17 +512,27 @@ impl Table {
     pub fn remove_read(&mut self, read: &WaitingRead)
         ensures { self.new ≡ record self.old { reads = remove_first (same_read read.now) self.old.reads } }
     {
-        reads::remove(&mut self.reads, read);
+        let Some(channel) = self.channels.get(read.session, read.sid) else {
+            return;
+        };
+        self.reads.are_apart();
+        if let Some(row) = self.reads.first_like(read) {
+            self.reads.remove(&channel.real, row);
+        }
     }
 
-    /// Whether the session's channel of this ID stands, on this real name.
-    fn leads_to(&self, session: u32, sid: u32, name: &Name) -> bool
-        ensures { result ≡ is_channel_on name.now (find (is_channel session sid) self.now.channels) }
+    /// Removes the subscriptions on a channel.
+    fn remove_subs_on(&mut self, session: u32, sid: u32)
+        ensures { self.new ≡ record self.old { subs = filter (is_not_sub_on session sid) self.old.subs } }
     {
-        match self.channels.get(session, sid) {
-            Some(channel) => channel.real == *name,
-            None => false,
-        }
+        while self.remove_sub_on(session, sid) {}
+    }
+
+    /// Removes the reads that wait on a channel.
+    fn remove_reads_on(&mut self, session: u32, sid: u32)
+        ensures { self.new ≡ record self.old { reads = filter (is_not_read_on session sid) self.old.reads } }
+    {
+        while self.remove_read_on(session, sid) {}
     }
 
     /// Removes the first subscription on a channel, and tells whether there was one.
@@ -550,17 +557,31 @@ impl Table {
         }
     }
 
-    /// Removes a channel on which there is no subscription, with its reads.
+    /// Removes the first read that waits on a channel, and tells whether there was one.
+    fn remove_read_on(&mut self, session: u32, sid: u32) -> bool
+        ensures others { self.new ≡ record self.old { reads = self.new.reads } }
+        ensures elsewhere { filter (is_not_read_on session sid) self.new.reads ≡
+            filter (is_not_read_on session sid) self.old.reads }
+        ensures one { IsTrue result → length self.new.reads < length self.old.reads }
+        ensures none { result ≡ false → list_any (is_read_on session sid) self.new.reads ≡ false }
+    {
+        match self.reads.first_on(session, sid) {
+            Some(row) => {
+                self.remove_read(&row.read);
+                true
+            }
+            None => false,
+        }
+    }
+
+    /// Removes a channel on which there is no subscription and no read.
     fn remove_bare_channel(&mut self, session: u32, sid: u32)
-        requires bare { list_any (is_sub_on session sid) self.old.subs ≡ false }
-        ensures { self.new ≡ record self.old {
-          channels = filter (is_not_channel session sid) self.old.channels;
-          reads = filter (is_not_read_on session sid) self.old.reads;
-        } }
+        requires no_sub { list_any (is_sub_on session sid) self.old.subs ≡ false }
+        requires no_read { list_any (is_read_on session sid) self.old.reads ≡ false }
+        ensures { self.new ≡ record self.old { channels = filter (is_not_channel session sid) self.old.channels } }
     {
         self.channels.are_apart();
         telling::remove_channel(&mut self.channels, &mut self.told, session, sid);
-        reads::remove_on(&mut self.reads, session, sid);
     }
 
     /// Removes the last channel of a session with what hangs on it, and tells whether there was one.
@@ -582,7 +603,7 @@ impl Table {
         true
     }
 
-    /// Removes a session that has no channel, with its reads.
+    /// Removes a session that has no channel, and so nothing else.
     fn remove_bare_session(&mut self, number: u32)
         requires bare { list_any (is_channel_of number) self.old.channels ≡ false }
         ensures { self.new ≡ record {
@@ -593,6 +614,5 @@ impl Table {
         } }
     {
         self.sessions.remove(number);
-        reads::remove_of(&mut self.reads, number);
     }
 }

@@ -274,8 +274,8 @@ fn show(alloc: Global, table: &Table, visits: &mut Visits, told: &mut String) ->
     for row in table.subs(visits, alloc)? {
         show_sub(row, told)?;
     }
-    for row in table.reads(visits) {
-        show_read(*row, told)?;
+    for row in table.reads(visits, alloc)? {
+        show_read(row, told)?;
     }
     Ok(())
 }

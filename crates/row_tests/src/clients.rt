@@ -224,6 +224,52 @@ show
 }
 
 #[test]
+fn equal_reads_stand_together(rt: HostRuntime) -> Result<(), Fail> {
+    tells(
+        &rt,
+        rt.alloc(),
+        "session 1-2\nchannel 1 11\nchannel 2 21\nchannel 2 60",
+        "\
+read 1 11 5
+read 2 21 5
+read 1 11 5
+read 2 60 5
+read 1 11 5
+on A:SP
+> true 2 0 4
+> channel 1 11 A:SP reach 0 rights 3
+> channel 2 21 A:SP reach 0 rights 3
+> read 1 11 5
+> read 2 21 5
+> read 1 11 5
+> read 1 11 5
+remove read 1 11 5
+read 1 11 5
+remove read 1 11 5
+count 1
+> 1 0 2
+on A:SP
+> true 2 0 3
+> channel 1 11 A:SP reach 0 rights 3
+> channel 2 21 A:SP reach 0 rights 3
+> read 2 21 5
+> read 1 11 5
+> read 1 11 5
+remove channel 1 11
+count 1
+> 0 0 0
+show
+> session 1 10.0.0.5
+> session 2 10.0.0.5
+> channel 2 21 A:SP reach 0 rights 3
+> channel 2 60 B:SP reach 0 rights 3
+> read 2 21 5
+> read 2 60 5
+",
+    )
+}
+
+#[test]
 fn a_row_without_its_session_or_channel_is_refused(rt: HostRuntime) -> Result<(), Fail> {
     tells(
         &rt,

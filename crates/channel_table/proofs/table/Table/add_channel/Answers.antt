@@ -1,3 +1,4 @@
+use Rattle.channel_table.specs.Indexes.{read_home, read_key, sub_home, sub_key}
 use Rattle.channel_table.proofs.Following.{follow_more}
 use Rattle.channel_table.proofs.Asking.{told_more_channel, told_same_channels}
 use Rattle.channel_table.proofs.table.Table.add_channel.Goals.{in-Ok, in-Err}
@@ -7,11 +8,13 @@ pub invariant_of-self : goal.invariant_of-self
 invariant_of-self c =
     elim c.match-add_channel.branch [
       | in-Ok w ↦ record {
-        rows = rw w.in-Ok.ensures.ok (follow_more c.self.inside.channels c.self.inside.subs c.args.channel c.self.invariant.rows);
-        told = rw w.in-Ok.ensures.ok (told_more_channel c.self.inside.channels c.self.inside.subs.rows c.args.channel _ _ c.self.invariant.rows.standing w.in-Ok.ensures.ok_told c.self.invariant.told);
+        subs_follow = rw w.in-Ok.ensures.ok (follow_more sub_key sub_home c.self.inside.channels _ _ c.args.channel c.self.invariant.subs_follow);
+        reads_follow = rw w.in-Ok.ensures.ok (follow_more read_key read_home c.self.inside.channels _ _ c.args.channel c.self.invariant.reads_follow);
+        told = rw w.in-Ok.ensures.ok (told_more_channel c.self.inside.channels c.self.inside.subs.rows c.args.channel _ _ c.self.invariant.subs_follow.standing w.in-Ok.ensures.ok_told c.self.invariant.told);
       }
       | in-Err w ↦ record {
-        rows = rw w.in-Err.ensures.err c.self.invariant.rows;
+        subs_follow = rw w.in-Err.ensures.err c.self.invariant.subs_follow;
+        reads_follow = rw w.in-Err.ensures.err c.self.invariant.reads_follow;
         told = told_same_channels _ _ _ _ _ w.in-Err.ensures.err w.in-Err.ensures.err_told c.self.invariant.told;
       }
     ]

@@ -1,6 +1,7 @@
 use Rattle.std.proofs.Common.{◌≡◌, true, false, Ok, Err, OnOk, refl, sym, ap, ◌∙◌, arith, true≢false}
 use Rattle.channel_table.specs.Channels.{is_channel}
 use Rattle.channel_table.specs.ClientRows.{has_channel, has_sub, sub_count}
+use Rattle.channel_table.specs.Indexes.{sub_home, sub_key}
 use Rattle.channel_table.proofs.Following.{follow_added, follow_same}
 use Rattle.channel_table.specs.Told.{asks_on}
 use Rattle.channel_table.proofs.Asking.{told_added, told_same}
@@ -35,11 +36,13 @@ invariant_of-self c =
     let found = sym c.in-Some.ensures in
     elim c.match-add_sub.branch [
       | in-Ok w ↦ record {
-        rows = follow_added _ _ _ c.args.sub c.in-Some.channel.now found w.in-Ok.ensures.ok_rows w.in-Ok.ensures.ok_on c.self.invariant.rows;
+        subs_follow = follow_added sub_key sub_home _ _ _ _ _ c.args.sub c.in-Some.channel.now found w.in-Ok.ensures.ok_rows w.in-Ok.ensures.ok_on c.self.invariant.subs_follow;
+        reads_follow = c.self.invariant.reads_follow;
         told = told_added _ _ _ c.args.sub c.in-Some.channel.now _ _ found w.in-Ok.ensures.ok_rows w.in-Ok.ensures.ok_told c.self.invariant.told;
       }
       | in-Err w ↦ record {
-        rows = follow_same _ _ _ w.in-Err.ensures.err_rows w.in-Err.ensures.err_on c.self.invariant.rows;
+        subs_follow = follow_same sub_key sub_home _ _ _ _ _ w.in-Err.ensures.err_rows w.in-Err.ensures.err_on c.self.invariant.subs_follow;
+        reads_follow = c.self.invariant.reads_follow;
         told = told_same _ _ _ _ _ w.in-Err.ensures.err_rows w.in-Err.ensures.err_told c.self.invariant.told;
       }
     ]

@@ -1,9 +1,11 @@
-use Rattle.std.proofs.Common.{rules, ◌∙◌}
-use Rattle.std.proofs.lemmas.Iterator.{YieldsList-from_slice}
-use Rattle.std.proofs.lemmas.Iterator.Consumers.{nth_from_yields_List, YieldsList-from_filter}
-use Rattle.channel_table.specs.ClientRows.{is_read_for}
+use Rattle.std.proofs.Common.{slice_get, ap, ◌∙◌}
+use Rattle.std.specs.List.{filter}
+use Rattle.channel_table.specs.ClientRows.{ClientRows, is_read_for}
+use Rattle.channel_table.proofs.Waiting.{nth_waiting}
 use Rattle.channel_table.proofs.table.Table.read_on.Goals as goal
 
+-- the nth key of the name is the key of the nth read that waits for it
 pub returns-clause-nth : goal.returns-clause-nth
 returns-clause-nth c =
-    c.copied.ensures ∙ nth_from_yields_List _ _ c.args.n c.nth.ensures.ran (YieldsList-from_filter _ (is_read_for c.args.self.now c.args.name.now) (YieldsList-from_slice c.args.self.now.reads cc) c.filter.ensures.closure (λ row kept closure called. search rules))
+    c.nth_on.ensures ∙ nth_waiting c.self.inside.channels c.self.inside.reads c.args.name.now c.args.n c.are_apart.ensures c.self.invariant.reads_follow
+    ∙ ap (λ (t : ClientRows). slice_get (filter (is_read_for t c.args.name.now) t.reads) c.args.n) c.self.view_is

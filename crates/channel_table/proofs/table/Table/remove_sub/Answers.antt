@@ -3,6 +3,7 @@ use Rattle.std.specs.List.{find}
 use Rattle.channel_table.specs.Channels.{is_channel}
 use Rattle.channel_table.specs.Subs.{is_sub}
 use Rattle.channel_table.specs.ClientRows.{ClientRows}
+use Rattle.channel_table.specs.Indexes.{sub_home, sub_key}
 use Rattle.channel_table.proofs.Following.{follow_removed, stands_of}
 use Rattle.channel_table.proofs.Asking.{told_less_row}
 use Rattle.channel_table.proofs.Lists.{none_dropped, unfound_is_absent}
@@ -19,11 +20,12 @@ invariant_of-self c =
     let found = sym c.get.ensures ∙ sym c.in-Some.ensures in
     let on = sym c.in-Some-get.ensures in
     record {
-      rows = follow_removed _ _ _ c.args.session c.args.id c.in-Some.sub c.in-Some-get.channel.now c.are_apart.ensures found on c.remove_sub.ensures.rows c.remove_sub.ensures.on c.self.invariant.rows;
+      subs_follow = follow_removed sub_key sub_home _ _ _ _ _ (record { owner = c.args.session; id = c.args.id }) c.in-Some.sub c.in-Some-get.channel.now c.are_apart.ensures found on c.remove_sub.ensures.rows c.remove_sub.ensures.on c.self.invariant.subs_follow;
+      reads_follow = c.self.invariant.reads_follow;
       told = told_less_row _ _ _ c.args.session c.args.id c.in-Some.sub c.in-Some-get.channel.now _ _ c.are_apart.ensures found on c.remove_sub.ensures.rows c.remove_sub.ensures.told c.self.invariant.told;
     }
 
 -- its channel stands
 pub returns-in_default-get : goal.returns-in_default-get
 returns-in_default-get c =
-    absurd (true≢false (sym (stands_of c.self.inside.channels c.self.inside.subs c.args.session c.args.id c.in-Some.sub (sym c.get.ensures ∙ sym c.in-Some.ensures) c.self.invariant.rows) ∙ unfound_is_absent (is_channel c.in-Some.sub.session c.in-Some.sub.sid) c.self.inside.channels (sym c.in_default-get.ensures)))
+    absurd (true≢false (sym (stands_of sub_key sub_home c.self.inside.channels c.self.inside.subs.rows c.self.inside.subs.on (is_sub c.args.session c.args.id) c.in-Some.sub (sym c.get.ensures ∙ sym c.in-Some.ensures) c.self.invariant.subs_follow) ∙ unfound_is_absent (is_channel c.in-Some.sub.session c.in-Some.sub.sid) c.self.inside.channels (sym c.in_default-get.ensures)))

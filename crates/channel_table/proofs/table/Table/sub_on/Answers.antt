@@ -9,5 +9,5 @@ use Rattle.channel_table.proofs.table.Table.sub_on.Goals as goal
 pub returns-clause-nth : goal.returns-clause-nth
 returns-clause-nth c =
     c.nth_on.ensures
-    ∙ nth_listed sub_key (is_to c.self.inside.channels) c.self.inside.subs.rows c.self.inside.subs.on c.args.name.now c.args.n c.are_apart.ensures c.self.invariant.rows.listed
+    ∙ nth_listed sub_key (is_to c.self.inside.channels) c.self.inside.subs.rows c.self.inside.subs.on c.args.name.now c.args.n c.are_apart.ensures c.self.invariant.subs_follow.listed
     ∙ ap (λ (t : ClientRows). slice_get (filter (is_sub_to t c.args.name.now) t.subs) c.args.n) c.self.view_is

@@ -1,7 +1,7 @@
 use Rattle.std.proofs.Common.{◌≡◌, length}
 use Rattle.std.specs.List.{filter}
 use Rattle.channel_table.specs.Subs.{is_not_sub_on}
-use Rattle.channel_table.proofs.table.Table.remove_channel.Given as goal
+use Rattle.channel_table.proofs.table.Table.remove_subs_on.Given as goal
 
 -- subscriptions go alone, and none that is on another channel
 abbrev pub invariant-loop : goal.invariant-loop
