@@ -6,8 +6,8 @@
 //! - `session`, `channel` and `sub` find a row by its IDs; `channels`, `subs` and `reads` are all rows
 //!   in the order of adding, `reads_for` the reads that wait for a real name, and `channel_count` and the
 //!   like count those of a session.
-//! - `channel_of` and `sub_of` give the rows of a session one by one, and `channel_on`, `sub_on` and
-//!   `read_on` those of a real name: of the channels on it, and of what hangs on these.
+//! - `channel_of`, `sub_of` and `read_of` give the rows of a session one by one, and `channel_on`,
+//!   `sub_on` and `read_on` those of a real name: of the channels on it, and of what hangs on these.
 //! - `want_on` tells what the subscriptions to a real name and the channels on it want together.
 //! - `put_session`, `put_channel` and `put_sub` change a row that stands.
 //! - `remove_session` and `remove_channel` take the rows that name theirs along.

@@ -91,6 +91,12 @@ impl Reads {
         self.rows.count_of(session)
     }
 
+    pub(crate) fn nth_of(&self, session: u32, n: usize) -> Option<WaitingRead>
+        ensures { result ≡ slice_get (filter (is_read_of session) (reads_in self.now)) n }
+    {
+        nth_of(&self.rows, session, n)
+    }
+
     pub(crate) fn count_on(&self, name: &Name) -> usize
         ensures { result ≡ length (of self.now.on name.now) }
     {
@@ -212,6 +218,15 @@ fn copied(rows: &[&KeptRead], alloc: Global) -> Result<Vec<WaitingRead>, AllocEr
         reads.push(row.read)?;
     }
     Ok(reads)
+}
+
+fn nth_of(rows: &RowMap<KeptRead>, session: u32, n: usize) -> Option<WaitingRead>
+    ensures { result ≡ option_map read_in (slice_get (map row_of (filter (is_owned_by session) rows.now)) n) }
+{
+    match rows.of(session, n) {
+        Some(row) => Some(row.read),
+        None => None,
+    }
 }
 
 fn read_at(rows: &RowMap<KeptRead>, key: Key) -> Option<WaitingRead>

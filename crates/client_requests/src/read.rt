@@ -1,5 +1,6 @@
 //! READ_NOTIFY.
-ghost use Rattle.std.specs.Prelude.{◌≡◌, ◌≤◌, ◌+◌, Some, OnOk, IfOk};
+ghost use Rattle.std.specs.Prelude.{◌≡◌, ◌≤◌, ◌+◌, true, Some, OnOk, IfOk};
+ghost use Rattle.channel_table.specs.ClientRows.{has_channel};
 ghost use Rattle.gateway_state.specs.Answer.{cached_value};
 ghost use Rattle.gateway_state.specs.Clients.{accepted, is_one_too_many, read_asked, read_refused, read_verdict, verdict_natively};
 ghost use Rattle.gateway_state.specs.Rights.{channel_of};
@@ -111,15 +112,18 @@ fn accept_read(
     reach: u32,
     rights: u32,
 ) -> Result<(), AllocError>
+    requires there { has_channel read.session read.sid rows.old.clients ≡ true }
     ensures ok { OnOk result (rows.new ≡ accepted read.session read.sid read.ioid read.dtype read.count reach rights rows.old) }
     ensures bound { visits.new ≤ visits.old + 1 }
 {
+    rows.clients.keep_read(read)?;
     rows.clients
         .put_channel(visits, read.session, read.sid, reach, rights);
-    rows.clients.keep_read(read)
+    Ok(())
 }
 
 /// A client wants a value.
+#[tactic(auto, using(crate::proofs::Accepted::accepted_is_there))]
 pub(crate) fn read(
     rows: &mut Rows,
     visits: &mut Visits,

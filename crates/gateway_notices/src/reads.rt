@@ -60,7 +60,7 @@ fn read_notices(rows: &Rows, visits: &mut Visits) -> Result<VecDeque<ReadNotice>
     ensures { IfOk result (λ notices. notices.items ≡ read_notices rows.now) }
 {
     let mut notices = VecDeque::new(rows.alloc);
-    for read in rows.clients.reads(visits) {
+    for read in &rows.clients.reads(visits, rows.alloc)? {
         if let Some(notice) = read_notice(rows, visits, *read)? {
             notices.push_back(notice)?;
         }
