@@ -6,7 +6,8 @@ use Rattle.std.proofs.lemmas.Bool.{false≢true}
 use Rattle.row_index.specs.declared.key.Key.{Key}
 use Rattle.row_index.specs.Rows.{same_key, lacks_key, row_of, value_at, put_at, HasKeysApart}
 use Rattle.link_table.specs.declared.links.Link.{Link}
-use Rattle.link_table.specs.LinkIndex.{key_of, entry_of, LeadEachWay, told_at}
+use Rattle.link_table.specs.LinkIndex.{key_of, LeadEachWay, told_at}
+use Rattle.link_table.specs.Keyed.{entry_by}
 use Rattle.link_table.proofs.KeyedLemmas.{found_at_its_key, none_at_a_key}
 use Rattle.link_table.proofs.LeadsBackLemmas.{lead_as, lead_joined, lead_parted, lead_moved}
 use Rattle.link_table.proofs.ValueLemmas.{same_key_decides, value_of_added, value_beside_added, value_of_removed, value_beside_removed, value_of_put, value_beside_put}
@@ -16,7 +17,7 @@ module _ {B : Type 0} (told : Link → Option B) (p : Link → Bool) (b : B) whe
   told_there k links row e = ap (option_and_then told) e
 
   -- where no link passes a test, nothing leads from what a link that passes says
-  pub led_nowhere : ((row : Link) → told row ≡ Some b → p row ≡ true) → (links : List (Key × Link)) → links ≡ map entry_of (map row_of links) → (g : B → Option Key) → LeadEachWay (told_at told links) g → find p (map row_of links) ≡ None → g b ≡ None
+  pub led_nowhere : ((row : Link) → told row ≡ Some b → p row ≡ true) → (links : List (Key × Link)) → links ≡ map (entry_by key_of) (map row_of links) → (g : B → Option Key) → LeadEachWay (told_at told links) g → find p (map row_of links) ≡ None → g b ≡ None
   led_nowhere passes links keyed g way e =
       elim (g b) as (λ o. g b ≡ o → o ≡ None) [
         | None ↦ λ none. refl
@@ -24,16 +25,16 @@ module _ {B : Type 0} (told : Link → Option B) (p : Link → Bool) (b : B) whe
             let said : told_at told links k ≡ Some b = way.is_led_to b k led in
             elim (value_at k links) as (λ o. value_at k links ≡ o → option_and_then told o ≡ Some b → Some k ≡ None) [
               | None ↦ λ none is. cc
-              | Some row ↦ λ there is. absurd (false≢true (sym (none_at_a_key p k links row keyed e there) ∙ passes row is))
+              | Some row ↦ λ there is. absurd (false≢true (sym (none_at_a_key key_of p k links row keyed e there) ∙ passes row is))
             ] refl said
       ] refl
 
   -- the first link that passes a test, where that is the one that something leads to
-  pub found_by_index : ((row : Link) → p row ≡ true → told row ≡ Some b) → ((row : Link) → told row ≡ Some b → p row ≡ true) → (links : List (Key × Link)) → links ≡ map entry_of (map row_of links) → HasKeysApart links → (g : B → Option Key) → LeadEachWay (told_at told links) g → option_and_then (λ k. value_at k links) (g b) ≡ find p (map row_of links)
+  pub found_by_index : ((row : Link) → p row ≡ true → told row ≡ Some b) → ((row : Link) → told row ≡ Some b → p row ≡ true) → (links : List (Key × Link)) → links ≡ map (entry_by key_of) (map row_of links) → HasKeysApart links → (g : B → Option Key) → LeadEachWay (told_at told links) g → option_and_then (λ k. value_at k links) (g b) ≡ find p (map row_of links)
   found_by_index tells passes links keyed apart g way =
       elim (find p (map row_of links)) as (λ found. find p (map row_of links) ≡ found → option_and_then (λ k. value_at k links) (g b) ≡ found) [
         | Some row ↦ λ e.
-            let here = found_at_its_key p links row keyed apart e in
+            let here = found_at_its_key key_of p links row keyed apart e in
             let led : g b ≡ Some (key_of row) = way.leads (key_of row) b (told_there (key_of row) links row here.0 ∙ tells row here.1) in
             ap (option_and_then (λ k. value_at k links)) led ∙ here.0
         | None ↦ λ e. ap (option_and_then (λ k. value_at k links)) (led_nowhere passes links keyed g way e)

@@ -5,3 +5,4 @@ pub mod IndexLemmas
 pub mod LinkSetLemmas
 pub mod NameLemmas
 pub mod OwnerLemmas
+pub mod WriteLemmas

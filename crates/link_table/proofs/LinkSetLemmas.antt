@@ -15,13 +15,14 @@ use Rattle.row_index.proofs.Owned.{undone}
 use Rattle.row_index.proofs.Keys.{apart_with_more, apart_with_fewer, apart_with_put}
 use Rattle.link_table.specs.declared.links.Link.{Link}
 use Rattle.link_table.specs.declared.links.Subscription.{Subscription}
-use Rattle.link_table.specs.Links.{is_link, is_not_link, is_named, has_id, has_subscription}
-use Rattle.link_table.specs.LinkIndex.{key, key_of, entry_of, name_of, sub_key, sub_of, with_led, without_led, IsFree, LeadEachWay, told_at, first_of, AreIndexed}
+use Rattle.link_table.specs.Links.{is_link, is_named, has_id, has_subscription}
+use Rattle.link_table.specs.Keyed.{entry_by}
+use Rattle.link_table.specs.LinkIndex.{key, key_of, name_of, sub_key, sub_of, with_led, without_led, IsFree, LeadEachWay, told_at, first_of, AreIndexed}
 use Rattle.link_table.proofs.IndexLemmas.{found_by_index, led_nowhere, silent_added, silent_removed, same_put, told_added, told_removed, told_put, untold_put, retold_put}
-use Rattle.link_table.proofs.KeyedLemmas.{keyed_by, link_at, keyed_with_more, keyed_with_fewer, keyed_with_put, found_none, found_passes}
+use Rattle.link_table.proofs.KeyedLemmas.{keyed_by, row_at, keyed_with_more, keyed_with_fewer, keyed_with_put, found_none, found_passes}
 use Rattle.link_table.proofs.LeadsBackLemmas.{lead_as}
 use Rattle.link_table.proofs.NameLemmas.{is_same, is_same_decides, first_of_added, first_beside_added, single_with_more, first_of_removed, first_beside_removed, single_with_fewer}
-use Rattle.link_table.proofs.ValueLemmas.{same_key_decides, value_of_added, value_beside_added, value_of_removed, value_beside_removed, none_left_out}
+use Rattle.link_table.proofs.ValueLemmas.{same_key_decides, value_of_added, value_beside_added, value_of_removed, value_beside_removed}
 
 -- what a link says by its name
 named_tells : (name : List ℕ) (row : Link) → is_named name row ≡ true → name_of row ≡ Some name
@@ -124,7 +125,7 @@ module _ (links : List (Key × Link)) (names names' : List (List ℕ × List Key
   pub indexed_with_more : (row : Link) → value_at (key_of row) links ≡ None → first_of names row.name ≡ None → IsFree (sub_of row) subs → AddsTo row.name (key_of row) names names' → AreIndexed (links ++ (key_of row, row) ∷ []) names' (with_led (sub_of row) (key_of row) subs)
   indexed_with_more row new unnamed free adds = record {
     apart = apart_with_more links (key_of row) row new indexed.apart;
-    keyed = (keyed_by _ _ (keyed_with_more links row indexed.keyed)).0;
+    keyed = (keyed_by key_of _ _ (keyed_with_more key_of links row indexed.keyed)).0;
     single = single_with_more row.name (key_of row) names names' indexed.single unnamed adds;
     by_name = told_added name_of is_same is_same_decides (key_of row) row row.name links (first_of names) (first_of names') indexed.by_name new refl unnamed (first_of_added row.name (key_of row) names names' indexed.single unnamed adds) (first_beside_added row.name (key_of row) names names' adds);
     by_sub = subs_with_more (key_of row) row (sub_of row) links subs indexed.by_sub new refl free;
@@ -136,7 +137,7 @@ module _ (links : List (Key × Link)) (names names' : List (List ℕ × List Key
       let led : first_of names row.name ≡ Some k = indexed.by_name.leads k row.name (ap (option_and_then name_of) there) in
       record {
         apart = apart_with_fewer (lacks_key k) links indexed.apart;
-        keyed = (keyed_by _ _ (keyed_with_fewer k links indexed.keyed)).0;
+        keyed = (keyed_by key_of _ _ (keyed_with_fewer key_of k links indexed.keyed)).0;
         single = single_with_fewer row.name k names names' indexed.single led removes;
         by_name = told_removed name_of is_same is_same_decides k row row.name links (first_of names) (first_of names') indexed.by_name there refl (first_of_removed row.name k names names' indexed.single led removes) (first_beside_removed row.name k names names' removes);
         by_sub = subs_with_fewer k row (sub_of row) links subs indexed.by_sub there refl;
@@ -147,7 +148,7 @@ module _ (links : List (Key × Link)) (names : List (List ℕ × List Key)) (sub
   pub indexed_with_put : (k : Key) (f : Link → Link) → ((row : Link) → key_of (f row) ≡ key_of row) → (row : Link) → (f row).name ≡ row.name → value_at k links ≡ Some row → IsFree (sub_of (f row)) subs → AreIndexed (put_at k links (f row)) names (without_led (sub_of row) (with_led (sub_of (f row)) k subs))
   indexed_with_put k f keeps row named there free = record {
     apart = apart_with_put k links (f row) indexed.apart;
-    keyed = (keyed_by _ _ (keyed_with_put k f keeps row links indexed.keyed there)).0;
+    keyed = (keyed_by key_of _ _ (keyed_with_put key_of k f keeps row links indexed.keyed there)).0;
     single = indexed.single;
     by_name = same_put name_of k row (f row) links (first_of names) indexed.by_name there (ap Some named);
     by_sub = subs_with_put k row (f row) (sub_of row) (sub_of (f row)) links subs indexed.by_sub there refl refl free;
@@ -157,7 +158,7 @@ module _ (links : List (Key × Link)) (names : List (List ℕ × List Key)) (sub
   pub indexed_with_kept : (k : Key) (f : Link → Link) → ((row : Link) → key_of (f row) ≡ key_of row) → (row : Link) → (f row).name ≡ row.name → (f row).subscription ≡ row.subscription → value_at k links ≡ Some row → AreIndexed (put_at k links (f row)) names subs
   indexed_with_kept k f keeps row named same there = record {
     apart = apart_with_put k links (f row) indexed.apart;
-    keyed = (keyed_by _ _ (keyed_with_put k f keeps row links indexed.keyed there)).0;
+    keyed = (keyed_by key_of _ _ (keyed_with_put key_of k f keeps row links indexed.keyed there)).0;
     single = indexed.single;
     by_name = same_put name_of k row (f row) links (first_of names) indexed.by_name there (ap Some named);
     by_sub = same_put sub_of k row (f row) links (λ j. value_at j subs) indexed.by_sub there (λ i. sub_key ((keeps row i).owner) (same i));
@@ -180,34 +181,19 @@ pub led_again : (from : Option Key) (to : Key) (subs : List (Key × Key)) → Is
 led_again None to subs free = refl
 led_again (Some k) to subs free = undone k to subs free
 
-module _ (links : List (Key × Link)) (keyed : links ≡ map entry_of (map row_of links)) where
-  -- no link stands under a key that is new
-  pub new_key : (k : Key) → list_any (is_link k.owner k.id) (map row_of links) ≡ false → value_at k links ≡ None
-  new_key k new = link_at k links keyed ∙ found_none (is_link k.owner k.id) (map row_of links) new
-
+module _ (links : List (Key × Link)) (keyed : links ≡ map (entry_by key_of) (map row_of links)) where
   -- a link stands under its own key
   pub key_at : (k : Key) (row : Link) → value_at k links ≡ Some row → key_of row ≡ k
   key_at k row there =
-      let passes = found_passes (is_link k.owner k.id) (map row_of links) row (sym (link_at k links keyed) ∙ there) in
+      let passes = found_passes (is_link k.owner k.id) (map row_of links) row (sym (row_at key_of k links keyed) ∙ there) in
       let parts = and_parts (row.server == k.owner) (row.cid == k.id) passes in
       let owner = eqb-true row.server k.owner parts.0 in
       let id = eqb-true row.cid k.id parts.1 in
       (λ i. key (owner i) (id i))
 
-  -- the links, with one more
-  pub rows_with_more : (row : Link) → map row_of (links ++ (key_of row, row) ∷ []) ≡ map row_of links ++ row ∷ []
-  rows_with_more row = (keyed_by _ _ (keyed_with_more links row keyed)).1
-
-  -- without the one under a key
-  pub rows_with_fewer : (k : Key) → map row_of (filter (lacks_key k) links) ≡ filter (is_not_link k.owner k.id) (map row_of links)
-  rows_with_fewer k = (keyed_by _ _ (keyed_with_fewer k links keyed)).1
-
-  pub rows_without_none : (k : Key) → value_at k links ≡ None → map row_of links ≡ filter (is_not_link k.owner k.id) (map row_of links)
-  rows_without_none k none = sym (none_left_out (is_link k.owner k.id) (map row_of links) (sym (link_at k links keyed) ∙ none))
-
   -- with the one under a key changed
   pub rows_with_put : (k : Key) (f : Link → Link) → ((row : Link) → key_of (f row) ≡ key_of row) → (row : Link) → value_at k links ≡ Some row → map row_of (put_at k links (f row)) ≡ change_first (is_link k.owner k.id) f (map row_of links)
-  rows_with_put k f keeps row there = (keyed_by _ _ (keyed_with_put k f keeps row links keyed there)).1
+  rows_with_put k f keeps row there = (keyed_by key_of _ _ (keyed_with_put key_of k f keeps row links keyed there)).1
 
   pub rows_with_none_put : (k : Key) (f : Link → Link) → value_at k links ≡ None → map row_of links ≡ change_first (is_link k.owner k.id) f (map row_of links)
-  rows_with_none_put k f none = sym (change_first_unfound (is_link k.owner k.id) f (map row_of links) (sym (link_at k links keyed) ∙ none))
+  rows_with_none_put k f none = sym (change_first_unfound (is_link k.owner k.id) f (map row_of links) (sym (row_at key_of k links keyed) ∙ none))

@@ -1,3 +1,5 @@
+pub mod Keyed
+pub mod WriteIndex
 pub mod Counters
 pub mod LinkRows
 pub mod Links

@@ -7,6 +7,7 @@ use Rattle.row_index.specs.Lists.{of}
 use Rattle.row_index.specs.Rows.{row_of, value_at, lacks_key, HasKeysApart}
 use Rattle.link_table.specs.declared.links.Link.{Link}
 use Rattle.link_table.specs.declared.links.Subscription.{Subscription}
+use Rattle.link_table.specs.Keyed.{entry_by}
 
 -- the key of a row of this owner with this ID
 abbrev pub key : ℕ → ℕ → Key
@@ -15,10 +16,6 @@ key owner id = record { owner = owner; id = id }
 -- the key of a link: its server and its ID
 abbrev pub key_of : Link → Key
 key_of row = key row.server row.cid
-
--- a link under its key
-abbrev pub entry_of : Link → Key × Link
-entry_of row = (key_of row, row)
 
 -- the name of a link
 abbrev pub name_of : Link → Option (List ℕ)
@@ -67,7 +64,7 @@ pub record LeadEachWay {A B : Type 0} (f : A → Option B) (g : B → Option A) 
 -- each link stands under its key, and its name and its subscription lead to it and to none else
 pub record AreIndexed (links : List (Key × Link)) (names : List (List ℕ × List Key)) (subs : List (Key × Key)) : Type 0 where
   pub apart : HasKeysApart links
-  pub keyed : links ≡ map entry_of (map row_of links)
+  pub keyed : links ≡ map (entry_by key_of) (map row_of links)
   pub single : (name : List ℕ) → of names name ≡ option_to_list (first_of names name)
   pub by_name : LeadEachWay (told_at name_of links) (first_of names)
   pub by_sub : LeadEachWay (told_at sub_of links) (λ k. value_at k subs)

@@ -10,6 +10,10 @@
 //!   the writes to it along, `remove_writes` those on a channel of a client.
 //! - `give_out` gives the next number of a [`Counter`], each one more than the one before.
 //!
+//! Links and writes are found by index: a call costs the rows that it names, however many others stand
+//! or wait. What goes with a server, a session or a channel is found among the rows of that server or
+//! session. Removals take no memory.
+//!
 //! A contract sees `Links` as three lists and four counters. Each call changes what it names alone, a
 //! refused one nothing, and a limit refuses exactly where it is reached; limits are in
 //! `laws::numbers_are_these`.

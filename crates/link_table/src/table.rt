@@ -14,7 +14,7 @@ use crate::counter::{Counter, NextNumbers};
 use crate::link_set::LinkSet;
 use crate::links::{Link, LinkState, Subscription};
 use crate::servers::{self, Server};
-use crate::writes::{self, WaitingWrite};
+use crate::writes::{WaitingWrite, Writes};
 use pv_name::Name;
 use std::alloc::{AllocError, Global};
 use std::marker::Model;
@@ -45,7 +45,7 @@ pub enum TableFault {
 pub struct Links {
     servers: Vec<Server>,
     links: LinkSet,
-    writes: Vec<WaitingWrite>,
+    writes: Writes,
     next: NextNumbers,
 }
 
@@ -57,7 +57,7 @@ impl Model for Links {
     ghost view = { λ l. record {
       servers = l.servers.items;
       links = l.links;
-      writes = l.writes.items;
+      writes = l.writes;
       counters = l.next;
     } };
 }
@@ -70,7 +70,7 @@ impl Links {
         Links {
             servers: Vec::new(alloc),
             links: LinkSet::new(alloc),
-            writes: Vec::new(alloc),
+            writes: Writes::new(alloc),
             next: NextNumbers::new(first),
         }
     }
@@ -132,14 +132,14 @@ impl Links {
     pub fn write(&self, server: u32, id: u32) -> Option<&WaitingWrite>
         ensures { option_copied result ≡ find (is_write server id) self.now.writes }
     {
-        writes::find(&self.writes, server, id)
+        self.writes.get(server, id)
     }
 
     /// How many writes of the session wait.
     pub fn writes(&self, session: u32) -> usize
         ensures { result ≡ write_count session self.now }
     {
-        writes::count(&self.writes, session)
+        self.writes.count(session)
     }
 
     /// Adds a server. The caller sees to it that none of its number stands.
@@ -187,6 +187,7 @@ impl Links {
 
     /// Adds a write to the server that it names. The caller sees to it that none of its ID waits there.
     pub fn add_write(&mut self, write: WaitingWrite) -> Result<(), TableFault>
+        requires new { list_any (is_write write.server write.id) self.old.writes ≡ false }
         ensures ok { OnOk result (self.new ≡ record self.old { writes = self.old.writes ++ write ∷ [] }) }
         ensures there { OnOk result (has_server write.server self.old ≡ true) }
         ensures room { OnOk result (write_count write.session self.old < WRITE_LIMIT) }
@@ -199,10 +200,10 @@ impl Links {
         if !servers::stands(&self.servers, write.server) {
             return Err(TableFault::Missing);
         }
-        if writes::count(&self.writes, write.session) >= WRITE_LIMIT {
+        if self.writes.count(write.session) >= WRITE_LIMIT {
             return Err(TableFault::Full);
         }
-        match self.writes.push(write) {
+        match self.writes.add(write) {
             Ok(()) => Ok(()),
             Err(_) => Err(TableFault::OutOfMemory),
         }
@@ -259,7 +260,7 @@ impl Links {
     {
         servers::remove(&mut self.servers, number);
         self.links.remove_of(number);
-        writes::remove_to(&mut self.writes, number);
+        self.writes.remove_to(number);
     }
 
     /// Removes a link.
@@ -273,21 +274,21 @@ impl Links {
     pub fn remove_write(&mut self, server: u32, id: u32)
         ensures { self.new ≡ record self.old { writes = filter (is_not_write server id) self.old.writes } }
     {
-        writes::remove(&mut self.writes, server, id);
+        self.writes.remove(server, id);
     }
 
     /// Removes all writes on the session's channel of this ID.
     pub fn remove_writes(&mut self, session: u32, sid: u32)
         ensures { self.new ≡ record self.old { writes = filter (is_not_write_on session sid) self.old.writes } }
     {
-        writes::remove_on(&mut self.writes, session, sid);
+        self.writes.remove_on(session, sid);
     }
 
     /// Removes all writes of the session.
     pub fn remove_writes_of(&mut self, session: u32)
         ensures { self.new ≡ record self.old { writes = filter (is_not_write_of session) self.old.writes } }
     {
-        writes::remove_of(&mut self.writes, session);
+        self.writes.remove_of(session);
     }
 
     /// No number past the last one was given out, whatever was done: this call does nothing.

@@ -1,0 +1,31 @@
+use Rattle.std.proofs.Common.{◌-◌, sym, ap, ◌∙◌}
+use Rattle.std.specs.List.{list_any}
+use Rattle.std.specs.Prelude.{slice_get}
+use Rattle.std.specs.Option.{option_copied}
+use Rattle.link_table.specs.Writes.{is_write, is_write_to}
+use Rattle.link_table.specs.WriteIndex.{write_key}
+use Rattle.link_table.proofs.OwnerLemmas.{owned_rows, owned_count, got_row, none_of, last_is_there}
+use Rattle.link_table.proofs.writes.Writes.last_to.Goals as goal
+
+-- a server that owns nothing has no write
+pub returns-then-count-eq0-clause-none : goal.returns-then-count-eq0-clause-none
+returns-then-count-eq0-clause-none c = λ _.
+    let writes = c.self.inside.rows in
+    let counted = sym (owned_count write_key c.args.server writes c.self.invariant.keyed) ∙ sym c.count_of-count.ensures ∙ c.if-count-eq0.true in
+    ap (list_any (is_write_to c.args.server)) (sym c.self.view_is) ∙ none_of (is_write_to c.args.server) _ counted
+
+-- what stands in its list is a write to it
+pub returns-in-Some-clause-found : goal.returns-in-Some-clause-found
+returns-in-Some-clause-found c =
+    let writes = c.self.inside.rows in
+    let place = c.count_of-count.result - 1 in
+    let got = ap (λ xs. slice_get xs place) (sym (owned_rows write_key c.args.server writes c.self.invariant.keyed)) ∙ sym c.of.ensures ∙ ap option_copied c.in-Some.is in
+    ap (list_any (is_write c.args.server c.in-Some.write.now.id)) (sym c.self.view_is) ∙ got_row write_key c.args.server place c.in-Some.write.now _ got
+
+-- and the last of it stands there
+pub returns-in-None-clause-none : goal.returns-in-None-clause-none
+returns-in-None-clause-none c = λ _.
+    let writes = c.self.inside.rows in
+    let place = c.count_of-count.result - 1 in
+    let got = ap (λ xs. slice_get xs place) (sym (owned_rows write_key c.args.server writes c.self.invariant.keyed)) ∙ sym c.of.ensures ∙ ap option_copied c.in-None.is in
+    absurd (last_is_there _ c.count_of-count.result (c.count_of-count.ensures ∙ owned_count write_key c.args.server writes c.self.invariant.keyed) c.if-count-eq0.false got)

@@ -1,8 +1,0 @@
-use Rattle.std.proofs.Common.{rules}
-use Rattle.std.proofs.lemmas.Fn.{filter_same}
-use Rattle.link_table.specs.Writes.{is_not_write}
-use Rattle.link_table.proofs.writes.remove.Goals as goal
-
--- the closure answers the test and stays as it is
-pub returns : goal.returns
-returns c = filter_same _ (is_not_write c.args.server c.args.id) _ (λ row kept closure called. search rules) _ _ c.retain.ensures.filtered
