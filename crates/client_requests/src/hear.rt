@@ -4,7 +4,7 @@ ghost use Rattle.ca_message.specs.ClientRequest.{request_of};
 ghost use Rattle.gateway_state.specs.Numbers.{is_past_numbers};
 ghost use Rattle.gateway_state.specs.Clients.{versioned};
 ghost use Rattle.gateway_state.specs.Requests.{client_said, requested, unreadable};
-ghost use Rattle.gateway_state.specs.Settled.{HasSidsInOrder};
+ghost use Rattle.gateway_state.specs.Settled.{HasSidsInOrder, HasWriteIdsBelow};
 ghost use Rattle.gateway_state.specs.Telling.{told};
 ghost use Rattle.gateway_state.specs.Told.{AreTold};
 ghost use Rattle.touched_rows.specs.Touches.{request_touches};
@@ -37,6 +37,7 @@ pub fn hear_client(
     message: Message,
 ) -> Result<Touched, Refusal>
     requires order { HasSidsInOrder rows.old }
+    requires ids { HasWriteIdsBelow rows.old }
     requires told { AreTold rows.old }
     ensures ok { OnOk result (rows.new ≡ client_said rows.old number message) }
     ensures touched { IfOk result (λ touched. touched ≡ request_touches rows.old number (request_of message.head message.payload)) }
@@ -61,6 +62,7 @@ fn hear_request(
     message: &Message,
 ) -> Result<Touched, Refusal>
     requires order { HasSidsInOrder rows.old }
+    requires ids { HasWriteIdsBelow rows.old }
     requires told { AreTold rows.old }
     ensures ok { OnOk result (rows.new ≡ requested rows.old number message.now (Ok request.entry)) }
     ensures touched { IfOk result (λ touched. touched ≡ request_touches rows.old number (Ok request.entry)) }

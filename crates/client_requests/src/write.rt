@@ -2,6 +2,7 @@
 ghost use Rattle.std.specs.Prelude.{◌≡◌, ◌≤◌, ◌+◌, true, OnOk, IfOk, IsErrOf};
 ghost use Rattle.gateway_state.specs.Gateway.{Gateway};
 ghost use Rattle.gateway_state.specs.Numbers.{is_past_numbers};
+ghost use Rattle.gateway_state.specs.Settled.{HasWriteIdsBelow};
 ghost use Rattle.gateway_state.specs.Told.{AreTold, IsTold};
 ghost use Rattle.gateway_state.specs.Writing.{may_write, new_write, notified_by, with_write, write_answered, write_asked, write_handed_on, write_judged, write_notify_asked, write_verdict, write_verdict_in, write_waits, written_by};
 
@@ -130,8 +131,9 @@ fn answer_write(rows: &mut Rows, write: Write, ioid: u32, status: u32) -> Result
 }
 
 /// Notes that the write waits, under the next ID, which it gives.
-#[tactic(auto, unfolding(gateway_state::specs::Numbers::is_past_numbers))]
+#[tactic(auto, using(gateway_state::proofs::WriteIdsBelow::write_is_new), unfolding(gateway_state::specs::Numbers::is_past_numbers))]
 fn add_write(rows: &mut Rows, write: Write, ioid: u32, server: u32) -> Result<u32, Refusal>
+    requires ids { HasWriteIdsBelow rows.old }
     ensures ok { OnOk result (rows.new ≡ with_write (new_write rows.old server write.session write.sid write.dtype write.count ioid) rows.old) }
     ensures id { IfOk result (λ id. id ≡ rows.old.upstream.counters.write) }
     ensures used_up { IsErrOf result Refusal.NumbersUsedUp → is_past_numbers (with_write (new_write rows.old server write.session write.sid write.dtype write.count ioid) rows.old) ≡ true }
@@ -164,6 +166,7 @@ fn hand_on(
     sid: u32,
     value: WrittenValue<'_>,
 ) -> Result<(), Refusal>
+    requires ids { HasWriteIdsBelow rows.old }
     ensures ok { OnOk result (rows.new ≡ write_handed_on write.session write.sid ioid write.dtype write.count server sid value.entry rows.old) }
     ensures used_up { IsErrOf result Refusal.NumbersUsedUp → is_past_numbers (write_handed_on write.session write.sid ioid write.dtype write.count server sid value.entry rows.old) ≡ true }
 {
@@ -189,6 +192,7 @@ pub(crate) fn hear_write_notify(
     head: &Header,
 ) -> Result<(), Refusal>
     requires told { AreTold rows.old }
+    requires ids { HasWriteIdsBelow rows.old }
     ensures ok { OnOk result (rows.new ≡ write_notify_asked write.session write.sid ioid write.dtype write.count payload.now head.now rows.old) }
     ensures used_up { IsErrOf result Refusal.NumbersUsedUp → is_past_numbers (write_notify_asked write.session write.sid ioid write.dtype write.count payload.now head.now rows.old) ≡ true }
     ensures bound { visits.new ≤ visits.old + 1 }

@@ -5,7 +5,7 @@ ghost use Rattle.gateway_rows.specs.Own.{IsWithin};
 ghost use Rattle.gateway_state.specs.Numbers.{is_past_numbers};
 ghost use Rattle.gateway_state.specs.Direct.{direct_effect, searched};
 ghost use Rattle.gateway_state.specs.Reached.{IsReached};
-ghost use Rattle.gateway_state.specs.Settled.{HasCidsInOrder, HasSessionsConnected, HasSidsInOrder};
+ghost use Rattle.gateway_state.specs.Settled.{HasCidsInOrder, HasSessionsConnected, HasSidsInOrder, HasWriteIdsBelow};
 ghost use Rattle.gateway_state.specs.Step.{step, taken};
 ghost use Rattle.gateway_state.specs.Told.{AreTold};
 ghost use Rattle.gateway_state.specs.Variables.{search_names};
@@ -24,7 +24,7 @@ use std::alloc::AllocError;
 use touched_rows::{Names, Touched};
 
 /// Performs one event, in a state that a run reaches.
-#[tactic(auto, using(gateway_state::proofs::NumberLemmas::consequences_past, gateway_state::proofs::OrderKept::reached_sids, gateway_state::proofs::OrderKept::reached_cids, gateway_state::proofs::SessionsConnected::reached_sessions, gateway_state::proofs::ToldRights::reached_told, touched_rows::proofs::ToldAlone::step_alone, crate::proofs::Looked::looked_in_all), unfolding(gateway_state::specs::Step::step))]
+#[tactic(auto, using(gateway_state::proofs::NumberLemmas::consequences_past, gateway_state::proofs::OrderKept::reached_sids, gateway_state::proofs::OrderKept::reached_cids, gateway_state::proofs::SessionsConnected::reached_sessions, gateway_state::proofs::ToldRights::reached_told, gateway_state::proofs::WriteIdsBelow::reached_write_ids, touched_rows::proofs::ToldAlone::step_alone, crate::proofs::Looked::looked_in_all), unfolding(gateway_state::specs::Step::step))]
 pub(crate) fn step(rows: &mut Rows, visits: &mut Visits, event: Event) -> Result<(), Refusal>
     requires reached { IsReached rows.old }
     ensures ok { OnOk result (rows.new ≡ step rows.old event) }
@@ -75,6 +75,7 @@ fn perform(rows: &mut Rows, visits: &mut Visits, event: Event) -> Result<Touched
     requires sids { HasSidsInOrder rows.old }
     requires cids { HasCidsInOrder rows.old }
     requires sessions { HasSessionsConnected rows.old }
+    requires ids { HasWriteIdsBelow rows.old }
     requires told { AreTold rows.old }
     ensures ok { OnOk result (rows.new ≡ direct_effect rows.old event) }
     ensures touched { IfOk result (λ touched. touched ≡ event_touches rows.old event) }
