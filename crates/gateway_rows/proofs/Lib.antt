@@ -1,4 +1,5 @@
 pub mod Asked
 pub mod Counted
 pub mod OwnStays
+pub mod Placed
 pub mod Readers
