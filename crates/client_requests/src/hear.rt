@@ -149,7 +149,8 @@ fn hear_request(
         ClientRequest::ClientName(_) => Ok(Touched::Nothing),
         ClientRequest::HostName(host) => {
             let host = host.to_host(rows.alloc)?;
-            Ok(name_host(rows, visits, number, host)?)
+            name_host(rows, visits, number, host);
+            Ok(Touched::Nothing)
         }
         ClientRequest::Echo => {
             echo(rows, number, message)?;

@@ -103,7 +103,7 @@ module _ (then : Gateway) (direct after : ℕ) where
   request_within w before number (Ok (requests.CreateChannel cid minor name)) first rest = all_within before first (few rest)
   request_within w before number (Ok (requests.WriteNotify sid ioid dtype count value)) first rest = all_within before first (few rest)
   request_within w before number (Ok (requests.ClientName name)) first rest = all_within before first (few rest)
-  request_within w before number (Ok (requests.HostName host)) first rest = tt
+  request_within w before number (Ok (requests.HostName host)) first rest = all_within before first (few rest)
   request_within w before number (Ok requests.Echo) first rest = all_within before first (few rest)
   request_within w before number (Err fault) first rest = all_within before first (few rest)
 
@@ -120,7 +120,7 @@ module _ (then : Gateway) (direct after : ℕ) where
   unheard_within before (Ok (requests.CreateChannel cid minor name)) first rest = all_within before first (few rest)
   unheard_within before (Ok (requests.WriteNotify sid ioid dtype count value)) first rest = all_within before first (few rest)
   unheard_within before (Ok (requests.ClientName name)) first rest = all_within before first (few rest)
-  unheard_within before (Ok (requests.HostName host)) first rest = tt
+  unheard_within before (Ok (requests.HostName host)) first rest = all_within before first (few rest)
   unheard_within before (Ok requests.Echo) first rest = all_within before first (few rest)
   unheard_within before (Err fault) first rest = all_within before first (few rest)
 

@@ -34,10 +34,9 @@ update_looks w server (Ok (says.AccessRights cid rights)) = None
 update_looks w server (Ok (says.ServerDisconnect cid)) = None
 update_looks w server reply = Some 0
 
--- a request may look at eight rows, however many there are. The name of a host concerns all channels of its
--- session, and updates that are wanted again all of its subscriptions
+-- a request may look at eight rows, however many there are. Updates that are wanted again concern all
+-- subscriptions of a session
 abbrev pub request_looks : Result ClientRequest RequestFault → Option ℕ
-request_looks (Ok (requests.HostName host)) = None
 request_looks (Ok requests.EventsOn) = None
 request_looks request = Some 8
 

@@ -7,7 +7,7 @@ ghost use Rattle.gateway_state.specs.declared.event.Dest.{Dest};
 ghost use Rattle.gateway_state.specs.declared.event.Event.{Event};
 ghost use Rattle.gateway_state.specs.Delivered.{IsWireForm, given_by, is_loss_of};
 ghost use Rattle.gateway_state.specs.Gateway.{Gateway, initial};
-ghost use Rattle.gateway_state.specs.Settled.{AreInOrder, HasLinksApart, HasLinksOnServers, HasSubsApart, HasSubsOnChannels, HasWritesOnLinks, IsInUse, IsKeptPosted, IsSettled, IsSubscribedExactly, IsUpToDate, IsWaiting};
+ghost use Rattle.gateway_state.specs.Settled.{AreInOrder, HasHostsFixed, HasLinksApart, HasLinksOnServers, HasSessionsConnected, HasSubsApart, HasSubsOnChannels, HasWriteIdsBelow, HasWritesOnLinks, IsInUse, IsKeptPosted, IsSettled, IsSubscribedExactly, IsUpToDate, IsWaiting};
 ghost use Rattle.gateway_state.specs.Step.{consequences, delivered, makes, run};
 
 /// In every state that a run reaches nobody is owed anything: no pass over channels, links, waiting
@@ -87,6 +87,25 @@ pub fn run_links_names_once()
 pub fn run_keeps_links_on_servers()
     ensures { (config : Config) (policy : Policy) (events : List Event)
         → HasLinksOnServers (run (initial config policy) events) }
+{}
+
+/// In every state that a run reaches each session has a connection.
+pub fn run_keeps_sessions_connected()
+    ensures { (config : Config) (policy : Policy) (events : List Event)
+        → HasSessionsConnected (run (initial config policy) events) }
+{}
+
+/// In every state that a run reaches the session of each channel stands, and has its host fixed: so no
+/// HOST_NAME leads the name of a channel elsewhere.
+pub fn run_keeps_hosts_fixed()
+    ensures { (config : Config) (policy : Policy) (events : List Event)
+        → HasHostsFixed (run (initial config policy) events) }
+{}
+
+/// In every state that a run reaches each write that waits has an ID below the one that is given out next.
+pub fn run_keeps_write_ids_below()
+    ensures { (config : Config) (policy : Policy) (events : List Event)
+        → HasWriteIdsBelow (run (initial config policy) events) }
 {}
 
 /// In every state that a run reaches channels stand in the order of their SIDs, and links in the

@@ -51,7 +51,7 @@ use Rattle.gateway_state.specs.Variables.{is_connected, is_creating, link_of}
 use Rattle.gateway_state.proofs.SettledMeaning.{all_up_to_date}
 use Rattle.touched_rows.specs.declared.touched.Touched.{Touched}
 use Rattle.touched_rows.specs.declared.touched.Touched.TheVariants.{All as Everything, LinksGone, Nothing, Session, Variable, Value, Interest, Link as LinkOf, Links, Read, Subscription as SubscriptionTo}
-use Rattle.touched_rows.specs.Touches.{cancel_touches_by, clear_touches_by, created_touches_over, event_touches, gone_touches_over, host_touches_over, new_read, read_touches_by, reply_touches, request_touches, rights_touches_over, sub_touches_by, update_touches_over, value_touches}
+use Rattle.touched_rows.specs.Touches.{cancel_touches_by, clear_touches_by, created_touches_over, event_touches, gone_touches_over, new_read, read_touches_by, reply_touches, request_touches, rights_touches_over, sub_touches_by, update_touches_over, value_touches}
 use Rattle.touched_rows.proofs.Tidy.{IsTidy}
 
 -- ---- rows that are left
@@ -153,11 +153,6 @@ clear_leaves : (on : Option Channel) → is_links_gone (clear_touches_by on) ≡
 clear_leaves None = refl
 clear_leaves (Some c) = refl
 
-host_leaves : (channels : ℕ) (row : Option SessionRow) → is_links_gone (host_touches_over channels row) ≡ false
-host_leaves channels None = refl
-host_leaves channels (Some row) =
-    elim (row.host_fixed || eqb channels 0) as (λ t. is_links_gone (cond t Nothing Everything) ≡ false) [ true ↦ refl | false ↦ refl ]
-
 request_leaves : (w : Gateway) (number : ℕ) (asked : Result ClientRequest RequestFault) → is_links_gone (request_touches w number asked) ≡ false
 request_leaves w number (Ok (requests.Version minor)) = refl
 request_leaves w number (Ok (requests.EventAdd sid id dtype count mask)) =
@@ -173,7 +168,7 @@ request_leaves w number (Ok (requests.ReadNotify sid ioid dtype count)) =
 request_leaves w number (Ok (requests.CreateChannel cid minor name)) = refl
 request_leaves w number (Ok (requests.WriteNotify sid ioid dtype count value)) = refl
 request_leaves w number (Ok (requests.ClientName name)) = refl
-request_leaves w number (Ok (requests.HostName host)) = host_leaves (channel_count number w.clients) (find (is_numbered number) w.clients.sessions)
+request_leaves w number (Ok (requests.HostName host)) = refl
 request_leaves w number (Ok requests.Echo) = refl
 request_leaves w number (Err fault) = refl
 

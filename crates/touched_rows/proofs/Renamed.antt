@@ -1,6 +1,6 @@
--- A session that says where it is: names lead where they led for all other sessions, and for this one too
--- where its host is fixed.
-use Rattle.std.proofs.Common.{◌≡◌, ℕ, List, [], ◌∷◌, length, Bool, true, false, cond, eqb, not, ◌&&◌, ◌||◌, Option, Some, None, refl, sym, ap, subst, ◌∙◌, arith}
+-- A session that says where it is: names lead where they led for all other sessions, and for this one too,
+-- since its host is fixed where it has a channel.
+use Rattle.std.proofs.Common.{◌≡◌, ℕ, List, [], ◌∷◌, length, Bool, true, false, cond, eqb, not, ◌&&◌, Option, Some, None, refl, sym, ap, subst, ◌∙◌, arith}
 use Rattle.std.specs.Prelude.{filter}
 use Rattle.std.specs.List.{All, find}
 use Rattle.std.proofs.lemmas.Bool.{eqb-true}
@@ -16,12 +16,11 @@ use Rattle.channel_table.specs.Sessions.{is_numbered}
 use Rattle.gateway_state.specs.Clients.{host_named, renamed}
 use Rattle.gateway_state.specs.Gateway.{Gateway}
 use Rattle.gateway_state.specs.Rights.{lead_for, lead_in}
-use Rattle.gateway_state.specs.Settled.{IsSettled}
+use Rattle.gateway_state.specs.Settled.{HasHostsFixed, IsSettled}
 use Rattle.gateway_state.specs.Step.{consequences}
 use Rattle.gateway_state.specs.Updates.{is_taking}
+use Rattle.gateway_state.proofs.HostsFixed.{host_is_fixed}
 use Rattle.gateway_state.proofs.SettledSteps.{settled_stays}
-use Rattle.touched_rows.specs.Touches.{follows, host_touches, host_touches_over}
-use Rattle.touched_rows.specs.declared.touched.Touched.TheVariants.{All as Everything, Nothing}
 use Rattle.touched_rows.proofs.Blanked.{found_other}
 use Rattle.touched_rows.proofs.Sessions.{other_number, paused_kept, settled_sessions, unhosted}
 
@@ -41,7 +40,7 @@ renamed_number host number row = elim row.host_fixed as (λ t. is_numbered numbe
 renamed_unhosted : (host : List ℕ) (row : Session) → unhosted (renamed host row) ≡ unhosted row
 renamed_unhosted host row = elim row.host_fixed as (λ t. unhosted (cond t row (record row { host = host })) ≡ unhosted row) [ true ↦ refl | false ↦ refl ]
 
-module _ (w : Gateway) (settled : IsSettled w) (number : ℕ) (host : List ℕ) where
+module _ (w : Gateway) (settled : IsSettled w) (fixed : HasHostsFixed w) (number : ℕ) (host : List ℕ) where
   abbrev named : Gateway
   named = host_named number host w
 
@@ -68,15 +67,13 @@ module _ (w : Gateway) (settled : IsSettled w) (number : ℕ) (host : List ℕ) 
       (sym (paused_kept (renamed host) (renamed_unhosted host) (is_numbered number) other (renamed_number host other) w.clients.sessions))
       ∙ open_to)
 
-  pub told_after_renaming : consequences (host_named number host w) ≡ follows (host_touches w number) (host_named number host w)
-  told_after_renaming = by (find (is_numbered number) w.clients.sessions) refl
+  pub nothing_after_renaming : consequences named ≡ named
+  nothing_after_renaming = settled_stays named (by (find (is_numbered number) w.clients.sessions) refl)
     where
-      over : (row : Session) → find (is_numbered number) w.clients.sessions ≡ Some row → (is_fixed is_none : Bool) → row.host_fixed ≡ is_fixed → eqb (channel_count number w.clients) 0 ≡ is_none
-          → consequences named ≡ follows (cond (is_fixed || is_none) Nothing Everything) named
-      over row is true is_none e none = settled_stays named (unchanged (change_first_kept (is_numbered number) (renamed host) w.clients.sessions row is (rw e refl)))
-      over row is false true e none = settled_stays named (without_channels (eqb-true (channel_count number w.clients) 0 none))
-      over row is false false e none = refl
+      over : (row : Session) → find (is_numbered number) w.clients.sessions ≡ Some row → (is_none : Bool) → eqb (channel_count number w.clients) 0 ≡ is_none → IsSettled named
+      over row is true none = without_channels (eqb-true (channel_count number w.clients) 0 none)
+      over row is false some = unchanged (change_first_kept (is_numbered number) (renamed host) w.clients.sessions row is (rw (host_is_fixed w number row fixed is some) refl))
 
-      by : (found : Option Session) → find (is_numbered number) w.clients.sessions ≡ found → consequences named ≡ follows (host_touches_over (channel_count number w.clients) found) named
-      by None is = settled_stays named (unchanged (change_first_unfound (is_numbered number) (renamed host) w.clients.sessions is))
-      by (Some row) is = over row is row.host_fixed (eqb (channel_count number w.clients) 0) refl refl
+      by : (found : Option Session) → find (is_numbered number) w.clients.sessions ≡ found → IsSettled named
+      by None is = unchanged (change_first_unfound (is_numbered number) (renamed host) w.clients.sessions is)
+      by (Some row) is = over row is (eqb (channel_count number w.clients) 0) refl

@@ -2,7 +2,8 @@
 use Rattle.std.proofs.Common.{sym, subst}
 use Rattle.gateway_state.specs.Gateway.{Gateway}
 use Rattle.gateway_state.specs.Reached.{IsReached}
-use Rattle.gateway_state.specs.Settled.{AreInOrder, HasLinksApart, HasReadsOnChannels, HasSubsApart, HasSubsOnChannels, IsSettled}
+use Rattle.gateway_state.specs.Settled.{AreInOrder, HasHostsFixed, HasLinksApart, HasReadsOnChannels, HasSubsApart, HasSubsOnChannels, IsSettled}
+use Rattle.gateway_state.proofs.HostsFixed.{run_hosts_fixed}
 use Rattle.gateway_state.proofs.LinksApart.{run_links_apart}
 use Rattle.gateway_state.proofs.RowsOnChannels.{run_on_channels}
 use Rattle.gateway_state.proofs.SettledRuns.{run_in_order, run_settled}
@@ -16,6 +17,7 @@ pub record IsTidy (w : Gateway) : Type 0 where
   pub subs_apart : HasSubsApart w
   pub subs_on : HasSubsOnChannels w
   pub reads_on : HasReadsOnChannels w
+  pub hosts_fixed : HasHostsFixed w
 
 pub reached_tidy : (w : Gateway) → IsReached w → IsTidy w
 reached_tidy w reached =
@@ -26,4 +28,5 @@ reached_tidy w reached =
       subs_apart = run_subs_apart reached.config reached.policy reached.events;
       subs_on = (run_on_channels reached.config reached.policy reached.events).subs;
       reads_on = (run_on_channels reached.config reached.policy reached.events).reads;
+      hosts_fixed = run_hosts_fixed reached.config reached.policy reached.events;
     })

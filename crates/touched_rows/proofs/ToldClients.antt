@@ -42,7 +42,7 @@ use Rattle.touched_rows.proofs.Cleared.{told_after_clearing}
 use Rattle.touched_rows.proofs.Created.{nothing_after_channel_asked, settled_creation_failed}
 use Rattle.touched_rows.proofs.Nothing.{nothing_after_mark, nothing_after_reply, settled_sent}
 use Rattle.touched_rows.proofs.ReadAsked.{told_after_read}
-use Rattle.touched_rows.proofs.Renamed.{told_after_renaming}
+use Rattle.touched_rows.proofs.Renamed.{nothing_after_renaming}
 use Rattle.touched_rows.proofs.Sessions.{nothing_after_pausing, settled_host_fixed, told_after_resuming}
 use Rattle.touched_rows.proofs.Subscribed.{told_after_subscribing}
 use Rattle.touched_rows.proofs.Tidy.{IsTidy}
@@ -191,6 +191,6 @@ module _ (w : Gateway) (tidy : IsTidy w) where
   told_request number message (Ok (requests.WriteNotify sid ioid dtype count value)) =
       settled_stays _ (settled_notified w tidy.settled number sid ioid dtype count message.head (write_verdict w number sid dtype count value))
   told_request number message (Ok (requests.ClientName name)) = nothing_at_all
-  told_request number message (Ok (requests.HostName host)) = told_after_renaming w tidy.settled number host
+  told_request number message (Ok (requests.HostName host)) = nothing_after_renaming w tidy.settled tidy.hosts_fixed number host
   told_request number message (Ok requests.Echo) = replied_all number (replies.Echo message)
   told_request number message (Err fault) = settled_stays (unreadable w number message.head) (settled_unreadable number message.head)

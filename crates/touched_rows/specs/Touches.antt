@@ -1,5 +1,5 @@
 -- What each event touches.
-use Rattle.std.specs.Prelude.{ℕ, List, filter, ◌==◌, ◌||◌, if◌then◌else◌, Option, Some, None, Result, Ok, Err}
+use Rattle.std.specs.Prelude.{ℕ, List, filter, ◌==◌, if◌then◌else◌, Option, Some, None, Result, Ok, Err}
 use Rattle.std.specs.List.{find}
 use Rattle.ca_message.specs.declared.codes.TheConstants.{ECA_NORMAL}
 use Rattle.ca_message.specs.declared.reply.ReplyFault.{ReplyFault}
@@ -12,11 +12,8 @@ use Rattle.ca_message.specs.ClientRequest.{request_of}
 use Rattle.ca_message.specs.ServerReply.{reply_of}
 use Rattle.channel_table.specs.declared.channels.Channel.{Channel}
 use Rattle.channel_table.specs.declared.reads.WaitingRead.{WaitingRead}
-use Rattle.channel_table.specs.declared.sessions.Session.{Session as SessionRow}
 use Rattle.channel_table.specs.declared.subs.ClientSub.{ClientSub}
 use Rattle.channel_table.specs.Channels.{is_channel_of}
-use Rattle.channel_table.specs.ClientRows.{channel_count}
-use Rattle.channel_table.specs.Sessions.{is_numbered}
 use Rattle.link_table.specs.declared.links.Link.{Link}
 use Rattle.link_table.specs.declared.links.LinkState.{LinkState}
 use Rattle.link_table.specs.declared.links.LinkState.TheVariants.{Creating, Connected, Unusable}
@@ -124,14 +121,7 @@ clear_touches_by (Some c) = LinkOf c.real
 abbrev pub clear_touches : Gateway → ℕ → ℕ → Touched
 clear_touches w number sid = clear_touches_by (channel_of w number sid)
 
-abbrev pub host_touches_over : ℕ → Option SessionRow → Touched
-host_touches_over channels None = Nothing
-host_touches_over channels (Some row) = if row.host_fixed || channels == 0 then Nothing else All
-
--- another host, from which the names of a session's channels may lead elsewhere. One that is fixed stays
-abbrev pub host_touches : Gateway → ℕ → Touched
-host_touches w number = host_touches_over (channel_count number w.clients) (find (is_numbered number) w.clients.sessions)
-
+-- a host is fixed once a session has a channel, so another one leads no channel's name elsewhere
 abbrev pub request_touches : Gateway → ℕ → Result ClientRequest RequestFault → Touched
 request_touches w number (Ok (requests.Version minor)) = Nothing
 request_touches w number (Ok (requests.EventAdd sid id dtype count mask)) = sub_touches w (new_sub number sid id dtype count mask)
@@ -144,7 +134,7 @@ request_touches w number (Ok (requests.ReadNotify sid ioid dtype count)) = read_
 request_touches w number (Ok (requests.CreateChannel cid minor name)) = Nothing
 request_touches w number (Ok (requests.WriteNotify sid ioid dtype count value)) = Nothing
 request_touches w number (Ok (requests.ClientName name)) = Nothing
-request_touches w number (Ok (requests.HostName host)) = host_touches w number
+request_touches w number (Ok (requests.HostName host)) = Nothing
 request_touches w number (Ok requests.Echo) = Nothing
 request_touches w number (Err fault) = Nothing
 
