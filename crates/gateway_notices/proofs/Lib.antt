@@ -1,3 +1,5 @@
+pub mod Gathered
 pub mod GoneChannels
+pub mod LinksByName
 pub mod NextNotice
 pub mod SubsStay

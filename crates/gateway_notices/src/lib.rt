@@ -13,7 +13,6 @@
 mod channels;
 mod consequences;
 mod links;
-mod lookup;
 mod reads;
 mod sharing;
 mod updates;

@@ -1,15 +1,15 @@
 //! What servers are owed about links.
-ghost use Rattle.std.specs.Prelude.{◌≡◌, ◌++◌, true, false, fold, OnOk, IfOk, IfSome, IsErrOf};
+ghost use Rattle.std.specs.Prelude.{◌≡◌, ◌++◌, map, filter, filter_map, true, false, fold, OnOk, IfOk, IfSome, IsErrOf};
 ghost use Rattle.std.specs.List.{list_any};
 ghost use Rattle.link_table.specs.Links.{has_subscription};
 ghost use Rattle.gateway_state.specs.Numbers.{is_past_numbers};
 ghost use Rattle.gateway_state.specs.Notices.{dropped, interest_notices, link_notices, link_notices_of, link_told, links_told, subscribed_to, with_subscription_of};
-ghost use Rattle.gateway_state.specs.Settled.{AreInOrder};
+ghost use Rattle.gateway_state.specs.Settled.{AreInOrder, HasCidsInOrder, HasLinksApart};
 ghost use Rattle.gateway_state.specs.Told.{AreTold};
 ghost use Rattle.gateway_state.specs.Variables.{link_of};
-ghost use Rattle.touched_rows.specs.Touched.{interest_notices_over, interest_told, link_notices_among, link_notices_over, link_told_on, links_told_among};
+ghost use Rattle.touched_rows.specs.Touched.{interest_notices_over, interest_told, is_link_among, link_notices_among, link_notices_over, link_told_on, links_told_among};
+ghost use Rattle.touched_rows.specs.Touches.{AreReady};
 
-use crate::lookup::{is_known, look_up};
 use ca_message::ToServer;
 use gateway_rows::{Refusal, Rows, is_for, sent_count, time_of};
 use gateway_state::LinkNotice;
@@ -267,17 +267,41 @@ pub(crate) fn tell_link_on(rows: &mut Rows, name: &Name) -> Result<(), Refusal>
     tell_each(rows, &notices)
 }
 
+/// The links of these variables, in the order of the names.
+fn links_of<'a>(rows: &'a Rows, names: &Names) -> Result<Vec<&'a Link>, AllocError>
+    ensures { IfOk result (λ links. map (λ link. link.now) links.items ≡ filter_map (link_of rows.now) names.now) }
+{
+    let mut links = Vec::new(rows.alloc);
+    for name in names.as_slice() {
+        if let Some(link) = rows.link_of(name) {
+            links.push(link)?;
+        }
+    }
+    Ok(links)
+}
+
+/// The same, each once, in the order of links.
+fn links_among<'a>(rows: &'a Rows, names: &Names) -> Result<Vec<&'a Link>, AllocError>
+    requires order { HasCidsInOrder rows.now }
+    requires apart { HasLinksApart rows.now }
+    ensures { IfOk result (λ links. map (λ link. link.now) links.items ≡ filter (is_link_among names.now) rows.now.upstream.links) }
+{
+    let mut links = links_of(rows, names)?;
+    links.sort_unstable_by_key(|link| link.cid);
+    links.dedup_by_key(|link| link.cid);
+    Ok(links)
+}
+
 /// The notices on the links of these variables.
 fn link_notices_among(rows: &Rows, names: &Names) -> Result<Vec<LinkNotice>, AllocError>
+    requires order { HasCidsInOrder rows.now }
+    requires apart { HasLinksApart rows.now }
     requires told { AreTold rows.now }
     ensures { IfOk result (λ notices. notices.items ≡ link_notices_among names.now rows.now) }
 {
-    let known = look_up(rows.alloc, names.as_slice())?;
     let mut notices = Vec::new(rows.alloc);
-    for link in rows.upstream.links(rows.alloc)? {
-        if is_known(&known, &link.name) {
-            add_link_notices(rows, &mut notices, link)?;
-        }
+    for link in links_among(rows, names)? {
+        add_link_notices(rows, &mut notices, link)?;
     }
     Ok(notices)
 }
@@ -285,7 +309,7 @@ fn link_notices_among(rows: &Rows, names: &Names) -> Result<Vec<LinkNotice>, All
 /// The same of each of these variables, in the order of their links.
 pub(crate) fn tell_links_among(rows: &mut Rows, names: &Names) -> Result<(), Refusal>
     requires order { AreInOrder rows.old }
-    requires told { AreTold rows.old }
+    requires ready { AreReady rows.old }
     ensures ok { OnOk result (rows.new ≡ links_told_among names.now rows.old) }
     ensures used_up { IsErrOf result Refusal.NumbersUsedUp → is_past_numbers (links_told_among names.now rows.old) ≡ true }
 {

@@ -4,7 +4,7 @@ use Rattle.std.specs.List.{All, find}
 use Rattle.std.proofs.lemmas.List.Elements.{All-cons, All-nil, All-weaker}
 use Rattle.gateway_state.specs.Settled.{AreRising}
 
-found_above : {A : Type 0} (number : A → ℕ) (low high : ℕ) (test : A → Bool) (rows : List A) (row : A) → AreRising number low rows high → find test rows ≡ Some row → low ≤ number row
+pub found_above : {A : Type 0} (number : A → ℕ) (low high : ℕ) (test : A → Bool) (rows : List A) (row : A) → AreRising number low rows high → find test rows ≡ Some row → low ≤ number row
 found_above number low high test [] row rising is = absurd cc
 found_above number low high test (first ∷ rows) row rising is =
     by (test first) is (λ later. found_above number (number first + 1) high test rows row rising.1 later)

@@ -16,7 +16,7 @@ use Rattle.gateway_state.specs.Notices.{link_told, read_notice, read_told}
 use Rattle.gateway_state.specs.Reached.{IsReached}
 use Rattle.gateway_state.specs.Rights.{rights_of}
 use Rattle.gateway_state.specs.Searches.{leads_to}
-use Rattle.gateway_state.specs.Settled.{AreInOrder}
+use Rattle.gateway_state.specs.Settled.{AreInOrder, HasLinksApart}
 use Rattle.gateway_state.specs.Step.{step}
 use Rattle.gateway_state.specs.Telling.{sent, told}
 use Rattle.gateway_state.specs.Told.{AreLed, AreTold, IsTold}
@@ -38,8 +38,9 @@ use Rattle.touched_rows.proofs.WantedLinks.{SparesWanted, one_spares, some_spare
 use Rattle.channel_table.specs.declared.subs.ClientSub.{ClientSub}
 use Rattle.gateway_state.proofs.SettledWithheld.{owing_changed}
 use Rattle.gateway_state.proofs.Kept.{kept_owed_to_all}
-use Rattle.gateway_state.proofs.KeptByRuns.{kept_channels}
+use Rattle.gateway_state.proofs.KeptByRuns.{kept_channels, kept_direct_effect}
 use Rattle.gateway_state.proofs.InOrder.{in_order_kept}
+use Rattle.gateway_state.proofs.LinksApart.{links_apart_kept, links_apart_with_links}
 
 -- ---- the same channels, with the same rights
 
@@ -150,12 +151,12 @@ order_before_link name x order =
     let told : Gateway = channels_told_on name x in
     kept_owed_to_all AreInOrder in_order_kept.rows (withheld_on name told) told (kept_channels AreInOrder in_order_kept.rows (channel_notices_on name x) x order)
 
-back : (touched : Touched) (x : Gateway) → AreInOrder x → (is_links_gone touched ≡ true → AreLed x) → AreTold (follows touched x) → IsReady touched x
-back Everything x order led told = record {}
-back LinksGone x order led told = led refl
-back Nothing x order led told = record {}
-back (Session number) x order led told = told_back x (follows (Session number) x) (alike_updates (update_notices_to number x) x) told
-back (Variable name) x order led told =
+back : (touched : Touched) (x : Gateway) → AreInOrder x → HasLinksApart x → (is_links_gone touched ≡ true → AreLed x) → AreTold (follows touched x) → IsReady touched x
+back Everything x order apart led told = record {}
+back LinksGone x order apart led told = led refl
+back Nothing x order apart led told = record {}
+back (Session number) x order apart led told = told_back x (follows (Session number) x) (alike_updates (update_notices_to number x) x) told
+back (Variable name) x order apart led told =
     let first : Gateway = channels_told_on name x in
     let held : Gateway = updates_withheld_on name first in
     let linked : Gateway = link_told_on name held in
@@ -164,26 +165,32 @@ back (Variable name) x order led told =
     told_back first held (alike_held (withheld_on name first) first)
     (links_back held (link_notices_over held (link_of held name)) (one_spares held held.upstream.counters.cid (order_before_link name x order).links name)
     (told_back linked end (alike_after linked read end (alike_reads (read_notices_on name linked) linked) (alike_updates (update_notices_on name read) read)) told))
-back (Value name) x order led told =
+back (Value name) x order apart led told =
     let read : Gateway = reads_told_on name x in
     told_back x (follows (Value name) x)
     (alike_after x read (follows (Value name) x) (alike_reads (read_notices_on name x) x) (alike_updates (update_notices_on name read) read)) told
-back (Interest name) x order led told = told_back x (interest_told name x) (alike_interest name x) told
-back (LinkOf name) x order led told =
+back (Interest name) x order apart led told = told_back x (interest_told name x) (alike_interest name x) told
+back (LinkOf name) x order apart led told =
     links_back x (link_notices_over x (link_of x name)) (one_spares x x.upstream.counters.cid order.links name) told
-back (Links names) x order led told =
-    links_back x (link_notices_among names x) (some_spare x x.upstream.counters.cid order.links (is_link_among names)) told
-back (Read name read) x order led told =
+back (Links names) x order apart led told = record {
+  told = links_back x (link_notices_among names x) (some_spare x x.upstream.counters.cid order.links (is_link_among names)) told;
+  apart = apart;
+}
+back (Read name read) x order apart led told =
     let v : Gateway = interest_told name x in
     told_back x (one_read_told read v) (alike_after x v (one_read_told read v) (alike_interest name x) (alike_read_if (read_notice v read) v)) told
-back (SubscriptionTo name sub) x order led told =
+back (SubscriptionTo name sub) x order apart led told =
     let v : Gateway = interest_told name x in
     told_back x (one_update_told sub v) (alike_after x v (one_update_told sub v) (alike_interest name x) (alike_update_if (update_notice v sub) v)) told
+
+-- no name has two links after an event's direct effect
+apart_after_effect : (w : Gateway) (event : Event) → IsReached w → HasLinksApart (direct_effect w event)
+apart_after_effect w event reached = kept_direct_effect HasLinksApart links_apart_kept links_apart_with_links w event (reached_tidy w reached).links_apart
 
 -- after an event's direct effect clients know their rights, where what follows rests on that
 pub ready_after_effect : (w : Gateway) (event : Event) → IsReached w → IsReady (event_touches w event) (direct_effect w event)
 ready_after_effect w event reached =
-    back (event_touches w event) (direct_effect w event) (order_after_effect w event reached) (led_after_effect w (reached_tidy w reached) event)
+    back (event_touches w event) (direct_effect w event) (order_after_effect w event reached) (apart_after_effect w event reached) (led_after_effect w (reached_tidy w reached) event)
     (subst AreTold (step_alone w event reached) (reached_told (step w event) (reached_step w event reached)))
 
 -- the same of what it is said to touch and to leave

@@ -32,6 +32,7 @@ use Rattle.gateway_state.specs.Clients.{read_verdict}
 use Rattle.gateway_state.specs.Gateway.{Gateway}
 use Rattle.gateway_state.specs.Rights.{channel_of}
 use Rattle.gateway_state.specs.Servers.{is_value}
+use Rattle.gateway_state.specs.Settled.{HasLinksApart}
 use Rattle.gateway_state.specs.Step.{consequences}
 use Rattle.gateway_state.specs.Subscribing.{is_on_sid, new_sub, sub_of, sub_verdict}
 use Rattle.gateway_state.specs.Told.{AreLed, AreTold}
@@ -55,9 +56,14 @@ follows (Links names) w = links_told_among names w
 follows (Read name read) w = one_read_told read (interest_told name w)
 follows (SubscriptionTo name sub) w = one_update_told sub (interest_told name w)
 
+-- clients know their rights, and no name has two links
+pub record AreReady (w : Gateway) : Type 0 where
+  pub told : AreTold w
+  pub apart : HasLinksApart w
+
 -- what tells these alone rests on that clients know their rights; where all was touched, it tells them
 -- first, where links are gone, it tells those whose channels went with them, and where a variable was, those
--- who have channels on it
+-- who have channels on it. The links of several names are found by them
 abbrev pub IsReady : Touched → Gateway → Type 0
 IsReady All w = Unit {0}
 IsReady LinksGone w = AreLed w
@@ -67,7 +73,7 @@ IsReady (Variable name) w = AreTold (channels_told_on name w)
 IsReady (Value name) w = AreTold w
 IsReady (Interest name) w = AreTold w
 IsReady (LinkOf name) w = AreTold w
-IsReady (Links names) w = AreTold w
+IsReady (Links names) w = AreReady w
 IsReady (Read name read) w = AreTold w
 IsReady (SubscriptionTo name sub) w = AreTold w
 
