@@ -9,7 +9,8 @@
 //!   rows of these numbers, of which link 7 is for T7;
 //! - `put server N MINOR`, `put link SERVER CID SID TYPE COUNT RIGHTS`, `put unusable SERVER CID RIGHTS`,
 //!   `put sub SERVER CID ID MASK COUNT SENT`, `put none SERVER CID`;
-//! - `remove server N`, `remove link SERVER CID`, `remove write SERVER ID`, `remove writes SESSION SID`;
+//! - `remove server N`, `remove link SERVER CID`, `remove write SERVER ID`, `remove writes SESSION SID`,
+//!   `remove session N`: its writes;
 //! - `find cid SERVER CID`, `find name NAME`, `find place N`, `find sub SERVER ID`: the CID of a link, or
 //!   `none`;
 //! - `show server N`: its minor version; `show link SERVER CID`: its state, rights and subscription;
@@ -71,7 +72,7 @@ fn add(alloc: Global, links: &mut Links, call: &Call<'_>, told: &mut Told) {
             add_link(alloc, links, of, cid, told);
         },
         _ => for id in first..=last {
-            refused(links.add_write(write(of, id, session, sid)), told);
+            add_new_write(links, write(of, id, session, sid), told);
         },
     }
 }
@@ -108,6 +109,15 @@ fn add_new_link(links: &mut Links, server: u32, cid: u32, name: Name, told: &mut
         subscription: None,
     };
     refused(links.add_link(link), told);
+}
+
+/// Adds a write, but none whose ID waits at its server already.
+#[tactic(auto, using(channel_table::proofs::Lists::unfound_is_absent))]
+fn add_new_write(links: &mut Links, write: WaitingWrite, told: &mut Told) {
+    if let Some(_) = links.write(write.server, write.id) {
+        return;
+    }
+    refused(links.add_write(write), told);
 }
 
 /// Keeps a link's subscription, but none whose ID the server has already.
@@ -168,6 +178,7 @@ fn remove(links: &mut Links, call: &Call<'_>) {
         "server" => links.remove_server(first),
         "link" => links.remove_link(first, second),
         "write" => links.remove_write(first, second),
+        "session" => links.remove_writes_of(first),
         _ => links.remove_writes(first, second),
     }
 }

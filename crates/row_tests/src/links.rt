@@ -193,6 +193,11 @@ count writes 1
 > 256
 remove write 1 1
 add writes 1 258 258 1 2
+remove session 1
+count writes 1
+> 0
+count writes 2
+> 1
 ",
     );
 }
