@@ -5,8 +5,8 @@ Run by hand, from anywhere: bench/gateway.py [MOST] [TIMES]. A script sets varia
 channel and a subscription of a client (up to 4,000 a client), and is replayed with and without more
 messages, TIMES times each (3 if not given); the difference of the fastest runs is their cost, in
 time of the processor. Prints the cost of each kind of message beside 100 variables and beside MOST
-(10,000 if not given), of an update that many subscribe to, and of a client that is lost beside many
-others.
+(10,000 if not given), of an update that many subscribe to, of a client and of a server that is lost
+beside many others, and of messages beside many reads that wait.
 """
 import os
 import subprocess
@@ -44,10 +44,10 @@ def update(own, value=42, count=1):
     return message(1, "000000003b9aca0000000000" + f"{value:08x}" * count, dtype=19, count=count, p1=1, p2=own)
 
 
-def connected(cid, name, count=1):
+def connected(cid, name, count=1, server="u1"):
     """The lines that give the next link, of this CID, to a variable that was asked for."""
-    yield f"found {name} u1"
-    yield "server u1 " + message(22, p1=cid, p2=3) + message(18, dtype=5, count=count, p1=cid, p2=1_000 + cid)
+    yield f"found {name} {server}"
+    yield f"server {server} " + message(22, p1=cid, p2=3) + message(18, dtype=5, count=count, p1=cid, p2=1_000 + cid)
 
 
 def variables(many):
@@ -186,6 +186,39 @@ def losses(times):
         print(f"a client with {CHANNELS} channels is lost beside {others * CHANNELS:6} of others: {each / 1e3:8.2f} ms ({each / alone:5.2f} times)", flush=True)
 
 
+def elsewhere(many, first):
+    """So many variables of another server, from this CID on, each with a channel of a client of its own."""
+    yield from ["open u2", "server u2 " + message(0, count=13), "open s900 10.0.0.7"]
+    for cid in range(first, first + many):
+        yield "client s900 " + create(cid, f"W{cid:06}")
+        yield from connected(cid, f"W{cid:06}", server="u2")
+        yield "client s900 " + create(cid, f"W{cid:06}")
+
+
+def lost_servers(most, times):
+    """What it costs that a server with 100 variables goes, beside few variables of another and beside many."""
+    few, lots = (cost([*beside(size), *elsewhere(100, size + 1)], ["lost u2"], 100, 1, times) for size in (100, most))
+    print(f"a server with 100 variables is lost: {few / 1e3:8.2f} ms beside 100 of another, {lots / 1e3:8.2f} ms beside {most} ({lots / few:5.2f} times)", flush=True)
+
+
+def waiting(clients):
+    """Clients that each wait for 250 values of variables that have none."""
+    yield from ["open s900 10.0.0.7", "client s900 " + create(2, "W000002")]
+    yield from connected(2, "W000002")
+    for client in range(100, 100 + clients):
+        yield f"open s{client} 10.0.0.8"
+        yield f"client s{client} " + create(2, "W000002")
+        yield f"client s{client} " + "".join(message(15, dtype=5, count=1, p1=client - 98, p2=ioid) for ioid in range(250))
+
+
+def beside_waiting(times):
+    """What an update and an ECHO cost beside many clients that wait for values of another variable."""
+    many = 20_000
+    for name, more in (("update", ["server u1 " + update(1)] * many), ("ECHO", ["client s1000 " + message(23)] * many)):
+        few, lots = (cost([*beside(1), *waiting(clients)], more, many, many, times) for clients in (1, 800))
+        print(f"{name:6} beside 250 reads that wait {few:8.2f} us, beside 200,000 of 800 clients {lots:8.2f} us ({lots / few:5.2f} times)", flush=True)
+
+
 def need_program():
     if not os.access(PROGRAM, os.X_OK):
         sys.exit("build pvgate first: ./pvgate --help")
@@ -199,6 +232,8 @@ def main():
     setting_up(most, times)
     subscribers(times)
     losses(times)
+    lost_servers(most, times)
+    beside_waiting(times)
 
 
 if __name__ == "__main__":

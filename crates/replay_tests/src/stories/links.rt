@@ -1,5 +1,5 @@
 //! Links to the channels of servers, and channels of clients on them.
-use crate::tell::tells;
+use crate::stories::tell::tells;
 use std::test::Fail;
 
 #[test]

@@ -1,5 +1,5 @@
 //! Reads of all bases and forms.
-use crate::tell::tells;
+use crate::stories::tell::tells;
 use std::test::Fail;
 
 // A DOUBLE is had as nothing else, and what holds graphics limits is not served.

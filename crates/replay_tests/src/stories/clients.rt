@@ -1,5 +1,5 @@
 //! What clients send, and how connections end.
-use crate::tell::tells;
+use crate::stories::tell::tells;
 use std::test::Fail;
 
 #[test]

@@ -1,5 +1,5 @@
 //! Subscriptions of clients, and the updates that they are given.
-use crate::tell::tells;
+use crate::stories::tell::tells;
 use std::test::Fail;
 
 // The greatest count stays with the reader that wants it, and goes with it.

@@ -1,5 +1,5 @@
 //! Edits of the policy.
-use crate::tell::tells;
+use crate::stories::tell::tells;
 use std::alloc::Global;
 use std::io::Write;
 use std::process::Abort;

@@ -1,5 +1,5 @@
 //! Writes, and how they end.
-use crate::tell::tells;
+use crate::stories::tell::tells;
 use std::test::Fail;
 
 // A STRING goes on as 40 bytes, up to its first NUL; what a client puts behind the elements doesn't.

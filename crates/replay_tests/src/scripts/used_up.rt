@@ -1,5 +1,5 @@
 //! Numbers that are used up, and reads that are counted.
-use crate::engine::last_numbers;
+use crate::scripts::engine::last_numbers;
 use script_player::counted::Counted;
 use script_player::play;
 use std::alloc::Global;

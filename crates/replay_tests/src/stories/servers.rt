@@ -1,5 +1,5 @@
 //! Servers that come, go and misbehave.
-use crate::tell::tells;
+use crate::stories::tell::tells;
 use std::test::Fail;
 
 // The read that waits isn't answered.

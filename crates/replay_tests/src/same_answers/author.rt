@@ -1,7 +1,9 @@
 //! How a list is drawn.
 ghost use Rattle.std.specs.Prelude.{◌<◌};
 
-use crate::events::{BEGINNING, CHANGES, EDITS, ODDITIES, QUESTIONS, REPLIES, REQUESTS, words};
+use crate::same_answers::events::{
+    BEGINNING, CHANGES, EDITS, ODDITIES, QUESTIONS, REPLIES, REQUESTS, words,
+};
 use replay::replay;
 use std::alloc::{AllocError, Global};
 

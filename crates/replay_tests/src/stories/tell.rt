@@ -1,5 +1,5 @@
 //! How a story is told.
-use crate::beginnings::beginning;
+use crate::stories::beginnings::beginning;
 use replay::{replay, replay_plain};
 use std::alloc::Global;
 use std::io::Write;

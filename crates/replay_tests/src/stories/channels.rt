@@ -1,5 +1,5 @@
 //! Channels of clients.
-use crate::tell::tells;
+use crate::stories::tell::tells;
 use std::test::Fail;
 
 // No NUL, no byte before it, a blank, bytes outside 33 to 126, and 128 bytes. 127 are a name.

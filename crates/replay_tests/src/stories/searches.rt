@@ -1,5 +1,5 @@
 //! Searches by datagram.
-use crate::tell::tells;
+use crate::stories::tell::tells;
 use std::test::Fail;
 
 // VERSION, searches for T1 and U, and the beginning of another: T1 is connected, and U is asked for

@@ -1,5 +1,5 @@
 //! What the gateway keeps at most.
-use crate::tell::tells;
+use crate::stories::tell::tells;
 use std::test::Fail;
 
 #[test]

@@ -1,5 +1,4 @@
-//! Lists of events that are drawn, and told to both gateways: both have to print the same. There is
-//! no code here but tests.
+//! Lists of events that are drawn, and told to both gateways: both have to print the same.
 //!
 //! A list is a script of some 250 lines, drawn from a seed (`author`). It begins with lines that bring
 //! clients, servers and channels, and goes on with 200 events, each a row of a table (`events`) with
@@ -13,11 +12,7 @@
 //! An event is added as a row of a table of `events`, whose head says what may stand in it; a table is
 //! drawn as often as `author::TABLES` has its letter. A row more changes what is drawn from each seed.
 //! Tests that run before they are proved (`rt try`) are slow, and need `lists::LISTS` smaller.
-#![tactic(auto)]
 
-#[cfg(test)]
 mod author;
-#[cfg(test)]
 mod events;
-#[cfg(test)]
 mod lists;

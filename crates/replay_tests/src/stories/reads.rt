@@ -1,5 +1,5 @@
 //! Reads, and the updates that answer them.
-use crate::tell::tells;
+use crate::stories::tell::tells;
 use std::test::Fail;
 
 // When the last channel goes, the link stays, as the search is remembered, and the value goes.

@@ -1,5 +1,5 @@
 //! The lists, and what they have to come to.
-use crate::author::{count, draw};
+use crate::same_answers::author::{count, draw};
 use replay::replay_plain;
 use std::alloc::{AllocError, Global};
 use std::process::Abort;

@@ -1,4 +1,4 @@
-//! Worked runs of scripts, as stories that are told to `replay`. There is no code here but tests.
+//! Worked runs of scripts, as stories that are told to `replay`.
 //!
 //! A story is a text. Its lines are those of a script, and behind `> ` what a line prints. All that
 //! is printed has to be this, and the status at the end has to be 0. Beside these there are
@@ -10,31 +10,17 @@
 //! - `! status 2`: another status at the end;
 //! - `! uncut`: without it the script is performed on the plain gateway too, and again with the
 //!   bytes of each line cut after 1 to 47 of them.
-#![tactic(auto)]
 
-#[cfg(test)]
 mod beginnings;
-#[cfg(test)]
 mod channels;
-#[cfg(test)]
 mod clients;
-#[cfg(test)]
 mod edits;
-#[cfg(test)]
 mod limits;
-#[cfg(test)]
 mod links;
-#[cfg(test)]
 mod reads;
-#[cfg(test)]
 mod searches;
-#[cfg(test)]
 mod servers;
-#[cfg(test)]
 mod subscriptions;
-#[cfg(test)]
 mod tell;
-#[cfg(test)]
 mod types;
-#[cfg(test)]
 mod writes;

@@ -1,0 +1,12 @@
+//! Tests of scripts: which lines there are, what is printed, and how a replay ends where a stream fails.
+//!
+//! Lines are told as tables of lines (`lines`), streams as tables of streams (`streams`), and used up
+//! numbers as stories of gateways that have few (`used_up`). Worked runs are in
+//! `stories`.
+
+mod engine;
+mod lines;
+mod output;
+mod streams;
+mod typing;
+mod used_up;
