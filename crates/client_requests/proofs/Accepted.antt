@@ -14,8 +14,8 @@ pub accepted_is_there : (w : Gateway) (number sid dtype count reach rights : ℕ
 accepted_is_there w number sid dtype count reach rights accepted = by (channel_of w number sid) refl accepted
   where
     refused : NoChannel ≡ Accepted reach rights → has_channel number sid w.clients ≡ true
-    refused no = absurd cc
+    refused other = absurd cc
 
     by : (on : Option Channel) → channel_of w number sid ≡ on → verdict_on w dtype count on ≡ Accepted reach rights → has_channel number sid w.clients ≡ true
-    by None missing no = refused no
-    by (Some c) found yes = sym (found_any (is_channel number sid) w.clients.channels) ∙ ap is_some found
+    by None missing other = refused other
+    by (Some c) found same = sym (found_any (is_channel number sid) w.clients.channels) ∙ ap is_some found

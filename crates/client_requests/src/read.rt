@@ -123,7 +123,6 @@ fn accept_read(
 }
 
 /// A client wants a value.
-#[tactic(auto, using(crate::proofs::Accepted::accepted_is_there))]
 pub(crate) fn read(
     rows: &mut Rows,
     visits: &mut Visits,
