@@ -5,13 +5,14 @@ ghost use Rattle.channel_table.specs.ClientRows.{channel_count};
 ghost use Rattle.gateway_state.specs.Sessions.{opened, lost, introduced, up_opened, up_lost};
 ghost use Rattle.gateway_state.specs.Settled.{HasSessionsConnected};
 ghost use Rattle.gateway_state.specs.Variables.{channel_names};
-ghost use Rattle.touched_rows.specs.Touches.{names_of};
+ghost use Rattle.link_table.specs.Links.{is_of};
+ghost use Rattle.touched_rows.specs.Touches.{link_names, names_of, server_names};
 
 use ca_message::{NameText, ToClient, ToServer};
 use channel_table::{Session, Table, TableFault, Visits};
 use gateway_rows::Rows;
 use gateway_state::Dest;
-use link_table::{Server, TableFault as LinkFault};
+use link_table::{Links, Server, TableFault as LinkFault};
 use pv_name::Host;
 use std::alloc::{AllocError, Global};
 use touched_rows::Names;
@@ -106,11 +107,27 @@ fn introduce(rows: &mut Rows, number: u32) -> Result<(), AllocError>
     rows.ask(number, &ToServer::HostName(NameText::from(&host_name)))
 }
 
-/// A server's connection is gone.
-pub(crate) fn lose_server(rows: &mut Rows, number: u32)
-    ensures { rows.new ≡ up_lost rows.old number }
+/// The variables of a server's links, in the order of links.
+fn server_names(alloc: Global, upstream: &Links, number: u32) -> Result<Names, AllocError>
+    ensures { IfOk result (λ names. names ≡ link_names (filter (is_of number) upstream.now.links)) }
 {
+    let mut names = Names::new(alloc);
+    for link in upstream.links(alloc)? {
+        if link.server == number {
+            names.push(link.name.copy()?)?;
+        }
+    }
+    Ok(names)
+}
+
+/// A server's connection is gone. It answers the variables of its links.
+pub(crate) fn lose_server(rows: &mut Rows, number: u32) -> Result<Names, AllocError>
+    ensures ok { OnOk result (rows.new ≡ up_lost rows.old number) }
+    ensures names { IfOk result (λ names. names ≡ server_names rows.old number) }
+{
+    let names = server_names(rows.alloc, &rows.upstream, number)?;
     rows.connections.remove(Dest::Upstream(number));
     rows.upstream.remove_server(number);
     rows.cache.remove_by(number);
+    Ok(names)
 }

@@ -103,8 +103,8 @@ fn perform(rows: &mut Rows, visits: &mut Visits, event: Event) -> Result<Touched
             Ok(Touched::Nothing)
         }
         Event::UpLost(number) => {
-            lose_server(rows, number);
-            Ok(Touched::LinksGone)
+            let names = lose_server(rows, number)?;
+            Ok(Touched::Gone(names))
         }
         Event::Server(number, message) => {
             if rows.acts(Dest::Upstream(number)) {

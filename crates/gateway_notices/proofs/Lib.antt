@@ -1,3 +1,4 @@
+pub mod ChannelsByName
 pub mod Gathered
 pub mod GoneChannels
 pub mod LinksByName

@@ -1,9 +1,7 @@
 //! What clients are owed about their channels.
-ghost use Rattle.std.specs.Prelude.{◌≡◌, filter_map, false, fold, OnOk, IfOk};
+ghost use Rattle.std.specs.Prelude.{◌≡◌, filter_map, fold, OnOk, IfOk};
 ghost use Rattle.gateway_state.specs.Notices.{channel_notice, channel_notices, channel_told, channels_told, with_reach};
-ghost use Rattle.gateway_state.specs.Told.{AreLed};
 ghost use Rattle.touched_rows.specs.Touched.{channel_notices_on, channels_told_on};
-ghost use Rattle.gateway_notices.specs.Gone.{gone_notice, gone_notices};
 
 use ca_message::ToClient;
 use channel_table::{Channel, Visits};
@@ -13,7 +11,7 @@ use pv_name::Name;
 use std::alloc::AllocError;
 
 /// That a channel is gone.
-fn disconnected(channel: &Channel) -> ChannelNotice
+pub(crate) fn disconnected(channel: &Channel) -> ChannelNotice
     ensures { result ≡ ChannelNotice.Disconnected channel.now.session channel.now.sid channel.now.cid }
 {
     ChannelNotice::Disconnected {
@@ -53,17 +51,6 @@ fn channel_notice(
     }))
 }
 
-/// The same where names lead as they did: a channel is gone with its link.
-fn gone_notice(rows: &Rows, channel: &Channel) -> Option<ChannelNotice>
-    ensures { result ≡ gone_notice rows.now channel.now }
-{
-    if rows.is_link_connected(&channel.real) {
-        None
-    } else {
-        Some(disconnected(channel))
-    }
-}
-
 fn channel_notices(rows: &Rows, visits: &mut Visits) -> Result<Vec<ChannelNotice>, AllocError>
     ensures { IfOk result (λ notices. notices.items ≡ channel_notices rows.now) }
 {
@@ -91,35 +78,6 @@ fn channel_notices_on(
         }
     }
     Ok(notices)
-}
-
-fn gone_notices(rows: &Rows, visits: &mut Visits) -> Result<Vec<ChannelNotice>, AllocError>
-    ensures { IfOk result (λ notices. notices.items ≡ gone_notices rows.now) }
-{
-    let mut notices = Vec::new(rows.alloc);
-    for channel in rows.clients.channels(visits, rows.alloc)? {
-        if let Some(notice) = gone_notice(rows, channel) {
-            notices.push(notice)?;
-        }
-    }
-    Ok(notices)
-}
-
-/// What is owed about channels, worked out anew unless names lead as they did.
-#[tactic(auto, using(crate::proofs::GoneChannels::gone_as_told))]
-fn notices_of(
-    rows: &Rows,
-    visits: &mut Visits,
-    anew: bool,
-) -> Result<Vec<ChannelNotice>, AllocError>
-    requires led { anew ≡ false → AreLed rows.now }
-    ensures { IfOk result (λ notices. notices.items ≡ channel_notices rows.now) }
-{
-    if anew {
-        channel_notices(rows, visits)
-    } else {
-        gone_notices(rows, visits)
-    }
 }
 
 fn set_rights(rows: &mut Rows, visits: &mut Visits, session: u32, sid: u32, reach: u32, rights: u32)
@@ -154,7 +112,7 @@ fn tell_channel(
     }
 }
 
-fn tell_each(
+pub(crate) fn tell_each(
     rows: &mut Rows,
     visits: &mut Visits,
     notices: &[ChannelNotice],
@@ -167,21 +125,15 @@ fn tell_each(
     Ok(())
 }
 
-/// Tells clients of channels that are gone, and of rights that changed. They are worked out anew, unless
-/// names lead as they did.
-pub(crate) fn tell_channels(
-    rows: &mut Rows,
-    visits: &mut Visits,
-    anew: bool,
-) -> Result<(), AllocError>
-    requires led { anew ≡ false → AreLed rows.old }
+/// Tells clients of channels that are gone, and of rights that changed.
+pub(crate) fn tell_channels(rows: &mut Rows, visits: &mut Visits) -> Result<(), AllocError>
     ensures { OnOk result (rows.new ≡ channels_told rows.old) }
 {
-    let notices = notices_of(rows, visits, anew)?;
+    let notices = channel_notices(rows, visits)?;
     tell_each(rows, visits, &notices)
 }
 
-/// Tells clients of the channels on one variable, of which the same is worked out anew.
+/// The same of the channels on one variable.
 pub(crate) fn tell_channels_on(
     rows: &mut Rows,
     visits: &mut Visits,

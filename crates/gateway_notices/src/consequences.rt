@@ -1,15 +1,16 @@
 //! What follows from an event, by what it touched.
-ghost use Rattle.std.specs.Prelude.{◌≡◌, true, false, OnOk, IsErrOf};
+ghost use Rattle.std.specs.Prelude.{◌≡◌, true, OnOk, IsErrOf};
 ghost use Rattle.gateway_notices.specs.Looks.{looks_after};
 ghost use Rattle.gateway_rows.specs.Own.{IsWithin};
 ghost use Rattle.gateway_state.specs.Numbers.{is_past_numbers};
 ghost use Rattle.gateway_state.specs.Settled.{AreInOrder};
 ghost use Rattle.gateway_state.specs.Step.{consequences};
-ghost use Rattle.gateway_state.specs.Told.{AreLed, AreTold};
+ghost use Rattle.gateway_state.specs.Told.{AreTold};
 ghost use Rattle.touched_rows.specs.Touched.{channels_told_on, variable_told};
 ghost use Rattle.touched_rows.specs.Touches.{IsReady, follows};
 
 use crate::channels::{tell_channels, tell_channels_on};
+use crate::gone::tell_gone;
 use crate::links::{tell_interest, tell_link_on, tell_links, tell_links_among};
 use crate::reads::{tell_one_read, tell_reads, tell_reads_on};
 use crate::sharing::{share_on, share_with};
@@ -22,15 +23,14 @@ use gateway_rows::{Refusal, Rows};
 use pv_name::Name;
 use touched_rows::Touched;
 
-/// All passes, over all rows. Rights are worked out anew, unless names lead as they did.
+/// All passes, over all rows.
 #[tactic(auto, using(gateway_state::proofs::NumberLemmas::links_told_past, gateway_state::proofs::OrderKept::order_before_links, gateway_state::proofs::ToldRights::told_before_withheld, gateway_state::proofs::ToldRights::told_before_links, gateway_state::proofs::ToldRights::told_before_reads, gateway_state::proofs::ToldRights::told_before_updates))]
-fn follow_all(rows: &mut Rows, visits: &mut Visits, anew: bool) -> Result<(), Refusal>
+fn follow_all(rows: &mut Rows, visits: &mut Visits) -> Result<(), Refusal>
     requires order { AreInOrder rows.old }
-    requires led { anew ≡ false → AreLed rows.old }
     ensures ok { OnOk result (rows.new ≡ consequences rows.old) }
     ensures used_up { IsErrOf result Refusal.NumbersUsedUp → is_past_numbers (consequences rows.old) ≡ true }
 {
-    tell_channels(rows, visits, anew)?;
+    tell_channels(rows, visits)?;
     withhold_updates(rows, visits)?;
     tell_links(rows)?;
     tell_reads(rows, visits)?;
@@ -38,15 +38,15 @@ fn follow_all(rows: &mut Rows, visits: &mut Visits, anew: bool) -> Result<(), Re
     Ok(())
 }
 
-/// All passes, where names may lead elsewhere. What they lead to is learned first, so that the rules are
-/// run once for each channel.
+/// The same where names may lead elsewhere. What they lead to is learned first, so that the rules are run
+/// once for each channel.
 fn follow_anew(rows: &mut Rows, visits: &mut Visits) -> Result<(), Refusal>
     requires order { AreInOrder rows.old }
     ensures ok { OnOk result (rows.new ≡ consequences rows.old) }
     ensures used_up { IsErrOf result Refusal.NumbersUsedUp → is_past_numbers (consequences rows.old) ≡ true }
 {
     rows.learn_leads(visits)?;
-    follow_all(rows, visits, true)
+    follow_all(rows, visits)
 }
 
 /// All passes, over the rows of one variable.
@@ -77,7 +77,7 @@ pub fn follow(rows: &mut Rows, visits: &mut Visits, touched: Touched) -> Result<
 {
     match touched {
         Touched::All => follow_anew(rows, visits),
-        Touched::LinksGone => follow_all(rows, visits, false),
+        Touched::Gone(names) => Ok(tell_gone(rows, visits, &names)?),
         Touched::Nothing => Ok(()),
         Touched::Session(number) => Ok(tell_updates_to(rows, visits, number)?),
         Touched::Variable(name) => follow_variable(rows, visits, &name),

@@ -6,12 +6,14 @@
 //! links (`links_told`), reads that wait (`reads_told`) and updates that are due (`updates_told`). Each
 //! pass makes its list of notices from the rows as it begins, and then gives them one by one. Else the
 //! same is done for one variable, session, read or subscription alone, or for the links of several
-//! variables, by the rights that clients were last told (`IsReady`). A refusal leaves the rows half
-//! done; it says that numbers are used up only where a number past the last one would be given out.
+//! variables, by the rights that clients were last told (`IsReady`); or the channels on several variables
+//! are gone (`gone`). A refusal leaves the rows half done; it says that numbers are used up only where a
+//! number past the last one would be given out.
 #![tactic(auto)]
 
 mod channels;
 mod consequences;
+mod gone;
 mod links;
 mod reads;
 mod sharing;

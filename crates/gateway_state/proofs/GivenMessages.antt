@@ -124,7 +124,8 @@ module _ (x : Gateway) (dest : Dest) where
     session_added = λ row w there grown. grown;
     session_changed = λ number change w same grown. grown;
     servers = λ rows w grown. grown;
-    cache = λ rows w grown. grown;
+    cache_left = λ stays w grown. grown;
+    cached = λ row w grown. grown;
     searches = λ rows w grown. grown;
     policy = λ policy w grown. grown;
     channel_added = λ session cid name real rights w fixed grown. grown;

@@ -73,7 +73,8 @@ hosts_fixed_kept = record {
         all_weaker (has_host_fixed w) (has_fixed_in (change_first (is_numbered number) change w.clients.sessions)) w.clients.channels
         (λ c is. fixed_changed c.session number change w.clients.sessions same is) fixed;
     servers = λ rows w fixed. fixed;
-    cache = λ rows w fixed. fixed;
+    cache_left = λ stays w fixed. fixed;
+    cached = λ row w fixed. fixed;
     searches = λ rows w fixed. fixed;
     policy = λ policy w fixed. fixed;
     channel_added = λ session cid name real rights w host fixed.

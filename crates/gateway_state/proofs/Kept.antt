@@ -1,6 +1,6 @@
 -- What every state of a run has, if each change of rows keeps it.
 use Rattle.std.proofs.Common.{◌≡◌, ℕ, ◌+◌, List, [], ◌∷◌, ◌++◌, Bool, true, false, cond, Some, None, refl}
-use Rattle.std.specs.Prelude.{is_some}
+use Rattle.std.specs.Prelude.{filter, is_some}
 use Rattle.std.specs.List.{find, list_any}
 use Rattle.rows.specs.Rows.{change_first}
 use Rattle.ca_message.specs.declared.to_client.ToClient.{ToClient}
@@ -25,6 +25,7 @@ use Rattle.fanout.specs.Waiting.{Waiting}
 use Rattle.gateway_state.specs.declared.search.Search.{Search}
 use Rattle.gateway_state.specs.Clients.{with_channel, without_channel}
 use Rattle.gateway_state.specs.Asked.{stands}
+use Rattle.gateway_state.specs.CachedRows.{with_row}
 use Rattle.gateway_state.specs.Connections.{fresh, is_to}
 use Rattle.gateway_state.specs.Direct.{drained}
 use Rattle.gateway_state.specs.Gateway.{Gateway}
@@ -122,7 +123,8 @@ pub record KeepsRows (P : Gateway → Type 0) : Type 0 where
   pub session_changed : (number : ℕ) (change : Session → Session) (w : Gateway) → KeepsSession change → P w
       → P (with_sessions (change_first (is_numbered number) change w.clients.sessions) w)
   pub servers : (rows : List Server) (w : Gateway) → P w → P (with_servers rows w)
-  pub cache : (rows : List LastMessage) (w : Gateway) → P w → P (with_cache rows w)
+  pub cache_left : (stays : LastMessage → Bool) (w : Gateway) → P w → P (with_cache (filter stays w.cache) w)
+  pub cached : (row : LastMessage) (w : Gateway) → P w → P (with_cache (with_row row w.cache) w)
   pub searches : (rows : List Search) (w : Gateway) → P w → P (with_searches rows w)
   pub policy : (policy : Policy) (w : Gateway) → P w → P (with_policy policy w)
   pub channel_added : (session cid : ℕ) (name real : List ℕ) (rights : ℕ) (w : Gateway) → is_host_fixed (find (is_numbered session) w.clients.sessions) ≡ true → P w

@@ -1,6 +1,6 @@
 -- What each change of rows keeps, every run keeps.
 use Rattle.std.proofs.Common.{ℕ, List, [], ◌∷◌, None, false}
-use Rattle.std.specs.Prelude.{filter, is_some}
+use Rattle.std.specs.Prelude.{is_some}
 use Rattle.std.specs.List.{fold}
 use Rattle.ca_message.specs.declared.to_client.ToClient.TheVariants as replies
 use Rattle.ca_message.specs.declared.to_server.ToServer.TheVariants as requests
@@ -69,7 +69,7 @@ module _ (P : Gateway → Type 0) (kept : KeepsRows P) where
   pub kept_link_told : (w : Gateway) (notice : LinkNotice) → P w → P (link_told w notice)
   kept_link_told w (Cancelled server cid sid dtype sub) holds =
       kept.messages.asking server (requests.EventCancel sid sub.id dtype sub.sent) (with_subscription_of server cid None w) (kept.subscription_ended server cid w holds)
-  kept_link_told w (Unread cid) holds = kept.cache (filter (is_cached_elsewhere cid) w.cache) w holds
+  kept_link_told w (Unread cid) holds = kept.cache_left (is_cached_elsewhere cid) w holds
   kept_link_told w (Subscribed server cid sid dtype want sent) holds =
       let id : ℕ = w.upstream.counters.subscription in
       kept.messages.asking server (requests.EventAdd sid id dtype sent want.mask) (with_new_subscription server cid want.mask want.count sent w)

@@ -25,7 +25,6 @@ use Rattle.gateway_state.specs.Asked.{acts, ends, stands}
 use Rattle.gateway_state.specs.Gateway.{Gateway}
 use Rattle.gateway_state.specs.Servers.{answered_creating, concerned_owed, created_for, failed_for, found, gone_for, has_other_alarm, is_usable, is_value, linked, read_failed, reads_failed, replied, rights_given, server_said, updated_by, updated_link, waits_for, with_cached, with_link_state, without_link}
 use Rattle.gateway_state.specs.Sessions.{introduced, up_opened, with_server}
-use Rattle.gateway_state.specs.CachedRows.{with_row}
 use Rattle.gateway_state.specs.Connections.{fresh}
 use Rattle.gateway_state.specs.Notices.{without_read}
 use Rattle.link_table.specs.declared.servers.Server.{Server}
@@ -116,7 +115,7 @@ module _ (P : Gateway → Type 0) (kept : KeepsRows P) where
       let differs : Bool = has_other_alarm w link.cid dtype count payload in
       let owed : Gateway = concerned_owed link.name differs w in
       kept_either P (is_value native sub.count dtype count payload) (with_cached row owed) w
-      (λ _. kept.cache (with_row row owed.cache) owed (kept_owed_to_all P kept (concerned w link.name differs) w holds)) holds
+      (λ _. kept.cached row owed (kept_owed_to_all P kept (concerned w link.name differs) w holds)) holds
   kept_updated_link link (Connected sid native native_count) None dtype count payload w holds = holds
   kept_updated_link link Creating sub dtype count payload w holds = holds
   kept_updated_link link Unusable sub dtype count payload w holds = holds

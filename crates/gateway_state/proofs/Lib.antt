@@ -1,3 +1,4 @@
+pub mod CachedApart
 pub mod ConnectionRows
 pub mod GivenMessages
 pub mod HostsFixed

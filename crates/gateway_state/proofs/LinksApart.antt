@@ -17,7 +17,7 @@ use Rattle.gateway_state.proofs.Kept.{IsKept, KeepsLinks, messages_kept}
 use Rattle.gateway_state.proofs.KeptByRuns.{kept_run}
 
 -- of fewer rows no more pass
-passing_filtered : {A : Type 0} (test other : A → Bool) (rows : List A) → length (filter test (filter other rows)) ≤ length (filter test rows)
+pub passing_filtered : {A : Type 0} (test other : A → Bool) (rows : List A) → length (filter test (filter other rows)) ≤ length (filter test rows)
 passing_filtered test other [] = omega arith
 passing_filtered test other (row ∷ rows) =
     let rest = passing_filtered test other rows in
@@ -52,7 +52,7 @@ none_passing test (row ∷ rows) none =
     elim (test row) as (λ t. is_some (cond t (Some row) (find test rows)) ≡ false → cond t (row ∷ filter test rows) (filter test rows) ≡ [])
     [ true ↦ λ h. cc | false ↦ λ h. none_passing test rows h ] none
 
-passing_pushed : {A : Type 0} (test : A → Bool) (rows : List A) (new : A) → length (filter test (rows ++ new ∷ [])) ≡ length (filter test rows) + cond (test new) 1 0
+pub passing_pushed : {A : Type 0} (test : A → Bool) (rows : List A) (new : A) → length (filter test (rows ++ new ∷ [])) ≡ length (filter test rows) + cond (test new) 1 0
 passing_pushed test [] new = elim (test new) as (λ t. length (cond t (new ∷ []) []) ≡ 0 + cond t 1 0) [ true ↦ omega arith | false ↦ omega arith ]
 passing_pushed test (row ∷ rows) new =
     let rest = passing_pushed test rows new in
@@ -97,7 +97,8 @@ links_apart_kept = record {
     session_added = λ row w there apart. apart;
     session_changed = λ number change w same apart. apart;
     servers = λ rows w apart. apart;
-    cache = λ rows w apart. apart;
+    cache_left = λ stays w apart. apart;
+    cached = λ row w apart. apart;
     searches = λ rows w apart. apart;
     policy = λ policy w apart. apart;
     channel_added = λ session cid name real rights w fixed apart. apart;

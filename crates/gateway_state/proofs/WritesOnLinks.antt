@@ -218,7 +218,8 @@ writes_fit_kept = record {
     session_added = λ row w there on. record { apart = on.apart; fit = on.fit };
     session_changed = λ number change w same on. record { apart = on.apart; fit = on.fit };
     servers = λ rows w on. record { apart = on.apart; fit = on.fit };
-    cache = λ rows w on. record { apart = on.apart; fit = on.fit };
+    cache_left = λ stays w on. record { apart = on.apart; fit = on.fit };
+    cached = λ row w on. record { apart = on.apart; fit = on.fit };
     searches = λ rows w on. record { apart = on.apart; fit = on.fit };
     policy = λ policy w on. record { apart = on.apart; fit = on.fit };
     channel_added = λ session cid name real rights w fixed on. record { apart = on.apart; fit = fit_more w (new_channel session cid name real rights w) on.fit };

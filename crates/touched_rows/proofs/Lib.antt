@@ -1,5 +1,6 @@
 pub mod Beside
 pub mod Blanked
+pub mod ChannelsGone
 pub mod Cleared
 pub mod Connecting
 pub mod Connections
@@ -9,7 +10,6 @@ pub mod Failed
 pub mod Found
 pub mod LessGiven
 pub mod LinkChanged
-pub mod LinksGone
 pub mod LinksQuiet
 pub mod Lost
 pub mod Nothing
@@ -25,6 +25,7 @@ pub mod ReadersOf
 pub mod Renamed
 pub mod Ready
 pub mod Searched
+pub mod ServerLost
 pub mod Sessions
 pub mod Shapes
 pub mod Subscribed

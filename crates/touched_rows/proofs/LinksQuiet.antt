@@ -19,34 +19,36 @@ nothing_first : {A : Type 0} (first more : List A) → first ++ more ≡ [] → 
 nothing_first [] more none = refl
 nothing_first (x ∷ first) more none = absurd cc
 
-module _ (w x : Gateway) (interest : (name : List ℕ) (native : ℕ) → interest_of x name native ≡ interest_of w name native)
-    (wanted : (name : List ℕ) → is_wanted w name ≡ true → is_wanted x name ≡ true) where
+module _ (w x : Gateway) (link : Link) (interest : (native : ℕ) → interest_of x link.name native ≡ interest_of w link.name native)
+    (wanted : is_wanted w link.name ≡ true → is_wanted x link.name ≡ true) where
   -- whatever minor version the server says
-  interest_quiet : (link : Link) (state : LinkState) → interest_notices w link state ≡ [] → interest_notices x link state ≡ []
-  interest_quiet link Creating none = refl
-  interest_quiet link Unusable none = refl
-  interest_quiet link (Connected sid dtype native) none = by (is_for (interest_of w link.name native) link.subscription) refl none
+  interest_quiet : (state : LinkState) → interest_notices w link state ≡ [] → interest_notices x link state ≡ []
+  interest_quiet Creating none = refl
+  interest_quiet Unusable none = refl
+  interest_quiet (Connected sid dtype native) none = by (is_for (interest_of w link.name native) link.subscription) refl none
     where
       by : (met : Bool) → is_for (interest_of w link.name native) link.subscription ≡ met
           → cond met [] (cancelled link sid dtype link.subscription ++ subscribed (minor_of w link.server) link sid dtype native (interest_of w link.name native)) ≡ []
           → interest_notices x link (Connected sid dtype native) ≡ []
       by true is none =
           ap (λ (met : Bool). cond met [] (cancelled link sid dtype link.subscription ++ subscribed (minor_of x link.server) link sid dtype native (interest_of x link.name native)))
-          (ap (λ want. is_for want link.subscription) (interest link.name native) ∙ is)
+          (ap (λ want. is_for want link.subscription) (interest native) ∙ is)
       by false is none = absurd (told_anew link (minor_of w link.server) sid dtype native link.subscription (interest_of w link.name native) none)
 
-  link_quiet : (link : Link) → IsInUse w link → link_notices_of w link ≡ [] → link_notices_of x link ≡ []
-  link_quiet link used none =
+  pub link_quiet : IsInUse w link → link_notices_of w link ≡ [] → link_notices_of x link ≡ []
+  link_quiet used none =
       let first : interest_notices x link link.state ≡ [] =
-      interest_quiet link link.state (nothing_first (interest_notices w link link.state) (cond (is_wanted w link.name) [] (Dropped link.server link.cid link.state ∷ [])) none) in
-      let still : is_wanted x link.name ≡ true = wanted link.name used.wanted in
+      interest_quiet link.state (nothing_first (interest_notices w link link.state) (cond (is_wanted w link.name) [] (Dropped link.server link.cid link.state ∷ [])) none) in
+      let still : is_wanted x link.name ≡ true = wanted used.wanted in
       λ i. first i ++ cond (still i) [] (Dropped link.server link.cid link.state ∷ [])
 
+module _ (w x : Gateway) (interest : (name : List ℕ) (native : ℕ) → interest_of x name native ≡ interest_of w name native)
+    (wanted : (name : List ℕ) → is_wanted w name ≡ true → is_wanted x name ≡ true) where
   pub each_quiet : (links : List Link) → All (IsInUse w) links → All (λ (link : Link). link_notices_of w link ≡ []) links → All (λ (link : Link). link_notices_of x link ≡ []) links
   each_quiet [] used none = All-nil (λ (link : Link). link_notices_of x link ≡ [])
   each_quiet (link ∷ links) used none =
       All-cons (λ (l : Link). link_notices_of x l ≡ []) link links
-      (link_quiet link (All-head (IsInUse w) link links used) (All-head (λ (l : Link). link_notices_of w l ≡ []) link links none))
+      (link_quiet w x link (interest link.name) (wanted link.name) (All-head (IsInUse w) link links used) (All-head (λ (l : Link). link_notices_of w l ≡ []) link links none))
       (each_quiet links (All-tail (IsInUse w) link links used) (All-tail (λ (l : Link). link_notices_of w l ≡ []) link links none))
 
   pub links_quiet : IsSettled w → flat_map (link_notices_of x) w.upstream.links ≡ []

@@ -29,7 +29,7 @@ abbrev planned_over : {A B : Type 0} → (A → List B) → Option A → List B
 planned_over notices None = []
 planned_over notices (Some row) = notices row
 
-none_passing : {A : Type 0} (test : A → Bool) (rows : List A) → length (filter test rows) ≤ 0 → filter test rows ≡ []
+pub none_passing : {A : Type 0} (test : A → Bool) (rows : List A) → length (filter test rows) ≤ 0 → filter test rows ≡ []
 none_passing test rows none = by (filter test rows) none
   where
     by : {A : Type 0} (all : List A) → length all ≤ 0 → all ≡ []

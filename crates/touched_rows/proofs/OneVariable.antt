@@ -51,7 +51,7 @@ use Rattle.touched_rows.proofs.WantedLinks.{SparesWanted, one_spares, open_no_mo
 
 -- ---- each channel is the one of its numbers
 
-each_found : (low high : ℕ) (rows : List Channel) → AreRising sid_of low rows high → All (λ (c : Channel). find (is_channel c.session c.sid) rows ≡ Some c) rows
+pub each_found : (low high : ℕ) (rows : List Channel) → AreRising sid_of low rows high → All (λ (c : Channel). find (is_channel c.session c.sid) rows ≡ Some c) rows
 each_found low high [] rising = All-nil (λ (c : Channel). find (is_channel c.session c.sid) [] ≡ Some c)
 each_found low high (first ∷ rows) rising =
     All-cons (λ (c : Channel). find (is_channel c.session c.sid) (first ∷ rows) ≡ Some c) first rows
@@ -62,7 +62,7 @@ each_found low high (first ∷ rows) rising =
     rw (and_right (eqb first.session c.session) (eqb first.sid c.sid) (ne_eqb first.sid c.sid (λ same. omega (arith, above, same)))) (each_found (first.sid + 1) high rows rising.1 k d within))
 
 -- none of the rows passes
-none_pass : {A : Type 0} (test : A → Bool) (rows : List A) → filter test rows ≡ [] → All (λ (row : A). test row ≡ false) rows
+pub none_pass : {A : Type 0} (test : A → Bool) (rows : List A) → filter test rows ≡ [] → All (λ (row : A). test row ≡ false) rows
 none_pass {A = A} test [] none = All-nil (λ (row : A). test row ≡ false)
 none_pass {A = A} test (row ∷ rows) none = by (test row) refl none (λ rest. none_pass test rows rest)
   where

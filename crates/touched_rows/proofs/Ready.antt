@@ -19,17 +19,16 @@ use Rattle.gateway_state.specs.Searches.{leads_to}
 use Rattle.gateway_state.specs.Settled.{AreInOrder, HasLinksApart}
 use Rattle.gateway_state.specs.Step.{step}
 use Rattle.gateway_state.specs.Telling.{sent, told}
-use Rattle.gateway_state.specs.Told.{AreLed, AreTold, IsTold}
+use Rattle.gateway_state.specs.Told.{AreTold, IsTold}
 use Rattle.gateway_state.specs.Updates.{is_taking, owed_to_all, update_notice, update_told, with_owed_of}
 use Rattle.gateway_state.specs.Variables.{is_on, is_wanted, link_of}
 use Rattle.gateway_state.proofs.OrderKept.{order_after_effect}
 use Rattle.gateway_state.proofs.ReachedStates.{reached_step}
 use Rattle.gateway_state.proofs.ToldRights.{reached_told}
 use Rattle.touched_rows.specs.declared.touched.Touched.{Touched}
-use Rattle.touched_rows.specs.declared.touched.Touched.TheVariants.{All as Everything, LinksGone, Nothing, Session, Variable, Value, Interest, Link as LinkOf, Links, Read, Subscription as SubscriptionTo}
+use Rattle.touched_rows.specs.declared.touched.Touched.TheVariants.{All as Everything, Gone, Nothing, Session, Variable, Value, Interest, Link as LinkOf, Links, Read, Subscription as SubscriptionTo}
 use Rattle.touched_rows.specs.Touched.{channel_notices_on, channels_told_on, interest_notices_over, interest_told, is_link_among, link_notices_among, link_notices_over, link_told_on, one_read_told, one_update_told, read_notices_on, read_told_if, reads_told_on, update_notices_on, update_notices_to, update_told_if, updates_told_on, updates_withheld_on, withheld_on}
 use Rattle.touched_rows.specs.Touches.{IsReady, event_touches, follows}
-use Rattle.touched_rows.proofs.LinksGone.{is_links_gone, led_after_effect}
 use Rattle.touched_rows.proofs.Shapes.{links_told_shape, reads_told_shape}
 use Rattle.touched_rows.proofs.Tellings.{interest_keeps, keeps_links, less_links_told, less_reads_told, less_update_told}
 use Rattle.touched_rows.proofs.Tidy.{reached_tidy}
@@ -151,12 +150,11 @@ order_before_link name x order =
     let told : Gateway = channels_told_on name x in
     kept_owed_to_all AreInOrder in_order_kept.rows (withheld_on name told) told (kept_channels AreInOrder in_order_kept.rows (channel_notices_on name x) x order)
 
-back : (touched : Touched) (x : Gateway) → AreInOrder x → HasLinksApart x → (is_links_gone touched ≡ true → AreLed x) → AreTold (follows touched x) → IsReady touched x
-back Everything x order apart led told = record {}
-back LinksGone x order apart led told = led refl
-back Nothing x order apart led told = record {}
-back (Session number) x order apart led told = told_back x (follows (Session number) x) (alike_updates (update_notices_to number x) x) told
-back (Variable name) x order apart led told =
+back : (touched : Touched) (x : Gateway) → AreInOrder x → HasLinksApart x → AreTold (follows touched x) → IsReady touched x
+back Everything x order apart told = record {}
+back Nothing x order apart told = record {}
+back (Session number) x order apart told = told_back x (follows (Session number) x) (alike_updates (update_notices_to number x) x) told
+back (Variable name) x order apart told =
     let first : Gateway = channels_told_on name x in
     let held : Gateway = updates_withheld_on name first in
     let linked : Gateway = link_told_on name held in
@@ -165,21 +163,22 @@ back (Variable name) x order apart led told =
     told_back first held (alike_held (withheld_on name first) first)
     (links_back held (link_notices_over held (link_of held name)) (one_spares held held.upstream.counters.cid (order_before_link name x order).links name)
     (told_back linked end (alike_after linked read end (alike_reads (read_notices_on name linked) linked) (alike_updates (update_notices_on name read) read)) told))
-back (Value name) x order apart led told =
+back (Value name) x order apart told =
     let read : Gateway = reads_told_on name x in
     told_back x (follows (Value name) x)
     (alike_after x read (follows (Value name) x) (alike_reads (read_notices_on name x) x) (alike_updates (update_notices_on name read) read)) told
-back (Interest name) x order apart led told = told_back x (interest_told name x) (alike_interest name x) told
-back (LinkOf name) x order apart led told =
+back (Interest name) x order apart told = told_back x (interest_told name x) (alike_interest name x) told
+back (LinkOf name) x order apart told =
     links_back x (link_notices_over x (link_of x name)) (one_spares x x.upstream.counters.cid order.links name) told
-back (Links names) x order apart led told = record {
+back (Links names) x order apart told = record {
   told = links_back x (link_notices_among names x) (some_spare x x.upstream.counters.cid order.links (is_link_among names)) told;
   apart = apart;
 }
-back (Read name read) x order apart led told =
+back (Gone names) x order apart told = record {}
+back (Read name read) x order apart told =
     let v : Gateway = interest_told name x in
     told_back x (one_read_told read v) (alike_after x v (one_read_told read v) (alike_interest name x) (alike_read_if (read_notice v read) v)) told
-back (SubscriptionTo name sub) x order apart led told =
+back (SubscriptionTo name sub) x order apart told =
     let v : Gateway = interest_told name x in
     told_back x (one_update_told sub v) (alike_after x v (one_update_told sub v) (alike_interest name x) (alike_update_if (update_notice v sub) v)) told
 
@@ -190,7 +189,7 @@ apart_after_effect w event reached = kept_direct_effect HasLinksApart links_apar
 -- after an event's direct effect clients know their rights, where what follows rests on that
 pub ready_after_effect : (w : Gateway) (event : Event) → IsReached w → IsReady (event_touches w event) (direct_effect w event)
 ready_after_effect w event reached =
-    back (event_touches w event) (direct_effect w event) (order_after_effect w event reached) (apart_after_effect w event reached) (led_after_effect w (reached_tidy w reached) event)
+    back (event_touches w event) (direct_effect w event) (order_after_effect w event reached) (apart_after_effect w event reached)
     (subst AreTold (step_alone w event reached) (reached_told (step w event) (reached_step w event reached)))
 
 -- the same of what it is said to touch and to leave

@@ -1,18 +1,38 @@
 -- What tellings leave as it is.
 use Rattle.std.proofs.Common.{◌≡◌, List, [], ◌∷◌, refl}
 use Rattle.std.specs.List.{fold}
+use Rattle.channel_table.specs.declared.channels.Channel.{Channel}
 use Rattle.channel_table.specs.declared.reads.WaitingRead.{WaitingRead}
+use Rattle.channel_table.specs.declared.subs.ClientSub.{ClientSub}
 use Rattle.link_table.specs.declared.links.LinkState.TheVariants.{Creating, Connected, Unusable}
+use Rattle.link_table.specs.declared.writes.WaitingWrite.{WaitingWrite}
 use Rattle.link_table.specs.LinkRows.{LinkRows}
 use Rattle.gateway_state.specs.declared.cached.LastMessage.{LastMessage}
 use Rattle.gateway_state.specs.declared.connections.Connection.{Connection}
+use Rattle.gateway_state.specs.declared.notice.ChannelNotice.{ChannelNotice}
+use Rattle.gateway_state.specs.declared.notice.ChannelNotice.TheVariants.{Disconnected, RightsChanged}
 use Rattle.gateway_state.specs.declared.notice.LinkNotice.{LinkNotice}
 use Rattle.gateway_state.specs.declared.notice.LinkNotice.TheVariants.{Cancelled, Unread, Subscribed, Dropped}
 use Rattle.gateway_state.specs.declared.notice.ReadNotice.{ReadNotice}
 use Rattle.gateway_state.specs.declared.notice.ReadNotice.TheVariants.{Refused, Answered}
 use Rattle.gateway_state.specs.Gateway.{Gateway}
-use Rattle.gateway_state.specs.Notices.{link_told, read_told}
+use Rattle.gateway_state.specs.Notices.{channel_told, link_told, read_told}
 use Rattle.gateway_state.specs.Telling.{sent}
+
+-- a state with other channels, and what goes with them
+abbrev pub with_channels : Gateway → List Connection → List Channel → List ClientSub → List WaitingRead → List WaitingWrite → Gateway
+with_channels w connections channels subs reads writes =
+    record w { connections = connections; clients = record w.clients { channels = channels; subs = subs; reads = reads }; upstream = record w.upstream { writes = writes } }
+
+-- notices on channels change nothing else
+pub channels_told_shape : (notices : List ChannelNotice) (w : Gateway)
+    → fold channel_told w notices
+    ≡ with_channels w (fold channel_told w notices).connections (fold channel_told w notices).clients.channels (fold channel_told w notices).clients.subs (fold channel_told w notices).clients.reads (fold channel_told w notices).upstream.writes
+unfolding sent
+channels_told_shape [] w = refl
+channels_told_shape (Disconnected session sid cid ∷ notices) w = channels_told_shape notices (channel_told w (Disconnected session sid cid))
+channels_told_shape (RightsChanged session sid cid reach rights ∷ notices) w =
+    channels_told_shape notices (channel_told w (RightsChanged session sid cid reach rights))
 
 -- a state with other waiting reads and outboxes
 abbrev pub with_reads : Gateway → List Connection → List WaitingRead → Gateway

@@ -3,6 +3,7 @@ use Rattle.std.proofs.Common.{sym, subst}
 use Rattle.gateway_state.specs.Gateway.{Gateway}
 use Rattle.gateway_state.specs.Reached.{IsReached}
 use Rattle.gateway_state.specs.Settled.{AreInOrder, HasHostsFixed, HasLinksApart, HasReadsOnChannels, HasSubsApart, HasSubsOnChannels, IsSettled}
+use Rattle.gateway_state.proofs.CachedApart.{HasCachedApart, run_cached_apart}
 use Rattle.gateway_state.proofs.HostsFixed.{run_hosts_fixed}
 use Rattle.gateway_state.proofs.LinksApart.{run_links_apart}
 use Rattle.gateway_state.proofs.RowsOnChannels.{run_on_channels}
@@ -18,6 +19,7 @@ pub record IsTidy (w : Gateway) : Type 0 where
   pub subs_on : HasSubsOnChannels w
   pub reads_on : HasReadsOnChannels w
   pub hosts_fixed : HasHostsFixed w
+  pub cached_apart : HasCachedApart w
 
 pub reached_tidy : (w : Gateway) → IsReached w → IsTidy w
 reached_tidy w reached =
@@ -29,4 +31,5 @@ reached_tidy w reached =
       subs_on = (run_on_channels reached.config reached.policy reached.events).subs;
       reads_on = (run_on_channels reached.config reached.policy reached.events).reads;
       hosts_fixed = run_hosts_fixed reached.config reached.policy reached.events;
+      cached_apart = run_cached_apart reached.config reached.policy reached.events;
     })

@@ -21,6 +21,7 @@ use Rattle.touched_rows.proofs.Lost.{told_after_losing}
 use Rattle.touched_rows.proofs.Opened.{nothing_after_opening, nothing_after_server_opening}
 use Rattle.touched_rows.proofs.Searched.{nothing_after_search}
 use Rattle.touched_rows.proofs.Swept.{told_after_sweep}
+use Rattle.touched_rows.proofs.ServerLost.{told_after_losing_server}
 use Rattle.touched_rows.proofs.Tidy.{IsTidy, reached_tidy}
 use Rattle.touched_rows.proofs.ToldClients.{told_request}
 use Rattle.touched_rows.proofs.ToldServers.{told_reply}
@@ -34,7 +35,7 @@ told_event w (Client number message) tidy =
     ≡ follows (cond t (request_touches w number (request_of message.head message.payload)) Nothing) (cond t (client_said w number message) w))
     [ true ↦ told_request w tidy number message (request_of message.head message.payload) | false ↦ settled_stays w tidy.settled ]
 told_event w (UpOpened number) tidy = nothing_after_server_opening w number tidy.settled
-told_event w (UpLost number) tidy = refl
+told_event w (UpLost number) tidy = told_after_losing_server w tidy number
 told_event w (Server number message) tidy =
     elim (acts w (Upstream number))
     as (λ t. consequences (cond t (server_said w number message) w)

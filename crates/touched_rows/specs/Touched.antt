@@ -1,11 +1,13 @@
 -- What is told on one variable, to one session, on one link, read or subscription alone.
-use Rattle.std.specs.Prelude.{ℕ, List, [], Bool, filter, filter_map, flat_map, Option, Some, None}
+use Rattle.std.specs.Prelude.{ℕ, List, [], Bool, filter, filter_map, flat_map, map, Option, Some, None}
 use Rattle.std.specs.List.{fold}
+use Rattle.channel_table.specs.declared.channels.Channel.{Channel}
 use Rattle.channel_table.specs.declared.reads.WaitingRead.{WaitingRead}
 use Rattle.channel_table.specs.declared.subs.ClientSub.{ClientSub}
 use Rattle.channel_table.specs.Subs.{is_sub_of}
 use Rattle.link_table.specs.declared.links.Link.{Link}
 use Rattle.gateway_state.specs.declared.notice.ChannelNotice.{ChannelNotice}
+use Rattle.gateway_state.specs.declared.notice.ChannelNotice.TheVariants.{Disconnected}
 use Rattle.gateway_state.specs.declared.notice.LinkNotice.{LinkNotice}
 use Rattle.gateway_state.specs.declared.notice.ReadNotice.{ReadNotice}
 use Rattle.gateway_state.specs.declared.notice.UpdateNotice.{UpdateNotice}
@@ -23,6 +25,21 @@ channel_notices_on name w = filter_map (channel_notice w) (filter (is_on name) w
 -- on one variable, in the order of adding
 abbrev pub channels_told_on : List ℕ → Gateway → Gateway
 channels_told_on name w = fold channel_told w (channel_notices_on name w)
+
+-- CHANNELS whose links are gone
+
+abbrev pub is_channel_among : List (List ℕ) → Channel → Bool
+is_channel_among names c = is_among names c.real
+
+abbrev pub disconnected : Channel → ChannelNotice
+disconnected c = Disconnected c.session c.sid c.cid
+
+abbrev pub gone_notices_among : List (List ℕ) → Gateway → List ChannelNotice
+gone_notices_among names w = map disconnected (filter (is_channel_among names) w.clients.channels)
+
+-- the channels on several variables go, in the order of adding
+abbrev pub channels_gone_on : List (List ℕ) → Gateway → Gateway
+channels_gone_on names w = fold channel_told w (gone_notices_among names w)
 
 -- LINKS
 

@@ -1,5 +1,5 @@
 -- What each event touches.
-use Rattle.std.specs.Prelude.{ℕ, List, filter, ◌==◌, if◌then◌else◌, Option, Some, None, Result, Ok, Err}
+use Rattle.std.specs.Prelude.{ℕ, List, filter, map, ◌==◌, if◌then◌else◌, Option, Some, None, Result, Ok, Err}
 use Rattle.std.specs.List.{find}
 use Rattle.ca_message.specs.declared.codes.TheConstants.{ECA_NORMAL}
 use Rattle.ca_message.specs.declared.reply.ReplyFault.{ReplyFault}
@@ -18,7 +18,7 @@ use Rattle.link_table.specs.declared.links.Link.{Link}
 use Rattle.link_table.specs.declared.links.LinkState.{LinkState}
 use Rattle.link_table.specs.declared.links.LinkState.TheVariants.{Creating, Connected, Unusable}
 use Rattle.link_table.specs.declared.links.Subscription.{Subscription}
-use Rattle.link_table.specs.Links.{has_subscription, is_link}
+use Rattle.link_table.specs.Links.{has_subscription, is_link, is_of}
 use Rattle.gateway_state.specs.declared.event.Dest.{Dest}
 use Rattle.gateway_state.specs.declared.event.Dest.TheVariants as dests
 use Rattle.gateway_state.specs.declared.event.Event.{Event}
@@ -35,17 +35,16 @@ use Rattle.gateway_state.specs.Servers.{is_value}
 use Rattle.gateway_state.specs.Settled.{HasLinksApart}
 use Rattle.gateway_state.specs.Step.{consequences}
 use Rattle.gateway_state.specs.Subscribing.{is_on_sid, new_sub, sub_of, sub_verdict}
-use Rattle.gateway_state.specs.Told.{AreLed, AreTold}
+use Rattle.gateway_state.specs.Told.{AreTold}
 use Rattle.gateway_state.specs.Updates.{is_taking}
 use Rattle.gateway_state.specs.Variables.{channel_names, is_connected, is_creating, search_names}
 use Rattle.touched_rows.specs.declared.touched.Touched.{Touched}
-use Rattle.touched_rows.specs.declared.touched.Touched.TheVariants.{All, LinksGone, Nothing, Session, Variable, Value, Interest, Link as LinkOf, Links, Read, Subscription as SubscriptionTo}
-use Rattle.touched_rows.specs.Touched.{channels_told_on, interest_told, link_told_on, links_told_among, one_read_told, one_update_told, reads_told_on, updates_told_on, updates_told_to, variable_told}
+use Rattle.touched_rows.specs.declared.touched.Touched.TheVariants.{All, Gone, Nothing, Session, Variable, Value, Interest, Link as LinkOf, Links, Read, Subscription as SubscriptionTo}
+use Rattle.touched_rows.specs.Touched.{channels_gone_on, channels_told_on, interest_told, link_told_on, links_told_among, one_read_told, one_update_told, reads_told_on, updates_told_on, updates_told_to, variable_told}
 
 -- what follows where no more than this was touched
 abbrev pub follows : Touched → Gateway → Gateway
 follows All w = consequences w
-follows LinksGone w = consequences w
 follows Nothing w = w
 follows (Session number) w = updates_told_to number w
 follows (Variable name) w = variable_told name w
@@ -53,6 +52,7 @@ follows (Value name) w = updates_told_on name (reads_told_on name w)
 follows (Interest name) w = interest_told name w
 follows (LinkOf name) w = link_told_on name w
 follows (Links names) w = links_told_among names w
+follows (Gone names) w = channels_gone_on names w
 follows (Read name read) w = one_read_told read (interest_told name w)
 follows (SubscriptionTo name sub) w = one_update_told sub (interest_told name w)
 
@@ -62,11 +62,10 @@ pub record AreReady (w : Gateway) : Type 0 where
   pub apart : HasLinksApart w
 
 -- what tells these alone rests on that clients know their rights; where all was touched, it tells them
--- first, where links are gone, it tells those whose channels went with them, and where a variable was, those
--- who have channels on it. The links of several names are found by them
+-- first, and where a variable was, those who have channels on it. That channels are gone rests on nothing.
+-- The links of several names are found by them
 abbrev pub IsReady : Touched → Gateway → Type 0
 IsReady All w = Unit {0}
-IsReady LinksGone w = AreLed w
 IsReady Nothing w = Unit {0}
 IsReady (Session number) w = AreTold w
 IsReady (Variable name) w = AreTold (channels_told_on name w)
@@ -74,6 +73,7 @@ IsReady (Value name) w = AreTold w
 IsReady (Interest name) w = AreTold w
 IsReady (LinkOf name) w = AreTold w
 IsReady (Links names) w = AreReady w
+IsReady (Gone names) w = Unit {0}
 IsReady (Read name read) w = AreTold w
 IsReady (SubscriptionTo name sub) w = AreTold w
 
@@ -208,13 +208,20 @@ drain_touches w (dests.Upstream number) = Nothing
 abbrev pub names_of : Gateway → ℕ → List (List ℕ)
 names_of w number = channel_names (filter (is_channel_of number) w.clients.channels)
 
+abbrev pub link_names : List Link → List (List ℕ)
+link_names links = map (λ (link : Link). link.name) links
+
+-- the variables of a server's links, in the order of links
+abbrev pub server_names : Gateway → ℕ → List (List ℕ)
+server_names w number = link_names (filter (is_of number) w.upstream.links)
+
 abbrev pub event_touches : Gateway → Event → Touched
 event_touches w (events.Opened number host) = Nothing
 event_touches w (events.Lost number) = Links (names_of w number)
 event_touches w (events.Client number message) =
     if acts w (dests.Session number) then request_touches w number (request_of message.head message.payload) else Nothing
 event_touches w (events.UpOpened number) = Nothing
-event_touches w (events.UpLost number) = LinksGone
+event_touches w (events.UpLost number) = Gone (server_names w number)
 event_touches w (events.Server number message) =
     if acts w (dests.Upstream number) then reply_touches w number (reply_of message.head message.payload) else Nothing
 event_touches w (events.Found name number) = Nothing

@@ -8,9 +8,6 @@ use pv_name::Name;
 pub enum Touched {
     /// Anything, to anybody.
     All,
-    /// The same, since links may be gone. Names lead where they did, and who can read and write what is
-    /// left can do so still.
-    LinksGone,
     /// Nothing.
     Nothing,
     /// Updates to the subscriptions of this session, which may have room for them now.
@@ -26,6 +23,8 @@ pub enum Touched {
     Link(Name),
     /// The same of each of these variables, in the order of their links.
     Links(Names),
+    /// That their channels are gone, to those who have channels on these variables, whose links are gone.
+    Gone(Names),
     /// What the readers of this variable want together, and then the answer to this read.
     Read(Name, WaitingRead),
     /// What the readers of this variable want together, and then an update to this subscription.

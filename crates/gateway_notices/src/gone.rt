@@ -1,0 +1,71 @@
+//! Channels that are gone with the links of several variables.
+ghost use Rattle.std.specs.Prelude.{◌≡◌, map, filter, flat_map, OnOk, IfOk};
+ghost use Rattle.channel_table.specs.Channels.{is_on};
+ghost use Rattle.gateway_state.specs.Settled.{HasSidsInOrder};
+ghost use Rattle.touched_rows.specs.Touched.{channels_gone_on, gone_notices_among, is_channel_among};
+
+use crate::channels::{disconnected, tell_each};
+use channel_table::{Channel, Visits};
+use gateway_rows::Rows;
+use gateway_state::ChannelNotice;
+use std::alloc::AllocError;
+use touched_rows::Names;
+
+/// The channels on these variables, in the order of the names.
+fn channels_of<'a>(
+    rows: &'a Rows,
+    visits: &mut Visits,
+    names: &Names,
+) -> Result<Vec<&'a Channel>, AllocError>
+    ensures { IfOk result (λ channels. map (λ channel. channel.now) channels.items ≡ flat_map (λ name. filter (is_on name) rows.now.clients.channels) names.now) }
+{
+    let mut channels = Vec::new(rows.alloc);
+    for name in names.as_slice() {
+        let mut more = rows.channels_on(visits, name)?;
+        channels.append(&mut more)?;
+    }
+    Ok(channels)
+}
+
+/// The same, each once, in the order in which they were opened.
+fn channels_among<'a>(
+    rows: &'a Rows,
+    visits: &mut Visits,
+    names: &Names,
+) -> Result<Vec<&'a Channel>, AllocError>
+    requires order { HasSidsInOrder rows.now }
+    ensures { IfOk result (λ channels. map (λ channel. channel.now) channels.items ≡ filter (is_channel_among names.now) rows.now.clients.channels) }
+{
+    let mut channels = channels_of(rows, visits, names)?;
+    channels.sort_unstable_by_key(|channel| channel.sid);
+    channels.dedup_by_key(|channel| channel.sid);
+    Ok(channels)
+}
+
+fn gone_notices(
+    rows: &Rows,
+    visits: &mut Visits,
+    names: &Names,
+) -> Result<Vec<ChannelNotice>, AllocError>
+    requires order { HasSidsInOrder rows.now }
+    ensures { IfOk result (λ notices. notices.items ≡ gone_notices_among names.now rows.now) }
+{
+    let mut notices = Vec::new(rows.alloc);
+    for channel in channels_among(rows, visits, names)? {
+        notices.push(disconnected(channel))?;
+    }
+    Ok(notices)
+}
+
+/// Tells clients that their channels on these variables are gone.
+pub(crate) fn tell_gone(
+    rows: &mut Rows,
+    visits: &mut Visits,
+    names: &Names,
+) -> Result<(), AllocError>
+    requires order { HasSidsInOrder rows.old }
+    ensures { OnOk result (rows.new ≡ channels_gone_on names.now rows.old) }
+{
+    let notices = gone_notices(rows, visits, names)?;
+    tell_each(rows, visits, &notices)
+}
