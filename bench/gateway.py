@@ -213,9 +213,10 @@ def waiting(clients):
 
 def beside_waiting(times):
     """What an update and an ECHO cost beside many clients that wait for values of another variable."""
-    many = 20_000
-    for name, more in (("update", ["server u1 " + update(1)] * many), ("ECHO", ["client s1000 " + message(23)] * many)):
-        few, lots = (cost([*beside(1), *waiting(clients)], more, many, many, times) for clients in (1, 800))
+    many, together = 20_000, 1_000  # messages of one line are followed by one drain of all connections
+    kinds = (("update", "server u1 " + update(1) * together), ("ECHO", "client s1000 " + message(23) * together))
+    for name, line in kinds:
+        few, lots = (cost([*beside(1), *waiting(clients)], [line] * (many // together), many, many, times) for clients in (1, 800))
         print(f"{name:6} beside 250 reads that wait {few:8.2f} us, beside 200,000 of 800 clients {lots:8.2f} us ({lots / few:5.2f} times)", flush=True)
 
 
