@@ -108,12 +108,13 @@ fn introduce(rows: &mut Rows, number: u32) -> Result<(), AllocError>
 }
 
 /// The variables of a server's links, in the order of links.
+#[tactic(auto, using(crate::proofs::Named::linked_next, crate::proofs::Named::linked_past))]
 fn server_names(alloc: Global, upstream: &Links, number: u32) -> Result<Names, AllocError>
     ensures { IfOk result (λ names. names ≡ link_names (filter (is_of number) upstream.now.links)) }
 {
     let mut names = Names::new(alloc);
-    for link in upstream.links(alloc)? {
-        if link.server == number {
+    for n in 0..upstream.link_count_of(number) {
+        if let Some(link) = upstream.link_of(number, n) {
             names.push(link.name.copy()?)?;
         }
     }
