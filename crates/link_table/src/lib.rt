@@ -5,7 +5,7 @@
 //! - `add_server`, `add_link` and `add_write` put a row last. They refuse a link or a write whose server
 //!   doesn't stand, and a row past its limit ([`TableFault`]).
 //! - `server`, `by_cid`, `by_name`, `by_sub` and `write` find a row, `link` and `links` give links in the
-//!   order of adding, `writes` says how many writes of a session wait.
+//!   order of adding, `link_of` those of one server, `writes` says how many writes of a session wait.
 //! - `put_server`, `put_link` and `set_sub` change a row that stands; `remove_server` takes its links and
 //!   the writes to it along, `remove_writes` those on a channel of a client.
 //! - `give_out` gives the next number of a [`Counter`], each one more than the one before.

@@ -106,6 +106,18 @@ impl LinkSet {
         self.rows.rows(alloc)
     }
 
+    pub(crate) fn count_of(&self, server: u32) -> usize
+        ensures { result ≡ length (filter (is_of server) self.now) }
+    {
+        self.rows.count_of(server)
+    }
+
+    pub(crate) fn nth_of(&self, server: u32, n: usize) -> Option<&Link>
+        ensures { option_copied result ≡ slice_get (filter (is_of server) self.now) n }
+    {
+        self.rows.of(server, n)
+    }
+
     /// Adds a link. At an error none is added.
     pub(crate) fn add(&mut self, link: Link) -> Result<(), AllocError>
         requires new_id { list_any (is_link link.server link.cid) self.old ≡ false }
@@ -200,11 +212,11 @@ impl LinkSet {
         ensures found { IfSome result (λ cid. list_any (is_link server cid) self.now ≡ true) }
         ensures none { IsNone result → list_any (is_of server) self.now ≡ false }
     {
-        let count = self.rows.count_of(server);
+        let count = self.count_of(server);
         if count == 0 {
             return None;
         }
-        match self.rows.of(server, count - 1) {
+        match self.nth_of(server, count - 1) {
             Some(link) => Some(link.cid),
             None => None,
         }

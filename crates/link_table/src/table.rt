@@ -6,7 +6,7 @@ ghost use Rattle.rows.specs.Rows.{change_first};
 ghost use Rattle.link_table.specs.declared.counter.TheConstants.{LAST_NUMBER};
 ghost use Rattle.link_table.specs.LinkRows.{has_server, has_link, write_count};
 ghost use Rattle.link_table.specs.Servers.{is_server, is_not_server, with_minor};
-ghost use Rattle.link_table.specs.Links.{is_link, is_not_link, is_not_of, is_named, has_subscription, with_state, with_subscription};
+ghost use Rattle.link_table.specs.Links.{is_link, is_not_link, is_of, is_not_of, is_named, has_subscription, with_state, with_subscription};
 ghost use Rattle.link_table.specs.Writes.{is_write, is_not_write, is_not_write_of, is_not_write_on, is_not_write_to};
 ghost use Rattle.link_table.specs.Counters.{all_at, are_over, counter_of, raised};
 
@@ -126,6 +126,21 @@ impl Links {
         ensures { result ≡ length self.now.links }
     {
         self.links.len()
+    }
+
+    /// The server's nth link, counted from 0 in the order of adding. The links of others are not
+    /// looked at.
+    pub fn link_of(&self, server: u32, n: usize) -> Option<&Link>
+        ensures { option_copied result ≡ slice_get (filter (is_of server) self.now.links) n }
+    {
+        self.links.nth_of(server, n)
+    }
+
+    /// How many links the server has.
+    pub fn link_count_of(&self, server: u32) -> usize
+        ensures { result ≡ length (filter (is_of server) self.now.links) }
+    {
+        self.links.count_of(server)
     }
 
     /// The write to this server with this ID.
