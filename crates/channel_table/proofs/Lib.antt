@@ -1,4 +1,5 @@
 pub mod Asking
+pub mod ByNumber
 pub mod Counting
 pub mod Following
 pub mod Indexed
@@ -8,6 +9,8 @@ pub mod Lists
 pub mod Mapped
 pub mod Numbered
 pub mod Removal
+pub mod Rising
 pub mod TalliesByName
 pub mod Waiting
 pub mod Walked
+pub mod WorkedSessions

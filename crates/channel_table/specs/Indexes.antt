@@ -1,6 +1,6 @@
 -- How the table keeps rows: each under its key, and the keys in lists by real names.
 use Rattle.std.specs.Prelude.{◌≡◌, ℕ, List, Bool, true, not, map, filter, filter_map, Option, Some, None}
-use Rattle.std.specs.List.{find, list_any, list_all}
+use Rattle.std.specs.List.{count_by, find, list_any, list_all}
 use Rattle.row_index.specs.declared.key.Key.{Key}
 use Rattle.row_index.specs.Lists.{of, AddsTo, RemovesFrom, SameLists}
 use Rattle.row_index.specs.Rows.{same_key, row_of, HasKeysApart}
@@ -111,9 +111,14 @@ row_at key rows (Some k) = find (λ row. same_key (key row) k) rows
 abbrev pub rows_at : {V : Type 0} → (V → Key) → List V → List Key → List V
 rows_at key rows keys = filter_map (λ k. find (λ row. same_key (key row) k) rows) keys
 
--- the sessions are each under its key
-abbrev pub IsSessionIndex : List (Key × Session) → Type 0
-IsSessionIndex entries = entries ≡ keyed session_key (map row_of entries)
+-- each test passes as many of the numbers as of the numbers of the sessions
+abbrev pub AreNumbersOf : List ℕ → List Session → Type 0
+AreNumbersOf numbers sessions = (test : ℕ → Bool) → count_by test numbers ≡ count_by (λ session. test session.number) sessions
+
+-- the sessions are each under its key, and the numbers are those of the sessions
+pub record IsSessionIndex (entries : List (Key × Session)) (numbers : List ℕ) : Type 0 where
+  pub under_keys : entries ≡ keyed session_key (map row_of entries)
+  pub numbered : AreNumbersOf numbers (map row_of entries)
 
 -- the channels are each under its key, and each name has the keys of the channels on it
 pub record IsChannelIndex (entries : List (Key × Channel)) (lists : List (List ℕ × List Key)) : Type 0 where

@@ -1,6 +1,7 @@
 pub mod Channels
 pub mod ClientRows
 pub mod Indexes
+pub mod Numbers
 pub mod Reads
 pub mod Sessions
 pub mod Subs

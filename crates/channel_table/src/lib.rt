@@ -6,6 +6,7 @@
 //! - `session`, `channel` and `sub` find a row by its IDs; `channels`, `subs` and `reads` are all rows
 //!   in the order of adding, `reads_for` the reads that wait for a real name, and `channel_count` and the
 //!   like count those of a session.
+//! - `nth_session` gives the sessions one by one, by rising number.
 //! - `channel_of`, `sub_of` and `read_of` give the rows of a session one by one, and `channel_on`,
 //!   `sub_on` and `read_on` those of a real name: of the channels on it, and of what hangs on these.
 //! - `want_on` tells what the subscriptions to a real name and the channels on it want together.
@@ -17,10 +18,10 @@
 //! Adding, removing and counting rows look at none.
 //!
 //! Sessions, channels, subscriptions and reads are kept under their IDs (a read under one that the table
-//! gives it, since equal reads may stand together), and the keys of the latter three in lists by real
-//! name, so that a look-up costs the same beside many rows as beside few. What is asked for of each real
-//! name is counted as rows come, go and change. A removal walks what is on the same name, and the rows
-//! of its own session.
+//! gives it, since equal reads may stand together), the keys of the latter three in lists by real name,
+//! and the numbers of sessions in rising order, so that a look-up costs the same beside many rows as
+//! beside few. What is asked for of each real name is counted as rows come, go and change. A removal
+//! walks what is on the same name, and the rows of its own session.
 //!
 //! A contract sees a `Table` as four lists. Each call changes the rows that it names alone, a refused
 //! one none, and a limit refuses exactly where it is reached; limits are in `laws::numbers_are_these`.
@@ -50,6 +51,7 @@ mod asks;
 mod channels;
 mod keys;
 pub mod laws;
+mod numbers;
 mod reads;
 mod sessions;
 mod subs;

@@ -5,8 +5,9 @@ ghost use Rattle.std.specs.Option.{option_copied};
 ghost use Rattle.rows.specs.Rows.{change_first};
 ghost use Rattle.row_index.specs.Rows.{has_key};
 ghost use Rattle.channel_table.specs.Indexes.{changed_by};
-ghost use Rattle.channel_table.specs.Sessions.{is_numbered, is_not_numbered, with_host_and_pause};
+ghost use Rattle.channel_table.specs.Sessions.{is_numbered, is_not_numbered, nth_by_number, with_host_and_pause};
 
+use crate::numbers::Numbers;
 use pv_name::Host;
 use row_index::{Key, RowMap};
 use std::alloc::{AllocError, Global};
@@ -25,10 +26,11 @@ pub struct Session {
     pub paused: bool,
 }
 
-/// All sessions, found by their numbers.
+/// All sessions, found by their numbers, which stand beside them in rising order.
 #[derive(Drop)]
 pub(crate) struct Sessions {
     rows: RowMap<Session>,
+    numbers: Numbers,
 }
 
 impl Model for Sessions {
@@ -41,7 +43,7 @@ impl Model for Sessions {
 
     ghost view = { λ s. map row_of s.rows };
 
-    ghost invariant = { λ s. IsSessionIndex s.rows };
+    ghost invariant = { λ s. IsSessionIndex s.rows s.numbers };
 }
 
 impl Sessions {
@@ -50,6 +52,7 @@ impl Sessions {
     {
         Sessions {
             rows: RowMap::new(alloc),
+            numbers: Numbers::new(alloc),
         }
     }
 
@@ -79,17 +82,33 @@ impl Sessions {
         self.rows.contains(key)
     }
 
+    /// The nth session by rising number, counted from 0.
+    pub(crate) fn nth(&self, n: usize) -> Option<&Session>
+        ensures { option_copied result ≡ nth_by_number n self.now }
+    {
+        let number = self.numbers.get(n)?;
+        self.get(number)
+    }
+
     /// Adds a session. At an error it is let go, and the others are as before.
     pub(crate) fn add(&mut self, session: Session) -> Result<(), AllocError>
         requires new { list_any (is_numbered session.number) self.old ≡ false }
         ensures ok { OnOk result (self.new ≡ self.old ++ session ∷ []) }
         ensures err { OnErr result (self.new ≡ self.old) }
     {
+        let number = session.number;
         let key = Key {
             owner: session.number,
             id: 0,
         };
-        self.rows.add(key, session)
+        self.numbers.add(number)?;
+        match self.rows.add(key, session) {
+            Ok(()) => Ok(()),
+            Err(e) => {
+                self.numbers.remove(number);
+                Err(e)
+            }
+        }
     }
 
     pub(crate) fn put(&mut self, number: u32, host: Host, host_fixed: bool, paused: bool)
@@ -111,6 +130,7 @@ impl Sessions {
             id: 0,
         };
         self.rows.remove(key);
+        self.numbers.remove(number);
     }
 }
 

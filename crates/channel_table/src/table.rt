@@ -7,7 +7,7 @@ ghost use Rattle.rows.specs.Rows.{change_first, remove_first};
 ghost use Rattle.channel_table.specs.Channels.{is_channel, is_not_channel, is_channel_of, is_not_channel_of, is_on, with_reach_and_rights};
 ghost use Rattle.channel_table.specs.ClientRows.{has_session, has_channel, has_sub, channel_count, sub_count, read_count, is_sub_to, is_read_for};
 ghost use Rattle.channel_table.specs.Reads.{same_read, is_read_of, is_not_read_of, is_read_on, is_not_read_on};
-ghost use Rattle.channel_table.specs.Sessions.{is_numbered, is_not_numbered, with_host_and_pause};
+ghost use Rattle.channel_table.specs.Sessions.{is_numbered, is_not_numbered, nth_by_number, with_host_and_pause};
 ghost use Rattle.channel_table.specs.Told.{want_on};
 ghost use Rattle.channel_table.specs.Subs.{is_sub, is_not_sub, is_sub_of, is_not_sub_of, is_sub_on, is_not_sub_on, with_owed};
 
@@ -140,6 +140,16 @@ impl Table {
     {
         visits.count(1);
         self.sessions.get(number)
+    }
+
+    /// The nth session by rising number, counted from 0.
+    pub fn nth_session<'a>(&'a self, visits: &mut Visits, n: usize) -> Option<&'a Session>
+        ensures nth { option_copied result ≡ nth_by_number n self.now.sessions }
+        ensures visits { visits.new ≡ u64_saturate (visits.old + 1) }
+        ensures bound { visits.new ≤ visits.old + 1 }
+    {
+        visits.count(1);
+        self.sessions.nth(n)
     }
 
     /// The session's channel of this ID.

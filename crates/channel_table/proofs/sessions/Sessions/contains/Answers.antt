@@ -10,5 +10,5 @@ use Rattle.channel_table.proofs.sessions.Sessions.contains.Goals as goal
 
 pub returns : goal.returns
 returns c =
-    c.contains.ensures ∙ ap is_some (entry_found session_key c.self.inside.rows c.self.invariant _ ∙ ap (λ p. find p (map row_of c.self.inside.rows)) (by_number c.args.number))
+    c.contains.ensures ∙ ap is_some (entry_found session_key c.self.inside.rows c.self.invariant.under_keys _ ∙ ap (λ p. find p (map row_of c.self.inside.rows)) (by_number c.args.number))
     ∙ found_where_any (is_numbered c.args.number) _ ∙ ap (list_any (is_numbered c.args.number)) c.self.view_is

@@ -10,5 +10,5 @@ use Rattle.channel_table.proofs.sessions.Sessions.get.Goals as goal
 -- the key's row is the first of its number
 pub returns : goal.returns
 returns c =
-    c.get.ensures ∙ entry_found session_key c.self.inside.rows c.self.invariant _
+    c.get.ensures ∙ entry_found session_key c.self.inside.rows c.self.invariant.under_keys _
     ∙ ap (λ p. find p (map row_of c.self.inside.rows)) (by_number c.args.number) ∙ ap (find (is_numbered c.args.number)) c.self.view_is
