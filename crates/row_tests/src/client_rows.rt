@@ -16,7 +16,7 @@
 //! - `want NAME NATIVE`: the events and the count that its rows want together where its native count is
 //!   this, or `none`;
 //! - `of S`: the channels and subscriptions of the session, one by one;
-//! - `show`: all rows, of sessions those below 10;
+//! - `show`: all rows, of sessions the ten of the lowest numbers, in order;
 //! - `visits`: how many rows were looked at since the beginning.
 use channel_table::{Channel, ClientSub, Session, Table, TableFault, Visits, WaitingRead};
 use pv_name::{Host, Name};
@@ -263,8 +263,8 @@ fn count(table: &Table, session: u32, told: &mut String) -> Result<(), Fail> {
 }
 
 fn show(alloc: Global, table: &Table, visits: &mut Visits, told: &mut String) -> Result<(), Fail> {
-    for number in 0..10 {
-        if let Some(row) = table.session(visits, number) {
+    for n in 0..10 {
+        if let Some(row) = table.nth_session(visits, n) {
             show_session(row, told)?;
         }
     }

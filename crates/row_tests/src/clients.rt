@@ -183,6 +183,29 @@ show
 }
 
 #[test]
+fn sessions_are_found_by_rising_number(rt: HostRuntime) -> Result<(), Fail> {
+    tells(
+        &rt,
+        rt.alloc(),
+        "",
+        "\
+session 9
+session 3
+session 1023
+show
+> session 3 10.0.0.5
+> session 9 10.0.0.5
+> session 1023 10.0.0.5
+remove session 3
+session 1
+show
+> session 1 10.0.0.5
+> session 9 10.0.0.5
+> session 1023 10.0.0.5",
+    )
+}
+
+#[test]
 fn a_channel_leaves_with_its_subscriptions_and_reads(rt: HostRuntime) -> Result<(), Fail> {
     tells(
         &rt,

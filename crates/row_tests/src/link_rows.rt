@@ -11,11 +11,11 @@
 //!   `put sub SERVER CID ID MASK COUNT SENT`, `put none SERVER CID`;
 //! - `remove server N`, `remove link SERVER CID`, `remove write SERVER ID`, `remove writes SESSION SID`,
 //!   `remove session N`: its writes;
-//! - `find cid SERVER CID`, `find name NAME`, `find place N`, `find sub SERVER ID`: the CID of a link, or
-//!   `none`;
+//! - `find cid SERVER CID`, `find name NAME`, `find place N`, `find of SERVER N`, `find sub SERVER ID`: the
+//!   CID of a link, or `none`;
 //! - `show server N`: its minor version; `show link SERVER CID`: its state, rights and subscription;
 //!   `show write SERVER ID`: the write; or `None`;
-//! - `count links`, `count writes SESSION`;
+//! - `count links`, `count of SERVER`: its links, `count writes SESSION`;
 //! - `give COUNTER`: its next number.
 use crate::words::{Call, Told};
 use link_table::{Counter, Link, LinkState, Links, Server, Subscription, TableFault, WaitingWrite};
@@ -56,6 +56,7 @@ fn call(alloc: Global, links: &mut Links, line: &str, told: &mut Told) {
         "show" => show(links, &call, told),
         "count" => match call.what {
             "links" => told.line(&links.link_count()),
+            "of" => told.line(&links.link_count_of(call.numbers[0])),
             _ => told.line(&links.writes(call.numbers[0])),
         },
         _ => give(links, &call, told),
@@ -188,6 +189,7 @@ fn find(alloc: Global, links: &Links, call: &Call<'_>, told: &mut Told) {
     let found = match call.what {
         "cid" => links.by_cid(first, second),
         "place" => links.link(first as usize),
+        "of" => links.link_of(first, second as usize),
         "sub" => links.by_sub(first, second),
         _ => match Name::read(alloc, call.text.as_bytes()) {
             Ok(name) => links.by_name(&name),

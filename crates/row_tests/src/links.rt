@@ -96,11 +96,21 @@ fn a_server_goes_with_its_links(rt: HostRuntime) {
         &rt,
         rt.alloc(),
         "\
+find of 1 1
+> 2
+find of 1 2
+> none
 remove link 1 1
 remove link 1 1
 count links
 > 1
+count of 1
+> 1
+count of 2
+> 0
 find place 0
+> 2
+find of 1 0
 > 2
 remove server 2
 count links
