@@ -1,0 +1,3 @@
+mod DestOrder
+pub mod LineChanges
+pub mod LineOrder

@@ -1,0 +1,44 @@
+-- What contracts see of the ends of rings.
+use Rattle.std.specs.Prelude.{ℕ, List}
+use Rattle.std.specs.declared.alloc.Global.{Global}
+use denote.RawPtr.{Ptr}
+use Rattle.rtrb.specs.Shared.{Names}
+use Rattle.rtrb.specs.declared.end.End.{End}
+use Rattle.gateway_state.specs.declared.event.Dest.{Dest}
+use Rattle.fanout.specs.declared.outbox.Out.{Out}
+use Rattle.board_rings.specs.declared.inbound.Inbound.{Inbound}
+
+-- which ring it is: what is the same at both of its ends
+pub record Ring : Type 0 where
+  pub words : Ptr
+  pub slots : Ptr
+  pub names : Names
+  pub heap : Global
+
+-- the ring that an end belongs to
+abbrev pub ring_of : {T P : Type 0} → End T Global P → Ring
+ring_of end = record { words = end.words; slots = end.slots; names = end.names; heap = end.heap }
+
+-- a reader's end: all that was ever offered by it
+pub record InletState : Type 0 where
+  pub ring : Ring
+  pub offered : List Inbound
+
+-- a writer's end: all that was ever taken by it
+pub record OutletState : Type 0 where
+  pub ring : Ring
+  pub taken : List Out
+
+-- the board's ends of both rings of one attachment: all that was ever received by the one, and pushed
+-- by the other
+pub record EndsState : Type 0 where
+  pub in_ring : Ring
+  pub received : List Inbound
+  pub out_ring : Ring
+  pub pushed : List Out
+
+-- the line of a connection that is attached, and how many places of its ring out are known to be free
+pub record LineState : Type 0 where
+  pub dest : Dest
+  pub ends : EndsState
+  pub free : ℕ

@@ -1,0 +1,87 @@
+//! The ends of the rings.
+ghost use Rattle.std.specs.Prelude.{◌≡◌, ◌++◌, ◌∷◌, [], OnOk, OnErr, IfErr, IfSome, IsNone};
+
+use crate::inbound::Inbound;
+use fanout::Out;
+use rtrb::{Consumer, Producer, PushError};
+use std::marker::Model;
+
+/// A reader's end of the ring in. It can move to another thread.
+#[derive(Drop)]
+pub struct Inlet {
+    pub(crate) ring: Producer<Inbound>,
+}
+
+impl Model for Inlet {
+    ghost use Rattle.rtrb.specs.Ring.{sent};
+    ghost use Rattle.board_rings.specs.Rings.{InletState, ring_of};
+
+    ghost Value = { InletState };
+
+    ghost view = { λ i. record { ring = ring_of i.ring.end; offered = sent i.ring } };
+}
+
+impl Inlet {
+    /// Offers what comes from the peer. A ring that is full gives it back.
+    pub fn offer(&mut self, item: Inbound) -> Result<(), Inbound>
+        ensures ok { OnOk result (self.new ≡ record self.old { offered = self.old.offered ++ item ∷ [] }) }
+        ensures err { IfErr result (λ back. back ≡ item) }
+        ensures same { OnErr result (self.new ≡ self.old) }
+        ensures ring { self.new.ring ≡ self.old.ring }
+    {
+        match self.ring.push(item) {
+            Ok(()) => Ok(()),
+            Err(PushError::Full(back)) => Err(back),
+        }
+    }
+}
+
+/// A writer's end of the ring out. It can move to another thread.
+#[derive(Drop)]
+pub struct Outlet {
+    pub(crate) ring: Consumer<Out>,
+}
+
+impl Model for Outlet {
+    ghost use Rattle.rtrb.specs.Ring.{received};
+    ghost use Rattle.board_rings.specs.Rings.{OutletState, ring_of};
+
+    ghost Value = { OutletState };
+
+    ghost view = { λ o. record { ring = ring_of o.ring.end; taken = received o.ring } };
+}
+
+impl Outlet {
+    /// Takes the next message that goes to the peer, if one is there.
+    pub fn next(&mut self) -> Option<Out>
+        ensures some { IfSome result (λ out. self.new ≡ record self.old { taken = self.old.taken ++ out ∷ [] }) }
+        ensures none { IsNone result → self.new ≡ self.old }
+        ensures ring { self.new.ring ≡ self.old.ring }
+    {
+        match self.ring.pop() {
+            Ok(out) => Some(out),
+            Err(_) => None,
+        }
+    }
+}
+
+/// The board's ends of both rings of one attachment.
+#[derive(Drop)]
+pub struct Ends {
+    pub read: Consumer<Inbound>,
+    pub write: Producer<Out>,
+}
+
+impl Model for Ends {
+    ghost use Rattle.rtrb.specs.Ring.{sent, received};
+    ghost use Rattle.board_rings.specs.Rings.{EndsState, ring_of};
+
+    ghost Value = { EndsState };
+
+    ghost view = { λ e. record {
+      in_ring = ring_of e.read.end;
+      received = received e.read;
+      out_ring = ring_of e.write.end;
+      pushed = sent e.write;
+    } };
+}

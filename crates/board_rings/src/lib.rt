@@ -1,0 +1,41 @@
+//! The rings between the board and the workers of each connection.
+//!
+//! A connection that is attached has a line on the board: a ring in, by which its reader hands over what
+//! comes from the peer, and a ring out, by which its writer is handed what goes there. The workers' ends
+//! are an [`Inlet`] and an [`Outlet`]; the board's ends of both are in its [`Line`], and come back as
+//! [`Ends`] where the connection is retired. [`Lines`] are the lines of all attached connections, clients
+//! first, each by rising number.
+//!
+//! - [`Inlet::offer`] and [`Outlet::next`] are one push or pop each. They never wait, and take no memory.
+//! - [`Lines::attach`] makes both rings, [`Lines::retire`] takes the board's ends off.
+//! - [`Lines::receive`], [`Lines::room`] and [`Lines::push_all`] are the board's side.
+//!
+//! A contract sees each end as all that ever went through it: what was offered, received, pushed and
+//! taken. Where both ends of a ring meet, `laws::left_in` and `laws::left_out` say that what went in at
+//! one is what came out at the other and then what lies between, in order, each once.
+//!
+//! ```
+//! let dest = Dest::Session(1);
+//! let mut lines = Lines::new(rt.alloc());
+//! let (mut inlet, mut outlet) = lines.attach(rt.alloc(), dest)?;
+//! assert!(rt; inlet.offer(Inbound::Gone).is_ok());
+//! assert!(rt; lines.receive(dest).is_some());
+//! assert_eq!(rt; lines.room(dest), RING_SIZE);
+//! lines.push_all(dest, vec![in rt.alloc(); out]?);
+//! assert!(rt; outlet.next().is_some());
+//! assert!(rt; lines.retire(dest).is_some());
+//! assert_eq!(rt; lines.len(), 0);
+//! ```
+#![tactic(auto)]
+
+mod ends;
+mod inbound;
+pub mod laws;
+mod line;
+mod lines;
+mod places;
+
+pub use ends::{Ends, Inlet, Outlet};
+pub use inbound::Inbound;
+pub use line::{Line, RING_SIZE};
+pub use lines::Lines;

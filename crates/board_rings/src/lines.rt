@@ -1,0 +1,197 @@
+//! The lines of all connections that are attached.
+ghost use Rattle.std.specs.Prelude.{◌≡◌, ◌==◌, ◌<◌, ◌≤◌, [], length, true, false, IfOk, OnErr, IfSome, IsSome, IsNone, slice_get, vec_len, vec_capacity};
+ghost use Rattle.std.specs.List.{filter, position};
+ghost use Rattle.std.specs.Option.{option_map};
+ghost use Rattle.rows.specs.Rows.{change_first};
+ghost use Rattle.board_rings.specs.Rings.{LineState};
+ghost use Rattle.board_rings.specs.Lines.{are_in_order, is_attached, is_line, is_not_line, line_of, new_line, with_free, with_pushed, with_received, IsWith};
+
+use crate::ends::{Ends, Inlet, Outlet};
+use crate::inbound::Inbound;
+use crate::line::{Line, RING_SIZE};
+use crate::places::{place_for, place_of};
+use fanout::Out;
+use gateway_state::Dest;
+use std::alloc::{AllocError, Global};
+use std::marker::Model;
+
+/// The lines of all connections that are attached: clients first, each by rising number.
+#[derive(Drop)]
+pub struct Lines {
+    rows: Vec<Line>,
+}
+
+impl Model for Lines {
+    ghost use Rattle.std.specs.Prelude.{◌≡◌, List, true};
+    ghost use Rattle.board_rings.specs.Rings.{LineState};
+    ghost use Rattle.board_rings.specs.Lines.{are_in_order};
+
+    ghost Value = { List LineState };
+
+    ghost view = { λ l. l.rows.items };
+
+    ghost invariant = { λ l. are_in_order l.rows.items ≡ true };
+}
+
+impl Lines {
+    /// None is attached. This takes no memory.
+    pub fn new(alloc: Global) -> Lines
+        ensures { result ≡ [] }
+    {
+        Lines {
+            rows: Vec::new(alloc),
+        }
+    }
+
+    /// How many are attached.
+    pub fn len(&self) -> usize
+        ensures { result ≡ length self.now }
+    {
+        self.rows.len()
+    }
+
+    /// Whether none is attached.
+    pub fn is_empty(&self) -> bool
+        ensures { result ≡ (length self.now == 0) }
+    {
+        self.rows.is_empty()
+    }
+
+    fn place_of(&self, dest: Dest) -> Option<usize>
+        ensures { result ≡ position (is_line dest) self.now }
+    {
+        place_of(&self.rows, dest)
+    }
+
+    /// Whether the connection is attached.
+    pub fn is_attached(&self, dest: Dest) -> bool
+        ensures { result ≡ is_attached dest self.now }
+    {
+        self.place_of(dest).is_some()
+    }
+
+    /// The n-th of the connections that are attached.
+    pub fn dest(&self, n: usize) -> Option<Dest>
+        ensures { result ≡ option_map (λ line. line.dest) (slice_get self.now n) }
+    {
+        match self.rows.get(n) {
+            Some(line) => Some(line.dest()),
+            None => None,
+        }
+    }
+
+    /// Makes the rings of a connection that isn't attached, and gives its workers their ends. Where
+    /// memory is refused, nothing changes.
+    pub fn attach(&mut self, alloc: Global, dest: Dest) -> Result<(Inlet, Outlet), AllocError>
+        requires new { is_attached dest self.old ≡ false }
+        ensures ok { IfOk result (λ ends. IsWith (new_line dest ends.0.ring ends.1.ring RING_SIZE) self.old self.new) }
+        ensures offered { IfOk result (λ ends. ends.0.offered ≡ []) }
+        ensures taken { IfOk result (λ ends. ends.1.taken ≡ []) }
+        ensures err { OnErr result (self.new ≡ self.old) }
+    {
+        self.rows.reserve(1)?;
+        let (line, inlet, outlet) = Line::open(alloc, dest)?;
+        add(&mut self.rows, line);
+        Ok((inlet, outlet))
+    }
+
+    /// Receives one item that a reader offered, if one is there.
+    pub fn receive(&mut self, dest: Dest) -> Option<Inbound>
+        ensures some { IfSome result (λ item. self.new ≡ change_first (is_line dest) (with_received item) self.old) }
+        ensures there { IsSome result → is_attached dest self.old ≡ true }
+        ensures none { IsNone result → self.new ≡ self.old }
+    {
+        receive(&mut self.rows, dest)
+    }
+
+    /// How many places of the ring out are free now, 0 where the connection isn't attached.
+    pub fn room(&mut self, dest: Dest) -> usize
+        ensures found { self.new ≡ change_first (is_line dest) (with_free result) self.old }
+        ensures none { is_attached dest self.old ≡ false → result ≡ 0 }
+        ensures more { (line : LineState) → line_of dest self.old ≡ Some line → line.free ≤ result }
+        ensures most { result ≤ RING_SIZE }
+    {
+        room(&mut self.rows, dest)
+    }
+
+    /// Pushes messages for which there is room, in order. Where the connection isn't attached, they are
+    /// dropped.
+    pub fn push_all(&mut self, dest: Dest, outs: Vec<Out>)
+        requires { (line : LineState) → line_of dest self.old ≡ Some line → length outs.items ≤ line.free }
+        ensures { self.new ≡ change_first (is_line dest) (with_pushed outs.items) self.old }
+    {
+        push_all(&mut self.rows, dest, outs);
+    }
+
+    /// Takes off the line of a connection, and gives up the board's ends.
+    pub fn retire(&mut self, dest: Dest) -> Option<Ends>
+        ensures found { result ≡ option_map (λ line. line.ends) (line_of dest self.old) }
+        ensures rest { self.new ≡ filter (is_not_line dest) self.old }
+    {
+        retire(&mut self.rows, dest)
+    }
+}
+
+// Puts a line at its place. There is room for it.
+fn add(rows: &mut Vec<Line>, line: Line)
+    requires order { are_in_order rows.old.items ≡ true }
+    requires room { vec_len rows.old < vec_capacity rows.old }
+    requires new { is_attached line.dest rows.old.items ≡ false }
+    ensures { IsWith line rows.old.items rows.new.items }
+{
+    let place = place_for(rows, line.dest());
+    rows.insert(place, line).unwrap();
+}
+
+#[tactic(auto, using(rows::proofs::RowLemmas::set_is_change_first, crate::proofs::LineOrder::attached_there))]
+fn receive(rows: &mut Vec<Line>, dest: Dest) -> Option<Inbound>
+    requires { are_in_order rows.old.items ≡ true }
+    ensures some { IfSome result (λ item. rows.new.items ≡ change_first (is_line dest) (with_received item) rows.old.items) }
+    ensures there { IsSome result → is_attached dest rows.old.items ≡ true }
+    ensures none { IsNone result → rows.new.items ≡ rows.old.items }
+{
+    let place = place_of(rows, dest)?;
+    let line = &mut rows[place];
+    line.receive()
+}
+
+#[tactic(auto, using(rows::proofs::RowLemmas::set_is_change_first, rows::proofs::RowLemmas::change_first_none, rows::proofs::RowLemmas::find_is_there, rows::proofs::RowLemmas::find_none, crate::proofs::LineOrder::attached_there))]
+fn room(rows: &mut Vec<Line>, dest: Dest) -> usize
+    requires { are_in_order rows.old.items ≡ true }
+    ensures found { rows.new.items ≡ change_first (is_line dest) (with_free result) rows.old.items }
+    ensures none { is_attached dest rows.old.items ≡ false → result ≡ 0 }
+    ensures more { (line : LineState) → line_of dest rows.old.items ≡ Some line → line.free ≤ result }
+    ensures most { result ≤ RING_SIZE }
+{
+    match place_of(rows, dest) {
+        Some(place) => {
+            let line = &mut rows[place];
+            line.room()
+        }
+        None => 0,
+    }
+}
+
+#[tactic(auto, using(rows::proofs::RowLemmas::set_is_change_first, rows::proofs::RowLemmas::change_first_none, rows::proofs::RowLemmas::find_is_there))]
+fn push_all(rows: &mut Vec<Line>, dest: Dest, outs: Vec<Out>)
+    requires order { are_in_order rows.old.items ≡ true }
+    requires room { (line : LineState) → line_of dest rows.old.items ≡ Some line → length outs.items ≤ line.free }
+    ensures { rows.new.items ≡ change_first (is_line dest) (with_pushed outs.items) rows.old.items }
+{
+    if let Some(place) = place_of(rows, dest) {
+        let line = &mut rows[place];
+        line.push_all(outs);
+    }
+}
+
+#[tactic(auto, using(rows::proofs::RowLemmas::find_is_there, rows::proofs::RowLemmas::find_none, crate::proofs::LineOrder::removed_is_rest, crate::proofs::LineOrder::rest_is_all))]
+fn retire(rows: &mut Vec<Line>, dest: Dest) -> Option<Ends>
+    requires { are_in_order rows.old.items ≡ true }
+    ensures found { result ≡ option_map (λ line. line.ends) (line_of dest rows.old.items) }
+    ensures rest { rows.new.items ≡ filter (is_not_line dest) rows.old.items }
+{
+    match place_of(rows, dest) {
+        Some(place) => Some(rows.remove(place).into_ends()),
+        None => None,
+    }
+}

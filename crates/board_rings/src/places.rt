@@ -1,0 +1,35 @@
+//! Where lines stand among lines that are in order.
+ghost use Rattle.std.specs.Prelude.{◌≡◌, ◌≤◌, length, true};
+ghost use Rattle.std.specs.List.{position, position_or_len};
+ghost use Rattle.board_rings.specs.Lines.{are_in_order, comes_before, is_from, is_line};
+
+use crate::line::Line;
+use gateway_state::Dest;
+
+fn comes_before(a: Dest, b: Dest) -> bool
+    ensures { result ≡ comes_before a b }
+{
+    a < b
+}
+
+/// How many lines come before this connection's: its place.
+pub(crate) fn place_for(rows: &[Line], dest: Dest) -> usize
+    requires { are_in_order rows.now ≡ true }
+    ensures within { result ≤ length rows.now }
+    ensures place { result ≡ position_or_len (is_from dest) rows.now }
+{
+    rows.partition_point(|line| comes_before(line.dest(), dest))
+}
+
+/// The place of a connection's line, if it is attached.
+pub(crate) fn place_of(rows: &[Line], dest: Dest) -> Option<usize>
+    requires { are_in_order rows.now ≡ true }
+    ensures { result ≡ position (is_line dest) rows.now }
+{
+    let place = place_for(rows, dest);
+    if place < rows.len() && rows[place].is_of(dest) {
+        Some(place)
+    } else {
+        None
+    }
+}
