@@ -1,0 +1,71 @@
+-- Histories that go on by one entry.
+use Rattle.std.proofs.Common.{◌≡◌, List, [], ◌∷◌, ◌++◌, Bool, true, false, ◌&&◌, Option, Some, None, refl, sym, ap, ◌∙◌}
+use Rattle.std.specs.Prelude.{if◌then◌else◌}
+use Rattle.std.proofs.lemmas.Bool.{and_parts}
+use Rattle.std.proofs.lemmas.List.{append-nil, append_assoc}
+use Rattle.fanout.specs.declared.outbox.Out.{Out}
+use Rattle.gateway_state.specs.Connections.{same_dest}
+use Rattle.gateway_state.specs.Gateway.{Gateway}
+use Rattle.gateway_state.specs.Step.{run}
+use Rattle.gateway_state.specs.declared.event.Dest.{Dest}
+use Rattle.gateway_state.specs.declared.event.Event.{Event}
+use Rattle.board_rings.specs.declared.inbound.Inbound.{Inbound}
+use Rattle.board_history.specs.History.{attached_after, entry_event, events_of, goes_on, may_follow, may_follow_all, pushed_after, pushed_by, received_after, received_by, with_event}
+use Rattle.board_history.specs.declared.entry.Entry.{Entry}
+use Rattle.board_history.specs.declared.entry.Entry.TheVariants.{Pumped, Desked, Sent, Attached, Retired}
+
+-- what an entry leaves of whether a connection is attached
+abbrev pub attached_by : Bool → Entry → Dest → Bool
+attached_by before (Attached at) dest = if same_dest at dest then true else before
+attached_by before (Retired at) dest = if same_dest at dest then false else before
+attached_by before entry dest = before
+
+attached_at_first : (before : Bool) (entry : Entry) (rest : List Entry) (dest : Dest) → attached_after before (entry ∷ rest) dest ≡ attached_after (attached_by before entry dest) rest dest
+attached_at_first before (Pumped at item) rest dest = refl
+attached_at_first before (Desked event) rest dest = refl
+attached_at_first before (Sent at count) rest dest = refl
+attached_at_first before (Attached at) rest dest = refl
+attached_at_first before (Retired at) rest dest = refl
+
+-- whether a connection is attached goes on by the last entry
+pub attached_more : (before : Bool) (history : List Entry) (entry : Entry) (dest : Dest) → attached_after before (history ++ entry ∷ []) dest ≡ attached_by (attached_after before history dest) entry dest
+attached_more before [] entry dest = attached_at_first before entry [] dest
+attached_more before (one ∷ history) entry dest =
+    attached_at_first before one (history ++ entry ∷ []) dest ∙ attached_more (attached_by before one dest) history entry dest
+    ∙ sym (ap (λ (b : Bool). attached_by b entry dest) (attached_at_first before one history dest))
+
+-- so do the items received
+pub received_more : (before : List Inbound) (history : List Entry) (entry : Entry) (dest : Dest) → received_after before (history ++ entry ∷ []) dest ≡ received_by (received_after before history dest) entry dest
+received_more before [] entry dest = refl
+received_more before (one ∷ history) entry dest = received_more (received_by before one dest) history entry dest
+
+run_with : (w : Gateway) (event : Option Event) (events : List Event) → run w (with_event event events) ≡ run (goes_on w event) events
+unfolding run
+run_with w None events = refl
+run_with w (Some event) events = refl
+
+-- the gateway goes on by the last entry's event
+pub run_more : (w : Gateway) (history : List Entry) (entry : Entry) → run w (events_of (history ++ entry ∷ [])) ≡ goes_on (run w (events_of history)) (entry_event entry)
+unfolding run
+run_more w [] entry = run_with w (entry_event entry) []
+run_more w (one ∷ history) entry =
+    run_with w (entry_event one) (events_of (history ++ entry ∷ [])) ∙ run_more (goes_on w (entry_event one)) history entry
+    ∙ sym (ap (λ (v : Gateway). goes_on v (entry_event entry)) (run_with w (entry_event one) (events_of history)))
+
+-- the messages pushed go on by what the last entry takes from the gateway that the events run to
+pub pushed_more : (before : List Out) (w : Gateway) (history : List Entry) (entry : Entry) (dest : Dest)
+    → pushed_after before w (history ++ entry ∷ []) dest ≡ pushed_by (pushed_after before w history dest) (run w (events_of history)) entry dest
+unfolding run
+pushed_more before w [] entry dest = refl
+pushed_more before w (one ∷ history) entry dest =
+    pushed_more (pushed_by before w one dest) (goes_on w (entry_event one)) history entry dest
+    ∙ sym (ap (λ (v : Gateway). pushed_by (pushed_after before w (one ∷ history) dest) v entry dest) (run_with w (entry_event one) (events_of history)))
+
+-- a history that fits fits with an entry more that may follow it
+pub may_follow_more : (before history : List Entry) (entry : Entry) → may_follow_all before history ≡ true → may_follow (before ++ history) entry ≡ true → may_follow_all before (history ++ entry ∷ []) ≡ true
+may_follow_more before [] entry fits next =
+    ap (λ (b : Bool). b && true) (ap (λ (entries : List Entry). may_follow entries entry) (sym (append-nil before)) ∙ next)
+may_follow_more before (one ∷ history) entry fits next =
+    let parts = and_parts (may_follow before one) (may_follow_all (before ++ one ∷ []) history) fits in
+    ap (λ (b : Bool). b && may_follow_all (before ++ one ∷ []) (history ++ entry ∷ [])) parts.0
+    ∙ may_follow_more (before ++ one ∷ []) history entry parts.1 (ap (λ (entries : List Entry). may_follow entries entry) (append_assoc before (one ∷ []) history) ∙ next)

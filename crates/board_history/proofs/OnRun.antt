@@ -1,0 +1,346 @@
+-- Each call of a board goes on with its history.
+use Rattle.std.proofs.Common.{◌≡◌, ℕ, ◌<◌, List, [], ◌∷◌, ◌++◌, Bool, true, false, cond, not, ◌&&◌, min, Option, Some, None, IsSome, is_some, refl, sym, ap, subst, ◌∙◌, arith}
+use Rattle.std.specs.Prelude.{if◌then◌else◌, nat_le, nat_lt}
+use Rattle.std.specs.Option.{option_map, ForSome}
+use Rattle.std.proofs.lemmas.Bool.{and_from, le-leb, lt-ltb}
+use Rattle.std.proofs.lemmas.List.{append-nil}
+use Rattle.std.proofs.Math.Nat.{le-min, min-le_left}
+use Rattle.rows.specs.Rows.{change_first}
+use Rattle.fanout.specs.declared.outbox.Out.{Out}
+use Rattle.gateway_state.specs.Connections.{same_dest}
+use Rattle.gateway_state.specs.Gateway.{Gateway, initial}
+use Rattle.gateway_state.specs.Step.{run, step, taken}
+use Rattle.gateway_state.specs.declared.config.Config.{Config}
+use Rattle.gateway_state.specs.declared.event.Dest.{Dest}
+use Rattle.gateway_state.specs.declared.event.Event.{Event}
+use Rattle.gateway_state.specs.declared.event.Event.TheVariants.{Drain}
+use Rattle.rule_desk.specs.declared.policy.Policy.{Policy}
+use Rattle.board_rings.specs.Lines.{is_attached, is_line, line_of, new_line, with_free, with_received}
+use Rattle.board_rings.specs.Rings.{LineState, Ring}
+use Rattle.board_rings.specs.declared.inbound.Inbound.{Inbound}
+use Rattle.board_history.specs.Board.{BoardState}
+use Rattle.board_history.specs.Calls.{Attaches, DeskFails, Desks, PumpFails, Pumps, Retires, SendFails, Sends, with_sent}
+use Rattle.board_history.specs.History.{IsLineOf, IsOnRun, Refused, events_of, is_attached_in, item_event, pushed_by, pushed_in, received_by, received_in, refused_of}
+use Rattle.board_history.specs.declared.entry.TheConstants.{MOST_SENT}
+use Rattle.board_history.specs.declared.entry.Entry.{Entry}
+use Rattle.board_history.specs.declared.entry.Entry.TheVariants.{Pumped, Desked, Sent, Attached, Retired}
+use Rattle.board_history.proofs.Histories.{attached_more, may_follow_more, pushed_more, received_more, run_more}
+use Rattle.board_history.proofs.Lines.{attached_after_change, attached_where_found, line_after_change, line_left, same_dest_is}
+
+-- ROWS
+
+-- rows that are a gateway's are, a step further, that gateway's a step further
+rows_step : (event : Event) (v : Gateway) (old new : Option Gateway) → ForSome old (λ w. w ≡ v) → new ≡ option_map (λ w. step w event) old → ForSome new (λ w. w ≡ step v event)
+rows_step event v None new is e = λ w h. absurd (let wrong : None ≡ Some w = sym e ∙ h in cc)
+rows_step event v (Some u) new is e = λ w h. (let here : step u event ≡ w = cc in sym here ∙ ap (λ (x : Gateway). step x event) (is u refl))
+
+-- what was taken from rows that are a gateway's was taken from it
+taken_from : (event : Event) (dest : Dest) (outs : List Out) (v : Gateway) (rows : Option Gateway)
+    → ForSome rows (λ w. w ≡ v) → Some outs ≡ option_map (λ w. taken w event dest) rows → outs ≡ taken v event dest
+taken_from event dest outs v None is e = absurd (let wrong : Some outs ≡ None = e in cc)
+taken_from event dest outs v (Some w) is e =
+    let here : outs ≡ taken w event dest = cc in here ∙ ap (λ (x : Gateway). taken x event dest) (is w refl)
+
+-- from other connections a drain takes nothing
+taken_of_other : (w : Gateway) (from dest : Dest) (count : ℕ) → same_dest from dest ≡ false → taken w (Drain from count) dest ≡ []
+taken_of_other w from dest count other = rw other refl
+
+-- where no rows are left, none stand
+none_is_left : (rows : Option Gateway) {P : Type 0} → rows ≡ None → IsSome rows → P
+none_is_left rows none stands = absurd (let wrong : false ≡ true = sym (ap is_some none) ∙ stands in cc)
+
+-- and nothing is said of them
+none_runs : (rows : Option Gateway) (P : Gateway → Type 0) → rows ≡ None → ForSome rows P
+none_runs rows P none = λ w e. absurd (let wrong : None ≡ Some w = sym none ∙ e in cc)
+
+-- some are sent where some places are free
+some_sent : (found : ℕ) → 0 < found → 0 < min MOST_SENT found
+some_sent found some = le-min (omega arith) some
+
+-- REFUSED ITEMS
+
+-- the refused item, where it isn't this connection's
+abbrev refused_but : Option Refused → Dest → Option Refused
+refused_but None dest = None
+refused_but (Some refused) dest = if same_dest refused.dest dest then None else Some refused
+
+-- it leaves nothing of that connection
+refused_but_own : (refused : Option Refused) (at dest : Dest) → same_dest at dest ≡ true → refused_of (refused_but refused at) dest ≡ []
+refused_but_own None at dest same = refl
+refused_but_own (Some refused) at dest same = by (same_dest refused.dest at) refl
+  where
+    by : (is : Bool) → same_dest refused.dest at ≡ is → refused_of (cond is None (Some refused)) dest ≡ []
+    by true here = refl
+    by false other =
+        ap (λ (b : Bool). cond b (refused.item ∷ []) []) (ap (same_dest refused.dest) (sym (same_dest_is at dest same)) ∙ other)
+
+-- and of another what there was
+refused_but_other : (refused : Option Refused) (at dest : Dest) → same_dest at dest ≡ false → refused_of (refused_but refused at) dest ≡ refused_of refused dest
+refused_but_other None at dest differs = refl
+refused_but_other (Some refused) at dest differs = by (same_dest refused.dest at) refl
+  where
+    by : (is : Bool) → same_dest refused.dest at ≡ is → refused_of (cond is None (Some refused)) dest ≡ refused_of (Some refused) dest
+    by true here =
+        sym (ap (λ (b : Bool). cond b (refused.item ∷ []) []) (ap (λ (d : Dest). same_dest d dest) (same_dest_is refused.dest at here) ∙ differs))
+    by false other = refl
+
+-- CALLS
+
+module _ (config : Config) (policy : Policy) (history : List Entry) where
+  -- the gateway to which the history's events run
+  abbrev reached : Gateway
+  reached = run (initial config policy) (events_of history)
+
+  -- a connection's line, once the history went on
+  line_more : (entry : Entry) (refused : Option Refused) (dest : Dest) (line : LineState)
+      → line.ends.received ≡ received_by (received_in history dest) entry dest ++ refused_of refused dest
+      → line.ends.pushed ≡ pushed_by (pushed_in (initial config policy) history dest) reached entry dest
+      → IsLineOf config policy (history ++ entry ∷ []) refused dest line
+  line_more entry refused dest line received pushed = record {
+    received = received ∙ ap (λ (items : List Inbound). items ++ refused_of refused dest) (sym (received_more [] history entry dest));
+    pushed = pushed ∙ sym (pushed_more [] (initial config policy) history entry dest);
+  }
+
+  -- a connection's line on which the history goes on elsewhere
+  line_stays : (entry : Entry) (refused more : Option Refused) (dest : Dest) (line : LineState)
+      → received_by (received_in history dest) entry dest ≡ received_in history dest
+      → pushed_by (pushed_in (initial config policy) history dest) reached entry dest ≡ pushed_in (initial config policy) history dest
+      → refused_of more dest ≡ refused_of refused dest
+      → IsLineOf config policy history refused dest line → IsLineOf config policy (history ++ entry ∷ []) more dest line
+  line_stays entry refused more dest line items messages rest was =
+      line_more entry more dest line
+      (was.received
+      ∙ ap (λ (last : List Inbound). received_in history dest ++ last) (sym rest)
+      ∙ ap (λ (all : List Inbound). all ++ refused_of more dest) (sym items))
+      (was.pushed ∙ sym messages)
+
+  module _ (old new : BoardState) (on_run : IsOnRun old config policy history) where
+    attached_in_history : (dest : Dest) (is : Bool) → is_attached dest old.lines ≡ is → is_attached_in history dest ≡ is
+    attached_in_history dest is e = sym (on_run.attached dest) ∙ attached_where_found dest old.lines ∙ e
+
+    -- where rows stood, a line received what the history says
+    received_alone : (dest : Dest) (line : LineState) → IsSome old.rows → IsLineOf config policy history on_run.refused dest line → line.ends.received ≡ received_in history dest
+    received_alone dest line stands was =
+        was.received ∙ ap (λ (refused : Option Refused). received_in history dest ++ refused_of refused dest) (on_run.none_refused stands)
+        ∙ append-nil (received_in history dest)
+
+    -- rows that go on by a step
+    rows_more : (entry : Entry) (event : Event) → new.rows ≡ option_map (λ w. step w event) old.rows
+        → run (initial config policy) (events_of (history ++ entry ∷ [])) ≡ step reached event
+        → ForSome new.rows (λ w. w ≡ run (initial config policy) (events_of (history ++ entry ∷ [])))
+    rows_more entry event e more = λ w h. rows_step event reached old.rows new.rows on_run.rows e w h ∙ sym more
+
+    -- rows that stay
+    rows_stay : (entry : Entry) → new.rows ≡ old.rows → run (initial config policy) (events_of (history ++ entry ∷ [])) ≡ reached
+        → ForSome new.rows (λ w. w ≡ run (initial config policy) (events_of (history ++ entry ∷ [])))
+    rows_stay entry e more = λ w h. on_run.rows w (sym e ∙ h) ∙ sym more
+
+    -- where rows stay and none was refused while they stood, none is
+    none_yet : (refused : Option Refused) → (on_run.refused ≡ None → refused ≡ None) → new.rows ≡ old.rows → IsSome new.rows → refused ≡ None
+    none_yet refused so e stands = so (on_run.none_refused (sym (ap is_some e) ∙ stands))
+
+    -- One line changed, and no other.
+    module _ (f : LineState → LineState) (keeps : (line : LineState) → (f line).dest ≡ line.dest) (dest : Dest) (changed : new.lines ≡ change_first (is_line dest) f old.lines) where
+      attached_changed : (at : Dest) → is_some (line_of at new.lines) ≡ is_attached_in history at
+      attached_changed at =
+          ap (λ (lines : List LineState). is_some (line_of at lines)) changed ∙ attached_after_change f keeps dest at old.lines ∙ on_run.attached at
+
+      lines_changed : (after : List Entry) (refused : Option Refused)
+          → ((at : Dest) → same_dest dest at ≡ true → (line : LineState) → IsLineOf config policy history on_run.refused at line → IsLineOf config policy after refused at (f line))
+          → ((at : Dest) → same_dest dest at ≡ false → (line : LineState) → IsLineOf config policy history on_run.refused at line → IsLineOf config policy after refused at line)
+          → (at : Dest) → ForSome (line_of at new.lines) (IsLineOf config policy after refused at)
+      lines_changed after refused own other at =
+          subst (λ (lines : List LineState). ForSome (line_of at lines) (IsLineOf config policy after refused at)) (sym changed)
+          (line_after_change f keeps (IsLineOf config policy history on_run.refused at) (IsLineOf config policy after refused at) dest at old.lines (on_run.lines at) (own at) (other at))
+
+    pub pumped : (dest : Dest) (item : Inbound) → Pumps dest item old new → IsOnRun new config policy (history ++ Pumped dest item ∷ [])
+    pumped dest item pumps = record {
+      entries = may_follow_more [] history (Pumped dest item) on_run.entries (attached_in_history dest true pumps.attached);
+      rows = rows_more (Pumped dest item) (item_event dest item) pumps.rows (run_more (initial config policy) history (Pumped dest item));
+      refused = None;
+      none_refused = λ _. refl;
+      attached = λ at. attached_changed (with_received item) (λ _. refl) dest pumps.lines at ∙ sym (attached_more false history (Pumped dest item) at);
+      lines = lines_changed (with_received item) (λ _. refl) dest pumps.lines (history ++ Pumped dest item ∷ []) None own other;
+    }
+      where
+        own : (at : Dest) → same_dest dest at ≡ true → (line : LineState) → IsLineOf config policy history on_run.refused at line
+            → IsLineOf config policy (history ++ Pumped dest item ∷ []) None at (with_received item line)
+        own at same line was =
+            line_more (Pumped dest item) None at (with_received item line)
+            (ap (λ (items : List Inbound). items ++ item ∷ []) (received_alone at line pumps.stands was)
+            ∙ sym (append-nil (received_in history at ++ item ∷ []))
+            ∙ ap (λ (b : Bool). cond b (received_in history at ++ item ∷ []) (received_in history at) ++ []) (sym same)) was.pushed
+
+        other : (at : Dest) → same_dest dest at ≡ false → (line : LineState) → IsLineOf config policy history on_run.refused at line
+            → IsLineOf config policy (history ++ Pumped dest item ∷ []) None at line
+        other at differs line was =
+            line_stays (Pumped dest item) on_run.refused None at line
+            (ap (λ (b : Bool). cond b (received_in history at ++ item ∷ []) (received_in history at)) differs) refl
+            (sym (ap (λ (refused : Option Refused). refused_of refused at) (on_run.none_refused pumps.stands))) was
+
+    pub pump_failed : (dest : Dest) (item : Inbound) → PumpFails dest item old new → IsOnRun new config policy history
+    pump_failed dest item pumps = record {
+      entries = on_run.entries;
+      rows = none_runs new.rows (λ w. w ≡ reached) pumps.rows;
+      refused = Some (record { dest = dest; item = item });
+      none_refused = none_is_left new.rows pumps.rows;
+      attached = attached_changed (with_received item) (λ _. refl) dest pumps.lines;
+      lines = lines_changed (with_received item) (λ _. refl) dest pumps.lines history (Some (record { dest = dest; item = item })) own other;
+    }
+      where
+        own : (at : Dest) → same_dest dest at ≡ true → (line : LineState) → IsLineOf config policy history on_run.refused at line
+            → IsLineOf config policy history (Some (record { dest = dest; item = item })) at (with_received item line)
+        own at same line was = record {
+          received =
+              ap (λ (items : List Inbound). items ++ item ∷ []) (received_alone at line pumps.stands was)
+              ∙ ap (λ (b : Bool). received_in history at ++ cond b (item ∷ []) []) (sym same);
+          pushed = was.pushed;
+        }
+
+        other : (at : Dest) → same_dest dest at ≡ false → (line : LineState) → IsLineOf config policy history on_run.refused at line
+            → IsLineOf config policy history (Some (record { dest = dest; item = item })) at line
+        other at differs line was = record {
+          received =
+              received_alone at line pumps.stands was
+              ∙ sym (append-nil (received_in history at))
+              ∙ ap (λ (b : Bool). received_in history at ++ cond b (item ∷ []) []) (sym differs);
+          pushed = was.pushed;
+        }
+
+    pub desked : (event : Event) → Desks event old new → IsOnRun new config policy (history ++ Desked event ∷ [])
+    desked event desks = record {
+      entries = may_follow_more [] history (Desked event) on_run.entries desks.here;
+      rows = rows_more (Desked event) event desks.rows (run_more (initial config policy) history (Desked event));
+      refused = on_run.refused;
+      none_refused = λ _. on_run.none_refused desks.stands;
+      attached = λ at.
+          ap (λ (lines : List LineState). is_some (line_of at lines)) desks.lines ∙ on_run.attached at ∙ sym (attached_more false history (Desked event) at);
+      lines = λ at line found.
+          line_stays (Desked event) on_run.refused on_run.refused at line refl refl refl
+          (on_run.lines at line (sym (ap (λ (lines : List LineState). line_of at lines) desks.lines) ∙ found));
+    }
+
+    pub desk_failed : DeskFails old new → IsOnRun new config policy history
+    desk_failed desks = record {
+      entries = on_run.entries;
+      rows = none_runs new.rows (λ w. w ≡ reached) desks.rows;
+      refused = on_run.refused;
+      none_refused = none_is_left new.rows desks.rows;
+      attached = λ at. ap (λ (lines : List LineState). is_some (line_of at lines)) desks.lines ∙ on_run.attached at;
+      lines = λ at line found. on_run.lines at line (sym (ap (λ (lines : List LineState). line_of at lines) desks.lines) ∙ found);
+    }
+
+    pub sent : (dest : Dest) (found : ℕ) (outs : List Out) → Sends dest found outs old new → IsOnRun new config policy (history ++ Sent dest (min MOST_SENT found) ∷ [])
+    sent dest found outs sends = record {
+      entries =
+          may_follow_more [] history (Sent dest (min MOST_SENT found)) on_run.entries
+          (and_from (is_attached_in history dest) (nat_lt 0 (min MOST_SENT found) && nat_le (min MOST_SENT found) MOST_SENT) (attached_in_history dest true sends.attached)
+          (and_from (nat_lt 0 (min MOST_SENT found)) (nat_le (min MOST_SENT found) MOST_SENT)
+          (lt-ltb 0 (min MOST_SENT found) (some_sent found sends.some_free)) (le-leb (min MOST_SENT found) MOST_SENT (min-le_left MOST_SENT found))));
+      rows = rows_more (Sent dest (min MOST_SENT found)) (Drain dest (min MOST_SENT found)) sends.rows (run_more (initial config policy) history (Sent dest (min MOST_SENT found)));
+      refused = on_run.refused;
+      none_refused = λ _. on_run.none_refused sends.stands;
+      attached = λ at. attached_changed (with_sent found outs) (λ _. refl) dest sends.lines at ∙ sym (attached_more false history (Sent dest (min MOST_SENT found)) at);
+      lines = lines_changed (with_sent found outs) (λ _. refl) dest sends.lines (history ++ Sent dest (min MOST_SENT found) ∷ []) on_run.refused own other;
+    }
+      where
+        own : (at : Dest) → same_dest dest at ≡ true → (line : LineState) → IsLineOf config policy history on_run.refused at line
+            → IsLineOf config policy (history ++ Sent dest (min MOST_SENT found) ∷ []) on_run.refused at (with_sent found outs line)
+        own at same line was =
+            line_more (Sent dest (min MOST_SENT found)) on_run.refused at (with_sent found outs line) was.received
+            (ap (λ (messages : List Out). messages ++ outs) was.pushed
+            ∙ ap (λ (messages : List Out). pushed_in (initial config policy) history at ++ messages) (taken_from (Drain dest (min MOST_SENT found)) dest outs reached old.rows on_run.rows sends.taken)
+            ∙ ap (λ (d : Dest). pushed_in (initial config policy) history at ++ taken reached (Drain dest (min MOST_SENT found)) d) (same_dest_is dest at same))
+
+        other : (at : Dest) → same_dest dest at ≡ false → (line : LineState) → IsLineOf config policy history on_run.refused at line
+            → IsLineOf config policy (history ++ Sent dest (min MOST_SENT found) ∷ []) on_run.refused at line
+        other at differs line was =
+            line_stays (Sent dest (min MOST_SENT found)) on_run.refused on_run.refused at line refl
+            (ap (λ (messages : List Out). pushed_in (initial config policy) history at ++ messages) (taken_of_other reached dest at (min MOST_SENT found) differs)
+            ∙ append-nil (pushed_in (initial config policy) history at))
+            refl was
+
+    pub send_failed : (dest : Dest) (found : ℕ) → SendFails dest found old new → IsOnRun new config policy history
+    send_failed dest found sends = record {
+      entries = on_run.entries;
+      rows = none_runs new.rows (λ w. w ≡ reached) sends.rows;
+      refused = on_run.refused;
+      none_refused = none_is_left new.rows sends.rows;
+      attached = attached_changed (with_free found) (λ _. refl) dest sends.lines;
+      lines = lines_changed (with_free found) (λ _. refl) dest sends.lines history on_run.refused
+          (λ at same line was. record { received = was.received; pushed = was.pushed }) (λ at differs line was. was);
+    }
+
+    pub looked : (dest : Dest) (found : ℕ) → new.rows ≡ old.rows → new.lines ≡ change_first (is_line dest) (with_free found) old.lines → IsOnRun new config policy history
+    looked dest found rows lines = record {
+      entries = on_run.entries;
+      rows = λ w h. on_run.rows w (sym rows ∙ h);
+      refused = on_run.refused;
+      none_refused = none_yet on_run.refused (λ none. none) rows;
+      attached = attached_changed (with_free found) (λ _. refl) dest lines;
+      lines = lines_changed (with_free found) (λ _. refl) dest lines history on_run.refused
+          (λ at same line was. record { received = was.received; pushed = was.pushed }) (λ at differs line was. was);
+    }
+
+    pub attached : (dest : Dest) (in_ring out_ring : Ring) (free : ℕ) → Attaches dest in_ring out_ring free old new → IsOnRun new config policy (history ++ Attached dest ∷ [])
+    attached dest in_ring out_ring free attaches = record {
+      entries = may_follow_more [] history (Attached dest) on_run.entries (ap not (attached_in_history dest false attaches.apart));
+      rows = rows_stay (Attached dest) attaches.rows (run_more (initial config policy) history (Attached dest));
+      refused = refused_but on_run.refused dest;
+      none_refused = none_yet (refused_but on_run.refused dest) (ap (λ (refused : Option Refused). refused_but refused dest)) attaches.rows;
+      attached = λ at. ap is_some (attaches.lines.found at) ∙ there at (same_dest dest at) refl ∙ sym (attached_more false history (Attached dest) at);
+      lines = λ at line found. by at line (same_dest dest at) refl (sym (attaches.lines.found at) ∙ found);
+    }
+      where
+        there : (at : Dest) (same : Bool) → same_dest dest at ≡ same
+            → is_some (cond same (Some (new_line dest in_ring out_ring free)) (line_of at old.lines)) ≡ cond same true (is_attached_in history at)
+        there at true same = refl
+        there at false differs = on_run.attached at
+
+        by : (at : Dest) (line : LineState) (same : Bool) → same_dest dest at ≡ same
+            → cond same (Some (new_line dest in_ring out_ring free)) (line_of at old.lines) ≡ Some line
+            → IsLineOf config policy (history ++ Attached dest ∷ []) (refused_but on_run.refused dest) at line
+        by at line true same found =
+            let here : new_line dest in_ring out_ring free ≡ line = cc in
+            subst (IsLineOf config policy (history ++ Attached dest ∷ []) (refused_but on_run.refused dest) at) here
+            (line_more (Attached dest) (refused_but on_run.refused dest) at (new_line dest in_ring out_ring free)
+            (sym (refused_but_own on_run.refused dest at same) ∙ ap (λ (b : Bool). cond b [] (received_in history at) ++ refused_of (refused_but on_run.refused dest) at) (sym same))
+            (ap (λ (b : Bool). cond b [] (pushed_in (initial config policy) history at)) (sym same)))
+        by at line false differs found =
+            line_stays (Attached dest) on_run.refused (refused_but on_run.refused dest) at line
+            (ap (λ (b : Bool). cond b [] (received_in history at)) differs) (ap (λ (b : Bool). cond b [] (pushed_in (initial config policy) history at)) differs)
+            (refused_but_other on_run.refused dest at differs) (on_run.lines at line found)
+
+    pub retired : (dest : Dest) → Retires dest old new → IsOnRun new config policy (history ++ Retired dest ∷ [])
+    retired dest retires = record {
+      entries = may_follow_more [] history (Retired dest) on_run.entries (attached_in_history dest true retires.attached);
+      rows = rows_stay (Retired dest) retires.rows (run_more (initial config policy) history (Retired dest));
+      refused = on_run.refused;
+      none_refused = none_yet on_run.refused (λ none. none) retires.rows;
+      attached = λ at. ap is_some (left at) ∙ there at (same_dest dest at) refl ∙ sym (attached_more false history (Retired dest) at);
+      lines = λ at line found. by at line (same_dest dest at) refl (sym (left at) ∙ found);
+    }
+      where
+        left : (at : Dest) → line_of at new.lines ≡ cond (same_dest dest at) None (line_of at old.lines)
+        left at = ap (λ (lines : List LineState). line_of at lines) retires.lines ∙ line_left dest at old.lines
+
+        there : (at : Dest) (same : Bool) → same_dest dest at ≡ same → is_some (cond same None (line_of at old.lines)) ≡ cond same false (is_attached_in history at)
+        there at true same = refl
+        there at false differs = on_run.attached at
+
+        by : (at : Dest) (line : LineState) (same : Bool) → same_dest dest at ≡ same → cond same None (line_of at old.lines) ≡ Some line
+            → IsLineOf config policy (history ++ Retired dest ∷ []) on_run.refused at line
+        by at line true same found = absurd (let wrong : None ≡ Some line = found in cc)
+        by at line false differs found = line_stays (Retired dest) on_run.refused on_run.refused at line refl refl refl (on_run.lines at line found)
+
+-- a board to which nothing happened yet
+pub new_board : (config : Config) (policy : Policy) → let board : BoardState = record { rows = Some (initial config policy); lines = [] } in IsOnRun board config policy []
+unfolding run
+new_board config policy = record {
+  entries = refl;
+  rows = λ w e. (let here : initial config policy ≡ w = cc in sym here);
+  refused = None;
+  none_refused = λ _. refl;
+  attached = λ _. refl;
+  lines = λ at line e. absurd (let wrong : None ≡ Some line = e in cc);
+}
