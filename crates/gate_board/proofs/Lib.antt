@@ -1,0 +1,6 @@
+pub mod Begun
+mod Changed
+mod Kept
+mod Moved
+mod Performed
+mod RoundCalls
