@@ -1,0 +1,4 @@
+mod Hearing
+mod Keeping
+mod Pieces
+mod Sending
