@@ -38,10 +38,9 @@ pub none_free : (dest : Dest) (lines : List LineState) → ((line : LineState) �
 none_free dest [] none = refl
 none_free dest (line ∷ lines) none =
     elim (is_line dest line) as
-    (λ b. ((l : LineState) → (if b then Some line else line_of dest lines) ≡ Some l → l.free ≤ 0) → (if b then with_free 0 line ∷ lines else line ∷ change_first (is_line dest) (with_free 0) lines) ≡ line ∷ lines)
-    [
-      true ↦ λ h. let free : line.free ≡ 0 = omega (arith, h line refl) in ap (λ (n : ℕ). record line { free = n } ∷ lines) (sym free)
-    | false ↦ λ h. ap (λ (ls : List LineState). line ∷ ls) (none_free dest lines h)
+    (λ b. ((l : LineState) → (if b then Some line else line_of dest lines) ≡ Some l → l.free ≤ 0) → (if b then with_free 0 line ∷ lines else line ∷ change_first (is_line dest) (with_free 0) lines) ≡ line ∷ lines) [
+      | true ↦ λ h. let free : line.free ≡ 0 = omega (arith, h line refl) in ap (λ (n : ℕ). record line { free = n } ∷ lines) (sym free)
+      | false ↦ λ h. ap (λ (ls : List LineState). line ∷ ls) (none_free dest lines h)
     ] none
 
 -- places that were found, and messages that were pushed
@@ -50,11 +49,10 @@ pub found_and_pushed : (dest : Dest) (found : ℕ) (outs : List Out) (lines : Li
 found_and_pushed dest found outs [] = refl
 found_and_pushed dest found outs (line ∷ lines) =
     let P : Bool → Type 0 = λ b. b ≡ is_line dest line → change_first (is_line dest) (with_pushed outs) (if b then with_free found line ∷ lines else line ∷ change_first (is_line dest) (with_free found) lines)
-        ≡ (if b then with_sent found outs line ∷ lines else line ∷ change_first (is_line dest) (with_sent found outs) lines) in
-    elim (is_line dest line) as P
-    [
-      true ↦ λ e. rw (sym e) refl
-    | false ↦ λ e. rw (sym e) (ap (λ (ls : List LineState). line ∷ ls) (found_and_pushed dest found outs lines))
+    ≡ (if b then with_sent found outs line ∷ lines else line ∷ change_first (is_line dest) (with_sent found outs) lines) in
+    elim (is_line dest line) as P [
+      | true ↦ λ e. rw (sym e) refl
+      | false ↦ λ e. rw (sym e) (ap (λ (ls : List LineState). line ∷ ls) (found_and_pushed dest found outs lines))
     ] refl
 
 short_if : (b : Bool) (count : ℕ) (outs : List Out) → length (if b then take count outs else []) ≤ count

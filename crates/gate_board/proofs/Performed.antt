@@ -28,8 +28,7 @@ module _ {C B F : Type 0} (does : C → B → Result ℕ F → B → Type 0) whe
       subst (λ (n : ℕ). InOrder does others old (with_more n answer) new) (sym none)
       (subst (λ (a : Result ℕ F). InOrder does others old a new) (more_of_none answer) (subst (λ (b : B). InOrder does others b answer new) p.1 q))
   performed_then (call ∷ calls) others old between count answer new (Ok one, (after, (done, rest))) q =
-      let split = others_count one count rest.0 rest.1.1 in
-      (
+      let split = others_count one count rest.0 rest.1.1 in (
         Ok one,
         (
           after,
@@ -50,23 +49,22 @@ module _ {C B F : Type 0} (does : C → B → Result ℕ F → B → Type 0) whe
   -- a fault ends them, whatever would follow
   pub ended_then : (calls others : List C) (old new : B) (fault : F) → InOrder does calls old (Err fault) new → InOrder does (calls ++ others) old (Err fault) new
   ended_then [] others old new fault p = absurd cc
-  ended_then (call ∷ calls) others old new fault (Ok one, (after, (done, rest))) =
+  ended_then (call ∷ calls) others old new fault (Ok one, (after, (done, rest))) = (
+    Ok one,
+    (
+      after,
       (
-        Ok one,
+        done,
         (
-          after,
+          Err fault,
           (
-            done,
-            (
-              Err fault,
-              (
-                ended_then calls others after new fault (subst (λ (more : Result ℕ F). InOrder does calls after more new) (others_fault one fault rest.0 rest.1.1) rest.1.0),
-                refl,
-              ),
-            ),
+            ended_then calls others after new fault (subst (λ (more : Result ℕ F). InOrder does calls after more new) (others_fault one fault rest.0 rest.1.1) rest.1.0),
+            refl,
           ),
         ),
-      )
+      ),
+    ),
+  )
   ended_then (call ∷ calls) others old new fault (Err other, (after, (done, rest))) = (Err other, (after, (done, rest)))
 
   -- one call alone

@@ -66,7 +66,7 @@ next_refused make lines start_lines n dest start now next moved fault same there
     let calls = map make (dests_of start_lines) in
     let at = call_at make lines start_lines n dest same there in
     let all : PerformsAll (take n calls ++ make dest ∷ drop (suc n) calls) start (Err fault) next =
-      performed_then Performs (take n calls) (make dest ∷ drop (suc n) calls) start now so_far.exact (Err fault) next so_far.done (one_refused Performs (make dest) (drop (suc n) calls) now fault next one) in
+    performed_then Performs (take n calls) (make dest ∷ drop (suc n) calls) start now so_far.exact (Err fault) next so_far.done (one_refused Performs (make dest) (drop (suc n) calls) now fault next one) in
     (Err fault, (subst (λ (cs : List Call). PerformsAll cs start (Err fault) next) (sym (split_next calls n (make dest) at)) all, refl))
 
 past_end : {A B : Type 0} (f : A → B) (xs : List A) (n : ℕ) → option_map f (slice_get xs n) ≡ None → length xs ≤ n
@@ -78,12 +78,11 @@ pub all_performed : (make : Dest → Call) (lines start_lines : List LineState) 
     → IsPerformed (map make (dests_of start_lines)) n start now moved → PerformsUpTo (map make (dests_of start_lines)) start (Ok moved) now
 all_performed make lines start_lines n start now moved same enough so_far =
     let calls = map make (dests_of start_lines) in
-    let line_dest = λ (line : LineState). line.dest in
-    (
+    let line_dest = λ (line : LineState). line.dest in (
       Ok so_far.exact,
       (
         subst (λ (cs : List Call). PerformsAll cs start (Ok so_far.exact) now)
-        (take_all n calls (omega (arith, enough, ap length same, length-map (dests_of start_lines) make, length-map start_lines line_dest, length-map lines line_dest))) so_far.done,
+            (take_all n calls (omega (arith, enough, ap length same, length-map (dests_of start_lines) make, length-map start_lines line_dest, length-map lines line_dest))) so_far.done,
         ap Ok so_far.told,
       ),
     )
@@ -106,22 +105,20 @@ told_sum count (Err fault) e = absurd cc
 
 -- a fault ends all calls
 fault_ends : (calls others : List Call) (old new : BoardState) (fault : BoardFault) → PerformsUpTo calls old (Err fault) new → PerformsUpTo (calls ++ others) old (Err fault) new
-fault_ends calls others old new fault (exact, (all, told)) =
-    (
-      Err fault,
-      (ended_then Performs calls others old new fault (subst (λ (r : Result ℕ BoardFault). PerformsAll calls old r new) (told_fault fault exact told) all), refl),
-    )
+fault_ends calls others old new fault (exact, (all, told)) = (
+  Err fault,
+  (ended_then Performs calls others old new fault (subst (λ (r : Result ℕ BoardFault). PerformsAll calls old r new) (told_fault fault exact told) all), refl),
+)
 
 -- others that end at a fault
 fault_follows : (calls others : List Call) (old between new : BoardState) (count : ℕ) (fault : BoardFault) → PerformsUpTo calls old (Ok count) between → PerformsUpTo others between (Err fault) new
     → PerformsUpTo (calls ++ others) old (Err fault) new
 fault_follows calls others old between new count fault (exact, (all, told)) (rest, (others_all, others_told)) =
-    let sum = told_sum count exact told in
-    (
+    let sum = told_sum count exact told in (
       Err fault,
       (
         performed_then Performs calls others old between sum.0 (Err fault) new (subst (λ (r : Result ℕ BoardFault). PerformsAll calls old r between) sum.1.0 all)
-        (subst (λ (r : Result ℕ BoardFault). PerformsAll others between r new) (told_fault fault rest others_told) others_all),
+            (subst (λ (r : Result ℕ BoardFault). PerformsAll others between r new) (told_fault fault rest others_told) others_all),
         refl,
       ),
     )
@@ -130,12 +127,11 @@ all_follow : (calls others : List Call) (old between new : BoardState) (count mo
     → total ≡ min (count + more) 18446744073709551615 → PerformsUpTo (calls ++ others) old (Ok total) new
 all_follow calls others old between new count more total (exact, (all, told)) (rest, (others_all, others_told)) is =
     let sum = told_sum count exact told in
-    let left = told_sum more rest others_told in
-    (
+    let left = told_sum more rest others_told in (
       Ok (sum.0 + left.0),
       (
         performed_then Performs calls others old between sum.0 (Ok left.0) new (subst (λ (r : Result ℕ BoardFault). PerformsAll calls old r between) sum.1.0 all)
-        (subst (λ (r : Result ℕ BoardFault). PerformsAll others between r new) left.1.0 others_all),
+            (subst (λ (r : Result ℕ BoardFault). PerformsAll others between r new) left.1.0 others_all),
         ap Ok (omega (arith, is, sum.1.1, left.1.1)),
       ),
     )
@@ -163,8 +159,8 @@ pub sends_end : (engine asked pumped after : EngineState) (lines between left : 
 sends_end engine asked pumped after lines between left received fault some same dests all others =
     round_of engine asked after lines left (Err fault) some same
     (
-      fault_follows (map Pump (dests_of lines)) (map SendOut (dests_of lines)) (board_of asked lines) (board_of pumped between) (board_of after left) received fault all
-      (subst (λ (ds : List Dest). PerformsUpTo (map SendOut ds) (board_of pumped between) (Err fault) (board_of after left)) dests others)
+    fault_follows (map Pump (dests_of lines)) (map SendOut (dests_of lines)) (board_of asked lines) (board_of pumped between) (board_of after left) received fault all
+    (subst (λ (ds : List Dest). PerformsUpTo (map SendOut ds) (board_of pumped between) (Err fault) (board_of after left)) dests others)
     )
 
 pub round_ends : (engine asked pumped after : EngineState) (lines between left : List LineState) (received sent total : ℕ) → IsSome engine.state → asked.state ≡ engine.state → dests_of between ≡ dests_of lines
@@ -174,6 +170,6 @@ pub round_ends : (engine asked pumped after : EngineState) (lines between left :
 round_ends engine asked pumped after lines between left received sent total some same dests all others is =
     round_of engine asked after lines left (Ok total) some same
     (
-      all_follow (map Pump (dests_of lines)) (map SendOut (dests_of lines)) (board_of asked lines) (board_of pumped between) (board_of after left) received sent total all
-      (subst (λ (ds : List Dest). PerformsUpTo (map SendOut ds) (board_of pumped between) (Ok sent) (board_of after left)) dests others) is
+    all_follow (map Pump (dests_of lines)) (map SendOut (dests_of lines)) (board_of asked lines) (board_of pumped between) (board_of after left) received sent total all
+    (subst (λ (ds : List Dest). PerformsUpTo (map SendOut ds) (board_of pumped between) (Ok sent) (board_of after left)) dests others) is
     )

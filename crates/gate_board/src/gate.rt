@@ -155,9 +155,7 @@ impl Gate {
     /// Waits while the count of wakes is this one, and answers the count.
     pub fn pause<R: Wait>(&self, rt: &R, seen: u64) -> u64 {
         let kept = self.kept.lock(rt);
-        let kept = self
-            .woken
-            .wait_while(rt, kept, |kept| kept.wakes == seen);
+        let kept = self.woken.wait_while(rt, kept, |kept| kept.wakes == seen);
         kept.wakes
     }
 
@@ -198,9 +196,7 @@ impl Gate {
         if kept.has_stopped() {
             return true;
         }
-        let _woken = self
-            .woken
-            .wait_while(rt, kept, |kept| kept.wakes == seen);
+        let _woken = self.woken.wait_while(rt, kept, |kept| kept.wakes == seen);
         false
     }
 
@@ -235,9 +231,7 @@ impl Gate {
         if kept.is_over(dest) {
             return End::Closed;
         }
-        let _woken = self
-            .woken
-            .wait_while(rt, kept, |kept| kept.wakes == seen);
+        let _woken = self.woken.wait_while(rt, kept, |kept| kept.wakes == seen);
         End::None
     }
 
@@ -255,9 +249,7 @@ impl Gate {
                 }
                 None => {
                     let seen = kept.wakes;
-                    let _woken = self
-                        .woken
-                        .wait_while(rt, kept, |kept| kept.wakes == seen);
+                    let _woken = self.woken.wait_while(rt, kept, |kept| kept.wakes == seen);
                 }
             }
         }

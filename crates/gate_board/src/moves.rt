@@ -33,17 +33,16 @@ fn event_of(dest: Dest, item: Inbound) -> Event
 fn is_for_desk(event: &Event) -> bool
     ensures { result ≡ is_for_desk event.now }
 {
-    !matches!(event, Event::Client(..) | Event::Server(..) | Event::Drain(..))
+    !matches!(
+        event,
+        Event::Client(..) | Event::Server(..) | Event::Drain(..)
+    )
 }
 
 /// Receives one item of a connection and performs its event. An item whose event is refused is gone with
 /// the engine.
 #[tactic(auto, using(crate::proofs::Moved::pumped, crate::proofs::Moved::pump_refused, crate::proofs::Moved::pump_used_up, crate::proofs::Changed::received_dests, crate::proofs::Changed::received_rings))]
-pub(crate) fn pump(
-    engine: &mut Engine,
-    lines: &mut Lines,
-    dest: Dest,
-) -> Result<bool, BoardFault>
+pub(crate) fn pump(engine: &mut Engine, lines: &mut Lines, dest: Dest) -> Result<bool, BoardFault>
     ensures pump { IsPump dest (board_of engine.old lines.old) result (board_of engine.new lines.new) }
     ensures dests { dests_of lines.new ≡ dests_of lines.old }
     ensures rings { KeepsRings lines.old lines.new }

@@ -13,13 +13,12 @@ returns-in-Err-clause-calls c =
 
 -- one call more was performed
 pub loop-n-preserved : goal.loop-n-preserved
-loop-n-preserved c =
-    (
-      next_performed Pump c.loop-n.lines c.args.lines.now c.loop-n.n c.in-Some.dest (board_of c.args.engine.now c.args.lines.now) (board_of c.loop-n.engine c.loop-n.lines)
+loop-n-preserved c = (
+  next_performed Pump c.loop-n.lines c.args.lines.now c.loop-n.n c.in-Some.dest (board_of c.args.engine.now c.args.lines.now) (board_of c.loop-n.engine c.loop-n.lines)
       (board_of c.perform.new.engine c.perform.new.lines) c.loop-n.moved c.in-Ok.count c.saturating_add-moved.result c.loop-n.invariant.1.0 (sym c.in-Some.ensures) c.loop-n.invariant.0
       c.in-Ok.ensures.performed (omega (arith, c.saturating_add-moved.ensures)),
-      (c.perform.ensures.dests ∙ c.loop-n.invariant.1.0, rings_stay c.args.lines.now c.loop-n.lines c.perform.new.lines c.loop-n.invariant.1.1 c.perform.ensures.rings),
-    )
+  (c.perform.ensures.dests ∙ c.loop-n.invariant.1.0, rings_stay c.args.lines.now c.loop-n.lines c.perform.new.lines c.loop-n.invariant.1.1 c.perform.ensures.rings),
+)
 
 -- no connection is left
 pub returns-in_default-clause-calls : goal.returns-in_default-clause-calls

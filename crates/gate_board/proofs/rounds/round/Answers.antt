@@ -10,7 +10,7 @@ returns-in-Err c =
     let some = has_rows c.has_failed.result c.args.engine.now.state c.has_failed.ensures.failed c.if-has_failed.false in
     record {
       round =
-        pumps_end c.args.engine.now c.has_failed.new.engine c.pump_all.new.engine c.args.lines.now c.pump_all.new.lines c.in-Err.fault some c.has_failed.ensures.same c.in-Err.ensures.calls;
+          pumps_end c.args.engine.now c.has_failed.new.engine c.pump_all.new.engine c.args.lines.now c.pump_all.new.lines c.in-Err.fault some c.has_failed.ensures.same c.in-Err.ensures.calls;
       rings = c.pump_all.ensures.rings;
     }
 
@@ -20,8 +20,8 @@ returns-in-Ok-send_all c =
     let some = has_rows c.has_failed.result c.args.engine.now.state c.has_failed.ensures.failed c.if-has_failed.false in
     record {
       round =
-        round_ends c.args.engine.now c.has_failed.new.engine c.pump_all.new.engine c.send_all.new.engine c.args.lines.now c.pump_all.new.lines c.send_all.new.lines c.in-Ok.received c.in-Ok-send_all.sent
-        c.saturating_add.result some c.has_failed.ensures.same c.pump_all.ensures.dests c.in-Ok.ensures.calls c.in-Ok-send_all.ensures.calls (omega (arith, c.saturating_add.ensures));
+          round_ends c.args.engine.now c.has_failed.new.engine c.pump_all.new.engine c.send_all.new.engine c.args.lines.now c.pump_all.new.lines c.send_all.new.lines c.in-Ok.received c.in-Ok-send_all.sent
+          c.saturating_add.result some c.has_failed.ensures.same c.pump_all.ensures.dests c.in-Ok.ensures.calls c.in-Ok-send_all.ensures.calls (omega (arith, c.saturating_add.ensures));
       rings = rings_stay c.args.lines.now c.pump_all.new.lines c.send_all.new.lines c.pump_all.ensures.rings c.send_all.ensures.rings;
     }
 
@@ -31,7 +31,7 @@ returns-in-Err-send_all c =
     let some = has_rows c.has_failed.result c.args.engine.now.state c.has_failed.ensures.failed c.if-has_failed.false in
     record {
       round =
-        sends_end c.args.engine.now c.has_failed.new.engine c.pump_all.new.engine c.send_all.new.engine c.args.lines.now c.pump_all.new.lines c.send_all.new.lines c.in-Ok.received c.in-Err-send_all.fault some
-        c.has_failed.ensures.same c.pump_all.ensures.dests c.in-Ok.ensures.calls c.in-Err-send_all.ensures.calls;
+          sends_end c.args.engine.now c.has_failed.new.engine c.pump_all.new.engine c.send_all.new.engine c.args.lines.now c.pump_all.new.lines c.send_all.new.lines c.in-Ok.received c.in-Err-send_all.fault some
+          c.has_failed.ensures.same c.pump_all.ensures.dests c.in-Ok.ensures.calls c.in-Err-send_all.ensures.calls;
       rings = rings_stay c.args.lines.now c.pump_all.new.lines c.send_all.new.lines c.pump_all.ensures.rings c.send_all.ensures.rings;
     }
