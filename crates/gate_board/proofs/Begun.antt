@@ -1,16 +1,10 @@
 -- Boards to which nothing happened yet.
 use Rattle.std.proofs.Common.{◌≡◌, List, [], Option, Some, subst, sym}
 use Rattle.gateway_state.specs.Gateway.{Gateway, initial}
-use Rattle.gateway_state.specs.declared.config.Config.{Config}
-use Rattle.rule_desk.specs.declared.policy.Policy.{Policy}
 use Rattle.board_rings.specs.Rings.{LineState}
 use Rattle.board_history.proofs.Goes.{new_has_history}
 use Rattle.board_history.specs.History.{HasHistory}
 use Rattle.gate_board.specs.Answers.{IsNew}
-
--- an engine that was just made is new
-pub is_new : (config : Config) (policy : Policy) (rows : Option Gateway) → rows ≡ Some (initial config policy) → IsNew rows
-is_new config policy rows is = (config, (policy, is))
 
 -- a board for a new engine has a history
 pub new_keeps : (rows : Option Gateway) (lines : List LineState) → IsNew rows → lines ≡ [] → HasHistory (record { rows = rows; lines = lines })

@@ -1,4 +1,4 @@
-pub mod Begun
+mod Begun
 mod Changed
 mod Kept
 mod Moved
