@@ -7,6 +7,7 @@ use Rattle.rows.specs.Rows.{change_first}
 use Rattle.gateway_state.specs.Connections.{same_dest}
 use Rattle.gateway_state.specs.declared.event.Dest.{Dest}
 use Rattle.gateway_state.specs.declared.event.Dest.TheVariants.{Session, Upstream}
+use Rattle.board_rings.proofs.LineChanges.{line_of_changed}
 use Rattle.board_rings.specs.Lines.{is_attached, is_line, is_not_line, line_of}
 use Rattle.board_rings.specs.Rings.{LineState}
 
@@ -38,15 +39,6 @@ attached_where_found dest (line ∷ lines) =
 
 -- What a change of one line leaves to be found, where the line stays that of its connection.
 module _ (f : LineState → LineState) (keeps : (line : LineState) → (f line).dest ≡ line.dest) where
-  own_changed : (dest : Dest) (lines : List LineState) → line_of dest (change_first (is_line dest) f lines) ≡ option_map f (line_of dest lines)
-  own_changed dest [] = refl
-  own_changed dest (line ∷ lines) = by (own_changed dest lines) (is_line dest line) refl
-    where
-      by : line_of dest (change_first (is_line dest) f lines) ≡ option_map f (line_of dest lines)
-          → (is : Bool) → is_line dest line ≡ is → line_of dest (cond is (f line ∷ lines) (line ∷ change_first (is_line dest) f lines)) ≡ option_map f (cond is (Some line) (line_of dest lines))
-      by rest true here = ap (λ (b : Bool). cond b (Some (f line)) (line_of dest lines)) (ap (λ (d : Dest). same_dest d dest) (keeps line) ∙ here)
-      by rest false here = ap (λ (b : Bool). cond b (Some line) (line_of dest (change_first (is_line dest) f lines))) here ∙ rest
-
   other_changed : (at dest : Dest) (lines : List LineState) → same_dest at dest ≡ false → line_of dest (change_first (is_line at) f lines) ≡ line_of dest lines
   other_changed at dest [] other = refl
   other_changed at dest (line ∷ lines) other = by (other_changed at dest lines other) (is_line at line) refl
@@ -69,7 +61,7 @@ module _ (f : LineState → LineState) (keeps : (line : LineState) → (f line).
       by : (same : Bool) → same_dest at dest ≡ same → is_some (line_of dest (change_first (is_line at) f lines)) ≡ is_some (line_of dest lines)
       by true same =
           ap (λ (d : Dest). is_some (line_of dest (change_first (is_line d) f lines))) (same_dest_is at dest same)
-          ∙ ap is_some (own_changed dest lines) ∙ mapped (line_of dest lines)
+          ∙ ap is_some (line_of_changed dest f keeps lines) ∙ mapped (line_of dest lines)
       by false other = ap is_some (other_changed at dest lines other)
 
   -- what holds of a connection's line, once what held of it holds of it changed, or unchanged where it is another's
@@ -86,7 +78,7 @@ module _ (f : LineState → LineState) (keeps : (line : LineState) → (f line).
       by : (same : Bool) → same_dest at dest ≡ same → ForSome (line_of dest (change_first (is_line at) f lines)) Q
       by true same =
           subst (λ (found : Option LineState). ForSome found Q)
-          (sym (ap (λ (d : Dest). line_of dest (change_first (is_line d) f lines)) (same_dest_is at dest same) ∙ own_changed dest lines))
+          (sym (ap (λ (d : Dest). line_of dest (change_first (is_line d) f lines)) (same_dest_is at dest same) ∙ line_of_changed dest f keeps lines))
           (mapped (line_of dest lines) refl same)
       by false differs = λ line e. other differs line (before line (sym (other_changed at dest lines differs) ∙ e))
 
