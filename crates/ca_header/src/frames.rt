@@ -6,7 +6,7 @@ use crate::reading::{FrameFault, Front, read_front};
 use std::marker::Model;
 
 /// What [`Frames::next`] finds.
-#[derive(Clone, Copy, Debug, PartialEq, Eq)]
+#[derive(Clone, Copy)]
 pub enum Frame<'a> {
     /// A message: its header and its payload.
     Message(Header, &'a [u8]),

@@ -8,7 +8,7 @@ use std::error::Error;
 use std::fmt;
 
 /// What some bytes begin with.
-#[derive(Clone, Copy, Debug, PartialEq, Eq)]
+#[derive(Clone, Copy)]
 pub enum Head {
     /// Less than a header.
     Need,
@@ -41,7 +41,7 @@ impl fmt::Display for FrameFault {
 impl Error for FrameFault {}
 
 /// What stands at the front of a stream.
-#[derive(Clone, Copy, Debug, PartialEq, Eq)]
+#[derive(Clone, Copy)]
 pub enum Front {
     /// A whole message: its header, which takes so many bytes, and then its payload.
     Whole(Header, usize),

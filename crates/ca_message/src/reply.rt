@@ -8,12 +8,13 @@ use crate::commands::{
 };
 use crate::value::ValueBytes;
 use ca_header::Header;
+use std::fmt;
 
 /// A message from a server, as it is meant. A value is a slice of the payload.
 ///
 /// `sid` and `cid` are the server's and the gateway's ID of a channel, `id` is the gateway's ID of
 /// a subscription, `ioid` its ID of a write, and `dtype` the number of a DBR type.
-#[derive(Debug, PartialEq, Eq, Drop)]
+#[derive(Drop)]
 pub enum ServerReply<'a> {
     /// The server speaks this minor version of the protocol.
     Version {
@@ -55,6 +56,21 @@ pub enum ServerReply<'a> {
     ServerDisconnect {
         cid: u32,
     },
+}
+
+/// Prints the variant's name alone.
+impl<'a> fmt::Debug for ServerReply<'a> {
+    fn fmt<W: fmt::Write>(&self, f: &mut fmt::Formatter<W>) -> fmt::Result {
+        f.write_str(match self {
+            ServerReply::Version { .. } => "Version",
+            ServerReply::EventAdd { .. } => "EventAdd",
+            ServerReply::CreateChannel { .. } => "CreateChannel",
+            ServerReply::WriteNotify { .. } => "WriteNotify",
+            ServerReply::AccessRights { .. } => "AccessRights",
+            ServerReply::CreateChannelFail { .. } => "CreateChannelFail",
+            ServerReply::ServerDisconnect { .. } => "ServerDisconnect",
+        })
+    }
 }
 
 /// Why a message isn't a reply.

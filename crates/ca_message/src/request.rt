@@ -12,12 +12,13 @@ use crate::payload::{EVENT_MASK_OFFSET, EVENT_PAYLOAD_LEN};
 use crate::text::{HostText, NameText};
 use crate::value::ValueBytes;
 use ca_header::{Header, Message};
+use std::fmt;
 
 /// A message from a client, as it is meant. Its texts and values are slices of the payload.
 ///
 /// `sid` and `cid` are the server's and the client's ID of a channel, `id` is the client's ID of a
 /// subscription, `ioid` its ID of a request, and `dtype` the number of a DBR type.
-#[derive(Debug, PartialEq, Eq, Drop)]
+#[derive(Drop)]
 pub enum ClientRequest<'a> {
     /// The client speaks this minor version of the protocol.
     Version {
@@ -83,6 +84,27 @@ pub enum ClientRequest<'a> {
     HostName(HostText<'a>),
     /// The client wants the same message back.
     Echo,
+}
+
+/// Prints the variant's name alone.
+impl<'a> fmt::Debug for ClientRequest<'a> {
+    fn fmt<W: fmt::Write>(&self, f: &mut fmt::Formatter<W>) -> fmt::Result {
+        f.write_str(match self {
+            ClientRequest::Version { .. } => "Version",
+            ClientRequest::EventAdd { .. } => "EventAdd",
+            ClientRequest::EventCancel { .. } => "EventCancel",
+            ClientRequest::Write { .. } => "Write",
+            ClientRequest::EventsOff => "EventsOff",
+            ClientRequest::EventsOn => "EventsOn",
+            ClientRequest::ClearChannel { .. } => "ClearChannel",
+            ClientRequest::ReadNotify { .. } => "ReadNotify",
+            ClientRequest::CreateChannel { .. } => "CreateChannel",
+            ClientRequest::WriteNotify { .. } => "WriteNotify",
+            ClientRequest::ClientName(..) => "ClientName",
+            ClientRequest::HostName(..) => "HostName",
+            ClientRequest::Echo => "Echo",
+        })
+    }
 }
 
 /// Why a message isn't a request. What follows from it depends on the command: a text that can't be

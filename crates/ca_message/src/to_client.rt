@@ -15,12 +15,13 @@ use crate::payload::{header, size_of, size_of_nul_ended, write_nul_ended};
 use bytes::Bytes;
 use ca_header::{Header, Message, write_head};
 use std::alloc::Global;
+use std::fmt;
 
 /// A message to a client. Its wire form is its head, written canonically, and then its payload.
 ///
 /// `sid` and `cid` are the gateway's and the client's ID of a channel, `id` is the client's ID of a
 /// subscription, `ioid` its ID of a request, and `dtype` the number of a DBR type.
-#[derive(Debug, Drop)]
+#[derive(Drop)]
 pub enum ToClient {
     /// The gateway speaks minor version 13 of the protocol.
     Version,
@@ -97,6 +98,27 @@ pub enum ToClient {
     ServerDisconnect {
         cid: u32,
     },
+}
+
+/// Prints the variant's name alone.
+impl fmt::Debug for ToClient {
+    fn fmt<W: fmt::Write>(&self, f: &mut fmt::Formatter<W>) -> fmt::Result {
+        f.write_str(match self {
+            ToClient::Version => "Version",
+            ToClient::Echo(..) => "Echo",
+            ToClient::Error { .. } => "Error",
+            ToClient::Update { .. } => "Update",
+            ToClient::EventCancelled { .. } => "EventCancelled",
+            ToClient::ClearChannel { .. } => "ClearChannel",
+            ToClient::ReadNotify { .. } => "ReadNotify",
+            ToClient::ReadNotifyRefused { .. } => "ReadNotifyRefused",
+            ToClient::CreateChannel { .. } => "CreateChannel",
+            ToClient::CreateChannelFail { .. } => "CreateChannelFail",
+            ToClient::WriteNotify { .. } => "WriteNotify",
+            ToClient::AccessRights { .. } => "AccessRights",
+            ToClient::ServerDisconnect { .. } => "ServerDisconnect",
+        })
+    }
 }
 
 impl ToClient {

@@ -16,12 +16,13 @@ use crate::written::WrittenValue;
 use bytes::Bytes;
 use ca_header::Header;
 use std::alloc::Global;
+use std::fmt;
 
 /// A message to a server. Its wire form is its head, written canonically, and then its payload.
 ///
 /// `sid` and `cid` are the server's and the gateway's ID of a channel, `id` is the gateway's ID of
 /// a subscription, `ioid` its ID of a write, and `dtype` the number of a DBR type.
-#[derive(Debug, Drop)]
+#[derive(Drop)]
 pub enum ToServer<'a> {
     /// The gateway speaks minor version 13 of the protocol.
     Version,
@@ -66,6 +67,23 @@ pub enum ToServer<'a> {
         sid: u32,
         cid: u32,
     },
+}
+
+/// Prints the variant's name alone.
+impl<'a> fmt::Debug for ToServer<'a> {
+    fn fmt<W: fmt::Write>(&self, f: &mut fmt::Formatter<W>) -> fmt::Result {
+        f.write_str(match self {
+            ToServer::Version => "Version",
+            ToServer::ClientName(..) => "ClientName",
+            ToServer::HostName(..) => "HostName",
+            ToServer::CreateChannel { .. } => "CreateChannel",
+            ToServer::EventAdd { .. } => "EventAdd",
+            ToServer::EventCancel { .. } => "EventCancel",
+            ToServer::Write { .. } => "Write",
+            ToServer::WriteNotify { .. } => "WriteNotify",
+            ToServer::ClearChannel { .. } => "ClearChannel",
+        })
+    }
 }
 
 impl<'a> ToServer<'a> {

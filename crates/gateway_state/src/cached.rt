@@ -14,7 +14,7 @@ use std::alloc::{AllocError, Global};
 use std::marker::Model;
 
 /// The last message that a link's subscription brought.
-#[derive(Debug, Drop)]
+#[derive(Drop)]
 pub struct LastMessage {
     /// The link's server.
     pub server: u32,

@@ -15,7 +15,7 @@ use std::alloc::{AllocError, Global};
 use std::marker::Model;
 
 /// A connection that stands, and what waits for it.
-#[derive(Debug, Drop)]
+#[derive(Drop)]
 pub struct Connection {
     pub dest: Dest,
     pub outbox: Outbox,

@@ -2,6 +2,7 @@
 use ca_header::Message;
 use pv_name::{Host, Name};
 use rule_desk::Policy;
+use std::fmt;
 
 /// A connection, by the number that the caller gave it.
 #[derive(Clone, Copy, Debug, PartialEq, Eq, PartialOrd, Ord)]
@@ -13,7 +14,7 @@ pub enum Dest {
 }
 
 /// One thing that happens, and so one step of the gateway.
-#[derive(Debug, Drop)]
+#[derive(Drop)]
 pub enum Event {
     /// A client connected; its peer has this address text.
     Opened(u32, Host),
@@ -37,4 +38,23 @@ pub enum Event {
     Edit(Policy),
     /// The oldest messages of an outbox are taken: so many, or all where there are fewer.
     Drain(Dest, usize),
+}
+
+/// Prints the variant's name alone.
+impl fmt::Debug for Event {
+    fn fmt<W: fmt::Write>(&self, f: &mut fmt::Formatter<W>) -> fmt::Result {
+        f.write_str(match self {
+            Event::Opened(..) => "Opened",
+            Event::Lost(..) => "Lost",
+            Event::Client(..) => "Client",
+            Event::UpOpened(..) => "UpOpened",
+            Event::UpLost(..) => "UpLost",
+            Event::Server(..) => "Server",
+            Event::Found(..) => "Found",
+            Event::Search(..) => "Search",
+            Event::Sweep => "Sweep",
+            Event::Edit(..) => "Edit",
+            Event::Drain(..) => "Drain",
+        })
+    }
 }

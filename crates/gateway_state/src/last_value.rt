@@ -9,7 +9,7 @@ use value_cache::{Cached, MOST_KEPT};
 
 /// A value as it came. Contracts see what it says, and not which encodings of it are kept: so what
 /// the gateway knows doesn't depend on that.
-#[derive(Debug, Drop)]
+#[derive(Drop)]
 pub struct LastValue {
     cached: Cached,
 }

@@ -6,7 +6,7 @@ use link_table::{LinkState, Subscription};
 use mask_merge::Want;
 
 /// What becomes of a READ_NOTIFY.
-#[derive(Clone, Copy, Debug, PartialEq, Eq)]
+#[derive(Clone, Copy)]
 pub enum ReadVerdict {
     /// The session has no such channel.
     NoChannel,
@@ -19,7 +19,7 @@ pub enum ReadVerdict {
 }
 
 /// What becomes of an EVENT_ADD.
-#[derive(Clone, Copy, Debug, PartialEq, Eq)]
+#[derive(Clone, Copy)]
 pub enum SubVerdict {
     /// The session has no such channel.
     NoChannel,
@@ -32,7 +32,7 @@ pub enum SubVerdict {
 }
 
 /// What becomes of a WRITE or a WRITE_NOTIFY.
-#[derive(Debug, Drop)]
+#[derive(Drop)]
 pub enum WriteVerdict<'a> {
     /// The session has no such channel.
     NoChannel,
@@ -52,7 +52,7 @@ pub enum WriteVerdict<'a> {
 }
 
 /// What a client is owed about one of its channels.
-#[derive(Clone, Copy, Debug, PartialEq, Eq)]
+#[derive(Clone, Copy)]
 pub enum ChannelNotice {
     /// The channel is gone.
     Disconnected {
@@ -71,7 +71,7 @@ pub enum ChannelNotice {
 }
 
 /// What a server is owed about one of its links.
-#[derive(Clone, Copy, Debug)]
+#[derive(Clone, Copy)]
 pub enum LinkNotice {
     /// The present subscription is given up.
     Cancelled {
@@ -103,7 +103,7 @@ pub enum LinkNotice {
 }
 
 /// What a client is owed about a read that waits.
-#[derive(Debug, Drop)]
+#[derive(Drop)]
 pub enum ReadNotice {
     /// The read is refused with this code.
     Refused(WaitingRead, u32),
@@ -112,7 +112,7 @@ pub enum ReadNotice {
 }
 
 /// The update that is due to a client's subscription.
-#[derive(Debug, Drop)]
+#[derive(Drop)]
 pub struct UpdateNotice {
     pub session: u32,
     pub id: u32,

@@ -9,14 +9,14 @@ pub struct Native {
 }
 
 /// A value as it is given: how many elements, and its payload.
-#[derive(Debug, Drop)]
+#[derive(Drop)]
 pub struct Given {
     pub count: u32,
     pub payload: Bytes,
 }
 
 /// What a READ_NOTIFY would be answered now.
-#[derive(Debug, Drop)]
+#[derive(Drop)]
 pub enum Reading {
     /// So many elements, and their payload.
     Value(u32, Bytes),

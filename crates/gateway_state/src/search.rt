@@ -16,7 +16,7 @@ use std::alloc::{AllocError, Global};
 use std::marker::Model;
 
 /// A name that somebody at a host looks for.
-#[derive(Debug, Drop)]
+#[derive(Drop)]
 pub struct Search {
     pub host: Host,
     pub name: Name,

@@ -9,7 +9,7 @@ use std::alloc::AllocError;
 use std::marker::Model;
 
 /// Why a change of the rows was refused. What it leaves is half done.
-#[derive(Clone, Copy, Debug, PartialEq, Eq)]
+#[derive(Clone, Copy)]
 pub(crate) enum Refusal {
     /// Memory was refused.
     OutOfMemory,
@@ -26,7 +26,7 @@ impl From<AllocError> for Refusal {
 }
 
 /// The next number of each counter.
-#[derive(Debug, Drop)]
+#[derive(Drop)]
 pub(crate) struct Numbers {
     sid: u32,
     cid: u32,

@@ -17,7 +17,7 @@ use link_table::{Counter, LinkState, WRITE_LIMIT, WaitingWrite};
 use std::alloc::AllocError;
 
 /// What a client writes: to which of its channels, and which type and how many elements it says.
-#[derive(Clone, Copy, Debug, PartialEq, Eq)]
+#[derive(Clone, Copy)]
 pub(crate) struct Write {
     pub session: u32,
     pub sid: u32,

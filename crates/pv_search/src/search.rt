@@ -10,7 +10,7 @@ use ca_message::commands::CA_PROTO_SEARCH;
 use std::alloc::Global;
 
 /// A client's search for a name, which it calls `cid`. The name is a slice of the datagram.
-#[derive(Debug, Drop)]
+#[derive(Drop)]
 pub(crate) struct Search<'a> {
     pub(crate) cid: u32,
     pub(crate) name: NameText<'a>,

@@ -10,7 +10,7 @@ use regex::Regex;
 use std::alloc::Global;
 
 /// A pattern as a regular expression.
-#[derive(Debug, Drop)]
+#[derive(Drop)]
 pub(crate) struct Compiled {
     /// It matches whole names.
     pub(crate) regex: Regex,

@@ -33,14 +33,14 @@ impl GroupRight {
 }
 
 /// A line of a group file.
-#[derive(Debug, Drop)]
+#[derive(Drop)]
 pub struct GroupLine {
     pub group: Group,
     pub right: GroupRight,
 }
 
 /// The lines of a group file. A contract sees them as a list.
-#[derive(Debug, Drop)]
+#[derive(Drop)]
 pub struct Groups {
     lines: Vec<GroupLine>,
 }

@@ -17,7 +17,7 @@ pub(crate) const LINE_LIMIT: usize = 1_024;
 pub(crate) const ROW_LIMIT: usize = 4_096;
 
 /// What a line of a rule file says.
-#[derive(Debug, Drop)]
+#[derive(Drop)]
 pub(crate) enum Item {
     Nothing,
     Order(Order),

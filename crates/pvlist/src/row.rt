@@ -16,7 +16,7 @@ use regex::Regex;
 use std::alloc::Global;
 
 /// A row of the rules: which names it speaks of, and what it does with them.
-#[derive(Debug, Drop)]
+#[derive(Drop)]
 pub struct Row {
     /// It matches whole names.
     pub regex: Regex,
@@ -24,7 +24,7 @@ pub struct Row {
 }
 
 /// What a row does with a name that it matches.
-#[derive(Debug, Drop)]
+#[derive(Drop)]
 pub enum Verb {
     /// The name leads to itself, with the rights of the group.
     Allow(Option<Group>),

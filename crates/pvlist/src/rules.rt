@@ -35,7 +35,7 @@ impl fmt::Display for Order {
 }
 
 /// The rules of a file, or those that leave all names open. A contract sees them as a `Ruling`.
-#[derive(Debug, Drop)]
+#[derive(Drop)]
 pub struct Rules {
     order: Order,
     rows: Vec<Row>,

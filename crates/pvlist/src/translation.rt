@@ -19,7 +19,7 @@ pub fn translate(alloc: Global, pattern: &str) -> Result<String, TranslateFault>
 }
 
 /// The translation of a pattern.
-#[derive(Debug, Drop)]
+#[derive(Drop)]
 pub(crate) struct Translated {
     /// The text of a regular expression.
     pub(crate) text: String,

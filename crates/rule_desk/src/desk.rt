@@ -9,7 +9,7 @@ use std::alloc::Global;
 use std::marker::Model;
 
 /// Where a policy is edited. A contract sees how many edits were accepted.
-#[derive(Debug, Drop)]
+#[derive(Drop)]
 pub struct Desk {
     alloc: Global,
     edits: u64,

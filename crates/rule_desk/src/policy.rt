@@ -6,7 +6,7 @@ use pvlist::{Groups, Rules};
 use std::alloc::Global;
 
 /// What a gateway admits: where names lead, and which rights groups have.
-#[derive(Debug, Drop)]
+#[derive(Drop)]
 pub struct Policy {
     pub rules: Rules,
     pub groups: Groups,

@@ -4,7 +4,7 @@ use channel_table::{ClientSub, WaitingRead};
 use pv_name::Name;
 
 /// What others may be owed after an event's direct effect, where nobody was owed anything before it.
-#[derive(Debug, Drop)]
+#[derive(Drop)]
 pub enum Touched {
     /// Anything, to anybody.
     All,
