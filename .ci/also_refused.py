@@ -9,8 +9,8 @@ built. Each edit is refused, still proved (a clause says too little, or the edit
 that was not tried (its check was killed, say) needs another run. The status is 0 where all were refused.
 
 Edits of different functions are tried together first, since a function's proof reads no other's body: one check, where each edit
-is refused if a goal of the function that it stands in isn't proved. What this doesn't refuse, and each edit outside of functions,
-is tried alone, as a must-fail edit of the copy, by `rt must-fail`. --alone tries all so, at five times the cost.
+is refused if a goal of the function that it stands in isn't proved. An edit outside of functions has a check of its own. What is
+not refused so is tried alone, as a must-fail edit of the copy, by `rt must-fail`. --alone tries all so, at five times the cost.
 
 --jobs N runs at most N checks at once. --list tries nothing: it prints each crate's edits, those of must-fail too, and marks those
 that don't apply: an edit whose old text doesn't stand once in its file. The status is 0 where all apply.
@@ -31,6 +31,9 @@ REFUSED, PROVED, BAD, UNTRIED = "refused", "still proved", "no longer applies", 
 MEANINGS = {"refused, as it must be": REFUSED, "NOT REFUSED": PROVED, "BAD EDIT": BAD, "NOT TRIED": UNTRIED}
 # How many edits are tried together at most.
 TOGETHER = 12
+PLACE = re.compile(r"(?:note: )?(?:\./)?((?:src|specs|proofs)/\S+?):(\d+):\d+: (.*)")
+# What may come of an edit that can't be read: rt must-fail knows.
+UNREAD = re.compile(r"(?:\./)?(?:src|specs)/\S+?:\d+:\d+: error")
 FUNCTION = re.compile(r"( *)(?:pub(?:\([^)]*\))? )?(?:const )?fn (\w+)")
 # What says nothing of a function's own goals: a proof that names what an edit took away, or that rests on what isn't proved.
 NOT_ITS_OWN = re.compile(r"has no field|is not in scope|has no `|depends? on|was not admitted")
@@ -117,24 +120,28 @@ def functions_of(edit):
 
 
 def gathered(found):
-    """Groups of edits that can be tried together, with the texts that they make, and the edits that can't."""
-    groups, alone = [], []
+    """Groups of edits to try together, with the texts that they make, and the edits that don't apply."""
+    groups, bad = [], []
     for edit in found:
-        functions = functions_of(edit)
-        if not functions:
-            alone.append(edit)
+        texts, _ = edit.change({})
+        if not texts:
+            bad.append(edit)
             continue
-        for group in groups:
-            texts, _ = edit.change(group["texts"])
-            if texts and len(group["edits"]) < TOGETHER and not functions & group["functions"]:
-                break
-        else:
-            group = {"edits": [], "functions": set()}
+        functions = functions_of(edit)
+        group = next((it for it in groups if functions and fits(edit, functions, it)), None)
+        if not group:
+            group = {"edits": [], "functions": set(), "texts": {}}
             groups.append(group)
-            texts, _ = edit.change({})
-        group["edits"].append((edit, functions))
-        group["functions"], group["texts"] = group["functions"] | functions, texts
-    return groups, alone
+        group["texts"], _ = edit.change(group["texts"])
+        group["edits"].append((edit, functions or set()))
+        group["functions"] |= functions or set()
+    return groups, bad
+
+
+def fits(edit, functions, group):
+    """Whether an edit can be tried with a group: it changes other functions, and all of the group are edits of functions."""
+    is_open = group["functions"] and len(group["edits"]) < TOGETHER
+    return is_open and not functions & group["functions"] and edit.change(group["texts"])[0]
 
 
 def linked(source, target):
@@ -168,7 +175,7 @@ def write(texts, folder):
 def refusal(said, functions):
     """The line of a check that refuses the goals of one of these functions, or None."""
     for line in said:
-        at = re.match(r"(?:note: )?(?:\./)?(\S+?):(\d+):\d+: (.*)", line)
+        at = PLACE.match(line)
         if not at or NOT_ITS_OWN.search(at[3]):
             continue
         for file, (name, first, last) in functions:
@@ -185,21 +192,28 @@ def told(edit, meant, why):
     return meant
 
 
-def tried_together(group, crate, room, jobs):
-    """Tries a group of edits in one check, and gives what came of each that is refused, and the edits to try alone."""
-    folder = f"{room}/crates/{crate}"
-    write(group["texts"], folder)
+def checked(folder, jobs):
+    """The lines of a check of a crate in the copy, and whether it is proved: None where the check came to no verdict."""
     words = ["rt", "check", *(["--jobs", str(jobs)] if jobs else [])]
     ran = subprocess.run(words, cwd=folder, stdout=subprocess.PIPE, stderr=subprocess.STDOUT, text=True)
     said = ran.stdout.splitlines()
+    is_refused = ran.returncode == 1 and any(it.startswith("logic=not-proved") for it in said)
+    return said, ran.returncode == 0 if ran.returncode == 0 or is_refused else None
+
+
+def tried_together(group, folder, jobs):
+    """Tries a group of edits in one check, and gives what came of those that are refused, and the edits to try alone."""
+    write(group["texts"], folder)
+    said, is_proved = checked(folder, jobs)
     for file in group["texts"]:
-        shutil.copy(f"{ROOT}/crates/{crate}/{file}", f"{folder}/{file}")
+        shutil.copy(f"{ROOT}/crates/{os.path.basename(folder)}/{file}", f"{folder}/{file}")
     # (what follows begins again with what was proved)
     shutil.rmtree(f"{folder}/out/incremental", ignore_errors=True)
-    is_judged = ran.returncode == 1 and any(it.startswith("logic=not-proved") for it in said)
     came, left = [], []
     for edit, functions in group["edits"]:
-        why = refusal(said, functions) if is_judged else None
+        why = refusal(said, functions) if is_proved is False else None
+        if is_proved is False and len(group["edits"]) == 1 and not any(UNREAD.match(it) for it in said):
+            why = why or next((it for it in said if PLACE.match(it) and not NOT_ITS_OWN.search(it)), None)
         if why:
             came.append(told(edit, REFUSED, why))
         else:
@@ -226,13 +240,17 @@ def tried_alone(found, crate, room, jobs):
 
 def tried(crate, room, jobs, is_alone):
     """Tries a crate's edits in the scratch repository, prints what came of each, and gives that."""
-    groups, alone = ([], edits(crate, TRIED)) if is_alone else gathered(edits(crate, TRIED))
-    came = []
+    found, came = edits(crate, TRIED), []
+    if is_alone:
+        return tried_alone(found, crate, room, jobs)
+    folder = f"{room}/crates/{crate}"
+    said, is_proved = checked(folder, jobs)
+    if not is_proved:
+        print("\n".join(said[-5:]))
+        return [told(it, UNTRIED, "the crate isn't proved as it stands") for it in found]
+    groups, alone = gathered(found)
     for group in groups:
-        if len(group["edits"]) == 1:
-            alone += [it for it, _ in group["edits"]]
-            continue
-        refused, left = tried_together(group, crate, room, jobs)
+        refused, left = tried_together(group, folder, jobs)
         came, alone = came + refused, alone + left
     return came + tried_alone(alone, crate, room, jobs)
 
