@@ -20,6 +20,7 @@ import glob
 import os
 import re
 import shutil
+import signal
 import subprocess
 import sys
 import tempfile
@@ -288,6 +289,8 @@ def main():
         bad = sum(listed(it) for it in names)
         print(f"{bad} edits don't apply")
         return 1 if bad else 0
+    # (the scratch folder goes, and what runs in it, also where this is told to end)
+    signal.signal(signal.SIGTERM, lambda *_: sys.exit(143))
     found = run([it for it in names if edits(it, TRIED)], given.jobs, given.alone)
     return 0 if all(it == REFUSED for it in found) else 1
 
