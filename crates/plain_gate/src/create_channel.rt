@@ -1,6 +1,6 @@
 //! CREATE_CHAN.
-ghost use Rattle.std.specs.Prelude.{◌≡◌, true, IfOk, IsErrOf, OnOk};
-ghost use Rattle.gateway_state.specs.Clients.{channel_asked, created_on, created_with, creation_failed, not_connected, with_channel};
+ghost use Rattle.std.specs.Prelude.{◌≡◌, true, IsErrOf, OnOk};
+ghost use Rattle.gateway_state.specs.Clients.{channel_asked, created_on, created_with, creation_failed, not_connected};
 ghost use Rattle.gateway_state.specs.Numbers.{is_past_numbers};
 ghost use Rattle.gateway_state.specs.Variables.{link_of};
 
@@ -23,30 +23,19 @@ pub(crate) fn fail_creation(rows: &mut Rows, number: u32, cid: u32) -> Result<()
     rows.tell(number, ToClient::CreateChannelFail { cid })
 }
 
-/// No connected variable was found: the session's host looks for the name.
-fn leave_unconnected(rows: &mut Rows, number: u32, cid: u32, name: &Name) -> Result<(), AllocError>
-    ensures { OnOk result (rows.new ≡ not_connected number cid name.now rows.old) }
-{
-    if let Some(session) = find(&rows.sessions, SessionNumbered { number }) {
-        let host = session.host.copy()?;
-        rows.remember(&host, name)?;
-    }
-    fail_creation(rows, number, cid)
-}
-
-/// Makes a channel, which nothing was read on yet, under the next ID, which it gives.
-#[tactic(auto, unfolding(gateway_state::specs::Numbers::is_past_numbers))]
-fn add_channel(
+/// Makes a channel, which nothing was read on yet, under the next ID, and tells the client of it.
+#[tactic(auto, unfolding(gateway_state::specs::Telling::sent, gateway_state::specs::Numbers::is_past_numbers))]
+fn create_on(
     rows: &mut Rows,
     number: u32,
     cid: u32,
     asked: &Name,
     real: &Name,
     rights: u32,
-) -> Result<u32, Refusal>
-    ensures ok { OnOk result (rows.new ≡ with_channel number cid asked.now real.now rights rows.old) }
-    ensures id { IfOk result (λ sid. sid ≡ rows.old.upstream.counters.sid) }
-    ensures used_up { IsErrOf result Refusal.NumbersUsedUp → is_past_numbers (with_channel number cid asked.now real.now rights rows.old) ≡ true }
+    native: Native,
+) -> Result<(), Refusal>
+    ensures ok { OnOk result (rows.new ≡ created_with number cid asked.now real.now rights native rows.old) }
+    ensures used_up { IsErrOf result Refusal.NumbersUsedUp → is_past_numbers (created_with number cid asked.now real.now rights native rows.old) ≡ true }
 {
     let Some(sid) = rows.numbers.give_out(Counter::Sid) else {
         return Err(Refusal::NumbersUsedUp);
@@ -61,27 +50,9 @@ fn add_channel(
         reach: 0,
         rights,
     };
-    match rows.channels.push(channel) {
-        Ok(()) => Ok(sid),
-        Err(_) => Err(Refusal::OutOfMemory),
+    if rows.channels.push(channel).is_err() {
+        return Err(Refusal::OutOfMemory);
     }
-}
-
-/// Makes a channel, and tells the client of it.
-#[tactic(auto, unfolding(gateway_state::specs::Telling::sent, gateway_state::specs::Numbers::is_past_numbers))]
-fn create_on(
-    rows: &mut Rows,
-    number: u32,
-    cid: u32,
-    asked: &Name,
-    real: &Name,
-    rights: u32,
-    native: Native,
-) -> Result<(), Refusal>
-    ensures ok { OnOk result (rows.new ≡ created_with number cid asked.now real.now rights native rows.old) }
-    ensures used_up { IsErrOf result Refusal.NumbersUsedUp → is_past_numbers (created_with number cid asked.now real.now rights native rows.old) ≡ true }
-{
-    let sid = add_channel(rows, number, cid, asked, real, rights)?;
     let Native { dtype, count } = native;
     rows.tell(number, ToClient::AccessRights { cid, rights })?;
     let said = ToClient::CreateChannel {
@@ -93,6 +64,8 @@ fn create_on(
     Ok(rows.tell(number, said)?)
 }
 
+/// The channel is made where the variable that its name leads to is connected; else the session's host
+/// looks for the name.
 fn create_as(
     rows: &mut Rows,
     number: u32,
@@ -103,14 +76,17 @@ fn create_as(
     ensures ok { OnOk result (rows.new ≡ created_on number cid asked.now lead.now (link_of rows.old lead.now.real) rows.old) }
     ensures used_up { IsErrOf result Refusal.NumbersUsedUp → is_past_numbers (created_on number cid asked.now lead.now (link_of rows.old lead.now.real) rows.old) ≡ true }
 {
-    let Some(link) = rows.link_of(&lead.real) else {
-        return Ok(leave_unconnected(rows, number, cid, asked)?);
-    };
-    let Some(native) = native_in(link.state) else {
-        return Ok(leave_unconnected(rows, number, cid, asked)?);
-    };
-    let rights = link.rights & group_rights(&rows.policy.groups, lead.group.as_ref());
-    create_on(rows, number, cid, asked, &lead.real, rights, native)
+    if let Some(link) = rows.link_of(&lead.real) {
+        if let Some(native) = native_in(link.state) {
+            let rights = link.rights & group_rights(&rows.policy.groups, lead.group.as_ref());
+            return create_on(rows, number, cid, asked, &lead.real, rights, native);
+        }
+    }
+    if let Some(session) = find(&rows.sessions, SessionNumbered { number }) {
+        let host = session.host.copy()?;
+        rows.remember(&host, asked)?;
+    }
+    Ok(fail_creation(rows, number, cid)?)
 }
 
 /// A client wants a channel on a name.
