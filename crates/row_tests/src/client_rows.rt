@@ -18,88 +18,70 @@
 //! - `of S`: the channels and subscriptions of the session, one by one;
 //! - `show`: all rows, of sessions the ten of the lowest numbers, in order;
 //! - `visits`: how many rows were looked at since the beginning.
+//!
+//! Numbers and words that aren't there are 0 and empty. The functions return no error, as in `link_rows`:
+//! what they tell would show one.
+use crate::words::Told;
 use channel_table::{Channel, ClientSub, Session, Table, TableFault, Visits, WaitingRead};
 use pv_name::{Host, Name};
 use std::alloc::Global;
-use std::fmt::Write;
 use std::process::Abort;
-use std::test::Fail;
 
 /// Asserts that a story comes out as it is told, behind what it begins with.
-pub(crate) fn tells(
-    rt: &impl Abort,
-    alloc: Global,
-    beginning: &str,
-    story: &str,
-) -> Result<(), Fail> {
+pub(crate) fn tells(rt: &impl Abort, alloc: Global, beginning: &str, story: &str) {
+    let mut told = Told::new(alloc);
+    let mut wanted = Told::new(alloc);
+    tell(alloc, [beginning, story], &mut told, &mut wanted);
+    assert_eq!(rt; told.text.as_str(), wanted.text.as_str());
+    assert!(rt; told.is_whole && wanted.is_whole);
+}
+
+fn tell(alloc: Global, texts: [&str; 2], told: &mut Told, wanted: &mut Told) {
     let (mut table, mut visits) = Table::new(alloc);
-    let mut told = String::new(alloc);
-    let mut wanted = String::new(alloc);
-    for text in [beginning, story] {
+    for text in texts {
         for line in text.lines() {
             match line.strip_prefix("> ") {
-                Some(answer) => writeln!(wanted, "{answer}")?,
-                None => call(alloc, &mut table, &mut visits, line, &mut told)?,
+                Some(answer) => wanted.line(&answer),
+                None => call(alloc, &mut table, &mut visits, line, told),
             }
         }
     }
-    assert_eq!(rt; told.as_str(), wanted.as_str());
-    Ok(())
 }
 
-fn call(
-    alloc: Global,
-    table: &mut Table,
-    visits: &mut Visits,
-    line: &str,
-    told: &mut String,
-) -> Result<(), Fail> {
-    match word(line, 0)? {
-        "put" => put(alloc, table, visits, line),
+fn call(alloc: Global, table: &mut Table, visits: &mut Visits, line: &str, told: &mut Told) {
+    match word(line, 0) {
+        "put" => put(alloc, table, visits, line, told),
         "find" => find(table, visits, line, told),
         "remove" => remove(table, line),
-        "count" => count(table, number(line, 1)?, told),
+        "count" => count(table, number(line, 1), told),
         "show" => show(alloc, table, visits, told),
-        "visits" => Ok(writeln!(told, "{}", visits.visited())?),
-        "on" => show_on(
-            table,
-            visits,
-            &Name::read(alloc, word(line, 1)?.as_bytes())?,
-            told,
-        ),
-        "want" => show_want(alloc, table, line, told),
-        "of" => show_of(table, visits, number(line, 1)?, told),
+        "visits" => told.line(&visits.visited()),
+        "on" | "want" => show_name(alloc, table, visits, line, told),
+        "of" => show_of(table, visits, number(line, 1), told),
         _ => add(alloc, table, visits, line, told),
     }
 }
 
-fn word(line: &str, place: usize) -> Result<&str, Fail> {
-    Ok(line.split(' ').nth(place).ok_or("a word more")?)
+fn word(line: &str, place: usize) -> &str {
+    line.split(' ').nth(place).unwrap_or("")
 }
 
-fn number(line: &str, place: usize) -> Result<u32, Fail> {
-    Ok(word(line, place)?.parse()?)
+fn number(line: &str, place: usize) -> u32 {
+    word(line, place).parse().unwrap_or(0)
 }
 
-/// Adds one row, or as many as a range at the end of the line has numbers.
-fn add(
-    alloc: Global,
-    table: &mut Table,
-    visits: &mut Visits,
-    line: &str,
-    told: &mut String,
-) -> Result<(), Fail> {
-    let Some((front, last)) = line.rsplit_once('-') else {
-        let (_, first) = line.rsplit_once(' ').ok_or("a row without numbers")?;
-        return add_one(alloc, table, visits, line, first.parse()?, told);
-    };
-    let (_, first) = front
-        .rsplit_once(' ')
-        .ok_or("a range without its first number")?;
-    for last_number in first.parse()?..=last.parse()? {
-        add_one(alloc, table, visits, line, last_number, told)?;
+/// The numbers at the end of a line: a range, or one alone.
+fn last_numbers(line: &str) -> (u32, u32) {
+    let (_, last) = line.rsplit_once(' ').unwrap_or(("", line));
+    let (first, last) = last.split_once('-').unwrap_or((last, last));
+    (first.parse().unwrap_or(0), last.parse().unwrap_or(0))
+}
+
+fn add(alloc: Global, table: &mut Table, visits: &mut Visits, line: &str, told: &mut Told) {
+    let (first, last) = last_numbers(line);
+    for last_number in first..=last {
+        add_one(alloc, table, visits, line, last_number, told);
     }
-    Ok(())
 }
 
 /// Adds the row whose last number is this.
@@ -109,21 +91,36 @@ fn add_one(
     visits: &mut Visits,
     line: &str,
     last: u32,
-    told: &mut String,
-) -> Result<(), Fail> {
-    let added = match word(line, 0)? {
-        "session" => add_session(table, visits, session(alloc, last)?),
-        "channel" => add_channel(table, visits, channel(alloc, number(line, 1)?, last)?),
-        "sub" => add_sub(table, visits, sub(number(line, 1)?, number(line, 2)?, last)),
-        _ => table.add_read(read(number(line, 1)?, number(line, 2)?, last)),
-    };
-    match added {
-        Ok(()) => {}
-        Err(TableFault::Missing) => told.push_str("missing\n")?,
-        Err(TableFault::Full) => told.push_str("full\n")?,
-        Err(TableFault::OutOfMemory) => return Err("out of memory".into()),
+    told: &mut Told,
+) {
+    match word(line, 0) {
+        "session" => match session(alloc, last) {
+            Some(row) => refused(add_session(table, visits, row), told),
+            None => told.line(&"out of memory"),
+        },
+        "channel" => match channel(alloc, number(line, 1), last) {
+            Some(row) => refused(add_channel(table, visits, row), told),
+            None => told.line(&"out of memory"),
+        },
+        "sub" => {
+            let row = sub(number(line, 1), number(line, 2), last);
+            refused(add_sub(table, visits, row), told);
+        }
+        "read" => {
+            let row = read(number(line, 1), number(line, 2), last);
+            refused(table.add_read(row), told);
+        }
+        _ => told.line(&"no such call"),
     }
-    Ok(())
+}
+
+fn refused(done: Result<(), TableFault>, told: &mut Told) {
+    match done {
+        Ok(()) => {}
+        Err(TableFault::Missing) => told.line(&"missing"),
+        Err(TableFault::Full) => told.line(&"full"),
+        Err(TableFault::OutOfMemory) => told.line(&"out of memory"),
+    }
 }
 
 /// Adds a session, but none that stands already.
@@ -153,22 +150,24 @@ fn add_sub(table: &mut Table, visits: &mut Visits, sub: ClientSub) -> Result<(),
     }
 }
 
-fn session(alloc: Global, number: u32) -> Result<Session, Fail> {
-    Ok(Session {
+fn session(alloc: Global, number: u32) -> Option<Session> {
+    Some(Session {
         number,
-        host: Host::read(alloc, b"10.0.0.5")?,
+        host: Host::read(alloc, b"10.0.0.5").ok()?,
         host_fixed: false,
         paused: false,
     })
 }
 
-fn channel(alloc: Global, session: u32, sid: u32) -> Result<Channel, Fail> {
-    Ok(Channel {
+fn channel(alloc: Global, session: u32, sid: u32) -> Option<Channel> {
+    let asked = Name::read(alloc, b"A:SET").ok()?;
+    let real = Name::read(alloc, real_name(sid).as_bytes()).ok()?;
+    Some(Channel {
         session,
         sid,
         cid: 7,
-        asked: Name::read(alloc, b"A:SET")?,
-        real: Name::read(alloc, real_name(sid).as_bytes())?,
+        asked,
+        real,
         reach: 0,
         rights: 3,
     })
@@ -205,164 +204,191 @@ fn read(session: u32, sid: u32, ioid: u32) -> WaitingRead {
     }
 }
 
-fn put(alloc: Global, table: &mut Table, visits: &mut Visits, line: &str) -> Result<(), Fail> {
-    let session = number(line, 2)?;
-    match word(line, 1)? {
-        "session" => {
-            let host = Host::read(alloc, word(line, 3)?.as_bytes())?;
-            table.put_session(visits, session, host, true, true);
-        }
+fn put(alloc: Global, table: &mut Table, visits: &mut Visits, line: &str, told: &mut Told) {
+    let session = number(line, 2);
+    match word(line, 1) {
+        "session" => match Host::read(alloc, word(line, 3).as_bytes()) {
+            Ok(host) => table.put_session(visits, session, host, true, true),
+            Err(_) => told.line(&"no host"),
+        },
         "channel" => {
-            table.put_channel(
-                visits,
-                session,
-                number(line, 3)?,
-                number(line, 4)?,
-                number(line, 5)?,
-            );
+            let (sid, reach, rights) = (number(line, 3), number(line, 4), number(line, 5));
+            table.put_channel(visits, session, sid, reach, rights);
         }
-        _ => table.put_sub(visits, session, number(line, 3)?, false),
+        _ => table.put_sub(visits, session, number(line, 3), false),
     }
-    Ok(())
 }
 
-fn find(table: &Table, visits: &mut Visits, line: &str, told: &mut String) -> Result<(), Fail> {
-    let session = number(line, 2)?;
-    match word(line, 1)? {
-        "session" => if let Some(row) = table.session(visits, session) {
-            return show_session(row, told);
+fn find(table: &Table, visits: &mut Visits, line: &str, told: &mut Told) {
+    let session = number(line, 2);
+    match word(line, 1) {
+        "session" => match table.session(visits, session) {
+            Some(row) => show_session(row, told),
+            None => told.line(&"none"),
         },
-        "channel" => if let Some(row) = table.channel(visits, session, number(line, 3)?) {
-            return show_channel(row, told);
+        "channel" => match table.channel(visits, session, number(line, 3)) {
+            Some(row) => show_channel(row, told),
+            None => told.line(&"none"),
         },
-        _ => if let Some(row) = table.sub(visits, session, number(line, 3)?) {
-            return show_sub(row, told);
+        _ => match table.sub(visits, session, number(line, 3)) {
+            Some(row) => show_sub(row, told),
+            None => told.line(&"none"),
         },
     }
-    told.push_str("none\n")?;
-    Ok(())
 }
 
-fn remove(table: &mut Table, line: &str) -> Result<(), Fail> {
-    let session = number(line, 2)?;
-    match word(line, 1)? {
+fn remove(table: &mut Table, line: &str) {
+    let session = number(line, 2);
+    match word(line, 1) {
         "session" => table.remove_session(session),
-        "channel" => table.remove_channel(session, number(line, 3)?),
-        "sub" => table.remove_sub(session, number(line, 3)?),
-        _ => table.remove_read(&read(session, number(line, 3)?, number(line, 4)?)),
+        "channel" => table.remove_channel(session, number(line, 3)),
+        "sub" => table.remove_sub(session, number(line, 3)),
+        _ => table.remove_read(&read(session, number(line, 3), number(line, 4))),
     }
-    Ok(())
 }
 
-fn count(table: &Table, session: u32, told: &mut String) -> Result<(), Fail> {
-    let channels = table.channel_count(session);
-    let subs = table.sub_count(session);
-    let reads = table.read_count(session);
-    writeln!(told, "{channels} {subs} {reads}")?;
-    Ok(())
+fn count(table: &Table, session: u32, told: &mut Told) {
+    told.word(&table.channel_count(session));
+    told.word(&table.sub_count(session));
+    told.line(&table.read_count(session));
 }
 
-fn show(alloc: Global, table: &Table, visits: &mut Visits, told: &mut String) -> Result<(), Fail> {
+fn show(alloc: Global, table: &Table, visits: &mut Visits, told: &mut Told) {
     for n in 0..10 {
         if let Some(row) = table.nth_session(visits, n) {
-            show_session(row, told)?;
+            show_session(row, told);
         }
     }
-    for row in table.channels(visits, alloc)? {
-        show_channel(row, told)?;
+    match table.channels(visits, alloc) {
+        Ok(rows) => show_channels(&rows, told),
+        Err(_) => told.line(&"out of memory"),
     }
-    for row in table.subs(visits, alloc)? {
-        show_sub(row, told)?;
+    match table.subs(visits, alloc) {
+        Ok(rows) => show_subs(&rows, told),
+        Err(_) => told.line(&"out of memory"),
     }
-    for row in table.reads(visits, alloc)? {
-        show_read(row, told)?;
+    match table.reads(visits, alloc) {
+        Ok(rows) => show_reads(&rows, told),
+        Err(_) => told.line(&"out of memory"),
     }
-    Ok(())
+}
+
+fn show_channels(rows: &[&Channel], told: &mut Told) {
+    for row in rows {
+        show_channel(row, told);
+    }
+}
+
+fn show_subs(rows: &[&ClientSub], told: &mut Told) {
+    for row in rows {
+        show_sub(row, told);
+    }
+}
+
+fn show_reads(rows: &[WaitingRead], told: &mut Told) {
+    for row in rows {
+        show_read(row, told);
+    }
+}
+
+/// What a call answers that names a variable.
+fn show_name(alloc: Global, table: &Table, visits: &mut Visits, line: &str, told: &mut Told) {
+    match (Name::read(alloc, word(line, 1).as_bytes()), word(line, 0)) {
+        (Ok(name), "on") => show_on(table, visits, &name, told),
+        (Ok(name), _) => show_want(table, &name, number(line, 2), told),
+        (Err(_), _) => told.line(&"no name"),
+    }
 }
 
 /// The rows on a variable, one by one, and how many there are.
-fn show_on(table: &Table, visits: &mut Visits, name: &Name, told: &mut String) -> Result<(), Fail> {
+fn show_on(table: &Table, visits: &mut Visits, name: &Name, told: &mut Told) {
     let channels = table.channels_on(name);
     let subs = table.subs_on(name);
     let reads = table.reads_on(name);
-    writeln!(told, "{} {channels} {subs} {reads}", table.is_used(name))?;
+    told.word(&table.is_used(name));
+    told.word(&channels);
+    told.word(&subs);
+    told.line(&reads);
     for n in 0..=channels {
         if let Some(row) = table.channel_on(visits, name, n) {
-            show_channel(row, told)?;
+            show_channel(row, told);
         }
     }
     for n in 0..=subs {
         if let Some(row) = table.sub_on(visits, name, n) {
-            show_sub(row, told)?;
+            show_sub(row, told);
         }
     }
     for n in 0..=reads {
         if let Some(row) = table.read_on(visits, name, n) {
-            show_read(row, told)?;
+            show_read(&row, told);
         }
     }
-    Ok(())
 }
 
 /// What is wanted of a variable.
-fn show_want(alloc: Global, table: &Table, line: &str, told: &mut String) -> Result<(), Fail> {
-    let name = Name::read(alloc, word(line, 1)?.as_bytes())?;
-    match table.want_on(&name, number(line, 2)?) {
-        Some(want) => writeln!(told, "want {} {}", want.mask, want.count)?,
-        None => told.push_str("none\n")?,
+fn show_want(table: &Table, name: &Name, native: u32, told: &mut Told) {
+    match table.want_on(name, native) {
+        Some(want) => {
+            told.word(&"want");
+            told.word(&want.mask);
+            told.line(&want.count);
+        }
+        None => told.line(&"none"),
     }
-    Ok(())
 }
 
 /// The channels and subscriptions of a session, one by one.
-fn show_of(
-    table: &Table,
-    visits: &mut Visits,
-    session: u32,
-    told: &mut String,
-) -> Result<(), Fail> {
+fn show_of(table: &Table, visits: &mut Visits, session: u32, told: &mut Told) {
     for n in 0..=table.channel_count(session) {
         if let Some(row) = table.channel_of(visits, session, n) {
-            show_channel(row, told)?;
+            show_channel(row, told);
         }
     }
     for n in 0..=table.sub_count(session) {
         if let Some(row) = table.sub_of(visits, session, n) {
-            show_sub(row, told)?;
+            show_sub(row, told);
         }
     }
-    Ok(())
 }
 
-fn show_session(row: &Session, told: &mut String) -> Result<(), Fail> {
-    let state = match (row.host_fixed, row.paused) {
-        (false, false) => "",
-        (true, true) => " fixed paused",
-        _ => " otherwise",
-    };
-    writeln!(told, "session {} {}{state}", row.number, row.host.text())?;
-    Ok(())
+fn show_session(row: &Session, told: &mut Told) {
+    told.word(&"session");
+    told.word(&row.number);
+    told.word(&row.host.text());
+    match (row.host_fixed, row.paused) {
+        (false, false) => {}
+        (true, true) => told.word(&"fixed paused"),
+        _ => told.word(&"otherwise"),
+    }
+    told.end();
 }
 
-fn show_channel(row: &Channel, told: &mut String) -> Result<(), Fail> {
-    let (reach, rights) = (row.reach, row.rights);
-    writeln!(
-        told,
-        "channel {} {} {} reach {reach} rights {rights}",
-        row.session,
-        row.sid,
-        row.real.text()
-    )?;
-    Ok(())
+fn show_channel(row: &Channel, told: &mut Told) {
+    told.word(&"channel");
+    told.word(&row.session);
+    told.word(&row.sid);
+    told.word(&row.real.text());
+    told.word(&"reach");
+    told.word(&row.reach);
+    told.word(&"rights");
+    told.line(&row.rights);
 }
 
-fn show_read(row: WaitingRead, told: &mut String) -> Result<(), Fail> {
-    writeln!(told, "read {} {} {}", row.session, row.sid, row.ioid)?;
-    Ok(())
+fn show_read(row: &WaitingRead, told: &mut Told) {
+    told.word(&"read");
+    told.word(&row.session);
+    told.word(&row.sid);
+    told.line(&row.ioid);
 }
 
-fn show_sub(row: &ClientSub, told: &mut String) -> Result<(), Fail> {
-    let owed = if row.owed { " owed" } else { "" };
-    writeln!(told, "sub {} {} {}{owed}", row.session, row.sid, row.id)?;
-    Ok(())
+fn show_sub(row: &ClientSub, told: &mut Told) {
+    told.word(&"sub");
+    told.word(&row.session);
+    told.word(&row.sid);
+    told.word(&row.id);
+    if row.owed {
+        told.word(&"owed");
+    }
+    told.end();
 }

@@ -1,6 +1,5 @@
 //! Tables of clients' rows that are filled and emptied.
 use crate::client_rows::tells;
-use std::test::Fail;
 
 // Sessions 1 and 2, of which 1 has channels 11 and 12 and 2 has channel 21, each with a subscription
 // and a read.
@@ -17,7 +16,7 @@ read 2 21 21
 ";
 
 #[test]
-fn a_row_that_is_added_is_found(rt: HostRuntime) -> Result<(), Fail> {
+fn a_row_that_is_added_is_found(rt: HostRuntime) {
     tells(
         &rt,
         rt.alloc(),
@@ -54,13 +53,13 @@ show
 > read 1 12 12
 > read 2 21 21
 ",
-    )
+    );
 }
 
 // Each look counts, also one that finds nothing, and a list of rows as many times as it has rows. Adding
 // looks at sessions, channels and subscriptions for whether they stand.
 #[test]
-fn each_look_at_a_row_is_counted(rt: HostRuntime) -> Result<(), Fail> {
+fn each_look_at_a_row_is_counted(rt: HostRuntime) {
     tells(
         &rt,
         rt.alloc(),
@@ -114,11 +113,11 @@ show
 visits
 > 45
 ",
-    )
+    );
 }
 
 #[test]
-fn a_row_that_is_put_is_changed(rt: HostRuntime) -> Result<(), Fail> {
+fn a_row_that_is_put_is_changed(rt: HostRuntime) {
     tells(
         &rt,
         rt.alloc(),
@@ -143,11 +142,11 @@ show
 > read 1 12 12
 > read 2 21 21
 ",
-    )
+    );
 }
 
 #[test]
-fn a_subscription_leaves_its_session_alone(rt: HostRuntime) -> Result<(), Fail> {
+fn a_subscription_leaves_its_session_alone(rt: HostRuntime) {
     tells(
         &rt,
         rt.alloc(),
@@ -162,11 +161,11 @@ count 1
 count 2
 > 1 1 1
 ",
-    )
+    );
 }
 
 #[test]
-fn a_session_leaves_with_all_its_rows(rt: HostRuntime) -> Result<(), Fail> {
+fn a_session_leaves_with_all_its_rows(rt: HostRuntime) {
     tells(
         &rt,
         rt.alloc(),
@@ -179,11 +178,11 @@ show
 > sub 2 21 5 owed
 > read 2 21 21
 ",
-    )
+    );
 }
 
 #[test]
-fn sessions_are_found_by_rising_number(rt: HostRuntime) -> Result<(), Fail> {
+fn sessions_are_found_by_rising_number(rt: HostRuntime) {
     tells(
         &rt,
         rt.alloc(),
@@ -202,11 +201,11 @@ show
 > session 1 10.0.0.5
 > session 9 10.0.0.5
 > session 1023 10.0.0.5",
-    )
+    );
 }
 
 #[test]
-fn a_channel_leaves_with_its_subscriptions_and_reads(rt: HostRuntime) -> Result<(), Fail> {
+fn a_channel_leaves_with_its_subscriptions_and_reads(rt: HostRuntime) {
     tells(
         &rt,
         rt.alloc(),
@@ -223,11 +222,11 @@ show
 > read 1 12 12
 > read 2 21 21
 ",
-    )
+    );
 }
 
 #[test]
-fn the_first_of_equal_reads_leaves(rt: HostRuntime) -> Result<(), Fail> {
+fn the_first_of_equal_reads_leaves(rt: HostRuntime) {
     tells(
         &rt,
         rt.alloc(),
@@ -243,11 +242,11 @@ show
 > read 1 11 12
 > read 1 11 11
 ",
-    )
+    );
 }
 
 #[test]
-fn equal_reads_stand_together(rt: HostRuntime) -> Result<(), Fail> {
+fn equal_reads_stand_together(rt: HostRuntime) {
     tells(
         &rt,
         rt.alloc(),
@@ -289,11 +288,11 @@ show
 > read 2 21 5
 > read 2 60 5
 ",
-    )
+    );
 }
 
 #[test]
-fn a_row_without_its_session_or_channel_is_refused(rt: HostRuntime) -> Result<(), Fail> {
+fn a_row_without_its_session_or_channel_is_refused(rt: HostRuntime) {
     tells(
         &rt,
         rt.alloc(),
@@ -306,11 +305,11 @@ sub 2 11 1
 read 2 11 1
 > missing
 ",
-    )
+    );
 }
 
 #[test]
-fn the_row_past_each_limit_is_refused(rt: HostRuntime) -> Result<(), Fail> {
+fn the_row_past_each_limit_is_refused(rt: HostRuntime) {
     tells(
         &rt,
         rt.alloc(),
@@ -334,11 +333,11 @@ count 1
 count 2
 > 1 1 1
 ",
-    )
+    );
 }
 
 #[test]
-fn rows_are_found_by_the_variable_that_they_are_on(rt: HostRuntime) -> Result<(), Fail> {
+fn rows_are_found_by_the_variable_that_they_are_on(rt: HostRuntime) {
     tells(
         &rt,
         rt.alloc(),
@@ -379,11 +378,11 @@ on A:SP
 > sub 2 21 5 owed
 > read 2 21 21
 ",
-    )
+    );
 }
 
 #[test]
-fn rows_stay_in_their_order_while_others_come_and_go(rt: HostRuntime) -> Result<(), Fail> {
+fn rows_stay_in_their_order_while_others_come_and_go(rt: HostRuntime) {
     tells(
         &rt,
         rt.alloc(),
@@ -423,12 +422,12 @@ find channel 1 250
 find channel 1 10
 > channel 1 10 A:SP reach 0 rights 3
 ",
-    )
+    );
 }
 
 /// What readers want goes by the rights that their clients were last told.
 #[test]
-fn what_is_wanted_follows_the_rows(rt: HostRuntime) -> Result<(), Fail> {
+fn what_is_wanted_follows_the_rows(rt: HostRuntime) {
     tells(
         &rt,
         rt.alloc(),
@@ -472,11 +471,11 @@ want A:SP 8
 visits
 > 10
 ",
-    )
+    );
 }
 
 /// The example at the head of the crate.
 #[test]
-fn a_read_names_a_channel(rt: HostRuntime) -> Result<(), Fail> {
-    tells(&rt, rt.alloc(), "session 1", "read 1 11 9\n> missing")
+fn a_read_names_a_channel(rt: HostRuntime) {
+    tells(&rt, rt.alloc(), "session 1", "read 1 11 9\n> missing");
 }

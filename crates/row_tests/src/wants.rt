@@ -9,15 +9,31 @@ type Case<'a> = (&'a [(u16, u32)], &'a [(u16, u32)], Option<(u16, u32)>);
 
 fn tells(rt: &impl Abort, alloc: Global, cases: &[Case]) -> Result<(), Fail> {
     for (come, go, merged) in cases {
-        let mut tally = Tally::new(alloc);
-        for (mask, count) in *come {
-            tally.add(*mask, *count)?;
-        }
-        for (mask, count) in *go {
-            tally.remove(*mask, *count);
-        }
-        let want = tally.want().map(|want| (want.mask, want.count));
-        assert_eq!(rt; want, *merged, "of {come:?} without {go:?}");
+        assert_eq!(rt;
+            wanted(alloc, come, go)?,
+            *merged,
+            "of {come:?} without {go:?}"
+        );
+    }
+    Ok(())
+}
+
+fn wanted(
+    alloc: Global,
+    come: &[(u16, u32)],
+    go: &[(u16, u32)],
+) -> Result<Option<(u16, u32)>, Fail> {
+    let mut tally = Tally::new(alloc);
+    join(&mut tally, come)?;
+    for (mask, count) in go {
+        tally.remove(*mask, *count);
+    }
+    Ok(tally.want().map(|want| (want.mask, want.count)))
+}
+
+fn join(tally: &mut Tally, come: &[(u16, u32)]) -> Result<(), Fail> {
+    for (mask, count) in come {
+        tally.add(*mask, *count)?;
     }
     Ok(())
 }

@@ -36,6 +36,8 @@ mod outbox_stories;
 #[cfg(test)]
 mod outboxes;
 #[cfg(test)]
+mod readings;
+#[cfg(test)]
 mod search_stories;
 #[cfg(test)]
 mod searches;

@@ -9,26 +9,26 @@ fn requests(rt: HostRuntime) -> Result<(), Fail> {
         rt.alloc(),
         "\
 request: 0000 0000 0005 0008 00000000 00000000
-> Ok(Version { minor: 8 })
+> Version minor 8
 request: 0000 0008 0000 000d 00000000 00000000 756e726561642121
-> Ok(Version { minor: 13 })
+> Version minor 13
 request: 000c 0000 0000 0000 00000001 00000007
-> Ok(ClearChannel { sid: 1, cid: 7 })
+> ClearChannel sid 1 cid 7
 request: 000f 0000 0005 0015 00000001 00000051
-> Ok(ReadNotify { sid: 1, ioid: 81, dtype: 5, count: 21 })
+> ReadNotify sid 1 ioid 81 dtype 5 count 21
 request: 0012 0008 0000 0000 00000007 0000000d 5431000000000000
-> Ok(CreateChannel { cid: 7, minor: 13, name: NameText { bytes: [84, 49] } })
+> CreateChannel cid 7 minor 13 name 5431
 # A value comes with its padding, whatever that holds, and may be too short for its count.
 request: 0004 0008 0000 0001 00000001 00000042 31320000000000ff
-> Ok(Write { sid: 1, dtype: 0, count: 1, value: ValueBytes { bytes: [49, 50, 0, 0, 0, 0, 0, 255] } })
+> Write sid 1 dtype 0 count 1 value 31320000 000000ff
 request: 0013 0000 0005 0002 00000001 00000043
-> Ok(WriteNotify { sid: 1, ioid: 67, dtype: 5, count: 2, value: ValueBytes { bytes: [] } })
+> WriteNotify sid 1 ioid 67 dtype 5 count 2 value
 request: 0014 0008 0000 0000 00000000 00000000 7076676174650000
-> Ok(ClientName(NameText { bytes: [112, 118, 103, 97, 116, 101] }))
+> ClientName name 70766761 7465
 request: 0015 0008 0000 0000 00000000 00000000 6c61623700000000
-> Ok(HostName(HostText { bytes: [108, 97, 98, 55] }))
+> HostName name 6c616237
 request: 0017 ffff 0000 0000 00000000 00000000 00000000 00000000
-> Ok(Echo)
+> Echo
 ",
     )
 }
@@ -40,18 +40,18 @@ fn subscription_requests(rt: HostRuntime) -> Result<(), Fail> {
         rt.alloc(),
         "\
 request: 0001 0010 0005 0001 00000001 00000031 000000000000000000000000 0005 0000
-> Ok(EventAdd { sid: 1, id: 49, dtype: 5, count: 1, mask: 5 })
+> EventAdd sid 1 id 49 dtype 5 count 1 mask 5
 # Of the payload only the mask is read, and it need not name an event.
 request: 0001 0010 0005 0001 00000001 00000031 3f8000003f8000003f800000 0000 ffff
-> Ok(EventAdd { sid: 1, id: 49, dtype: 5, count: 1, mask: 0 })
+> EventAdd sid 1 id 49 dtype 5 count 1 mask 0
 request: 0001 0018 0005 0003 00000001 00000031 000000000000000000000000 0102 0000 ffffffffffffffff
-> Ok(EventAdd { sid: 1, id: 49, dtype: 5, count: 3, mask: 258 })
+> EventAdd sid 1 id 49 dtype 5 count 3 mask 258
 request: 0002 0000 0005 0003 00000001 00000031
-> Ok(EventCancel { sid: 1, id: 49, dtype: 5, count: 3 })
+> EventCancel sid 1 id 49 dtype 5 count 3
 request: 0008 0000 0000 0000 00000000 00000000
-> Ok(EventsOff)
+> EventsOff
 request: 0009 0000 0000 0000 00000000 00000000
-> Ok(EventsOn)
+> EventsOn
 ",
     )
 }
@@ -64,13 +64,13 @@ fn short_subscription_requests(rt: HostRuntime) -> Result<(), Fail> {
         rt.alloc(),
         "\
 request: 0001 0000 0005 0001 00000001 00000031
-> Err(Short)
+> refused Short
 request: 0001 0008 0005 0001 00000001 00000031 0000000000000005
-> Err(Short)
+> refused Short
 request: 0001 0010 0005 0001 00000001 00000031 000000000000000000000000 0005
-> Err(Short)
+> refused Short
 request: 0001 0010 0005 0001 00000001 00000031 000000000000000000000000 0005 00
-> Err(Short)
+> refused Short
 ",
     )
 }
@@ -83,24 +83,24 @@ fn refused_requests(rt: HostRuntime) -> Result<(), Fail> {
         "\
 # SEARCH is no request on a circuit, and READ is obsolete.
 request: 0006 0000 0005 000d 00000001 00000001
-> Err(Unknown)
+> refused Unknown
 request: 0003 0000 0005 0001 00000001 00000007
-> Err(Unknown)
+> refused Unknown
 request: 0016 0000 0000 0000 00000001 00000003
-> Err(Unknown)
+> refused Unknown
 # A name without a NUL, none at all, one with a blank, and none before the NUL.
 request: 0012 0008 0000 0000 00000007 0000000d 5431543154315431
-> Err(NoNul)
+> refused NoNul
 request: 0012 0000 0000 0000 00000007 0000000d
-> Err(NoNul)
+> refused NoNul
 request: 0012 0008 0000 0000 00000007 0000000d 5420310000000000
-> Err(BadName)
+> refused BadName
 request: 0012 0008 0000 0000 00000007 0000000d 0054310000000000
-> Err(BadName)
+> refused BadName
 request: 0014 0008 0000 0000 00000000 00000000 ff00000000000000
-> Err(BadName)
+> refused BadName
 request: 0015 0008 0000 0000 00000000 00000000 6c61623721212121
-> Err(NoNul)
+> refused NoNul
 ",
     )
 }
@@ -112,27 +112,27 @@ fn replies(rt: HostRuntime) -> Result<(), Fail> {
         rt.alloc(),
         "\
 reply: 0000 0000 0000 000d 00000000 00000000
-> Ok(Version { minor: 13 })
+> Version minor 13
 reply: 0016 0000 0000 0000 00000001 00000003
-> Ok(AccessRights { cid: 1, rights: 3 })
+> AccessRights cid 1 rights 3
 # Only the low two bits are rights.
 reply: 0016 0000 0000 0000 00000001 fffffffd
-> Ok(AccessRights { cid: 1, rights: 1 })
+> AccessRights cid 1 rights 1
 reply: 0012 0000 0005 0001 00000001 00000065
-> Ok(CreateChannel { cid: 1, sid: 101, dtype: 5, count: 1 })
+> CreateChannel cid 1 sid 101 dtype 5 count 1
 reply: 0012 ffff 0005 0000 00000001 00000065 00000000 0003fffd
-> Ok(CreateChannel { cid: 1, sid: 101, dtype: 5, count: 262141 })
+> CreateChannel cid 1 sid 101 dtype 5 count 262141
 reply: 0012 0000 0007 0001 00000001 00000065
-> Ok(CreateChannel { cid: 1, sid: 101, dtype: 7, count: 1 })
+> CreateChannel cid 1 sid 101 dtype 7 count 1
 reply: 0013 0000 0005 0001 00000001 00000043
-> Ok(WriteNotify { ioid: 67, status: 1 })
+> WriteNotify ioid 67 status 1
 reply: 001a 0000 0000 0000 00000007 00000000
-> Ok(CreateChannelFail { cid: 7 })
+> CreateChannelFail cid 7
 reply: 001b 0000 0000 0000 00000007 00000000
-> Ok(ServerDisconnect { cid: 7 })
+> ServerDisconnect cid 7
 # A server that couldn't read the value.
 reply: 0001 0000 0013 0000 00000098 00000001
-> Ok(EventAdd { id: 1, status: 152, dtype: 19, count: 0, value: ValueBytes { bytes: [] } })
+> EventAdd id 1 status 152 dtype 19 count 0 value
 ",
     )
 }
@@ -144,7 +144,7 @@ fn update(rt: HostRuntime) -> Result<(), Fail> {
         rt.alloc(),
         "\
 reply: 0001 0010 0013 0001 00000001 00000002 0000 0000 3b9aca00 00000000 0000002a
-> Ok(EventAdd { id: 2, status: 1, dtype: 19, count: 1, value: ValueBytes { bytes: [0, 0, 0, 0, 59, 154, 202, 0, 0, 0, 0, 0, 0, 0, 0, 42] } })
+> EventAdd id 2 status 1 dtype 19 count 1 value 00000000 3b9aca00 00000000 0000002a
 ",
     )
 }
@@ -156,13 +156,13 @@ fn refused_replies(rt: HostRuntime) -> Result<(), Fail> {
         rt.alloc(),
         "\
 reply: 0002 0000 0000 0000 00000000 00000000
-> Err(Unknown)
+> refused Unknown
 reply: 000b 0000 0000 0000 00000000 00000000
-> Err(Unknown)
+> refused Unknown
 reply: 0017 0000 0000 0000 00000000 00000000
-> Err(Unknown)
+> refused Unknown
 reply: 0100 0000 0000 0000 00000000 00000000
-> Err(Unknown)
+> refused Unknown
 ",
     )
 }

@@ -1,10 +1,11 @@
 //! Calls on messages that are read, and on the texts and codes of messages.
 //!
 //! - `request: BYTES`, `reply: BYTES`: what a client asks for, or a server says, with these bytes, in the
-//!   words of `Debug`;
+//!   words of `readings`;
 //! - `name: BYTES`, `host: BYTES`: the text in a payload, what it is on its own, and whether that is the
 //!   same;
 //! - `error-text CODE`.
+use crate::readings::{tell_reply, tell_request};
 use crate::words::{Call, Told};
 use ca_header::{Head, Header, read_head};
 use ca_message::{HostText, NameText, error_text, read_reply, read_request};
@@ -14,11 +15,11 @@ use std::fmt::Debug;
 pub(crate) fn call(verb: &str, call: &Call, told: &mut Told) {
     match verb {
         "request" => match parts(&call.bytes) {
-            Some((head, payload)) => tell(&read_request(&head, payload), told),
+            Some((head, payload)) => tell_request(&read_request(&head, payload), told),
             None => told.line(&"no header"),
         },
         "reply" => match parts(&call.bytes) {
-            Some((head, payload)) => tell(&read_reply(&head, payload), told),
+            Some((head, payload)) => tell_reply(&read_reply(&head, payload), told),
             None => told.line(&"no header"),
         },
         "name" => match NameText::read(&call.bytes) {

@@ -96,9 +96,9 @@ fn read_back(rt: HostRuntime) -> Result<(), Fail> {
         rt.alloc(),
         "\
 reread-server-create 1: 543100
-> Ok(CreateChannel { cid: 1, minor: 13, name: NameText { bytes: [84, 49] } })
+> CreateChannel cid 1 minor 13 name 5431
 reread-client-rights 1 2
-> Ok(AccessRights { cid: 1, rights: 2 })
+> AccessRights cid 1 rights 2
 ",
     )
 }
@@ -110,9 +110,9 @@ fn subscriptions_read_back(rt: HostRuntime) -> Result<(), Fail> {
         rt.alloc(),
         "\
 reread-server-subscribe 101 1 19 0 258
-> Ok(EventAdd { sid: 101, id: 1, dtype: 19, count: 0, mask: 258 })
+> EventAdd sid 101 id 1 dtype 19 count 0 mask 258
 reread-client-update 49 5 1: 0000002a 00000000
-> Ok(EventAdd { id: 49, status: 1, dtype: 5, count: 1, value: ValueBytes { bytes: [0, 0, 0, 42, 0, 0, 0, 0] } })
+> EventAdd id 49 status 1 dtype 5 count 1 value 0000002a 00000000
 ",
     )
 }
@@ -125,7 +125,7 @@ fn a_request_is_sent_and_read(rt: HostRuntime) -> Result<(), Fail> {
         rt.alloc(),
         "\
 reread-server-clear 5 7
-> Ok(ClearChannel { sid: 5, cid: 7 })
+> ClearChannel sid 5 cid 7
 ",
     )
 }

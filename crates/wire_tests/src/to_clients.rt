@@ -8,7 +8,7 @@
 //! - `client-created CID SID TYPE COUNT`, `client-not-created CID`, `client-rights CID RIGHTS`,
 //!   `client-disconnected CID`.
 use crate::headers::header;
-use crate::messages::tell;
+use crate::readings::tell_reply;
 use crate::words::{Call, Told};
 use bytes::Bytes;
 use ca_header::{Header, Message, write_head};
@@ -36,7 +36,7 @@ pub(crate) fn reread(kind: &str, call: &Call, told: &mut Told) {
         Ok(value) => {
             let message = message(kind, call, value);
             match message.payload(call.alloc) {
-                Ok(payload) => tell(&read_reply(&message.head(), payload.as_slice()), told),
+                Ok(payload) => tell_reply(&read_reply(&message.head(), payload.as_slice()), told),
                 Err(_) => told.line(&"out of memory"),
             }
         }

@@ -8,6 +8,7 @@
 //! - `hand-on SID TYPE COUNT NATIVE: VALUE`: a client's WRITE with this payload, which may be shared:
 //!   whether it is handed on itself (`shared`) or in a copy (`copied`), and the payload that is handed on.
 use crate::messages::tell;
+use crate::readings::tell_request;
 use crate::to_clients::tell_sent;
 use crate::words::{Call, Told};
 use bytes::Bytes;
@@ -31,7 +32,7 @@ pub(crate) fn call(kind: &str, call: &Call, told: &mut Told) {
 pub(crate) fn reread(kind: &str, call: &Call, told: &mut Told) {
     if let Some(message) = message(kind, call, told) {
         match message.payload(call.alloc) {
-            Ok(payload) => tell(&read_request(&message.head(), payload.as_slice()), told),
+            Ok(payload) => tell_request(&read_request(&message.head(), payload.as_slice()), told),
             Err(_) => told.line(&"out of memory"),
         }
     }

@@ -90,6 +90,18 @@ impl Told {
         self.is_whole &= written.is_ok();
     }
 
+    /// A value behind its name.
+    pub(crate) fn field<T: Display>(&mut self, name: &str, value: &T) {
+        self.word(&name);
+        self.word(value);
+    }
+
+    /// Bytes behind their name.
+    pub(crate) fn field_bytes(&mut self, name: &str, bytes: &[u8]) {
+        self.word(&name);
+        self.groups(bytes);
+    }
+
     pub(crate) fn end(&mut self) {
         let written = self.text.push('\n');
         self.is_whole &= written.is_ok();
@@ -100,8 +112,14 @@ impl Told {
         self.end();
     }
 
-    /// Bytes in groups of four, and the end of the line.
+    /// Bytes, and the end of the line.
     pub(crate) fn bytes(&mut self, bytes: &[u8]) {
+        self.groups(bytes);
+        self.end();
+    }
+
+    /// Bytes in groups of four.
+    fn groups(&mut self, bytes: &[u8]) {
         let run = last_run(bytes);
         let front = bytes.len().saturating_sub(run);
         for (place, byte) in bytes.iter().enumerate().take(front) {
@@ -113,7 +131,6 @@ impl Told {
             let written = write!(self.text, " {byte:02x}*{run}");
             self.is_whole &= written.is_ok();
         }
-        self.end();
     }
 }
 

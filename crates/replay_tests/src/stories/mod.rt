@@ -22,5 +22,6 @@ mod searches;
 mod servers;
 mod subscriptions;
 mod tell;
+mod text;
 mod types;
 mod writes;

@@ -1,8 +1,9 @@
-//! How a story is told.
+//! How a story is told. Whether memory was refused, or a line can't be read, is noted in the texts: ways
+//! out of functions that own are dear to prove.
 use crate::stories::beginnings::beginning;
+use crate::stories::text::Text;
 use replay::{replay, replay_plain};
 use std::alloc::Global;
-use std::io::Write;
 use std::process::Abort;
 use std::str;
 use std::test::Fail;
@@ -13,15 +14,14 @@ const COMMAND: usize = 10;
 /// Asserts that a story comes out as it is told.
 pub(crate) fn tells(rt: &impl Abort, alloc: Global, text: &[u8]) -> Result<(), Fail> {
     let mut story = Story::new(alloc);
-    for line in written_out(alloc, text)?.split(|b| *b == b'\n') {
-        story.read(line)?;
+    story.read_text(alloc, text);
+    if !(story.script.is_whole && story.output.is_whole) {
+        return Err("the story can't be read".into());
     }
-    story.check(rt, alloc, &story.script)?;
+    story.check(rt, alloc, story.script.bytes.as_slice());
     if story.cut {
-        story.check_plain(rt, alloc)?;
-        for place in 1..48 {
-            story.check(rt, alloc, &cut(alloc, &story.script, place)?)?;
-        }
+        story.check_plain(rt, alloc);
+        story.check_cuts(rt, alloc);
     }
     Ok(())
 }
@@ -29,8 +29,8 @@ pub(crate) fn tells(rt: &impl Abort, alloc: Global, text: &[u8]) -> Result<(), F
 /// A script, all that it has to print, and its status.
 #[derive(Drop)]
 struct Story {
-    script: Vec<u8>,
-    output: Vec<u8>,
+    script: Text,
+    output: Text,
     status: u8,
     cut: bool,
 }
@@ -38,155 +38,107 @@ struct Story {
 impl Story {
     fn new(alloc: Global) -> Story {
         Story {
-            script: Vec::new(alloc),
-            output: Vec::new(alloc),
+            script: Text::new(alloc),
+            output: Text::new(alloc),
             status: 0,
             cut: true,
         }
     }
 
-    fn read(&mut self, line: &[u8]) -> Result<(), Fail> {
+    fn read_text(&mut self, alloc: Global, text: &[u8]) {
+        let mut written = Text::new(alloc);
+        written.write_out(text);
+        self.script.is_whole &= written.is_whole;
+        for line in written.bytes.split(|b| *b == b'\n') {
+            self.read(line);
+        }
+    }
+
+    fn read(&mut self, line: &[u8]) {
         if line == b"! uncut".as_slice() {
             self.cut = false;
         } else if let Some(status) = line.strip_prefix(b"! status ") {
-            self.status = str::from_utf8(status)?.parse()?;
+            self.read_status(status);
         } else if let Some(name) = line.strip_prefix(b"@") {
-            for part in beginning(name).ok_or("no such beginning")? {
-                self.read_lines(part)?;
+            match beginning(name) {
+                Some(parts) => self.read_parts(parts),
+                None => self.script.is_whole = false,
             }
         } else {
-            self.read_line(line)?;
+            self.read_line(line);
         }
-        Ok(())
     }
 
-    fn read_lines(&mut self, text: &[u8]) -> Result<(), Fail> {
-        for line in text.split(|b| *b == b'\n') {
-            self.read_line(line)?;
+    fn read_status(&mut self, digits: &[u8]) {
+        match str::from_utf8(digits).unwrap_or("").parse() {
+            Ok(status) => self.status = status,
+            Err(_) => self.script.is_whole = false,
         }
-        Ok(())
+    }
+
+    fn read_parts(&mut self, parts: &[&[u8]]) {
+        for part in parts {
+            for line in part.split(|b| *b == b'\n') {
+                self.read_line(line);
+            }
+        }
     }
 
     /// A line of the script, or one that is printed.
-    fn read_line(&mut self, line: &[u8]) -> Result<(), Fail> {
+    fn read_line(&mut self, line: &[u8]) {
         match line.strip_prefix(b"> ") {
             Some(printed) => {
-                self.output.extend_from_slice(printed)?;
-                self.output.push(b'\n')?;
+                self.output.add(printed);
+                self.output.add(b"\n");
             }
-            None => {
-                if !self.script.is_empty() {
-                    self.script.push(b'\n')?;
-                }
-                self.script.extend_from_slice(line)?;
-            }
+            None => self.script.add_line(line),
         }
-        Ok(())
     }
 
     /// Asserts that a script comes to this.
-    fn check(&self, rt: &impl Abort, alloc: Global, script: &[u8]) -> Result<(), Fail> {
+    fn check(&self, rt: &impl Abort, alloc: Global, script: &[u8]) {
         let mut out = Vec::new(alloc);
         let status = replay(alloc, script, &mut out);
-        self.compare(rt, script, &out, status)
+        self.compare(rt, script, &out, status);
     }
 
     /// The same of the story's own script on the plain gateway.
-    fn check_plain(&self, rt: &impl Abort, alloc: Global) -> Result<(), Fail> {
+    fn check_plain(&self, rt: &impl Abort, alloc: Global) {
         let mut out = Vec::new(alloc);
-        let status = replay_plain(alloc, self.script.as_slice(), &mut out);
-        self.compare(rt, &self.script, &out, status)
+        let status = replay_plain(alloc, self.script.bytes.as_slice(), &mut out);
+        self.compare(rt, &self.script.bytes, &out, status);
     }
 
-    fn compare(&self, rt: &impl Abort, script: &[u8], out: &[u8], status: u8) -> Result<(), Fail> {
-        assert_eq!(rt; out, self.output.as_slice(), "of {script:?}");
+    fn check_cuts(&self, rt: &impl Abort, alloc: Global) {
+        for place in 1..48 {
+            self.check_cut(rt, alloc, place);
+        }
+    }
+
+    fn check_cut(&self, rt: &impl Abort, alloc: Global, place: u8) {
+        let mut script = Text::new(alloc);
+        cut(&self.script.bytes, place, &mut script);
+        assert!(rt; script.is_whole);
+        self.check(rt, alloc, script.bytes.as_slice());
+    }
+
+    fn compare(&self, rt: &impl Abort, script: &[u8], out: &[u8], status: u8) {
+        assert_eq!(rt; out, self.output.bytes.as_slice(), "of {script:?}");
         assert_eq!(rt; status, self.status, "of {script:?}");
-        Ok(())
     }
 }
 
 /// The script with the bytes of each message cut after so many, in two lines.
-fn cut(alloc: Global, script: &[u8], place: u8) -> Result<Vec<u8>, Fail> {
+fn cut(script: &[u8], place: u8, text: &mut Text) {
     let end = COMMAND + 2 * usize::from(place);
-    let mut text = Vec::new(alloc);
     for line in script.split(|b| *b == b'\n') {
-        if !text.is_empty() {
-            text.push(b'\n')?;
-        }
         if (line.starts_with(b"client ") || line.starts_with(b"server ")) && line.len() > end {
             let (first, rest) = line.split_at(end);
-            text.extend_from_slice(first)?;
-            text.push(b'\n')?;
-            text.extend_from_slice(&first[..COMMAND])?;
-            text.extend_from_slice(rest)?;
+            text.add_line(first);
+            text.add_line(&first[..COMMAND]);
+            text.add(rest);
         } else {
-            text.extend_from_slice(line)?;
+            text.add_line(line);
         }
     }
-    Ok(text)
-}
-
-/// The text with its repetitions written out.
-fn written_out(alloc: Global, text: &[u8]) -> Result<Vec<u8>, Fail> {
-    let mut out = Vec::new(alloc);
-    for part in text.split(|b| *b == b'[') {
-        match parted(part, b']') {
-            Some((repetition, rest)) => {
-                repeat(&mut out, repetition)?;
-                out.extend_from_slice(rest)?;
-            }
-            None => out.extend_from_slice(part)?,
-        }
-    }
-    Ok(out)
-}
-
-/// Writes what stands between brackets, as `256 from 1:TEXT`.
-fn repeat(out: &mut Vec<u8>, repetition: &[u8]) -> Result<(), Fail> {
-    let (head, text) = parted(repetition, b':').ok_or("a repetition without a text")?;
-    let (count, first) = str::from_utf8(head)?
-        .split_once(" from ")
-        .ok_or("a repetition without numbers")?;
-    let first: u32 = first.parse()?;
-    for number in (first..u32::MAX).take(count.parse()?) {
-        fill(out, text, number)?;
-    }
-    Ok(())
-}
-
-/// Writes the text with the number in its places.
-fn fill(out: &mut Vec<u8>, text: &[u8], number: u32) -> Result<(), Fail> {
-    for part in text.split(|b| *b == b'{') {
-        match parted(part, b'}') {
-            Some((place, rest)) => {
-                write_number(out, place, number)?;
-                out.extend_from_slice(rest)?;
-            }
-            None => out.extend_from_slice(part)?,
-        }
-    }
-    Ok(())
-}
-
-fn write_number(out: &mut Vec<u8>, place: &[u8], number: u32) -> Result<(), Fail> {
-    match place {
-        b"d" => write!(out, "{number}")?,
-        b"d4" => write!(out, "{number:04}")?,
-        b"x6" => write!(out, "{number:06x}")?,
-        b"x8" => write!(out, "{number:08x}")?,
-        b"t4" => {
-            for unit in [1000, 100, 10, 1] {
-                write!(out, "3{}", number / unit % 10)?;
-            }
-        }
-        _ => return Err("no such place of a number".into()),
-    }
-    Ok(())
-}
-
-/// What stands before and behind the first such byte.
-fn parted(bytes: &[u8], at: u8) -> Option<(&[u8], &[u8])> {
-    let mut parts = bytes.splitn(2, |b| *b == at);
-    let first = parts.next()?;
-    Some((first, parts.next()?))
 }

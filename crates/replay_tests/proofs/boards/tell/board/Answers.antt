@@ -1,4 +1,4 @@
-use Rattle.board_tests.proofs.boards.board.Goals as goal
+use Rattle.replay_tests.proofs.boards.tell.board.Goals as goal
 
 -- the engine was just made
 pub new-requires-2 : goal.new-requires-2

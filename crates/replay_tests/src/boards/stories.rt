@@ -1,5 +1,5 @@
 //! Stories of boards.
-use crate::boards::tells;
+use crate::boards::tell::tells;
 use std::test::Fail;
 
 #[test]
