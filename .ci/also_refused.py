@@ -10,7 +10,7 @@ that was not tried (its check was killed, say) needs another run. The status is 
 
 Edits of different functions are tried together first, since a function's proof reads no other's body: one check, where each edit
 is refused if a goal of the function that it stands in isn't proved. An edit outside of functions has a check of its own. What is
-not refused so is tried alone, as a must-fail edit of the copy, by `rt must-fail`. --alone tries all so, at five times the cost.
+not refused so is tried alone, as a must-fail edit of the copy, by `rt must-fail`. --alone tries all so, which costs several times as much.
 
 --jobs N runs at most N checks at once. --list tries nothing: it prints each crate's edits, those of must-fail too, and marks those
 that don't apply: an edit whose old text doesn't stand once in its file. The status is 0 where all apply.
