@@ -1,12 +1,13 @@
 -- Histories that go on by one entry.
-use Rattle.std.proofs.Common.{◌≡◌, List, [], ◌∷◌, ◌++◌, Bool, true, false, ◌&&◌, Option, Some, None, refl, sym, ap, ◌∙◌}
+use Rattle.std.proofs.Common.{◌≡◌, List, [], ◌∷◌, ◌++◌, Bool, true, false, ◌&&◌, ◌||◌, Option, Some, None, refl, sym, ap, ◌∙◌}
 use Rattle.std.specs.Prelude.{if◌then◌else◌}
 use Rattle.std.proofs.lemmas.Bool.{and_parts}
 use Rattle.std.proofs.lemmas.List.{append-nil, append_assoc}
 use Rattle.fanout.specs.declared.outbox.Out.{Out}
 use Rattle.gateway_state.specs.Connections.{same_dest}
 use Rattle.gateway_state.specs.Gateway.{Gateway}
-use Rattle.gateway_state.specs.Step.{run}
+use Rattle.gateway_state.specs.Numbers.{is_past_numbers, runs_out}
+use Rattle.gateway_state.specs.Step.{run, step}
 use Rattle.gateway_state.specs.declared.event.Dest.{Dest}
 use Rattle.gateway_state.specs.declared.event.Event.{Event}
 use Rattle.board_rings.specs.declared.inbound.Inbound.{Inbound}
@@ -51,6 +52,36 @@ run_more w [] entry = run_with w (entry_event entry) []
 run_more w (one ∷ history) entry =
     run_with w (entry_event one) (events_of (history ++ entry ∷ [])) ∙ run_more (goes_on w (entry_event one)) history entry
     ∙ sym (ap (λ (v : Gateway). goes_on v (entry_event entry)) (run_with w (entry_event one) (events_of history)))
+
+-- whether an entry's event uses numbers up
+abbrev pub out_by : Gateway → Option Event → Bool
+out_by w None = false
+out_by w (Some event) = is_past_numbers (step w event)
+
+out_with : (w : Gateway) (event : Option Event) (events : List Event) → runs_out w (with_event event events) ≡ (out_by w event || runs_out (goes_on w event) events)
+unfolding runs_out
+out_with w None events = refl
+out_with w (Some event) events = refl
+
+or_last : (b : Bool) → (b || false) ≡ (false || b)
+or_last true = refl
+or_last false = refl
+
+or_first : (a b c : Bool) → (a || (b || c)) ≡ ((a || b) || c)
+or_first true b c = refl
+or_first false b c = refl
+
+-- numbers are used up by the events before, or by the last entry's
+pub run_more_out : (w : Gateway) (history : List Entry) (entry : Entry)
+    → runs_out w (events_of (history ++ entry ∷ [])) ≡ (runs_out w (events_of history) || out_by (run w (events_of history)) (entry_event entry))
+unfolding run runs_out
+run_more_out w [] entry = out_with w (entry_event entry) [] ∙ or_last (out_by w (entry_event entry))
+run_more_out w (one ∷ history) entry =
+    out_with w (entry_event one) (events_of (history ++ entry ∷ []))
+    ∙ ap (λ (b : Bool). out_by w (entry_event one) || b) (run_more_out (goes_on w (entry_event one)) history entry)
+    ∙ or_first (out_by w (entry_event one)) (runs_out (goes_on w (entry_event one)) (events_of history)) (out_by (run (goes_on w (entry_event one)) (events_of history)) (entry_event entry))
+    ∙ sym (ap (λ (b : Bool). b || out_by (run w (events_of (one ∷ history))) (entry_event entry)) (out_with w (entry_event one) (events_of history))
+    ∙ ap (λ (v : Gateway). (out_by w (entry_event one) || runs_out (goes_on w (entry_event one)) (events_of history)) || out_by v (entry_event entry)) (run_with w (entry_event one) (events_of history)))
 
 -- the messages pushed go on by what the last entry takes from the gateway that the events run to
 pub pushed_more : (before : List Out) (w : Gateway) (history : List Entry) (entry : Entry) (dest : Dest)

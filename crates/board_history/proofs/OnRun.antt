@@ -1,5 +1,5 @@
 -- Each call of a board goes on with its history.
-use Rattle.std.proofs.Common.{◌≡◌, ℕ, ◌<◌, List, [], ◌∷◌, ◌++◌, Bool, true, false, cond, not, ◌&&◌, min, Option, Some, None, IsSome, is_some, refl, sym, ap, subst, ◌∙◌, arith}
+use Rattle.std.proofs.Common.{◌≡◌, ℕ, ◌<◌, List, [], ◌∷◌, ◌++◌, Bool, true, false, cond, not, ◌&&◌, ◌||◌, min, Option, Some, None, IsSome, is_some, refl, sym, ap, subst, ◌∙◌, arith}
 use Rattle.std.specs.Prelude.{if◌then◌else◌, nat_le, nat_lt}
 use Rattle.std.specs.Option.{option_map, ForSome}
 use Rattle.std.proofs.lemmas.Bool.{and_from, le-leb, lt-ltb}
@@ -9,22 +9,24 @@ use Rattle.rows.specs.Rows.{change_first}
 use Rattle.fanout.specs.declared.outbox.Out.{Out}
 use Rattle.gateway_state.specs.Connections.{same_dest}
 use Rattle.gateway_state.specs.Gateway.{Gateway, initial}
+use Rattle.gateway_state.specs.Numbers.{is_past_numbers, runs_out}
 use Rattle.gateway_state.specs.Step.{run, step, taken}
 use Rattle.gateway_state.specs.declared.config.Config.{Config}
 use Rattle.gateway_state.specs.declared.event.Dest.{Dest}
 use Rattle.gateway_state.specs.declared.event.Event.{Event}
 use Rattle.gateway_state.specs.declared.event.Event.TheVariants.{Drain}
 use Rattle.rule_desk.specs.declared.policy.Policy.{Policy}
-use Rattle.board_rings.specs.Lines.{is_attached, is_line, line_of, new_line, with_free, with_received}
+use Rattle.board_rings.proofs.LineOrder.{changed_in_order, rest_in_order}
+use Rattle.board_rings.specs.Lines.{are_in_order, is_attached, is_line, is_not_line, line_of, new_line, with_free, with_received}
 use Rattle.board_rings.specs.Rings.{LineState, Ring}
 use Rattle.board_rings.specs.declared.inbound.Inbound.{Inbound}
 use Rattle.board_history.specs.Board.{BoardState}
-use Rattle.board_history.specs.Calls.{Attaches, DeskFails, Desks, PumpFails, Pumps, Retires, SendFails, Sends, with_sent}
+use Rattle.board_history.specs.Calls.{Attaches, DeskFails, Desks, PumpFails, Pumps, Retires, SendFails, Sends, uses_up, with_sent}
 use Rattle.board_history.specs.History.{IsLineOf, IsOnRun, Refused, events_of, is_attached_in, item_event, pushed_by, pushed_in, received_by, received_in, refused_of}
 use Rattle.board_history.specs.declared.entry.TheConstants.{MOST_SENT}
 use Rattle.board_history.specs.declared.entry.Entry.{Entry}
 use Rattle.board_history.specs.declared.entry.Entry.TheVariants.{Pumped, Desked, Sent, Attached, Retired}
-use Rattle.board_history.proofs.Histories.{attached_more, may_follow_more, pushed_more, received_more, run_more}
+use Rattle.board_history.proofs.Histories.{attached_more, may_follow_more, pushed_more, received_more, run_more, run_more_out}
 use Rattle.board_history.proofs.Lines.{attached_after_change, attached_where_found, line_after_change, line_left, same_dest_is}
 
 -- ROWS
@@ -33,6 +35,14 @@ use Rattle.board_history.proofs.Lines.{attached_after_change, attached_where_fou
 rows_step : (event : Event) (v : Gateway) (old new : Option Gateway) → ForSome old (λ w. w ≡ v) → new ≡ option_map (λ w. step w event) old → ForSome new (λ w. w ≡ step v event)
 rows_step event v None new is e = λ w h. absurd (let wrong : None ≡ Some w = sym e ∙ h in cc)
 rows_step event v (Some u) new is e = λ w h. (let here : step u event ≡ w = cc in sym here ∙ ap (λ (x : Gateway). step x event) (is u refl))
+
+-- a step of rows that are a gateway's that is in range is in range of that gateway
+step_defined : (event : Event) (v : Gateway) (rows : Option Gateway) → ForSome rows (λ w. w ≡ v) → uses_up event rows ≡ Some false → is_past_numbers (step v event) ≡ false
+step_defined event v None is e = absurd (let wrong : None ≡ Some false = e in cc)
+step_defined event v (Some u) is e = (let here : is_past_numbers (step u event) ≡ false = cc in sym (ap (λ (x : Gateway). is_past_numbers (step x event)) (is u refl)) ∙ here)
+
+or_none : {b : Bool} → b ≡ false → (b || false) ≡ false
+or_none none = ap (λ (c : Bool). c || false) none
 
 -- what was taken from rows that are a gateway's was taken from it
 taken_from : (event : Event) (dest : Dest) (outs : List Out) (v : Gateway) (rows : Option Gateway)
@@ -139,8 +149,18 @@ module _ (config : Config) (policy : Policy) (history : List Entry) where
     none_yet : (refused : Option Refused) → (on_run.refused ≡ None → refused ≡ None) → new.rows ≡ old.rows → IsSome new.rows → refused ≡ None
     none_yet refused so e stands = so (on_run.none_refused (sym (ap is_some e) ∙ stands))
 
+    -- a step that used no number up
+    defined_more : (entry : Entry) (event : Event) → uses_up event old.rows ≡ Some false
+        → runs_out (initial config policy) (events_of (history ++ entry ∷ [])) ≡ (runs_out (initial config policy) (events_of history) || is_past_numbers (step reached event))
+        → runs_out (initial config policy) (events_of (history ++ entry ∷ [])) ≡ false
+    defined_more entry event in_range more =
+        more ∙ ap (λ (b : Bool). b || is_past_numbers (step reached event)) on_run.defined ∙ step_defined event reached old.rows on_run.rows in_range
+
     -- One line changed, and no other.
     module _ (f : LineState → LineState) (keeps : (line : LineState) → (f line).dest ≡ line.dest) (dest : Dest) (changed : new.lines ≡ change_first (is_line dest) f old.lines) where
+      ordered_changed : are_in_order new.lines ≡ true
+      ordered_changed = ap are_in_order changed ∙ changed_in_order (is_line dest) f keeps old.lines ∙ on_run.ordered
+
       attached_changed : (at : Dest) → is_some (line_of at new.lines) ≡ is_attached_in history at
       attached_changed at =
           ap (λ (lines : List LineState). is_some (line_of at lines)) changed ∙ attached_after_change f keeps dest at old.lines ∙ on_run.attached at
@@ -155,18 +175,20 @@ module _ (config : Config) (policy : Policy) (history : List Entry) where
 
     pub pumped : (dest : Dest) (item : Inbound) → Pumps dest item old new → IsOnRun new config policy (history ++ Pumped dest item ∷ [])
     pumped dest item pumps = record {
+      defined = defined_more (Pumped dest item) (item_event dest item) pumps.in_range (run_more_out (initial config policy) history (Pumped dest item));
+      ordered = ordered_changed (with_received item pumps.seen) (λ _. refl) dest pumps.lines;
       entries = may_follow_more [] history (Pumped dest item) on_run.entries (attached_in_history dest true pumps.attached);
       rows = rows_more (Pumped dest item) (item_event dest item) pumps.rows (run_more (initial config policy) history (Pumped dest item));
       refused = None;
       none_refused = λ _. refl;
-      attached = λ at. attached_changed (with_received item) (λ _. refl) dest pumps.lines at ∙ sym (attached_more false history (Pumped dest item) at);
-      lines = lines_changed (with_received item) (λ _. refl) dest pumps.lines (history ++ Pumped dest item ∷ []) None own other;
+      attached = λ at. attached_changed (with_received item pumps.seen) (λ _. refl) dest pumps.lines at ∙ sym (attached_more false history (Pumped dest item) at);
+      lines = lines_changed (with_received item pumps.seen) (λ _. refl) dest pumps.lines (history ++ Pumped dest item ∷ []) None own other;
     }
       where
         own : (at : Dest) → same_dest dest at ≡ true → (line : LineState) → IsLineOf config policy history on_run.refused at line
-            → IsLineOf config policy (history ++ Pumped dest item ∷ []) None at (with_received item line)
+            → IsLineOf config policy (history ++ Pumped dest item ∷ []) None at (with_received item pumps.seen line)
         own at same line was =
-            line_more (Pumped dest item) None at (with_received item line)
+            line_more (Pumped dest item) None at (with_received item pumps.seen line)
             (ap (λ (items : List Inbound). items ++ item ∷ []) (received_alone at line pumps.stands was)
             ∙ sym (append-nil (received_in history at ++ item ∷ []))
             ∙ ap (λ (b : Bool). cond b (received_in history at ++ item ∷ []) (received_in history at) ++ []) (sym same)) was.pushed
@@ -181,15 +203,17 @@ module _ (config : Config) (policy : Policy) (history : List Entry) where
     pub pump_failed : (dest : Dest) (item : Inbound) → PumpFails dest item old new → IsOnRun new config policy history
     pump_failed dest item pumps = record {
       entries = on_run.entries;
+      defined = on_run.defined;
+      ordered = ordered_changed (with_received item pumps.seen) (λ _. refl) dest pumps.lines;
       rows = none_runs new.rows (λ w. w ≡ reached) pumps.rows;
       refused = Some (record { dest = dest; item = item });
       none_refused = none_is_left new.rows pumps.rows;
-      attached = attached_changed (with_received item) (λ _. refl) dest pumps.lines;
-      lines = lines_changed (with_received item) (λ _. refl) dest pumps.lines history (Some (record { dest = dest; item = item })) own other;
+      attached = attached_changed (with_received item pumps.seen) (λ _. refl) dest pumps.lines;
+      lines = lines_changed (with_received item pumps.seen) (λ _. refl) dest pumps.lines history (Some (record { dest = dest; item = item })) own other;
     }
       where
         own : (at : Dest) → same_dest dest at ≡ true → (line : LineState) → IsLineOf config policy history on_run.refused at line
-            → IsLineOf config policy history (Some (record { dest = dest; item = item })) at (with_received item line)
+            → IsLineOf config policy history (Some (record { dest = dest; item = item })) at (with_received item pumps.seen line)
         own at same line was = record {
           received =
               ap (λ (items : List Inbound). items ++ item ∷ []) (received_alone at line pumps.stands was)
@@ -209,6 +233,8 @@ module _ (config : Config) (policy : Policy) (history : List Entry) where
 
     pub desked : (event : Event) → Desks event old new → IsOnRun new config policy (history ++ Desked event ∷ [])
     desked event desks = record {
+      defined = defined_more (Desked event) event desks.in_range (run_more_out (initial config policy) history (Desked event));
+      ordered = ap are_in_order desks.lines ∙ on_run.ordered;
       entries = may_follow_more [] history (Desked event) on_run.entries desks.here;
       rows = rows_more (Desked event) event desks.rows (run_more (initial config policy) history (Desked event));
       refused = on_run.refused;
@@ -223,6 +249,8 @@ module _ (config : Config) (policy : Policy) (history : List Entry) where
     pub desk_failed : DeskFails old new → IsOnRun new config policy history
     desk_failed desks = record {
       entries = on_run.entries;
+      defined = on_run.defined;
+      ordered = ap are_in_order desks.lines ∙ on_run.ordered;
       rows = none_runs new.rows (λ w. w ≡ reached) desks.rows;
       refused = on_run.refused;
       none_refused = none_is_left new.rows desks.rows;
@@ -232,6 +260,8 @@ module _ (config : Config) (policy : Policy) (history : List Entry) where
 
     pub sent : (dest : Dest) (found : ℕ) (outs : List Out) → Sends dest found outs old new → IsOnRun new config policy (history ++ Sent dest (min MOST_SENT found) ∷ [])
     sent dest found outs sends = record {
+      defined = defined_more (Sent dest (min MOST_SENT found)) (Drain dest (min MOST_SENT found)) sends.in_range (run_more_out (initial config policy) history (Sent dest (min MOST_SENT found)));
+      ordered = ordered_changed (with_sent found outs) (λ _. refl) dest sends.lines;
       entries =
           may_follow_more [] history (Sent dest (min MOST_SENT found)) on_run.entries
           (and_from (is_attached_in history dest) (nat_lt 0 (min MOST_SENT found) && nat_le (min MOST_SENT found) MOST_SENT) (attached_in_history dest true sends.attached)
@@ -263,6 +293,8 @@ module _ (config : Config) (policy : Policy) (history : List Entry) where
     pub send_failed : (dest : Dest) (found : ℕ) → SendFails dest found old new → IsOnRun new config policy history
     send_failed dest found sends = record {
       entries = on_run.entries;
+      defined = on_run.defined;
+      ordered = ordered_changed (with_free found) (λ _. refl) dest sends.lines;
       rows = none_runs new.rows (λ w. w ≡ reached) sends.rows;
       refused = on_run.refused;
       none_refused = none_is_left new.rows sends.rows;
@@ -274,6 +306,8 @@ module _ (config : Config) (policy : Policy) (history : List Entry) where
     pub looked : (dest : Dest) (found : ℕ) → new.rows ≡ old.rows → new.lines ≡ change_first (is_line dest) (with_free found) old.lines → IsOnRun new config policy history
     looked dest found rows lines = record {
       entries = on_run.entries;
+      defined = on_run.defined;
+      ordered = ordered_changed (with_free found) (λ _. refl) dest lines;
       rows = λ w h. on_run.rows w (sym rows ∙ h);
       refused = on_run.refused;
       none_refused = none_yet on_run.refused (λ none. none) rows;
@@ -284,6 +318,8 @@ module _ (config : Config) (policy : Policy) (history : List Entry) where
 
     pub attached : (dest : Dest) (in_ring out_ring : Ring) (free : ℕ) → Attaches dest in_ring out_ring free old new → IsOnRun new config policy (history ++ Attached dest ∷ [])
     attached dest in_ring out_ring free attaches = record {
+      defined = run_more_out (initial config policy) history (Attached dest) ∙ or_none on_run.defined;
+      ordered = attaches.lines.ordered;
       entries = may_follow_more [] history (Attached dest) on_run.entries (ap not (attached_in_history dest false attaches.apart));
       rows = rows_stay (Attached dest) attaches.rows (run_more (initial config policy) history (Attached dest));
       refused = refused_but on_run.refused dest;
@@ -313,6 +349,8 @@ module _ (config : Config) (policy : Policy) (history : List Entry) where
 
     pub retired : (dest : Dest) → Retires dest old new → IsOnRun new config policy (history ++ Retired dest ∷ [])
     retired dest retires = record {
+      defined = run_more_out (initial config policy) history (Retired dest) ∙ or_none on_run.defined;
+      ordered = ap are_in_order retires.lines ∙ rest_in_order (is_not_line dest) old.lines on_run.ordered;
       entries = may_follow_more [] history (Retired dest) on_run.entries (attached_in_history dest true retires.attached);
       rows = rows_stay (Retired dest) retires.rows (run_more (initial config policy) history (Retired dest));
       refused = on_run.refused;
@@ -335,9 +373,11 @@ module _ (config : Config) (policy : Policy) (history : List Entry) where
 
 -- a board to which nothing happened yet
 pub new_board : (config : Config) (policy : Policy) → let board : BoardState = record { rows = Some (initial config policy); lines = [] } in IsOnRun board config policy []
-unfolding run
+unfolding run runs_out
 new_board config policy = record {
   entries = refl;
+  defined = refl;
+  ordered = refl;
   rows = λ w e. (let here : initial config policy ≡ w = cc in sym here);
   refused = None;
   none_refused = λ _. refl;

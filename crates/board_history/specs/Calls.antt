@@ -1,8 +1,10 @@
 -- What each call of a board does to it.
-use Rattle.std.specs.Prelude.{◌≡◌, ℕ, ◌<◌, List, filter, min, true, false, Some, None, IsSome}
+use Rattle.std.specs.Prelude.{◌≡◌, ℕ, ◌<◌, List, Bool, filter, min, true, false, Option, Some, None, IsSome}
 use Rattle.std.specs.Option.{option_map}
 use Rattle.rows.specs.Rows.{change_first}
 use Rattle.fanout.specs.declared.outbox.Out.{Out}
+use Rattle.gateway_state.specs.Gateway.{Gateway}
+use Rattle.gateway_state.specs.Numbers.{is_past_numbers}
 use Rattle.gateway_state.specs.Step.{step, taken}
 use Rattle.gateway_state.specs.declared.event.Dest.{Dest}
 use Rattle.gateway_state.specs.declared.event.Event.{Event}
@@ -14,24 +16,32 @@ use Rattle.board_history.specs.Board.{BoardState}
 use Rattle.board_history.specs.History.{is_for_desk, item_event}
 use Rattle.board_history.specs.declared.entry.TheConstants.{MOST_SENT}
 
--- an item of a connection was received, and its event performed
+-- whether the event would give out a number past the last one; nothing on a board that has failed
+abbrev pub uses_up : Event → Option Gateway → Option Bool
+uses_up event rows = option_map (λ w. is_past_numbers (step w event)) rows
+
+-- an item of a connection was received, so many were seen to follow, and its event was performed
 pub record Pumps (dest : Dest) (item : Inbound) (old new : BoardState) : Type 0 where
   pub stands : IsSome old.rows
   pub attached : is_attached dest old.lines ≡ true
+  pub in_range : uses_up (item_event dest item) old.rows ≡ Some false
   pub rows : new.rows ≡ option_map (λ w. step w (item_event dest item)) old.rows
-  pub lines : new.lines ≡ change_first (is_line dest) (with_received item) old.lines
+  pub seen : ℕ
+  pub lines : new.lines ≡ change_first (is_line dest) (with_received item seen) old.lines
 
 -- an item of a connection was received, and its event refused: the board has failed
 pub record PumpFails (dest : Dest) (item : Inbound) (old new : BoardState) : Type 0 where
   pub stands : IsSome old.rows
   pub attached : is_attached dest old.lines ≡ true
   pub rows : new.rows ≡ None
-  pub lines : new.lines ≡ change_first (is_line dest) (with_received item) old.lines
+  pub seen : ℕ
+  pub lines : new.lines ≡ change_first (is_line dest) (with_received item seen) old.lines
 
 -- an event was handed in and performed
 pub record Desks (event : Event) (old new : BoardState) : Type 0 where
   pub stands : IsSome old.rows
   pub here : is_for_desk event ≡ true
+  pub in_range : uses_up event old.rows ≡ Some false
   pub rows : new.rows ≡ option_map (λ w. step w event) old.rows
   pub lines : new.lines ≡ old.lines
 
@@ -51,6 +61,7 @@ pub record Sends (dest : Dest) (found : ℕ) (outs : List Out) (old new : BoardS
   pub stands : IsSome old.rows
   pub attached : is_attached dest old.lines ≡ true
   pub some_free : 0 < found
+  pub in_range : uses_up (Drain dest (min MOST_SENT found)) old.rows ≡ Some false
   pub taken : Some outs ≡ option_map (λ w. taken w (Drain dest (min MOST_SENT found)) dest) old.rows
   pub rows : new.rows ≡ option_map (λ w. step w (Drain dest (min MOST_SENT found))) old.rows
   pub lines : new.lines ≡ change_first (is_line dest) (with_sent found outs) old.lines

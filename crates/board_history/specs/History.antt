@@ -4,6 +4,7 @@ use Rattle.std.specs.Option.{ForSome}
 use Rattle.fanout.specs.declared.outbox.Out.{Out}
 use Rattle.gateway_state.specs.Connections.{same_dest}
 use Rattle.gateway_state.specs.Gateway.{Gateway, initial}
+use Rattle.gateway_state.specs.Numbers.{runs_out}
 use Rattle.gateway_state.specs.Step.{run, step, taken}
 use Rattle.gateway_state.specs.declared.config.Config.{Config}
 use Rattle.gateway_state.specs.declared.event.Dest.{Dest}
@@ -11,7 +12,7 @@ use Rattle.gateway_state.specs.declared.event.Dest.TheVariants.{Session, Upstrea
 use Rattle.gateway_state.specs.declared.event.Event.{Event}
 use Rattle.gateway_state.specs.declared.event.Event.TheVariants as events
 use Rattle.rule_desk.specs.declared.policy.Policy.{Policy}
-use Rattle.board_rings.specs.Lines.{line_of}
+use Rattle.board_rings.specs.Lines.{are_in_order, line_of}
 use Rattle.board_rings.specs.Rings.{LineState}
 use Rattle.board_rings.specs.declared.inbound.Inbound.{Inbound}
 use Rattle.board_rings.specs.declared.inbound.Inbound.TheVariants.{Message, Gone}
@@ -131,9 +132,13 @@ pub record IsLineOf (config : Config) (policy : Policy) (history : List Entry) (
   pub received : line.ends.received ≡ received_in history dest ++ refused_of refused dest
   pub pushed : line.ends.pushed ≡ pushed_in (initial config policy) history dest
 
--- the board is where this history leads, from a gateway that began with this policy
+-- the board is where this history leads, from a gateway that began with this policy. Its lines stand in
+-- order: clients first, each by rising number
 pub record IsOnRun (board : BoardState) (config : Config) (policy : Policy) (history : List Entry) : Type 0 where
   pub entries : may_follow_all [] history ≡ true
+  -- no step gave out a number past the last one, so each is a defined one
+  pub defined : runs_out (initial config policy) (events_of history) ≡ false
+  pub ordered : are_in_order board.lines ≡ true
   -- where no step was refused, the rows are those that the events run to
   pub rows : ForSome board.rows (λ w. w ≡ run (initial config policy) (events_of history))
   pub refused : Option Refused

@@ -6,7 +6,7 @@ use gateway_state::{Dest, Event};
 pub const MOST_SENT: usize = 64;
 
 /// One thing that a board did. No value of it is made: histories are in proofs alone.
-#[derive(Debug, Drop)]
+#[derive(Drop)]
 pub enum Entry {
     /// An item of a connection was received, and its event performed.
     Pumped(Dest, Inbound),

@@ -57,6 +57,6 @@ pub rings_with_pushed : (dest other : Dest) (outs : List Out) (lines : List Line
 rings_with_pushed dest other outs = rings_changed dest other (with_pushed outs) (λ _. refl) (λ _. refl)
 
 -- by the clauses of `receive`
-pub rings_with_received : (dest other : Dest) (old new : List LineState) (r : Option Inbound) → IfSome r (λ item. new ≡ change_first (is_line dest) (with_received item) old) → (IsNone r → new ≡ old) → rings_of other new ≡ rings_of other old
-rings_with_received dest other old new (Some item) some none = ap (rings_of other) some ∙ rings_changed dest other (with_received item) (λ _. refl) (λ _. refl) old
+pub rings_with_received : (dest other : Dest) (old new : List LineState) (r : Option (Inbound × ℕ)) → IfSome r (λ r. new ≡ change_first (is_line dest) (with_received r.0 r.1) old) → (IsNone r → new ≡ old) → rings_of other new ≡ rings_of other old
+rings_with_received dest other old new (Some (item, seen)) some none = ap (rings_of other) some ∙ rings_changed dest other (with_received item seen) (λ _. refl) (λ _. refl) old
 rings_with_received dest other old new None some none = ap (rings_of other) (none refl)

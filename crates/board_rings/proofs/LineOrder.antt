@@ -7,12 +7,12 @@ use Rattle.std.proofs.lemmas.List.Folds.{list_any_at}
 use Rattle.std.proofs.lemmas.List.Quantifiers.{position-Some}
 use Rattle.std.proofs.lemmas.List.Sums.{position_or_len_is, fails_before_first, passes_at_first}
 use Rattle.rows.specs.Rows.{change_first, remove_first}
-use Rattle.rows.proofs.RowLemmas.{remove_is_remove_first, remove_first_none, find_none}
+use Rattle.rows.proofs.RowLemmas.{remove_is_remove_first, remove_first_none, find_is_there, find_none}
 use Rattle.gateway_state.specs.Connections.{same_dest}
 use Rattle.gateway_state.specs.declared.event.Dest.{Dest}
 use Rattle.board_rings.specs.declared.inbound.Inbound.{Inbound}
 use Rattle.board_rings.specs.Rings.{LineState}
-use Rattle.board_rings.specs.Lines.{is_line, is_not_line, is_attached, is_from, comes_before, are_behind, are_in_order, with_received, IsWith}
+use Rattle.board_rings.specs.Lines.{is_line, is_not_line, is_attached, is_from, comes_before, are_behind, are_in_order, with_received, IsWith, SeesNothing}
 use Rattle.board_rings.proofs.DestOrder.{same_is_equal, before_trans, before_not_same, after_not_same, before_or_after}
 
 -- each line that stands behind
@@ -89,6 +89,16 @@ module _ (dest : Dest) (lines : List LineState) (n : ℕ) (is : n ≡ position_o
         | inr (inr more) ↦ false_from_ne_true (is_line dest (get_or lines k line)) (λ same. true≢false (sym (subst (λ e. comes_before (get_or lines n line).dest e ≡ true) (same_is_equal (get_or lines k line).dest dest same) (ordered_at lines n k line up more h)) ∙ at_from line within))
       ])
       (λ h. absurd (omega arith)))
+
+-- the line at a place is the one that is found for its connection
+pub place_guessed : (dest : Dest) (lines : List LineState) (n : ℕ) (line : LineState) → are_in_order lines ≡ true → n < length lines → line ≡ get_or lines n line → same_dest line.dest dest ≡ true → position (is_line dest) lines ≡ Some n
+place_guessed dest lines n line up within here same =
+    let at : same_dest (get_or lines n line).dest dest ≡ true = subst (λ (l : LineState). same_dest l.dest dest ≡ true) here same in
+    at_place (is_line dest) lines n
+    (position_or_len_is (is_line dest) lines n line (omega arith)
+    (λ k h. before_not_same (get_or lines k line).dest dest (subst (λ e. comes_before (get_or lines k line).dest e ≡ true) (same_is_equal (get_or lines n line).dest dest at) (ordered_at lines k n line up h within)))
+    (λ _. at))
+    within
 
 -- with one more
 behind_more : (dest : Dest) (lines : List LineState) (n : ℕ) (line : LineState) → are_behind dest lines ≡ true → comes_before dest line.dest ≡ true → are_behind dest (insert lines n line) ≡ true
@@ -214,6 +224,17 @@ placed_where_attached dest lines =
     ] refl
 
 -- what is received from a line leaves the lines in order
-pub received_in_order : (dest : Dest) (old new : List LineState) (r : Option Inbound) → are_in_order old ≡ true → IfSome r (λ item. new ≡ change_first (is_line dest) (with_received item) old) → (IsNone r → new ≡ old) → are_in_order new ≡ true
-received_in_order dest old new (Some item) up some none = ap are_in_order some ∙ changed_in_order (is_line dest) (with_received item) (λ line. refl) old ∙ up
+pub received_in_order : (dest : Dest) (old new : List LineState) (r : Option (Inbound × ℕ)) → are_in_order old ≡ true → IfSome r (λ r. new ≡ change_first (is_line dest) (with_received r.0 r.1) old) → (IsNone r → new ≡ old) → are_in_order new ≡ true
+received_in_order dest old new (Some (item, seen)) up some none = ap are_in_order some ∙ changed_in_order (is_line dest) (with_received item seen) (λ line. refl) old ∙ up
 received_in_order dest old new None up some none = ap are_in_order (none refl) ∙ up
+
+-- nothing is seen in the ring of a line that sees nothing
+pub sees_nothing_at : (dest : Dest) (lines : List LineState) (i : ℕ) (line : LineState) → position (is_line dest) lines ≡ Some i → line ≡ get_or lines i line → line.seen ≡ 0 → SeesNothing dest lines
+sees_nothing_at dest lines i line at here none = λ found is.
+    let same : Some line ≡ Some found = sym (find_is_there (is_line dest) lines i line at here) ∙ is in
+    let one : line ≡ found = cc in
+    ap (λ (l : LineState). l.seen) (sym one) ∙ none
+
+-- nor where there is no line
+pub sees_nothing_nowhere : (dest : Dest) (lines : List LineState) → position (is_line dest) lines ≡ None → SeesNothing dest lines
+sees_nothing_nowhere dest lines at = λ found is. absurd (let wrong : None ≡ Some found = sym (find_none (is_line dest) lines at) ∙ is in cc)

@@ -48,9 +48,12 @@ abbrev pub are_in_order : List LineState → Bool
 are_in_order [] = true
 are_in_order (line ∷ lines) = are_behind line.dest lines && are_in_order lines
 
--- one item more was received
-abbrev pub with_received : Inbound → LineState → LineState
-with_received item line = record line { ends = record line.ends { received = line.ends.received ++ item ∷ [] } }
+-- one item more was received, and so many are known to follow
+abbrev pub with_received : Inbound → ℕ → LineState → LineState
+with_received item seen line = record line {
+  ends = record line.ends { received = line.ends.received ++ item ∷ [] };
+  seen = seen;
+}
 
 -- so many places were found free
 abbrev pub with_free : ℕ → LineState → LineState
@@ -69,7 +72,16 @@ new_line dest in_ring out_ring free = record {
   dest = dest;
   ends = record { in_ring = in_ring; received = []; out_ring = out_ring; pushed = [] };
   free = free;
+  seen = 0;
 }
+
+-- no item is known to be in the ring in of the connection
+abbrev pub SeesNothing : Dest → List LineState → Type 0
+SeesNothing dest lines = (line : LineState) → line_of dest lines ≡ Some line → line.seen ≡ 0
+
+-- no place of its ring out is known to be free
+abbrev pub HasNoPlace : Dest → List LineState → Type 0
+HasNoPlace dest lines = (line : LineState) → line_of dest lines ≡ Some line → line.free ≡ 0
 
 -- the lines with one more, in order; all others are as before
 pub record IsWith (line : LineState) (old new : List LineState) : Type 0 where

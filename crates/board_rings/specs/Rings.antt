@@ -19,15 +19,17 @@ pub record Ring : Type 0 where
 abbrev pub ring_of : {T P : Type 0} → End T Global P → Ring
 ring_of end = record { words = end.words; slots = end.slots; names = end.names; heap = end.heap }
 
--- a reader's end: all that was ever offered by it
+-- a reader's end: all that was ever offered by it, and how many places are known to be free
 pub record InletState : Type 0 where
   pub ring : Ring
   pub offered : List Inbound
+  pub free : ℕ
 
--- a writer's end: all that was ever taken by it
+-- a writer's end: all that was ever taken by it, and what is known to be in the ring
 pub record OutletState : Type 0 where
   pub ring : Ring
   pub taken : List Out
+  pub seen : List Out
 
 -- the board's ends of both rings of one attachment: all that was ever received by the one, and pushed
 -- by the other
@@ -37,8 +39,10 @@ pub record EndsState : Type 0 where
   pub out_ring : Ring
   pub pushed : List Out
 
--- the line of a connection that is attached, and how many places of its ring out are known to be free
+-- the line of a connection that is attached, how many places of its ring out are known to be free, and
+-- how many items are known to be in its ring in
 pub record LineState : Type 0 where
   pub dest : Dest
   pub ends : EndsState
   pub free : ℕ
+  pub seen : ℕ

@@ -1,8 +1,9 @@
 //! The ends of the rings.
-ghost use Rattle.std.specs.Prelude.{◌≡◌, ◌++◌, ◌∷◌, [], OnOk, OnErr, IfErr, IfSome, IsNone};
+ghost use Rattle.std.specs.Prelude.{◌≡◌, ◌++◌, ◌∷◌, ◌<◌, ◌≤◌, ◌+◌, [], length, OnOk, OnErr, IfErr, IfSome, IsNone, IsOk, IsSome};
 
 use crate::inbound::Inbound;
 use fanout::Out;
+use gateway_state::Dest;
 use rtrb::{Consumer, Producer, PushError};
 use std::marker::Model;
 
@@ -10,23 +11,33 @@ use std::marker::Model;
 #[derive(Drop)]
 pub struct Inlet {
     pub(crate) ring: Producer<Inbound>,
+    // Whose ring it is, for those that wait for a place. No clause speaks of it.
+    pub(crate) dest: Dest,
 }
 
 impl Model for Inlet {
-    ghost use Rattle.rtrb.specs.Ring.{sent};
+    ghost use Rattle.rtrb.specs.Ring.{sent, known_free};
     ghost use Rattle.board_rings.specs.Rings.{InletState, ring_of};
 
     ghost Value = { InletState };
 
-    ghost view = { λ i. record { ring = ring_of i.ring.end; offered = sent i.ring } };
+    ghost view = { λ i. record { ring = ring_of i.ring.end; offered = sent i.ring; free = known_free i.ring } };
 }
 
 impl Inlet {
-    /// Offers what comes from the peer. A ring that is full gives it back.
+    /// For which connection it was attached. No clause speaks of it.
+    pub fn dest(&self) -> Dest {
+        self.dest
+    }
+
+    /// Offers what comes from the peer. It comes back only where no place of the ring is free.
     pub fn offer(&mut self, item: Inbound) -> Result<(), Inbound>
-        ensures ok { OnOk result (self.new ≡ record self.old { offered = self.old.offered ++ item ∷ [] }) }
+        ensures ok { OnOk result (self.new.offered ≡ self.old.offered ++ item ∷ []) }
+        ensures places { OnOk result (self.old.free ≤ self.new.free + 1) }
         ensures err { IfErr result (λ back. back ≡ item) }
         ensures same { OnErr result (self.new ≡ self.old) }
+        ensures full { OnErr result (self.new.free ≡ 0) }
+        ensures succeeds { 0 < self.old.free → IsOk result }
         ensures ring { self.new.ring ≡ self.old.ring }
     {
         match self.ring.push(item) {
@@ -43,19 +54,21 @@ pub struct Outlet {
 }
 
 impl Model for Outlet {
-    ghost use Rattle.rtrb.specs.Ring.{received};
+    ghost use Rattle.rtrb.specs.Ring.{received, known_items};
     ghost use Rattle.board_rings.specs.Rings.{OutletState, ring_of};
 
     ghost Value = { OutletState };
 
-    ghost view = { λ o. record { ring = ring_of o.ring.end; taken = received o.ring } };
+    ghost view = { λ o. record { ring = ring_of o.ring.end; taken = received o.ring; seen = known_items o.ring } };
 }
 
 impl Outlet {
-    /// Takes the next message that goes to the peer, if one is there.
+    /// Takes the next message that goes to the peer. There is none only where the ring was found empty.
     pub fn next(&mut self) -> Option<Out>
-        ensures some { IfSome result (λ out. self.new ≡ record self.old { taken = self.old.taken ++ out ∷ [] }) }
+        ensures some { IfSome result (λ out. self.new.taken ≡ self.old.taken ++ out ∷ []) }
         ensures none { IsNone result → self.new ≡ self.old }
+        ensures nothing { IsNone result → self.new.seen ≡ [] }
+        ensures succeeds { 0 < length self.old.seen → IsSome result }
         ensures ring { self.new.ring ≡ self.old.ring }
     {
         match self.ring.pop() {

@@ -10,7 +10,8 @@ pub fn left_in(inlet: &mut Inlet, ends: &mut Ends) -> usize
     requires pair { inlet.old.ring ≡ ends.old.in_ring }
     ensures count { length inlet.old.offered ≡ length ends.old.received + result }
     ensures order { take (length ends.old.received) inlet.old.offered ≡ ends.old.received }
-    ensures same { (inlet.new ≡ inlet.old) × (ends.new ≡ ends.old) }
+    ensures same { (inlet.new.offered ≡ inlet.old.offered) × (ends.new ≡ ends.old) }
+    ensures ring { inlet.new.ring ≡ inlet.old.ring }
 {
     ends.read.slots_beside(&mut inlet.ring)
 }
@@ -21,7 +22,8 @@ pub fn left_out(outlet: &mut Outlet, ends: &mut Ends) -> usize
     requires pair { outlet.old.ring ≡ ends.old.out_ring }
     ensures count { length ends.old.pushed ≡ length outlet.old.taken + result }
     ensures order { take (length outlet.old.taken) ends.old.pushed ≡ outlet.old.taken }
-    ensures same { (outlet.new ≡ outlet.old) × (ends.new ≡ ends.old) }
+    ensures same { (outlet.new.taken ≡ outlet.old.taken) × (ends.new ≡ ends.old) }
+    ensures ring { outlet.new.ring ≡ outlet.old.ring }
 {
     outlet.ring.slots_beside(&mut ends.write)
 }

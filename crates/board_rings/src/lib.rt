@@ -8,10 +8,12 @@
 //!
 //! - [`Inlet::offer`] and [`Outlet::next`] are one push or pop each. They never wait, and take no memory.
 //! - [`Lines::attach`] makes both rings, [`Lines::retire`] takes the board's ends off.
-//! - [`Lines::receive`], [`Lines::room`] and [`Lines::push_all`] are the board's side.
+//! - [`Lines::receive`], [`Lines::room`] and [`Lines::push_all`] are the board's side. They are told where
+//!   the line may stand, so that a walk over all lines, in order, searches for none.
 //!
 //! A contract sees each end as all that ever went through it: what was offered, received, pushed and
-//! taken. Where both ends of a ring meet, `laws::left_in` and `laws::left_out` say that what went in at
+//! taken, and what is known to be in the ring. An offer comes back only where no place is known to be
+//! free, and nothing is taken or received only where nothing is known to be there. Where both ends of a ring meet, `laws::left_in` and `laws::left_out` say that what went in at
 //! one is what came out at the other and then what lies between, in order, each once.
 //!
 //! ```
@@ -19,9 +21,9 @@
 //! let mut lines = Lines::new(rt.alloc());
 //! let (mut inlet, mut outlet) = lines.attach(rt.alloc(), dest)?;
 //! assert!(rt; inlet.offer(Inbound::Gone).is_ok());
-//! assert!(rt; lines.receive(dest).is_some());
-//! assert_eq!(rt; lines.room(dest), RING_SIZE);
-//! lines.push_all(dest, vec![in rt.alloc(); out]?);
+//! assert!(rt; lines.receive(dest, 0).is_some());
+//! assert_eq!(rt; lines.room(dest, 0), RING_SIZE);
+//! lines.push_all(dest, 0, vec![in rt.alloc(); out]?);
 //! assert!(rt; outlet.next().is_some());
 //! assert!(rt; lines.retire(dest).is_some());
 //! assert_eq!(rt; lines.len(), 0);

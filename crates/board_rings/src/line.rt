@@ -23,8 +23,8 @@ pub struct Line {
 }
 
 impl Model for Line {
-    ghost use Rattle.std.specs.Prelude.{◌≡◌};
-    ghost use Rattle.rtrb.specs.Ring.{sent, received, known_free, producer_capacity};
+    ghost use Rattle.std.specs.Prelude.{◌≡◌, length};
+    ghost use Rattle.rtrb.specs.Ring.{sent, received, known_free, known_items, producer_capacity, consumer_capacity};
     ghost use Rattle.board_rings.specs.declared.line.TheConstants.{RING_SIZE};
     ghost use Rattle.board_rings.specs.Rings.{LineState, ring_of};
 
@@ -39,22 +39,24 @@ impl Model for Line {
         pushed = sent l.write;
       };
       free = known_free l.write;
+      seen = length (known_items l.read);
     } };
 
-    ghost invariant = { λ l. producer_capacity l.write ≡ RING_SIZE };
+    ghost invariant = { λ l. (producer_capacity l.write ≡ RING_SIZE) × (consumer_capacity l.read ≡ RING_SIZE) };
 }
 
 impl Line {
     /// Makes both rings of a connection.
     pub(crate) fn open(alloc: Global, dest: Dest) -> Result<(Line, Inlet, Outlet), AllocError>
-        ensures offered { IfOk result (λ r. r.1.offered ≡ []) }
-        ensures taken { IfOk result (λ r. r.2.taken ≡ []) }
+        ensures offered { IfOk result (λ r. (r.1.offered ≡ []) × (r.1.free ≡ RING_SIZE)) }
+        ensures taken { IfOk result (λ r. (r.2.taken ≡ []) × (r.2.seen ≡ [])) }
         ensures line { IfOk result (λ r. r.0 ≡ new_line dest r.1.ring r.2.ring RING_SIZE) }
     {
         let (inward, read) = RingBuffer::new(alloc, RING_SIZE)?;
         let (write, outward) = RingBuffer::new(alloc, RING_SIZE)?;
         let line = Line { dest, read, write };
-        Ok((line, Inlet { ring: inward }, Outlet { ring: outward }))
+        let inlet = Inlet { ring: inward, dest };
+        Ok((line, inlet, Outlet { ring: outward }))
     }
 
     /// Whose line it is.
@@ -71,12 +73,20 @@ impl Line {
         self.dest == dest
     }
 
-    /// Receives one item, if one is there.
-    pub(crate) fn receive(&mut self) -> Option<Inbound>
-        ensures some { IfSome result (λ item. self.new ≡ with_received item self.old) }
+    /// Receives one item, and tells how many are seen to follow. There is none only where the ring was
+    /// found empty.
+    pub(crate) fn receive(&mut self) -> Option<(Inbound, usize)>
+        ensures some { IfSome result (λ r. self.new ≡ with_received r.0 r.1 self.old) }
         ensures none { IsNone result → self.new ≡ self.old }
+        ensures nothing { IsNone result → self.old.seen ≡ 0 }
     {
-        self.read.pop().ok()
+        match self.read.pop() {
+            Ok(item) => {
+                let seen = self.read.slots();
+                Some((item, seen))
+            }
+            Err(_) => None,
+        }
     }
 
     /// How many places of the ring out are free now.

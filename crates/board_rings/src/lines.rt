@@ -4,12 +4,12 @@ ghost use Rattle.std.specs.List.{filter, position};
 ghost use Rattle.std.specs.Option.{option_map};
 ghost use Rattle.rows.specs.Rows.{change_first};
 ghost use Rattle.board_rings.specs.Rings.{LineState};
-ghost use Rattle.board_rings.specs.Lines.{are_in_order, is_attached, is_line, is_not_line, line_of, new_line, with_free, with_pushed, with_received, IsWith};
+ghost use Rattle.board_rings.specs.Lines.{are_in_order, is_attached, is_line, is_not_line, line_of, new_line, with_free, with_pushed, with_received, IsWith, SeesNothing};
 
 use crate::ends::{Ends, Inlet, Outlet};
 use crate::inbound::Inbound;
 use crate::line::{Line, RING_SIZE};
-use crate::places::{place_for, place_of};
+use crate::places::{place_for, place_near, place_of};
 use fanout::Out;
 use gateway_state::Dest;
 use std::alloc::{AllocError, Global};
@@ -85,8 +85,8 @@ impl Lines {
     pub fn attach(&mut self, alloc: Global, dest: Dest) -> Result<(Inlet, Outlet), AllocError>
         requires new { is_attached dest self.old ≡ false }
         ensures ok { IfOk result (λ ends. IsWith (new_line dest ends.0.ring ends.1.ring RING_SIZE) self.old self.new) }
-        ensures offered { IfOk result (λ ends. ends.0.offered ≡ []) }
-        ensures taken { IfOk result (λ ends. ends.1.taken ≡ []) }
+        ensures offered { IfOk result (λ ends. (ends.0.offered ≡ []) × (ends.0.free ≡ RING_SIZE)) }
+        ensures taken { IfOk result (λ ends. (ends.1.taken ≡ []) × (ends.1.seen ≡ [])) }
         ensures err { OnErr result (self.new ≡ self.old) }
     {
         self.rows.reserve(1)?;
@@ -95,32 +95,35 @@ impl Lines {
         Ok((inlet, outlet))
     }
 
-    /// Receives one item that a reader offered, if one is there.
-    pub fn receive(&mut self, dest: Dest) -> Option<Inbound>
-        ensures some { IfSome result (λ item. self.new ≡ change_first (is_line dest) (with_received item) self.old) }
+    /// Receives one item that a reader offered, and tells how many are seen to follow. There is none only
+    /// where the ring was found empty, or the connection isn't attached. The guess is where its line may
+    /// stand: a wrong one costs a search.
+    pub fn receive(&mut self, dest: Dest, guess: usize) -> Option<(Inbound, usize)>
+        ensures some { IfSome result (λ r. self.new ≡ change_first (is_line dest) (with_received r.0 r.1) self.old) }
         ensures there { IsSome result → is_attached dest self.old ≡ true }
         ensures none { IsNone result → self.new ≡ self.old }
+        ensures nothing { IsNone result → SeesNothing dest self.old }
     {
-        receive(&mut self.rows, dest)
+        receive(&mut self.rows, dest, guess)
     }
 
     /// How many places of the ring out are free now, 0 where the connection isn't attached.
-    pub fn room(&mut self, dest: Dest) -> usize
+    pub fn room(&mut self, dest: Dest, guess: usize) -> usize
         ensures found { self.new ≡ change_first (is_line dest) (with_free result) self.old }
         ensures none { is_attached dest self.old ≡ false → result ≡ 0 }
         ensures more { (line : LineState) → line_of dest self.old ≡ Some line → line.free ≤ result }
         ensures most { result ≤ RING_SIZE }
     {
-        room(&mut self.rows, dest)
+        room(&mut self.rows, dest, guess)
     }
 
     /// Pushes messages for which there is room, in order. Where the connection isn't attached, they are
     /// dropped.
-    pub fn push_all(&mut self, dest: Dest, outs: Vec<Out>)
+    pub fn push_all(&mut self, dest: Dest, guess: usize, outs: Vec<Out>)
         requires { (line : LineState) → line_of dest self.old ≡ Some line → length outs.items ≤ line.free }
         ensures { self.new ≡ change_first (is_line dest) (with_pushed outs.items) self.old }
     {
-        push_all(&mut self.rows, dest, outs);
+        push_all(&mut self.rows, dest, guess, outs);
     }
 
     /// Takes off the line of a connection, and gives up the board's ends.
@@ -143,27 +146,28 @@ fn add(rows: &mut Vec<Line>, line: Line)
     rows.insert(place, line).unwrap();
 }
 
-#[tactic(auto, using(rows::proofs::RowLemmas::set_is_change_first, crate::proofs::LineOrder::attached_there))]
-fn receive(rows: &mut Vec<Line>, dest: Dest) -> Option<Inbound>
+#[tactic(auto, using(rows::proofs::RowLemmas::set_is_change_first, crate::proofs::LineOrder::attached_there, crate::proofs::LineOrder::sees_nothing_at, crate::proofs::LineOrder::sees_nothing_nowhere))]
+fn receive(rows: &mut Vec<Line>, dest: Dest, guess: usize) -> Option<(Inbound, usize)>
     requires { are_in_order rows.old.items ≡ true }
-    ensures some { IfSome result (λ item. rows.new.items ≡ change_first (is_line dest) (with_received item) rows.old.items) }
+    ensures some { IfSome result (λ r. rows.new.items ≡ change_first (is_line dest) (with_received r.0 r.1) rows.old.items) }
     ensures there { IsSome result → is_attached dest rows.old.items ≡ true }
     ensures none { IsNone result → rows.new.items ≡ rows.old.items }
+    ensures nothing { IsNone result → SeesNothing dest rows.old.items }
 {
-    let place = place_of(rows, dest)?;
+    let place = place_near(rows, dest, guess)?;
     let line = &mut rows[place];
     line.receive()
 }
 
 #[tactic(auto, using(rows::proofs::RowLemmas::set_is_change_first, rows::proofs::RowLemmas::change_first_none, rows::proofs::RowLemmas::find_is_there, rows::proofs::RowLemmas::find_none, crate::proofs::LineOrder::attached_there))]
-fn room(rows: &mut Vec<Line>, dest: Dest) -> usize
+fn room(rows: &mut Vec<Line>, dest: Dest, guess: usize) -> usize
     requires { are_in_order rows.old.items ≡ true }
     ensures found { rows.new.items ≡ change_first (is_line dest) (with_free result) rows.old.items }
     ensures none { is_attached dest rows.old.items ≡ false → result ≡ 0 }
     ensures more { (line : LineState) → line_of dest rows.old.items ≡ Some line → line.free ≤ result }
     ensures most { result ≤ RING_SIZE }
 {
-    match place_of(rows, dest) {
+    match place_near(rows, dest, guess) {
         Some(place) => {
             let line = &mut rows[place];
             line.room()
@@ -173,12 +177,12 @@ fn room(rows: &mut Vec<Line>, dest: Dest) -> usize
 }
 
 #[tactic(auto, using(rows::proofs::RowLemmas::set_is_change_first, rows::proofs::RowLemmas::change_first_none, rows::proofs::RowLemmas::find_is_there))]
-fn push_all(rows: &mut Vec<Line>, dest: Dest, outs: Vec<Out>)
+fn push_all(rows: &mut Vec<Line>, dest: Dest, guess: usize, outs: Vec<Out>)
     requires order { are_in_order rows.old.items ≡ true }
     requires room { (line : LineState) → line_of dest rows.old.items ≡ Some line → length outs.items ≤ line.free }
     ensures { rows.new.items ≡ change_first (is_line dest) (with_pushed outs.items) rows.old.items }
 {
-    if let Some(place) = place_of(rows, dest) {
+    if let Some(place) = place_near(rows, dest, guess) {
         let line = &mut rows[place];
         line.push_all(outs);
     }

@@ -21,6 +21,19 @@ pub(crate) fn place_for(rows: &[Line], dest: Dest) -> usize
     rows.partition_point(|line| comes_before(line.dest(), dest))
 }
 
+/// The place of a connection's line, if it is attached. It is looked for at the guess first, whatever that
+/// is: a walk over all lines so finds each without a search.
+pub(crate) fn place_near(rows: &[Line], dest: Dest, guess: usize) -> Option<usize>
+    requires { are_in_order rows.now ≡ true }
+    ensures { result ≡ position (is_line dest) rows.now }
+{
+    if guess < rows.len() && rows[guess].is_of(dest) {
+        Some(guess)
+    } else {
+        place_of(rows, dest)
+    }
+}
+
 /// The place of a connection's line, if it is attached.
 pub(crate) fn place_of(rows: &[Line], dest: Dest) -> Option<usize>
     requires { are_in_order rows.now ≡ true }
