@@ -1,17 +1,39 @@
 //! The board under a lock, for all threads.
-ghost use Rattle.std.specs.Prelude.{◌≡◌, ◌↔◌, [], ◌∷◌, ◌++◌, OnOk, OnErr, IfOk, IfErr, IsErrOf, false};
+//!
+//! Why no wake-up is lost: whoever waits remembers the count of wakes from before its last try, and goes
+//! to sleep under the lock only while the count is still that one. Each change that could make a try
+//! succeed counts a wake under the lock, and then notifies whoever may wait for it:
+//!
+//! - **The core** waits for items and events. `wake` (which a reader calls after it put items), `desk`,
+//!   `attach` and `close` notify it. `take` does so where messages wait that found no place before.
+//! - **The keeper** (`pause`) is notified by the same calls, and by each turn that moved something.
+//! - **A writer** waits at its connection's seat until messages are pushed, or the connection ends. The
+//!   turn that pushed, or pumped the item by which it ended, notes the seat; the loss of a connection at
+//!   the desk does too. An outbox that is marked since it is full still has messages: they are pushed
+//!   first, and the writer looks at the end by itself once it took them all.
+//! - **A reader** waits at the same seat until its ring has places. It is full then, and nobody else fills
+//!   it: so the ring comes down through exactly half, where the turn notes the seat. It notes it at an
+//!   empty ring too.
+//! - Closing and a fault of the gateway notify all.
+//!
+//! Connections that share a seat wake each other for nothing, and look again.
+ghost use Rattle.std.specs.Prelude.{◌≡◌, ◌↔◌, ◌⊎◌, [], ◌∷◌, ◌++◌, OnOk, OnErr, IfOk, IfErr, IsErrOf, IsOk, false};
+ghost use Rattle.board_rings.specs.declared.line.TheConstants.{RING_SIZE};
 ghost use Rattle.board_history.specs.History.{is_for_desk};
 ghost use Rattle.gate_board.specs.Taking.{IsTaken};
 
-use crate::board::Board;
-use crate::fault::BoardFault;
+use board_moves::{Board, BoardFault, Kept, News, SEAT_WORDS, SEATS, Turn, seat_of};
 use board_rings::{Ends, Inbound, Inlet, Outlet};
-use gateway_core::{AskFault, Dest, Event, Failed, Out, SearchAnswer};
+use fanout::Out;
+use gate_calls::{AskFault, Failed, Gate};
+use gateway_state::{Dest, Event};
 use pv_name::{Host, Name};
+use pv_search::SearchAnswer;
+use std::array;
 use std::sync::{Condvar, Mutex, Wait};
 
-/// What [`Gate::take`] got.
-#[derive(Debug, Drop)]
+/// What [`GateOver::take`] got.
+#[derive(Drop)]
 pub enum Taken {
     /// The next message for the connection.
     Item(Out),
@@ -21,61 +43,32 @@ pub enum Taken {
     Stopped,
 }
 
-/// What [`Gate::turn`] came to.
-#[derive(Clone, Copy, Debug, PartialEq, Eq)]
-pub enum Turn {
-    /// A round moved something.
-    Moved,
-    /// The gate is closed.
+/// The board, a mark that the gate is closed, and a count of wakes, under a lock, and the seats to wait
+/// on. No call lends the board or puts another one in its place.
+#[derive(Drop)]
+pub struct GateOver<G: Gate + Drop> {
+    kept: Mutex<Kept<G>>,
+    core: Condvar,
+    paused: Condvar,
+    seats: [Condvar; SEATS],
+}
+
+// Why nothing comes any more for a connection.
+#[derive(Clone, Copy)]
+enum End {
+    None,
     Closed,
-    /// A round met a fault: the engine has failed.
-    Failed,
+    Stopped,
 }
 
-// What the lock keeps.
-#[derive(Drop)]
-struct Kept {
-    board: Board,
-    closed: bool,
-    // Counts wakes, so that a thread which remembers the count before it tries misses none.
-    wakes: u64,
-}
-
-impl Kept {
-    fn wake(&mut self) {
-        self.wakes = self.wakes.wrapping_add(1);
-    }
-
-    // Nothing will be moved any more.
-    fn has_stopped(&mut self) -> bool {
-        self.closed || self.board.is_open(Dest::Session(0)).is_err()
-    }
-
-    // The connection's messages come to an end: it doesn't stand, or must end.
-    fn is_over(&mut self, dest: Dest) -> bool {
-        let stands = matches!(self.board.is_open(dest), Ok(true));
-        !stands || matches!(self.board.must_end(dest), Ok(true))
-    }
-}
-
-/// The board, a mark that the gate is closed, and a count of wakes, under a lock. No call lends the board
-/// or puts another one in its place.
-#[derive(Drop)]
-pub struct Gate {
-    kept: Mutex<Kept>,
-    woken: Condvar,
-}
-
-impl Gate {
+impl<G: Gate + Drop> GateOver<G> {
     /// A gate that is open, for a board.
-    pub fn new(board: Board) -> Gate {
-        Gate {
-            kept: Mutex::new(Kept {
-                board,
-                closed: false,
-                wakes: 0,
-            }),
-            woken: Condvar::new(),
+    pub fn new(board: Board<G>) -> GateOver<G> {
+        GateOver {
+            kept: Mutex::new(Kept::new(board)),
+            core: Condvar::new(),
+            paused: Condvar::new(),
+            seats: array::from_fn(|_| Condvar::new()),
         }
     }
 
@@ -84,28 +77,33 @@ impl Gate {
         ensures not_here { IsErrOf result BoardFault.NotHere ↔ (is_for_desk event ≡ false) }
     {
         let mut kept = self.kept.lock(rt);
-        let answer = kept.board.desk(event);
-        kept.wake();
+        let answer = kept.desk(event);
+        let news = kept.take_news();
         drop(kept);
-        self.woken.notify_all();
+        if matches!(answer, Err(BoardFault::Step(_))) {
+            self.notify_all();
+        } else {
+            self.notify_core();
+            self.notify_seats(&news);
+        }
         answer
     }
 
     /// Gives a connection two rings, and wakes.
     pub fn attach<R: Wait>(&self, rt: &R, dest: Dest) -> Result<(Inlet, Outlet), BoardFault>
-        ensures { IfOk result (λ r. (r.0.offered ≡ []) × (r.1.taken ≡ [])) }
+        ensures empty { IfOk result (λ r. (r.0.offered ≡ []) × (r.0.free ≡ RING_SIZE) × (r.1.taken ≡ []) × (r.1.seen ≡ [])) }
+        ensures cause { IsErrOf result BoardFault.Attached ⊎ IsErrOf result BoardFault.OutOfMemory ⊎ IsOk result }
     {
         let mut kept = self.kept.lock(rt);
-        let answer = kept.board.attach(dest);
-        kept.wake();
+        let answer = kept.attach(dest);
         drop(kept);
-        self.woken.notify_all();
+        self.notify_core();
         answer
     }
 
     /// Takes the board's ends of a connection's rings off.
     pub fn retire<R: Wait>(&self, rt: &R, dest: Dest) -> Option<Ends> {
-        self.kept.lock(rt).board.retire(dest)
+        self.kept.lock(rt).retire(dest)
     }
 
     /// What a client's datagram from this host comes to.
@@ -115,61 +113,105 @@ impl Gate {
         host: &Host,
         datagram: &[u8],
     ) -> Result<SearchAnswer, AskFault> {
-        self.kept.lock(rt).board.search(host, datagram)
+        self.kept.lock(rt).search(host, datagram)
     }
 
     /// The names to ask servers for.
     pub fn asks<R: Wait>(&self, rt: &R) -> Result<Vec<Name>, AskFault> {
-        self.kept.lock(rt).board.asks()
+        self.kept.lock(rt).asks()
     }
 
     /// Whether the connection stands.
     pub fn is_open<R: Wait>(&self, rt: &R, dest: Dest) -> Result<bool, Failed> {
-        self.kept.lock(rt).board.is_open(dest)
+        self.kept.lock(rt).is_open(dest)
     }
 
     /// Whether the connection stands and must end.
     pub fn must_end<R: Wait>(&self, rt: &R, dest: Dest) -> Result<bool, Failed> {
-        self.kept.lock(rt).board.must_end(dest)
+        self.kept.lock(rt).must_end(dest)
     }
 
-    /// Closes the gate for good, and wakes.
+    /// Closes the gate for good, and wakes all.
     pub fn close<R: Wait>(&self, rt: &R) {
-        let mut kept = self.kept.lock(rt);
-        kept.closed = true;
-        kept.wake();
-        drop(kept);
-        self.woken.notify_all();
+        self.kept.lock(rt).close();
+        self.notify_all();
     }
 
-    /// Wakes all that wait. It answers false where the gate is closed or the engine has failed.
+    /// Wakes the core and whoever pauses. It answers false where the gate is closed or the engine has
+    /// failed.
     pub fn wake<R: Wait>(&self, rt: &R) -> bool {
         let mut kept = self.kept.lock(rt);
         let goes_on = !kept.has_stopped();
         kept.wake();
         drop(kept);
-        self.woken.notify_all();
+        self.notify_core();
         goes_on
     }
 
     /// Waits while the count of wakes is this one, and answers the count.
     pub fn pause<R: Wait>(&self, rt: &R, seen: u64) -> u64 {
         let kept = self.kept.lock(rt);
-        let kept = self.woken.wait_while(rt, kept, |kept| kept.wakes == seen);
-        kept.wakes
+        let kept = self
+            .paused
+            .wait_while(rt, kept, |kept| kept.wakes() == seen);
+        kept.wakes()
     }
 
     // The count of wakes.
     fn count<R: Wait>(&self, rt: &R) -> u64 {
-        self.kept.lock(rt).wakes
+        self.kept.lock(rt).wakes()
+    }
+
+    // The core, and whoever pauses.
+    fn notify_core(&self) {
+        self.core.notify_all();
+        self.paused.notify_all();
+    }
+
+    fn notify_seats(&self, news: &News) {
+        for n in 0..SEAT_WORDS {
+            let word = news.word(n);
+            if word != 0 {
+                self.notify_word(n, word);
+            }
+        }
+    }
+
+    // Those of the n-th 64 seats whose bits are set.
+    fn notify_word(&self, n: usize, word: u64) {
+        for bit in 0..64usize {
+            if word & (1u64 << bit) != 0 {
+                let place = n.saturating_mul(64).saturating_add(bit);
+                if let Some(seat) = self.seats.get(place) {
+                    seat.notify_all();
+                }
+            }
+        }
+    }
+
+    fn notify_all(&self) {
+        self.notify_core();
+        for seat in &self.seats {
+            seat.notify_all();
+        }
+    }
+
+    // The seat of a connection.
+    fn seat(&self, dest: Dest) -> &Condvar {
+        match self.seats.get(seat_of(dest)) {
+            Some(seat) => seat,
+            None => &self.paused,
+        }
     }
 
     /// Offers an item, and waits for a place where there is none. The item comes back where the gate is
     /// closed or the engine has failed.
     pub fn put<R: Wait>(&self, rt: &R, inlet: &mut Inlet, item: Inbound) -> Result<(), Inbound>
-        ensures ok { OnOk result (inlet.new ≡ record inlet.old { offered = inlet.old.offered ++ item ∷ [] }) }
+        ensures ok { OnOk result (inlet.new.offered ≡ inlet.old.offered ++ item ∷ []) }
         ensures err { IfErr result (λ back. back ≡ item) }
         ensures same { OnErr result (inlet.new ≡ inlet.old) }
+        ensures full { OnErr result (inlet.new.free ≡ 0) }
+        ensures ring { inlet.new.ring ≡ inlet.old.ring }
     {
         let mut item = match inlet.offer(item) {
             Ok(()) => return Ok(()),
@@ -182,21 +224,23 @@ impl Gate {
                 Ok(()) => return Ok(()),
                 Err(back) => back,
             };
-            if self.waits_in_vain(rt, seen) {
+            if self.waits_in_vain(rt, inlet.dest(), seen) {
                 return Err(item);
             }
         }
         unreachable!()
     }
 
-    // Waits while the count of wakes is this one. True where the gate is closed or the engine has failed,
-    // without waiting.
-    fn waits_in_vain<R: Wait>(&self, rt: &R, seen: u64) -> bool {
+    // Waits at a connection's seat while the count of wakes is this one. True where the gate is closed or
+    // the engine has failed, without waiting.
+    fn waits_in_vain<R: Wait>(&self, rt: &R, dest: Dest, seen: u64) -> bool {
         let mut kept = self.kept.lock(rt);
         if kept.has_stopped() {
             return true;
         }
-        let _woken = self.woken.wait_while(rt, kept, |kept| kept.wakes == seen);
+        let _woken = self
+            .seat(dest)
+            .wait_while(rt, kept, |kept| kept.wakes() == seen);
         false
     }
 
@@ -207,11 +251,11 @@ impl Gate {
         if let Some(out) = outlet.next() {
             return Taken::Item(out);
         }
-        self.wake(rt);
+        self.ask_for_more(rt, dest);
         for _ in rt.forever() {
             let seen = self.count(rt);
-            if let Some(out) = outlet.next() {
-                return Taken::Item(out);
+            if let Some(message) = outlet.next() {
+                return Taken::Item(message);
             }
             match self.end_of(rt, dest, seen) {
                 End::None => (),
@@ -222,7 +266,18 @@ impl Gate {
         unreachable!()
     }
 
-    // Whether nothing comes any more for the connection; else it waits while the count of wakes is this one.
+    // Wakes the core where messages wait for the connection: its ring was full when the core looked.
+    fn ask_for_more<R: Wait>(&self, rt: &R, dest: Dest) {
+        let mut kept = self.kept.lock(rt);
+        if kept.has_waiting(dest) {
+            kept.wake();
+            drop(kept);
+            self.core.notify_all();
+        }
+    }
+
+    // Whether nothing comes any more for the connection; else it waits at the connection's seat while the
+    // count of wakes is this one.
     fn end_of<R: Wait>(&self, rt: &R, dest: Dest, seen: u64) -> End {
         let mut kept = self.kept.lock(rt);
         if kept.has_stopped() {
@@ -231,50 +286,41 @@ impl Gate {
         if kept.is_over(dest) {
             return End::Closed;
         }
-        let _woken = self.woken.wait_while(rt, kept, |kept| kept.wakes == seen);
+        let _woken = self
+            .seat(dest)
+            .wait_while(rt, kept, |kept| kept.wakes() == seen);
         End::None
     }
 
     /// Performs rounds until one moves something or meets a fault, or the gate is closed, which is looked
-    /// at before each. It waits between two, and wakes before it answers.
+    /// at before each. It waits between two, and notifies before it answers.
     pub fn turn<R: Wait>(&self, rt: &R) -> Turn {
         for _ in rt.forever() {
             let mut kept = self.kept.lock(rt);
             match kept.try_turn() {
                 Some(turn) => {
-                    kept.wake();
+                    let news = kept.take_news();
                     drop(kept);
-                    self.woken.notify_all();
+                    self.notify_of(turn, &news);
                     return turn;
                 }
                 None => {
-                    let seen = kept.wakes;
-                    let _woken = self.woken.wait_while(rt, kept, |kept| kept.wakes == seen);
+                    let seen = kept.wakes();
+                    let _woken = self.core.wait_while(rt, kept, |kept| kept.wakes() == seen);
                 }
             }
         }
         unreachable!()
     }
-}
 
-// Why nothing comes any more for a connection.
-#[derive(Clone, Copy)]
-enum End {
-    None,
-    Closed,
-    Stopped,
-}
-
-impl Kept {
-    // One round, unless the gate is closed. None where it moved nothing.
-    fn try_turn(&mut self) -> Option<Turn> {
-        if self.closed {
-            return Some(Turn::Closed);
-        }
-        match self.board.round() {
-            Ok(0) => None,
-            Ok(_) => Some(Turn::Moved),
-            Err(_) => Some(Turn::Failed),
+    // Whom a turn concerns.
+    fn notify_of(&self, turn: Turn, news: &News) {
+        match turn {
+            Turn::Moved => {
+                self.paused.notify_all();
+                self.notify_seats(news);
+            }
+            Turn::Closed | Turn::Failed => self.notify_all(),
         }
     }
 }

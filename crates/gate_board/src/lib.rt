@@ -2,27 +2,23 @@
 //!
 //! A connection's reader offers what comes from its peer into a ring ([`Inlet`]), its writer takes what
 //! goes to the peer out of another ([`Outlet`]); neither waits for the other, nor for the engine. The
-//! [`Board`] has the other ends of both. It alone moves items between rings and engine, each as one event:
+//! [`Board`] has the other ends of both, and alone moves items between rings and engine (`board_moves`).
 //!
-//! - [`Board::attach`] gives a connection its rings, [`Board::retire`] takes the board's ends off;
-//! - [`Board::pump`] receives one item and performs its event, [`Board::send_out`] takes messages of the
-//!   connection and pushes them, [`Board::round`] does both for all connections in order;
-//! - [`Board::desk`] performs an event that comes through no ring.
-//!
-//! Whatever was called, the board has a history (`board_history`): its rows are those of a run of the
-//! events of the history's entries, and what went through each ring is what the history says.
-//!
-//! [`Gate`] is the board under a lock, with a mark that it is closed and a count of wakes. Its calls lock
-//! the board for one board call each; `put`, `take` and `turn` try, and wait between two tries.
+//! [`Gate`] is the board under a lock, with a mark that it is closed, a count of wakes, and a seat to wait
+//! on for each connection. Each call locks, makes one call of what stands under the lock
+//! (`board_moves::Kept`, whose methods have the board's clauses), unlocks and notifies; `put`, `take` and
+//! `turn` try, and wait between two tries.
 #![tactic(auto)]
 
-mod board;
-mod fault;
 mod gate;
-mod moves;
-mod rounds;
 
-pub use board::Board;
+pub use board_moves::{BoardFault, Turn};
 pub use board_rings::{Ends, Inbound, Inlet, Outlet, RING_SIZE, laws};
-pub use fault::BoardFault;
-pub use gate::{Gate, Taken, Turn};
+pub use gate::{GateOver, Taken};
+use gateway_core::Engine;
+
+/// The board of the gateway's engine.
+pub type Board = board_moves::Board<Engine>;
+
+/// The gate of that board.
+pub type Gate = GateOver<Engine>;

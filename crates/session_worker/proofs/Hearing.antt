@@ -13,7 +13,7 @@ use Rattle.ca_header.specs.declared.reading.Front.TheVariants as fronts
 use Rattle.ca_header.proofs.Fields.{IsBytes-drop}
 use Rattle.ca_header.proofs.Fronts.{faulty-front_at, partial-front_at}
 use Rattle.ca_header.proofs.Messages.{cut-front_at}
-use Rattle.session_worker.specs.Links.{HasRisen}
+use Rattle.session_links.specs.Links.{HasRisen}
 use Rattle.session_worker.specs.Serving.{AreOf, as_items, GoesOn, Hears, IsServedIn, IsStuck, IsWhy, last_item, Offers, Standing, Stops}
 use Rattle.session_worker.specs.declared.reader.InEnd.{InEnd}
 use Rattle.session_worker.specs.declared.reader.InEnd.TheVariants as ends

@@ -1,4 +1,2 @@
 mod Hearing
-mod Keeping
-mod Pieces
 mod Sending

@@ -1,4 +1,2 @@
-pub mod Links
-pub mod Memory
 pub mod Serving
 pub mod Sending

@@ -1,8 +1,11 @@
 -- What a writer has taken and written.
-use Rattle.std.specs.Prelude.{◌≡◌, ℕ, ◌+◌, ◌≤◌, min, Bool, true, false, List, [], ◌∷◌, ◌++◌, length, Option}
+use Rattle.std.specs.Prelude.{◌≡◌, ℕ, min, Bool, List, [], ◌∷◌, ◌++◌, length, Option}
 use Rattle.std.specs.Io.KnownBytes.{Appends}
 use Rattle.fanout.specs.declared.outbox.Out.{Out}
-use Rattle.session_worker.specs.Links.{HasRisen}
+use Rattle.session_links.specs.Links.{HasRisen}
+use Rattle.session_links.specs.Writing.{BufferState, IsWritten, most_counted, Progress}
+use Rattle.gate_board.specs.declared.gate.Taken.{Taken}
+use Rattle.gate_board.specs.declared.gate.Taken.TheVariants as takes
 use Rattle.session_worker.specs.declared.writer.OutEnd.{OutEnd}
 use Rattle.session_worker.specs.declared.writer.OutEnd.TheVariants.{Closed, WriteFault, GateFailed}
 
@@ -15,30 +18,29 @@ abbrev pub texts_of : List Out → List ℕ
 texts_of [] = []
 texts_of (out ∷ outs) = text_of out ++ texts_of outs
 
--- the largest u128
-abbrev pub most_counted : ℕ
-most_counted = 340282366920938463463374607431768211455
+-- what was taken has the message last; without one it is the same
+abbrev pub Takes : Taken → List Out → List Out → Type 0
+Takes (takes.Item out) taken taken_now = taken_now ≡ taken ++ out ∷ []
+Takes takes.Closed taken taken_now = taken_now ≡ taken
+Takes takes.Stopped taken taken_now = taken_now ≡ taken
 
--- how far bytes are written: those that the link was written, where they are known, how many calls of it
--- have failed, and how many bytes were counted, up to the largest that can be
-pub record Progress : Type 0 where
+-- how far a writer is: the bytes that its link was written, where they are known, how many calls of it
+-- have failed, what was taken, and the buffer that gathers its text
+pub record Sending : Type 0 where
   pub written : Option (List ℕ)
   pub failed : ℕ
-  pub count : ℕ
+  pub taken : List Out
+  pub buffer : BufferState
 
--- nothing is left to write, or a call has failed
-abbrev pub IsUpTo : Bool → List ℕ → Progress → Progress → Type 0
-IsUpTo true left old new = (left ≡ []) × (new.failed ≡ old.failed)
-IsUpTo false left old new = HasRisen old.failed new.failed
+abbrev pub progress_of : Sending → Progress
+progress_of s = record { written = s.written; failed = s.failed; count = s.buffer.count }
 
--- the bytes were written as far as that, and counted
-pub record IsWritten (all : Bool) (bytes : List ℕ) (old new : Progress) : Type 0 where
-  pub part : List ℕ
-  pub left : List ℕ
-  pub parts : bytes ≡ part ++ left
-  pub written : Appends old.written new.written part
-  pub counted : old.count ≤ most_counted → new.count ≡ min (old.count + length part) most_counted
-  pub so_far : IsUpTo all left old new
+-- messages were taken; of what was held and then of their text a first part was written, and the rest is
+-- held, unless a call of the link has failed
+pub record Sends (fine : Bool) (old new : Sending) : Type 0 where
+  pub outs : List Out
+  pub taken : new.taken ≡ old.taken ++ outs
+  pub text : IsWritten fine (old.buffer.held ++ texts_of outs) new.buffer.held (progress_of old) (progress_of new)
 
 -- what a writer stands on: the bytes that its link was written, where they are known, how many calls of it
 -- have failed, and what was taken

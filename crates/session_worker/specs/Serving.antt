@@ -7,7 +7,7 @@ use Rattle.ca_header.specs.Reading.{front_at}
 use Rattle.ca_header.specs.Spelling.{AreSpelled, IsBytes}
 use Rattle.ca_header.specs.declared.header.Message.{Message}
 use Rattle.ca_header.specs.declared.reading.Front.TheVariants as fronts
-use Rattle.session_worker.specs.Links.{HasRisen}
+use Rattle.session_links.specs.Links.{HasRisen}
 use Rattle.session_worker.specs.declared.reader.Heard.{Heard}
 use Rattle.session_worker.specs.declared.reader.Heard.TheVariants.{More, End}
 use Rattle.session_worker.specs.declared.reader.InEnd.{InEnd}

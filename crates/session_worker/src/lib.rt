@@ -6,7 +6,7 @@
 //! - [`serve_in`] reads a link to its end. It hands each whole message over to the board by the
 //!   connection's [`Inlet`](gate_board::Inlet), in order, each once, and then that the connection is gone.
 //! - [`serve_out`] takes what goes to the peer by the connection's [`Outlet`](gate_board::Outlet), and
-//!   writes it whole, message by message.
+//!   writes it whole and in order; what is there at once is written at once.
 //! - [`serve_core`] has the [`Gate`](gate_board::Gate) perform its rounds until it is closed or fails.
 //!
 //! The first two wait at the gate where their ring is full or empty. [`MemoryLink`] is a link over bytes in
@@ -19,14 +19,11 @@
 //! ```
 #![tactic(auto)]
 
-mod link;
-mod memory;
 mod reader;
 mod rounds;
 mod writer;
 
-pub use link::{Link, LinkFault};
-pub use memory::MemoryLink;
 pub use reader::{InEnd, serve_in};
 pub use rounds::{CoreEnd, serve_core};
+pub use session_links::{Link, LinkFault, MemoryLink};
 pub use writer::{OutEnd, serve_out};

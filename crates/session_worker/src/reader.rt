@@ -6,16 +6,16 @@ ghost use Rattle.ca_header.specs.Spelling.{IsBytes};
 ghost use Rattle.ca_header.specs.declared.reading.Front.{Front};
 ghost use Rattle.session_worker.specs.Serving.{IsHeard, IsOffered, IsServedIn, Stops};
 
-use crate::link::Link;
 use board_rings::{Inbound, Inlet};
 use ca_header::{FrameFault, Intake, IntakeFault};
 use gate_board::Gate;
 use gateway_state::Dest;
+use session_links::Link;
 use std::alloc::Global;
 use std::sync::Wait;
 
 /// How many bytes are read at once, at most.
-const PIECE_SIZE: usize = 4_096;
+const PIECE_SIZE: usize = 16_384;
 
 /// Why a reader ended.
 #[derive(Clone, Copy, Debug, PartialEq, Eq)]
@@ -42,8 +42,9 @@ enum Heard {
 
 // Offers an item, and waits for a place where there is none. False where nothing is moved any more.
 fn hand_over<R: Wait>(rt: &R, inlet: &mut Inlet, gate: &Gate, item: Inbound) -> bool
-    ensures some { IsTrue result → inlet.new ≡ record inlet.old { offered = inlet.old.offered ++ item ∷ [] } }
-    ensures none { IsFalse result → inlet.new ≡ inlet.old }
+    ensures some { IsTrue result → inlet.new.offered ≡ inlet.old.offered ++ item ∷ [] }
+    ensures none { IsFalse result → inlet.new.offered ≡ inlet.old.offered }
+    ensures ring { inlet.new.ring ≡ inlet.old.ring }
 {
     match inlet.offer(item) {
         Ok(()) => true,

@@ -1,14 +1,14 @@
 //! From the board to a connection.
-ghost use Rattle.std.specs.Prelude.{◌≡◌, length};
+ghost use Rattle.std.specs.Prelude.{◌≡◌, ◌++◌, [], is_ok, OnOk};
 ghost use Rattle.std.specs.Io.KnownBytes.{Keeps};
-ghost use Rattle.session_worker.specs.Sending.{IsServedOut, IsWritten, text_of};
-ghost use Rattle.gate_board.specs.Taking.{IsTaken};
+ghost use Rattle.session_links.specs.Writing.{IsWritten};
+ghost use Rattle.session_worker.specs.Sending.{IsServedOut, Sends, Takes, text_of};
 
-use crate::link::Link;
-use board_rings::Outlet;
+use board_rings::{Outlet, RING_SIZE};
 use fanout::Out;
 use gate_board::{Gate, Taken};
 use gateway_state::Dest;
+use session_links::{Link, LinkFault, OutBuffer};
 use std::sync::Wait;
 
 /// Why a writer ended.
@@ -22,50 +22,76 @@ pub enum OutEnd {
     GateFailed,
 }
 
-// Writes the bytes, and counts what was written. False where the link failed.
-fn write_all<L: Link>(link: &mut L, bytes: &[u8], written: &mut u128) -> bool
-    ensures written { IsWritten result bytes.now
-        (record { written = L.written link.old; failed = L.failed link.old; count = written.old })
-        (record { written = L.written link.new; failed = L.failed link.new; count = written.new }) }
+// Puts a message's text into the buffer: its header, and then its payload.
+fn put_out<L: Link>(link: &mut L, buffer: &mut OutBuffer, out: &Out) -> Result<(), LinkFault>
+    ensures written { IsWritten (is_ok result) (buffer.old.held ++ text_of out.now) buffer.new.held
+        (record { written = L.written link.old; failed = L.failed link.old; count = buffer.old.count })
+        (record { written = L.written link.new; failed = L.failed link.new; count = buffer.new.count }) }
     ensures kept { Keeps (L.unread link.old) (L.unread link.new) }
 {
-    let mut at = 0;
-    while at < bytes.len() {
-        let count = match link.write_piece(&bytes[at..]) {
-            Ok(count) => count,
-            Err(_) => return false,
+    match buffer.put(link, out.head.as_slice()) {
+        Ok(()) => (),
+        Err(fault) => return Err(fault),
+    }
+    buffer.put(link, out.payload.as_slice())
+}
+
+// Takes the messages that are there, a ring full of them at most, and puts them into the buffer.
+fn put_waiting<L: Link>(
+    link: &mut L,
+    buffer: &mut OutBuffer,
+    outlet: &mut Outlet,
+) -> Result<(), LinkFault>
+    ensures sent { Sends (is_ok result)
+        (record { written = L.written link.old; failed = L.failed link.old; taken = outlet.old.taken; buffer = buffer.old })
+        (record { written = L.written link.new; failed = L.failed link.new; taken = outlet.new.taken; buffer = buffer.new }) }
+    ensures kept { Keeps (L.unread link.old) (L.unread link.new) }
+    ensures ring { outlet.new.ring ≡ outlet.old.ring }
+{
+    for _ in 0..RING_SIZE {
+        let out = match outlet.next() {
+            Some(out) => out,
+            None => return Ok(()),
         };
-        at += count;
-        *written = written.saturating_add(count as u128);
+        match put_out(link, buffer, &out) {
+            Ok(()) => (),
+            Err(fault) => return Err(fault),
+        }
     }
-    true
+    Ok(())
 }
 
-// Writes a message: its header, and then its payload. False where the link failed.
-fn write_out<L: Link>(link: &mut L, out: &Out, written: &mut u128) -> bool
-    ensures written { IsWritten result (text_of out.now)
-        (record { written = L.written link.old; failed = L.failed link.old; count = written.old })
-        (record { written = L.written link.new; failed = L.failed link.new; count = written.new }) }
+// Takes the messages that are there, and writes all that was taken.
+fn write_waiting<L: Link>(
+    link: &mut L,
+    buffer: &mut OutBuffer,
+    outlet: &mut Outlet,
+) -> Result<(), LinkFault>
+    ensures sent { Sends (is_ok result)
+        (record { written = L.written link.old; failed = L.failed link.old; taken = outlet.old.taken; buffer = buffer.old })
+        (record { written = L.written link.new; failed = L.failed link.new; taken = outlet.new.taken; buffer = buffer.new }) }
+    ensures none { OnOk result (buffer.new.held ≡ []) }
     ensures kept { Keeps (L.unread link.old) (L.unread link.new) }
+    ensures ring { outlet.new.ring ≡ outlet.old.ring }
 {
-    if !write_all(link, out.head.as_slice(), written) {
-        return false;
+    match put_waiting(link, buffer, outlet) {
+        Ok(()) => (),
+        Err(fault) => return Err(fault),
     }
-    write_all(link, out.payload.as_slice(), written)
+    buffer.flush(link)
 }
 
-// The next message for the connection; it waits for one where there is none.
-fn next_out<R: Wait>(rt: &R, outlet: &mut Outlet, gate: &Gate, dest: Dest) -> Taken
-    ensures { IsTaken outlet.old result outlet.new }
+// Waits for the next message.
+fn wait_for_out<R: Wait>(rt: &R, outlet: &mut Outlet, gate: &Gate, dest: Dest) -> Taken
+    ensures taken { Takes result outlet.old.taken outlet.new.taken }
+    ensures ring { outlet.new.ring ≡ outlet.old.ring }
 {
-    match outlet.next() {
-        Some(out) => Taken::Item(out),
-        None => gate.take(rt, outlet, dest),
-    }
+    gate.take(rt, outlet, dest)
 }
 
-/// Takes each message for a connection, and writes it: its header, and then its payload. It waits where
-/// the link does, or where no message is there.
+/// Takes each message for a connection, and writes it: its header, and then its payload. What is there at
+/// once is gathered and written at once. It waits where the link does, or where no message is there; then
+/// all that was taken is written.
 ///
 /// At `Closed` and `GateFailed` each message that was taken is written whole. At `WriteFault` the first of
 /// their bytes are written, so many as it says.
@@ -82,15 +108,20 @@ pub fn serve_out<L: Link, R: Wait>(
     ensures kept { Keeps (L.unread link.old) (L.unread link.new) }
     ensures ring { outlet.new.ring ≡ outlet.old.ring }
 {
-    let mut written = 0;
+    let mut buffer = OutBuffer::new();
     for _ in rt.forever() {
-        let out = match next_out(rt, outlet, gate, dest) {
+        match write_waiting(link, &mut buffer, outlet) {
+            Ok(()) => (),
+            Err(_) => return OutEnd::WriteFault(buffer.written()),
+        }
+        let out = match wait_for_out(rt, outlet, gate, dest) {
             Taken::Item(out) => out,
             Taken::Closed => return OutEnd::Closed,
             Taken::Stopped => return OutEnd::GateFailed,
         };
-        if !write_out(link, &out, &mut written) {
-            return OutEnd::WriteFault(written);
+        match put_out(link, &mut buffer, &out) {
+            Ok(()) => (),
+            Err(_) => return OutEnd::WriteFault(buffer.written()),
         }
     }
     unreachable!()

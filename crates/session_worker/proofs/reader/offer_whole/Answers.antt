@@ -1,9 +1,8 @@
-use Rattle.std.proofs.Common.{◌∙◌, Ok, Option, ap, subst}
+use Rattle.std.proofs.Common.{◌∙◌, Ok, Option, subst}
 use Rattle.ca_header.specs.Intake.{IsTake}
 use Rattle.ca_header.specs.Reading.{front_at}
 use Rattle.ca_header.specs.declared.header.Message.{Message}
 use Rattle.session_worker.proofs.Hearing.{taken_is_offered}
-use Rattle.board_rings.specs.Rings.{InletState}
 use Rattle.session_worker.proofs.reader.offer_whole.Goals as goal
 
 -- the message that was taken was offered
@@ -13,5 +12,5 @@ loop-preserved g c =
     let put = c.if-not-hand_over.ensures.some search in
     let more =
     taken_is_offered c.args.intake.now c.loop.intake c.take.new.self c.args.inlet.now.offered c.loop.inlet.offered c.hand_over.new.inlet.offered c.in-Ok-Some.message kept.1.0 kept.0
-    (subst (λ (found : Option Message). IsTake c.loop.intake (front_at c.loop.intake) (Ok found) c.take.new.self) c.in-Ok-Some.field-0-is c.in-Ok-Some.ensures) (ap (λ (i : InletState). i.offered) put) in
-    ((tt, tt), (more.offers, (more.fits, ap (λ (i : InletState). i.ring) put ∙ kept.1.1)))
+    (subst (λ (found : Option Message). IsTake c.loop.intake (front_at c.loop.intake) (Ok found) c.take.new.self) c.in-Ok-Some.field-0-is c.in-Ok-Some.ensures) put in
+    ((tt, tt), (more.offers, (more.fits, c.hand_over.ensures.ring ∙ kept.1.1)))

@@ -1,5 +1,4 @@
 use Rattle.std.proofs.Common.{◌∙◌, ◌++◌, List, refl, sym, ap}
-use Rattle.board_rings.specs.Rings.{InletState}
 use Rattle.board_rings.specs.declared.inbound.Inbound.{Inbound}
 use Rattle.session_worker.proofs.Hearing.{says_gone, served, served_no_more}
 use Rattle.session_worker.proofs.reader.serve_in.Goals as goal
@@ -10,10 +9,10 @@ returns-in-GateFailed-clause-served g c = served_no_more _ _ _ _ c.in-GateFailed
 -- the gate didn't take that the connection is gone
 pub returns-then-not-hand_over-clause-served : goal.returns-then-not-hand_over-clause-served
 returns-then-not-hand_over-clause-served g c =
-    served_no_more c.hear_all.result _ _ _ c.hear_all.ensures.stops (ap (λ (i : InletState). i.offered) (c.if-not-hand_over.ensures.none search))
+    served_no_more c.hear_all.result _ _ _ c.hear_all.ensures.stops (c.if-not-hand_over.ensures.none search)
 
 pub returns-clause-served : goal.returns-clause-served
 returns-clause-served g c =
     served c.hear_all.result _ _ _ c.hear_all.ensures.stops
-    (ap (λ (i : InletState). i.offered) (c.if-not-hand_over.ensures.some search)
+    ((c.if-not-hand_over.ensures.some search)
     ∙ ap (λ (xs : List Inbound). c.hear_all.new.inlet.offered ++ xs) (sym (says_gone c.hear_all.result c.in_default.not-GateFailed)))

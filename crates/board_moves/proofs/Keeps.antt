@@ -1,0 +1,94 @@
+-- Each call of a board leaves it with a history.
+use Rattle.std.proofs.Common.{◌≡◌, ℕ, List, [], ◌∷◌, Bool, true, false, Option, Some, None, Result, Ok, Err, inl, inr, filter, not, ◌||◌, if◌then◌else◌, refl, subst, sym, ap, ◌∙◌}
+use Rattle.std.specs.Prelude.{⊤, IfOk, OnErr}
+use Rattle.std.specs.List.{list_any}
+use Rattle.gate_calls.specs.declared.fault.StepFault.TheVariants as steps
+use Rattle.gateway_state.specs.Gateway.{Gateway}
+use Rattle.gateway_state.specs.declared.event.Dest.{Dest}
+use Rattle.gateway_state.specs.declared.event.Event.{Event}
+use Rattle.board_rings.specs.Lines.{is_attached, is_line, is_not_line, new_line, IsWith}
+use Rattle.board_rings.specs.Rings.{InletState, LineState, OutletState}
+use Rattle.board_rings.specs.declared.line.TheConstants.{RING_SIZE}
+use Rattle.board_history.specs.Board.{BoardState}
+use Rattle.board_history.specs.History.{HasHistory}
+use Rattle.board_history.proofs.Goes.{attached_has_history, desk_failed_has_history, desked_has_history, pump_failed_has_history, pumped_has_history, send_failed_has_history, retired_has_history, sent_has_history}
+use Rattle.board_moves.specs.Answers.{IsDesk, IsPump, IsSendOut}
+use Rattle.board_moves.specs.declared.rounds.Call.{Call}
+use Rattle.board_moves.specs.declared.rounds.Call.TheVariants.{Pump, SendOut}
+use Rattle.board_moves.specs.Rounds.{round_calls, IsRound, IsRoundOn, Performs, PerformsAll, PerformsUpTo}
+use Rattle.board_moves.specs.declared.fault.BoardFault.{BoardFault}
+use Rattle.board_moves.specs.declared.fault.BoardFault.TheVariants.{OutOfMemory, Attached, NotHere, Step}
+
+pub pump_keeps : (dest : Dest) (old : BoardState) (result : Result Bool BoardFault) (new : BoardState) → IsPump dest old result new → HasHistory old → HasHistory new
+pump_keeps dest old (Ok true) new p h = pumped_has_history dest p.0 old new h p.1
+pump_keeps dest old (Ok false) new p h = subst HasHistory (sym p.0) h
+pump_keeps dest old (Err (Step steps.OutOfMemory)) new p h = pump_failed_has_history dest p.0 old new h p.1
+pump_keeps dest old (Err (Step steps.NumbersUsedUp)) new p h = pump_failed_has_history dest p.0 old new h p.1.0
+pump_keeps dest old (Err (Step steps.Failed)) new p h = subst HasHistory (sym p.0) h
+pump_keeps dest old (Err OutOfMemory) new p h = absurd p
+pump_keeps dest old (Err Attached) new p h = absurd p
+pump_keeps dest old (Err NotHere) new p h = absurd p
+
+pub desk_keeps : (event : Event) (old : BoardState) (result : Result ⊤ BoardFault) (new : BoardState) → IsDesk event old result new → HasHistory old → HasHistory new
+desk_keeps event old (Ok done) new p h = desked_has_history event old new h p
+desk_keeps event old (Err NotHere) new p h = subst HasHistory (sym p.0) h
+desk_keeps event old (Err (Step steps.OutOfMemory)) new p h = desk_failed_has_history old new h p.0
+desk_keeps event old (Err (Step steps.NumbersUsedUp)) new p h = desk_failed_has_history old new h p.0
+desk_keeps event old (Err (Step steps.Failed)) new p h = subst HasHistory (sym p.0) h
+desk_keeps event old (Err OutOfMemory) new p h = absurd p
+desk_keeps event old (Err Attached) new p h = absurd p
+
+pub send_out_keeps : (dest : Dest) (old : BoardState) (result : Result ℕ BoardFault) (new : BoardState) → IsSendOut dest old result new → HasHistory old → HasHistory new
+send_out_keeps dest old (Ok count) new (inl p) h = subst HasHistory (sym p.1.same) h
+send_out_keeps dest old (Ok count) new (inr p) h = sent_has_history dest p.0 p.1.0 old new h p.1.1.1
+send_out_keeps dest old (Err (Step steps.OutOfMemory)) new p h = send_failed_has_history dest p.0 old new h p.1
+send_out_keeps dest old (Err (Step steps.NumbersUsedUp)) new p h = send_failed_has_history dest p.0 old new h p.1.0
+send_out_keeps dest old (Err (Step steps.Failed)) new p h = subst HasHistory (sym p.0) h
+send_out_keeps dest old (Err OutOfMemory) new p h = absurd p
+send_out_keeps dest old (Err Attached) new p h = absurd p
+send_out_keeps dest old (Err NotHere) new p h = absurd p
+
+performs_keeps : (call : Call) (old : BoardState) (answer : Result ℕ BoardFault) (new : BoardState) → Performs call old answer new → HasHistory old → HasHistory new
+performs_keeps (Pump dest) old answer new p h = pump_keeps dest old p.0 new p.1.0 h
+performs_keeps (SendOut dest) old answer new p h = send_out_keeps dest old answer new p h
+
+all_keep : (calls : List Call) (old : BoardState) (answer : Result ℕ BoardFault) (new : BoardState) → PerformsAll calls old answer new → HasHistory old → HasHistory new
+all_keep [] old answer new p h = subst HasHistory (sym p.1) h
+all_keep (call ∷ calls) old answer new (Ok count, (between, (one, rest))) h =
+    all_keep calls between rest.0 new rest.1.0 (performs_keeps call old (Ok count) between one h)
+all_keep (call ∷ calls) old answer new (Err fault, (between, (one, rest))) h =
+    subst HasHistory (sym rest.1) (performs_keeps call old (Err fault) between one h)
+
+up_to_keeps : (calls : List Call) (old : BoardState) (answer : Result ℕ BoardFault) (new : BoardState) → PerformsUpTo calls old answer new → HasHistory old → HasHistory new
+up_to_keeps calls old answer new p h = all_keep calls old p.0 new p.1.0 h
+
+round_on_keeps : (rows : Option Gateway) (old : BoardState) (answer : Result ℕ BoardFault) (new : BoardState) → IsRoundOn rows old answer new → HasHistory old → HasHistory new
+round_on_keeps None old answer new p h = subst HasHistory (sym p.1) h
+round_on_keeps (Some w) old answer new p h = up_to_keeps (round_calls old.lines) old answer new p h
+
+pub round_keeps : (old : BoardState) (answer : Result ℕ BoardFault) (new : BoardState) → IsRound old answer new → HasHistory old → HasHistory new
+round_keeps old answer new p h = round_on_keeps old.rows old answer new p h
+
+-- a connection that wasn't attached leaves all lines
+none_left_out : (dest : Dest) (lines : List LineState) → is_attached dest lines ≡ false → filter (is_not_line dest) lines ≡ lines
+none_left_out dest [] none = refl
+none_left_out dest (line ∷ lines) none =
+    elim (is_line dest line) as (λ b. (b || list_any (is_line dest) lines) ≡ false → (if not b then line ∷ filter (is_not_line dest) lines else filter (is_not_line dest) lines) ≡ line ∷ lines)
+    [ true ↦ λ h. absurd cc | false ↦ λ h. ap (λ (ls : List LineState). line ∷ ls) (none_left_out dest lines h) ] none
+
+same_board : (old new : BoardState) → new.rows ≡ old.rows → new.lines ≡ old.lines → new ≡ old
+same_board old new rows lines = ap (λ (r : Option Gateway). record { rows = r; lines = new.lines }) rows ∙ ap (λ (ls : List LineState). record { rows = old.rows; lines = ls }) lines
+
+retire_by : (dest : Dest) (old new : BoardState) (there : Bool) → is_attached dest old.lines ≡ there → new.rows ≡ old.rows → new.lines ≡ filter (is_not_line dest) old.lines → HasHistory old → HasHistory new
+retire_by dest old new true there rows lines h = retired_has_history dest old new h (record { attached = there; rows = rows; lines = lines })
+retire_by dest old new false there rows lines h = subst HasHistory (sym (same_board old new rows (lines ∙ none_left_out dest old.lines there))) h
+
+pub retire_keeps : (dest : Dest) (old new : BoardState) → new.rows ≡ old.rows → new.lines ≡ filter (is_not_line dest) old.lines → HasHistory old → HasHistory new
+retire_keeps dest old new rows lines h = retire_by dest old new (is_attached dest old.lines) refl rows lines h
+
+pub attach_keeps : {E : Type 0} (dest : Dest) (rows : Option Gateway) (lines left : List LineState) (result : Result (InletState × OutletState) E)
+    → IfOk result (λ ends. IsWith (new_line dest ends.0.ring ends.1.ring RING_SIZE) lines left) → OnErr result (left ≡ lines) → is_attached dest lines ≡ false
+    → HasHistory (record { rows = rows; lines = lines }) → HasHistory (record { rows = rows; lines = left })
+attach_keeps dest rows lines left (Ok ends) fine kept apart h =
+    attached_has_history dest ends.0.ring ends.1.ring RING_SIZE (record { rows = rows; lines = lines }) (record { rows = rows; lines = left }) h (record { apart = apart; rows = refl; lines = fine })
+attach_keeps dest rows lines left (Err refused) fine kept apart h = subst (λ (ls : List LineState). HasHistory (record { rows = rows; lines = ls })) (sym kept) h

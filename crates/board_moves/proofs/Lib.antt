@@ -1,0 +1,6 @@
+mod Begun
+mod Changed
+mod Keeps
+mod Moved
+mod Performed
+mod RoundCalls

@@ -1,0 +1,174 @@
+-- Rounds whose calls are performed one by one, by their number.
+use Rattle.std.proofs.Common.{◌≡◌, ℕ, zero, suc, ◌+◌, ◌≤◌, List, [], ◌∷◌, ◌++◌, length, map, min, take, drop, Option, Some, None, Result, Ok, Err, refl, sym, ap, subst, ◌∙◌, arith}
+use Rattle.std.specs.Prelude.{slice_get, IsSome}
+use Rattle.std.specs.Option.{option_map}
+use Rattle.std.proofs.lemmas.List.{take_all, length-map}
+use Rattle.std.proofs.lemmas.Option.{slice_get-map}
+use Rattle.std.proofs.Math.Numerals.{suc-eq-add-one}
+use Rattle.gateway_state.specs.Gateway.{Gateway}
+use Rattle.gateway_state.specs.declared.event.Dest.{Dest}
+use Rattle.board_rings.specs.Rings.{LineState}
+use Rattle.board_history.specs.Board.{BoardState}
+use Rattle.board_moves.proofs.Performed.{ended_then, one_done, one_refused, performed_then}
+use Rattle.board_moves.specs.Answers.{board_of}
+use Rattle.board_moves.specs.Rounds.{dests_of, round_calls, told_count, IsRound, IsRoundOn, Performs, PerformsAll, PerformsUpTo}
+use Rattle.board_moves.specs.declared.fault.BoardFault.{BoardFault}
+use Rattle.board_moves.specs.declared.rounds.Call.{Call}
+use Rattle.board_moves.specs.declared.rounds.Call.TheVariants.{Pump, SendOut}
+
+-- the first n calls were performed, and so many items moved, as far as can be told
+pub record IsPerformed (calls : List Call) (n : ℕ) (start now : BoardState) (moved : ℕ) : Type 0 where
+  pub exact : ℕ
+  pub done : PerformsAll (take n calls) start (Ok exact) now
+  pub told : moved ≡ min exact 18446744073709551615
+
+take_next : {A : Type 0} (xs : List A) (n : ℕ) (x : A) → slice_get xs n ≡ Some x → take (suc n) xs ≡ take n xs ++ x ∷ []
+take_next [] n x is = absurd cc
+take_next (y ∷ xs) zero x is = cc
+take_next (y ∷ xs) (suc n) x is = ap (λ ys. y ∷ ys) (take_next xs n x is)
+
+split_next : {A : Type 0} (xs : List A) (n : ℕ) (x : A) → slice_get xs n ≡ Some x → xs ≡ take n xs ++ x ∷ drop (suc n) xs
+split_next [] n x is = absurd cc
+split_next (y ∷ xs) zero x is = cc
+split_next (y ∷ xs) (suc n) x is = ap (λ ys. y ∷ ys) (split_next xs n x is)
+
+-- the call of a place is for the connection of that place
+call_at : (make : Dest → Call) (lines start : List LineState) (n : ℕ) (dest : Dest) → dests_of lines ≡ dests_of start → option_map (λ (line : LineState). line.dest) (slice_get lines n) ≡ Some dest
+    → slice_get (map make (dests_of start)) n ≡ Some (make dest)
+call_at make lines start n dest same there =
+    slice_get-map make (dests_of start) n
+    ∙ ap (λ (ds : List Dest). option_map make (slice_get ds n)) (sym same)
+    ∙ ap (option_map make) (slice_get-map (λ (line : LineState). line.dest) lines n ∙ there)
+
+pub none_performed : (calls : List Call) (start : BoardState) → IsPerformed calls 0 start start 0
+none_performed calls start = record { exact = 0; done = (refl, refl); told = refl }
+
+pub next_performed : (make : Dest → Call) (lines start_lines : List LineState) (n : ℕ) (dest : Dest) (start now next : BoardState) (moved count moved_now : ℕ)
+    → dests_of lines ≡ dests_of start_lines → option_map (λ (line : LineState). line.dest) (slice_get lines n) ≡ Some dest
+    → IsPerformed (map make (dests_of start_lines)) n start now moved → Performs (make dest) now (Ok count) next → moved_now ≡ min (moved + count) 18446744073709551615
+    → IsPerformed (map make (dests_of start_lines)) (n + 1) start next moved_now
+next_performed make lines start_lines n dest start now next moved count moved_now same there so_far one told =
+    let calls = map make (dests_of start_lines) in
+    let at = call_at make lines start_lines n dest same there in
+    let done : PerformsAll (take n calls ++ make dest ∷ []) start (Ok (so_far.exact + count)) next = performed_then Performs (take n calls) (make dest ∷ []) start now so_far.exact (Ok count) next so_far.done (one_done Performs (make dest) now count next one) in
+    record {
+      exact = so_far.exact + count;
+      done = subst (λ (cs : List Call). PerformsAll cs start (Ok (so_far.exact + count)) next) (sym (ap (λ (k : ℕ). take k calls) (sym (suc-eq-add-one n)) ∙ take_next calls n (make dest) at)) done;
+      told = omega (arith, told, so_far.told);
+    }
+
+pub next_refused : (make : Dest → Call) (lines start_lines : List LineState) (n : ℕ) (dest : Dest) (start now next : BoardState) (moved : ℕ) (fault : BoardFault)
+    → dests_of lines ≡ dests_of start_lines → option_map (λ (line : LineState). line.dest) (slice_get lines n) ≡ Some dest
+    → IsPerformed (map make (dests_of start_lines)) n start now moved → Performs (make dest) now (Err fault) next
+    → PerformsUpTo (map make (dests_of start_lines)) start (Err fault) next
+next_refused make lines start_lines n dest start now next moved fault same there so_far one =
+    let calls = map make (dests_of start_lines) in
+    let at = call_at make lines start_lines n dest same there in
+    let all : PerformsAll (take n calls ++ make dest ∷ drop (suc n) calls) start (Err fault) next =
+    performed_then Performs (take n calls) (make dest ∷ drop (suc n) calls) start now so_far.exact (Err fault) next so_far.done (one_refused Performs (make dest) (drop (suc n) calls) now fault next one) in
+    (Err fault, (subst (λ (cs : List Call). PerformsAll cs start (Err fault) next) (sym (split_next calls n (make dest) at)) all, refl))
+
+past_end : {A B : Type 0} (f : A → B) (xs : List A) (n : ℕ) → option_map f (slice_get xs n) ≡ None → length xs ≤ n
+past_end f [] n none = omega arith
+past_end f (x ∷ xs) zero none = absurd cc
+past_end f (x ∷ xs) (suc n) none = omega (arith, past_end f xs n none)
+
+pub all_performed : (make : Dest → Call) (lines start_lines : List LineState) (n : ℕ) (start now : BoardState) (moved : ℕ) → dests_of lines ≡ dests_of start_lines → length lines ≤ n
+    → IsPerformed (map make (dests_of start_lines)) n start now moved → PerformsUpTo (map make (dests_of start_lines)) start (Ok moved) now
+all_performed make lines start_lines n start now moved same enough so_far =
+    let calls = map make (dests_of start_lines) in
+    let line_dest = λ (line : LineState). line.dest in (
+      Ok so_far.exact,
+      (
+        subst (λ (cs : List Call). PerformsAll cs start (Ok so_far.exact) now)
+            (take_all n calls (omega (arith, enough, ap length same, length-map (dests_of start_lines) make, length-map start_lines line_dest, length-map lines line_dest))) so_far.done,
+        ap Ok so_far.told,
+      ),
+    )
+
+pub all_performed_there : (make : Dest → Call) (lines start_lines : List LineState) (n : ℕ) (start now : BoardState) (moved : ℕ) → dests_of lines ≡ dests_of start_lines
+    → option_map (λ (line : LineState). line.dest) (slice_get lines n) ≡ None
+    → IsPerformed (map make (dests_of start_lines)) n start now moved → PerformsUpTo (map make (dests_of start_lines)) start (Ok moved) now
+all_performed_there make lines start_lines n start now moved same none so_far =
+    all_performed make lines start_lines n start now moved same (past_end (λ (line : LineState). line.dest) lines n none) so_far
+
+-- WHOLE ROUNDS
+
+told_fault : (fault : BoardFault) (exact : Result ℕ BoardFault) → Err fault ≡ told_count exact → exact ≡ Err fault
+told_fault fault (Ok count) e = absurd cc
+told_fault fault (Err other) e = cc
+
+told_sum : (count : ℕ) (exact : Result ℕ BoardFault) → Ok count ≡ told_count exact → (sum : ℕ) × ((exact ≡ Ok sum) × (count ≡ min sum 18446744073709551615))
+told_sum count (Ok sum) e = (sum, (refl, cc))
+told_sum count (Err fault) e = absurd cc
+
+-- a fault ends all calls
+fault_ends : (calls others : List Call) (old new : BoardState) (fault : BoardFault) → PerformsUpTo calls old (Err fault) new → PerformsUpTo (calls ++ others) old (Err fault) new
+fault_ends calls others old new fault (exact, (all, told)) = (
+  Err fault,
+  (ended_then Performs calls others old new fault (subst (λ (r : Result ℕ BoardFault). PerformsAll calls old r new) (told_fault fault exact told) all), refl),
+)
+
+-- others that end at a fault
+fault_follows : (calls others : List Call) (old between new : BoardState) (count : ℕ) (fault : BoardFault) → PerformsUpTo calls old (Ok count) between → PerformsUpTo others between (Err fault) new
+    → PerformsUpTo (calls ++ others) old (Err fault) new
+fault_follows calls others old between new count fault (exact, (all, told)) (rest, (others_all, others_told)) =
+    let sum = told_sum count exact told in (
+      Err fault,
+      (
+        performed_then Performs calls others old between sum.0 (Err fault) new (subst (λ (r : Result ℕ BoardFault). PerformsAll calls old r between) sum.1.0 all)
+            (subst (λ (r : Result ℕ BoardFault). PerformsAll others between r new) (told_fault fault rest others_told) others_all),
+        refl,
+      ),
+    )
+
+all_follow : (calls others : List Call) (old between new : BoardState) (count more total : ℕ) → PerformsUpTo calls old (Ok count) between → PerformsUpTo others between (Ok more) new
+    → total ≡ min (count + more) 18446744073709551615 → PerformsUpTo (calls ++ others) old (Ok total) new
+all_follow calls others old between new count more total (exact, (all, told)) (rest, (others_all, others_told)) is =
+    let sum = told_sum count exact told in
+    let left = told_sum more rest others_told in (
+      Ok (sum.0 + left.0),
+      (
+        performed_then Performs calls others old between sum.0 (Ok left.0) new (subst (λ (r : Result ℕ BoardFault). PerformsAll calls old r between) sum.1.0 all)
+            (subst (λ (r : Result ℕ BoardFault). PerformsAll others between r new) left.1.0 others_all),
+        ap Ok (omega (arith, is, sum.1.1, left.1.1)),
+      ),
+    )
+
+round_on : (rows : Option Gateway) (old : BoardState) (answer : Result ℕ BoardFault) (new : BoardState) → IsSome rows → PerformsUpTo (round_calls old.lines) old answer new → IsRoundOn rows old answer new
+round_on None old answer new some all = absurd cc
+round_on (Some w) old answer new some all = all
+
+-- the round begins where the engine was asked whether it failed
+round_of : (engine asked after : Option Gateway) (lines left : List LineState) (answer : Result ℕ BoardFault) → IsSome engine → asked ≡ engine
+    → PerformsUpTo (round_calls lines) (board_of asked lines) answer (board_of after left) → IsRound (board_of engine lines) answer (board_of after left)
+round_of engine asked after lines left answer some same all =
+    round_on engine (board_of engine lines) answer (board_of after left) some
+    (subst (λ (rows : Option Gateway). PerformsUpTo (round_calls lines) (record { rows = rows; lines = lines }) answer (board_of after left)) same all)
+
+pub pumps_end : (engine asked after : Option Gateway) (lines left : List LineState) (fault : BoardFault) → IsSome engine → asked ≡ engine
+    → PerformsUpTo (map Pump (dests_of lines)) (board_of asked lines) (Err fault) (board_of after left) → IsRound (board_of engine lines) (Err fault) (board_of after left)
+pumps_end engine asked after lines left fault some same all =
+    round_of engine asked after lines left (Err fault) some same
+    (fault_ends (map Pump (dests_of lines)) (map SendOut (dests_of lines)) (board_of asked lines) (board_of after left) fault all)
+
+pub sends_end : (engine asked pumped after : Option Gateway) (lines between left : List LineState) (received : ℕ) (fault : BoardFault) → IsSome engine → asked ≡ engine → dests_of between ≡ dests_of lines
+    → PerformsUpTo (map Pump (dests_of lines)) (board_of asked lines) (Ok received) (board_of pumped between)
+    → PerformsUpTo (map SendOut (dests_of between)) (board_of pumped between) (Err fault) (board_of after left) → IsRound (board_of engine lines) (Err fault) (board_of after left)
+sends_end engine asked pumped after lines between left received fault some same dests all others =
+    round_of engine asked after lines left (Err fault) some same
+    (
+    fault_follows (map Pump (dests_of lines)) (map SendOut (dests_of lines)) (board_of asked lines) (board_of pumped between) (board_of after left) received fault all
+    (subst (λ (ds : List Dest). PerformsUpTo (map SendOut ds) (board_of pumped between) (Err fault) (board_of after left)) dests others)
+    )
+
+pub round_ends : (engine asked pumped after : Option Gateway) (lines between left : List LineState) (received sent total : ℕ) → IsSome engine → asked ≡ engine → dests_of between ≡ dests_of lines
+    → PerformsUpTo (map Pump (dests_of lines)) (board_of asked lines) (Ok received) (board_of pumped between)
+    → PerformsUpTo (map SendOut (dests_of between)) (board_of pumped between) (Ok sent) (board_of after left) → total ≡ min (received + sent) 18446744073709551615
+    → IsRound (board_of engine lines) (Ok total) (board_of after left)
+round_ends engine asked pumped after lines between left received sent total some same dests all others is =
+    round_of engine asked after lines left (Ok total) some same
+    (
+    all_follow (map Pump (dests_of lines)) (map SendOut (dests_of lines)) (board_of asked lines) (board_of pumped between) (board_of after left) received sent total all
+    (subst (λ (ds : List Dest). PerformsUpTo (map SendOut ds) (board_of pumped between) (Ok sent) (board_of after left)) dests others) is
+    )

@@ -1,0 +1,11 @@
+use Rattle.std.proofs.Common.{◌≡◌, map}
+use Rattle.board_moves.proofs.RoundCalls.{IsPerformed}
+use Rattle.board_moves.specs.Answers.{board_of, KeepsRings}
+use Rattle.board_moves.specs.Rounds.{dests_of}
+use Rattle.board_moves.specs.declared.rounds.Call.TheVariants.{SendOut}
+use Rattle.board_moves.proofs.rounds.send_all.Given as goal
+
+-- the calls for the first n connections were performed
+abbrev pub invariant-loop-n : goal.invariant-loop-n
+invariant-loop-n g l =
+    IsPerformed (map SendOut (dests_of l.fn.lines)) l.n (board_of (g.G.Gate.state l.fn.gate) l.fn.lines) (board_of (g.G.Gate.state l.gate) l.lines) l.moved × ((dests_of l.lines ≡ dests_of l.fn.lines) × KeepsRings l.fn.lines l.lines)

@@ -1,0 +1,65 @@
+-- A round of calls.
+use Rattle.std.specs.Prelude.{◌≡◌, ℕ, ◌+◌, List, [], ◌∷◌, ◌++◌, map, min, true, false, Bool, Option, Some, None, Result, Ok, Err}
+use Rattle.gate_calls.specs.declared.fault.StepFault.TheVariants as steps
+use Rattle.gateway_state.specs.Gateway.{Gateway}
+use Rattle.gateway_state.specs.declared.event.Dest.{Dest}
+use Rattle.board_rings.specs.Rings.{LineState}
+use Rattle.board_history.specs.Board.{BoardState}
+use Rattle.board_moves.specs.Answers.{IsPump, IsSendOut}
+use Rattle.board_moves.specs.declared.rounds.Call.{Call}
+use Rattle.board_moves.specs.declared.rounds.Call.TheVariants.{Pump, SendOut}
+use Rattle.board_moves.specs.declared.fault.BoardFault.{BoardFault}
+use Rattle.board_moves.specs.declared.fault.BoardFault.TheVariants.{Step}
+
+-- how many items a pump moved
+abbrev pub pumped_count : Result Bool BoardFault → Result ℕ BoardFault
+pumped_count (Ok true) = Ok 1
+pumped_count (Ok false) = Ok 0
+pumped_count (Err fault) = Err fault
+
+-- what the call does, and how many items it moves
+abbrev pub Performs : Call → BoardState → Result ℕ BoardFault → BoardState → Type 0
+Performs (Pump dest) old answer new = (pumped : Result Bool BoardFault) × (IsPump dest old pumped new × (answer ≡ pumped_count pumped))
+Performs (SendOut dest) old answer new = IsSendOut dest old answer new
+
+abbrev pub with_more : {F : Type 0} → ℕ → Result ℕ F → Result ℕ F
+with_more count (Ok more) = Ok (count + more)
+with_more count (Err fault) = Err fault
+
+-- what follows a call: the others, where it was Ok, and nothing at a fault
+abbrev pub Then : {F : Type 0} → (Result ℕ F → Type 0) → Type 0 → Result ℕ F → Result ℕ F → Type 0
+Then {F} others stays (Ok count) answer = (more : Result ℕ F) × (others more × (answer ≡ with_more count more))
+Then others stays (Err fault) answer = (answer ≡ Err fault) × stays
+
+-- calls in order, up to the first fault, and how many items they move together
+abbrev pub InOrder : {C B F : Type 0} → (C → B → Result ℕ F → B → Type 0) → List C → B → Result ℕ F → B → Type 0
+InOrder does [] old answer new = (answer ≡ Ok 0) × (new ≡ old)
+InOrder {B = B} {F = F} does (call ∷ calls) old answer new =
+    (one : Result ℕ F) × ((between : B) × (does call old one between × Then (λ more. InOrder does calls between more new) (new ≡ between) one answer))
+
+abbrev pub PerformsAll : List Call → BoardState → Result ℕ BoardFault → BoardState → Type 0
+PerformsAll calls old answer new = InOrder Performs calls old answer new
+
+-- a pump for each attached connection, and then a send-out for each, clients first, by rising number
+abbrev pub dests_of : List LineState → List Dest
+dests_of lines = map (λ (line : LineState). line.dest) lines
+
+abbrev pub round_calls : List LineState → List Call
+round_calls lines = map Pump (dests_of lines) ++ map SendOut (dests_of lines)
+
+-- how many items were moved, up to the largest number that can be told
+abbrev pub told_count : Result ℕ BoardFault → Result ℕ BoardFault
+told_count (Ok count) = Ok (min count 18446744073709551615)
+told_count (Err fault) = Err fault
+
+-- the same, where the count is told
+abbrev pub PerformsUpTo : List Call → BoardState → Result ℕ BoardFault → BoardState → Type 0
+PerformsUpTo calls old answer new = (exact : Result ℕ BoardFault) × (PerformsAll calls old exact new × (answer ≡ told_count exact))
+
+abbrev pub IsRoundOn : Option Gateway → BoardState → Result ℕ BoardFault → BoardState → Type 0
+IsRoundOn None old answer new = (answer ≡ Err (Step steps.Failed)) × (new ≡ old)
+IsRoundOn (Some w) old answer new = PerformsUpTo (round_calls old.lines) old answer new
+
+-- a round of all calls; on a board that has failed there is none
+abbrev pub IsRound : BoardState → Result ℕ BoardFault → BoardState → Type 0
+IsRound old answer new = IsRoundOn old.rows old answer new

@@ -1,0 +1,195 @@
+//! The board.
+ghost use Rattle.std.specs.Prelude.{◌≡◌, ◌↔◌, ◌⊎◌, [], Some, IsSome, IsNone, IsOk, OnOk, OnErr, IfOk, IfSome, IsErrOf, filter, true, false};
+ghost use Rattle.std.specs.Option.{option_map};
+ghost use Rattle.gate_calls.specs.Searching.{IsSearched};
+ghost use Rattle.gateway_state.specs.Asked.{stands, ends, queued};
+ghost use Rattle.gateway_state.specs.Variables.{asks};
+ghost use Rattle.board_rings.specs.Lines.{are_in_order, is_attached, is_not_line, line_of};
+ghost use Rattle.board_rings.specs.declared.line.TheConstants.{RING_SIZE};
+ghost use Rattle.board_history.specs.Calls.{Attaches};
+ghost use Rattle.board_history.specs.History.{HasHistory};
+ghost use Rattle.board_moves.specs.Answers.{ends_of, IsDesk, IsNew, IsPump, IsSendOut, KeepsRings};
+ghost use Rattle.board_moves.specs.Rounds.{IsRound};
+
+use crate::fault::BoardFault;
+use crate::news::News;
+use crate::{moves, rounds};
+use board_rings::{Ends, Inlet, Lines, Outlet};
+use gate_calls::{AskFault, Failed, Gate};
+use gateway_state::{Dest, Event};
+use pv_name::{Host, Name};
+use pv_search::SearchAnswer;
+use std::alloc::Global;
+use std::marker::Model;
+
+/// A gateway, and a line with two rings for each connection that is attached. A refused step leaves it
+/// failed for good; then it still attaches and retires.
+#[derive(Drop)]
+pub struct Board<G: Gate + Drop> {
+    alloc: Global,
+    gate: G,
+    lines: Lines,
+    // Whom the moves concern, for those that wait. It is no part of what contracts see.
+    news: News,
+}
+
+impl<G: Gate + Drop> Model for Board<G> {
+    ghost use Rattle.board_history.specs.Board.{BoardState};
+    ghost use Rattle.board_history.specs.History.{HasHistory};
+    ghost use Rattle.board_moves.specs.Answers.{board_of};
+    ghost use Rattle.rule_desk.specs.contracts.policy.Policy as the_policy;
+    ghost use Rattle.std.specs.Coded.{codes};
+
+    ghost Value = { BoardState };
+
+    ghost coded = { Prim.hlevel (codes, the_policy.the_row.coded) };
+
+    ghost view = { λ b. board_of (G.state b.gate) b.lines };
+
+    // Whatever was called, some history leads to the board.
+    ghost invariant = { λ b. HasHistory (board_of (G.state b.gate) b.lines) };
+}
+
+impl<G: Gate + Drop> Board<G> {
+    /// A board for a gateway to which nothing happened yet. No connection is attached.
+    pub fn new(alloc: Global, gate: G) -> Board<G>
+        requires new { IsNew (G.state gate) }
+        ensures rows { result.rows ≡ G.state gate }
+        ensures lines { result.lines ≡ [] }
+    {
+        Board {
+            alloc,
+            gate,
+            lines: Lines::new(alloc),
+            news: News::none(),
+        }
+    }
+
+    /// Does nothing. Its contract is a law: some history leads to the board, whose lines stand in order.
+    pub fn has_history(&mut self)
+        ensures history { HasHistory self.old }
+        ensures ordered { are_in_order self.old.lines ≡ true }
+        ensures same { self.new ≡ self.old }
+    {
+        let _gate = &self.gate;
+    }
+
+    /// Gives a connection two rings. It may be one that doesn't stand yet, or not any more.
+    #[tactic(auto, using(board_history::proofs::Goes::attached_has_history))]
+    pub fn attach(&mut self, dest: Dest) -> Result<(Inlet, Outlet), BoardFault>
+        ensures ok { IfOk result (λ r. Attaches dest r.0.ring r.1.ring RING_SIZE self.old self.new) }
+        ensures empty { IfOk result (λ r. (r.0.offered ≡ []) × (r.0.free ≡ RING_SIZE) × (r.1.taken ≡ []) × (r.1.seen ≡ [])) }
+        ensures attached { IsErrOf result BoardFault.Attached ↔ (is_attached dest self.old.lines ≡ true) }
+        ensures err { OnErr result (self.new ≡ self.old) }
+        ensures cause { IsErrOf result BoardFault.Attached ⊎ IsErrOf result BoardFault.OutOfMemory ⊎ IsOk result }
+    {
+        if self.lines.is_attached(dest) {
+            return Err(BoardFault::Attached);
+        }
+        match self.lines.attach(self.alloc, dest) {
+            Ok(ends) => Ok(ends),
+            Err(_) => Err(BoardFault::OutOfMemory),
+        }
+    }
+
+    /// Receives one item of a connection and performs its event. It answers whether there was one.
+    #[tactic(auto, using(crate::proofs::Keeps::pump_keeps))]
+    pub fn pump(&mut self, dest: Dest) -> Result<bool, BoardFault>
+        ensures pump { IsPump dest self.old result self.new }
+        ensures rings { KeepsRings self.old.lines self.new.lines }
+    {
+        moves::pump(&mut self.gate, &mut self.lines, &mut self.news, dest)
+    }
+
+    /// Performs an event that comes through no ring: any but a connection's messages and what takes
+    /// messages.
+    #[tactic(auto, using(crate::proofs::Keeps::desk_keeps))]
+    pub fn desk(&mut self, event: Event) -> Result<(), BoardFault>
+        ensures desk { IsDesk event self.old result self.new }
+        ensures rings { KeepsRings self.old.lines self.new.lines }
+    {
+        moves::desk(&mut self.gate, &self.lines, &mut self.news, event)
+    }
+
+    /// Takes as many messages of a connection as places of its ring out are found free, up to 64, as one
+    /// event, and pushes them. It answers how many there were.
+    #[tactic(auto, using(crate::proofs::Keeps::send_out_keeps))]
+    pub fn send_out(&mut self, dest: Dest) -> Result<usize, BoardFault>
+        ensures sent { IsSendOut dest self.old result self.new }
+        ensures rings { KeepsRings self.old.lines self.new.lines }
+    {
+        moves::send_out(&mut self.gate, &mut self.lines, &mut self.news, dest, 0)
+    }
+
+    /// Pumps each attached connection, then sends out to each, clients first, by rising number, up to the
+    /// first fault. It answers how many items were moved.
+    #[tactic(auto, using(crate::proofs::Keeps::round_keeps))]
+    pub fn round(&mut self) -> Result<usize, BoardFault>
+        ensures round { IsRound self.old result self.new }
+        ensures rings { KeepsRings self.old.lines self.new.lines }
+    {
+        rounds::round(&mut self.gate, &mut self.lines, &mut self.news)
+    }
+
+    /// Takes the board's ends of a connection's rings off, with all that went through them.
+    #[tactic(auto, using(crate::proofs::Keeps::retire_keeps))]
+    pub fn retire(&mut self, dest: Dest) -> Option<Ends>
+        ensures found { result ≡ option_map ends_of (line_of dest self.old.lines) }
+        ensures rows { self.new.rows ≡ self.old.rows }
+        ensures lines { self.new.lines ≡ filter (is_not_line dest) self.old.lines }
+    {
+        self.lines.retire(dest)
+    }
+
+    /// How many messages wait for the connection, 0 where it doesn't stand.
+    pub fn queued(&mut self, dest: Dest) -> Result<usize, Failed>
+        ensures found { IfOk result (λ answer. Some answer ≡ option_map (λ w. queued w dest) self.old.rows) }
+        ensures failed { IsOk result ↔ IsSome self.old.rows }
+        ensures same { self.new ≡ self.old }
+    {
+        self.gate.queued(dest)
+    }
+
+    /// Hands out whom the moves concerned since this was last called.
+    pub fn take_news(&mut self) -> News
+        ensures same { self.new ≡ self.old }
+    {
+        self.news.take()
+    }
+
+    /// Whether the connection stands.
+    pub fn is_open(&mut self, dest: Dest) -> Result<bool, Failed>
+        ensures found { IfOk result (λ answer. Some answer ≡ option_map (λ w. stands w dest) self.old.rows) }
+        ensures failed { IsOk result ↔ IsSome self.old.rows }
+        ensures same { self.new ≡ self.old }
+    {
+        self.gate.is_open(dest)
+    }
+
+    /// Whether the connection stands and must end.
+    pub fn must_end(&mut self, dest: Dest) -> Result<bool, Failed>
+        ensures found { IfOk result (λ answer. Some answer ≡ option_map (λ w. ends w dest) self.old.rows) }
+        ensures failed { IsOk result ↔ IsSome self.old.rows }
+        ensures same { self.new ≡ self.old }
+    {
+        self.gate.must_end(dest)
+    }
+
+    /// The names to ask servers for.
+    pub fn asks(&mut self) -> Result<Vec<Name>, AskFault>
+        ensures found { IfOk result (λ names. Some names.items ≡ option_map asks self.old.rows) }
+        ensures failed { IsErrOf result AskFault.Failed ↔ IsNone self.old.rows }
+        ensures same { self.new ≡ self.old }
+    {
+        self.gate.asks()
+    }
+
+    /// What a client's datagram from this host comes to.
+    pub fn search(&mut self, host: &Host, datagram: &[u8]) -> Result<SearchAnswer, AskFault>
+        ensures found { IfOk result (λ answer. IfSome self.old.rows (λ w. IsSearched w host.now datagram.now answer)) }
+        ensures failed { IsErrOf result AskFault.Failed ↔ IsNone self.old.rows }
+        ensures same { self.new ≡ self.old }
+    {
+        self.gate.search(host, datagram)
+    }
+}

@@ -1,0 +1,208 @@
+//! What stands under a gate's lock.
+ghost use Rattle.std.specs.Prelude.{◌≡◌, ◌↔◌, ◌⊎◌, [], Some, IsSome, IsNone, IsOk, IsTrue, OnOk, OnErr, IfOk, IfSome, IsErrOf, filter, true, false};
+ghost use Rattle.std.specs.Option.{option_map};
+ghost use Rattle.gate_calls.specs.Searching.{IsSearched};
+ghost use Rattle.gateway_state.specs.Asked.{stands, ends};
+ghost use Rattle.gateway_state.specs.Variables.{asks};
+ghost use Rattle.board_rings.specs.Lines.{is_attached, is_not_line, line_of};
+ghost use Rattle.board_rings.specs.declared.line.TheConstants.{RING_SIZE};
+ghost use Rattle.board_history.specs.Calls.{Attaches};
+ghost use Rattle.board_history.specs.History.{is_for_desk};
+ghost use Rattle.board_moves.specs.Answers.{ends_of, IsDesk, KeepsRings};
+ghost use Rattle.board_moves.specs.Keeping.{has_waiting, is_over, woken, IsTurn, SameBeside, WakesBeside};
+
+use crate::board::Board;
+use crate::fault::BoardFault;
+use crate::news::News;
+use crate::turn::Turn;
+use board_rings::{Ends, Inlet, Outlet};
+use gate_calls::{AskFault, Failed, Gate};
+use gateway_state::{Dest, Event};
+use pv_name::{Host, Name};
+use pv_search::SearchAnswer;
+use std::marker::Model;
+
+/// A board, a mark that its gate is closed, and a count of wakes: a thread that remembers the count from
+/// before it tried misses none.
+#[derive(Drop)]
+pub struct Kept<G: Gate + Drop> {
+    board: Board<G>,
+    closed: bool,
+    wakes: u64,
+}
+
+impl<G: Gate + Drop> Model for Kept<G> {
+    ghost use Rattle.board_moves.specs.Keeping.{KeptState};
+    ghost use Rattle.rule_desk.specs.contracts.policy.Policy as the_policy;
+    ghost use Rattle.std.specs.Coded.{codes};
+
+    ghost Value = { KeptState };
+
+    ghost coded = { Prim.hlevel (codes, the_policy.the_row.coded) };
+
+    ghost view = { λ k. record { board = k.board; closed = k.closed; wakes = k.wakes } };
+}
+
+impl<G: Gate + Drop> Kept<G> {
+    /// A gate's keep that is open, for a board.
+    pub fn new(board: Board<G>) -> Kept<G>
+        ensures { result ≡ record { board = board; closed = false; wakes = 0 } }
+    {
+        Kept {
+            board,
+            closed: false,
+            wakes: 0,
+        }
+    }
+
+    /// The count of wakes.
+    pub fn wakes(&self) -> u64
+        ensures { result ≡ self.now.wakes }
+    {
+        self.wakes
+    }
+
+    /// Counts one wake more.
+    pub fn wake(&mut self)
+        ensures { self.new ≡ woken self.old }
+    {
+        self.wakes = self.wakes.wrapping_add(1);
+    }
+
+    /// Closes for good, and counts a wake.
+    pub fn close(&mut self)
+        ensures { self.new ≡ record (woken self.old) { closed = true } }
+    {
+        self.closed = true;
+        self.wake();
+    }
+
+    /// Whether nothing will be moved any more: it is closed, or the gateway has failed.
+    pub fn has_stopped(&mut self) -> bool
+        ensures stopped { IsTrue result ↔ ((self.old.closed ≡ true) ⊎ IsNone self.old.board.rows) }
+        ensures same { self.new ≡ self.old }
+    {
+        self.closed || self.board.is_open(Dest::Session(0)).is_err()
+    }
+
+    /// Whether the connection's messages come to an end: it doesn't stand, or must end.
+    pub fn is_over(&mut self, dest: Dest) -> bool
+        ensures over { result ≡ is_over dest self.old.board.rows }
+        ensures same { self.new ≡ self.old }
+    {
+        let stands = matches!(self.board.is_open(dest), Ok(true));
+        !stands || matches!(self.board.must_end(dest), Ok(true))
+    }
+
+    /// Whether messages wait for the connection.
+    pub fn has_waiting(&mut self, dest: Dest) -> bool
+        ensures waiting { result ≡ has_waiting dest self.old.board.rows }
+        ensures same { self.new ≡ self.old }
+    {
+        match self.board.queued(dest) {
+            Ok(count) => count != 0,
+            Err(_) => false,
+        }
+    }
+
+    /// Performs an event that comes through no ring, and counts a wake.
+    pub fn desk(&mut self, event: Event) -> Result<(), BoardFault>
+        ensures desk { IsDesk event self.old.board result self.new.board }
+        ensures not_here { IsErrOf result BoardFault.NotHere ↔ (is_for_desk event ≡ false) }
+        ensures rings { KeepsRings self.old.board.lines self.new.board.lines }
+        ensures wakes { WakesBeside self.old self.new }
+    {
+        let answer = self.board.desk(event);
+        self.wake();
+        answer
+    }
+
+    /// Gives a connection two rings, and counts a wake.
+    pub fn attach(&mut self, dest: Dest) -> Result<(Inlet, Outlet), BoardFault>
+        ensures ok { IfOk result (λ r. Attaches dest r.0.ring r.1.ring RING_SIZE self.old.board self.new.board) }
+        ensures empty { IfOk result (λ r. (r.0.offered ≡ []) × (r.0.free ≡ RING_SIZE) × (r.1.taken ≡ []) × (r.1.seen ≡ [])) }
+        ensures attached { IsErrOf result BoardFault.Attached ↔ (is_attached dest self.old.board.lines ≡ true) }
+        ensures err { OnErr result (self.new.board ≡ self.old.board) }
+        ensures cause { IsErrOf result BoardFault.Attached ⊎ IsErrOf result BoardFault.OutOfMemory ⊎ IsOk result }
+        ensures wakes { WakesBeside self.old self.new }
+    {
+        let answer = self.board.attach(dest);
+        self.wake();
+        answer
+    }
+
+    /// Takes the board's ends of a connection's rings off.
+    pub fn retire(&mut self, dest: Dest) -> Option<Ends>
+        ensures found { result ≡ option_map ends_of (line_of dest self.old.board.lines) }
+        ensures rows { self.new.board.rows ≡ self.old.board.rows }
+        ensures lines { self.new.board.lines ≡ filter (is_not_line dest) self.old.board.lines }
+        ensures same { SameBeside self.old self.new }
+    {
+        self.board.retire(dest)
+    }
+
+    /// What a client's datagram from this host comes to.
+    pub fn search(&mut self, host: &Host, datagram: &[u8]) -> Result<SearchAnswer, AskFault>
+        ensures found { IfOk result (λ answer. IfSome self.old.board.rows (λ w. IsSearched w host.now datagram.now answer)) }
+        ensures failed { IsErrOf result AskFault.Failed ↔ IsNone self.old.board.rows }
+        ensures same { self.new ≡ self.old }
+    {
+        self.board.search(host, datagram)
+    }
+
+    /// The names to ask servers for.
+    pub fn asks(&mut self) -> Result<Vec<Name>, AskFault>
+        ensures found { IfOk result (λ names. Some names.items ≡ option_map asks self.old.board.rows) }
+        ensures failed { IsErrOf result AskFault.Failed ↔ IsNone self.old.board.rows }
+        ensures same { self.new ≡ self.old }
+    {
+        self.board.asks()
+    }
+
+    /// Whether the connection stands.
+    pub fn is_open(&mut self, dest: Dest) -> Result<bool, Failed>
+        ensures found { IfOk result (λ answer. Some answer ≡ option_map (λ w. stands w dest) self.old.board.rows) }
+        ensures failed { IsOk result ↔ IsSome self.old.board.rows }
+        ensures same { self.new ≡ self.old }
+    {
+        self.board.is_open(dest)
+    }
+
+    /// Whether the connection stands and must end.
+    pub fn must_end(&mut self, dest: Dest) -> Result<bool, Failed>
+        ensures found { IfOk result (λ answer. Some answer ≡ option_map (λ w. ends w dest) self.old.board.rows) }
+        ensures failed { IsOk result ↔ IsSome self.old.board.rows }
+        ensures same { self.new ≡ self.old }
+    {
+        self.board.must_end(dest)
+    }
+
+    /// Performs one round of the board, unless it is closed. Nothing where that moved nothing; else it
+    /// counts a wake.
+    pub fn try_turn(&mut self) -> Option<Turn>
+        ensures turn { IsTurn self.old result self.new }
+    {
+        if self.closed {
+            self.wake();
+            return Some(Turn::Closed);
+        }
+        match self.board.round() {
+            Ok(0) => None,
+            Ok(_) => {
+                self.wake();
+                Some(Turn::Moved)
+            }
+            Err(_) => {
+                self.wake();
+                Some(Turn::Failed)
+            }
+        }
+    }
+
+    /// Hands out whom the moves concerned since this was last called.
+    pub fn take_news(&mut self) -> News
+        ensures same { self.new ≡ self.old }
+    {
+        self.board.take_news()
+    }
+}

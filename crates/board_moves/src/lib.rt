@@ -1,0 +1,34 @@
+//! A board: a gateway, the rings of every connection, and what moves items between them.
+//!
+//! A connection's reader offers what comes from its peer into a ring, its writer takes what goes to the
+//! peer out of another ([`board_rings`]). The [`Board`] has the other ends of both. It alone moves items
+//! between rings and gateway, each as one event:
+//!
+//! - [`Board::attach`] gives a connection its rings, [`Board::retire`] takes the board's ends off;
+//! - [`Board::pump`] receives one item and performs its event, [`Board::send_out`] takes messages of the
+//!   connection and pushes them, [`Board::round`] does both for all connections in order;
+//! - [`Board::desk`] performs an event that comes through no ring.
+//!
+//! Whatever was called, the board has a history (`board_history`): its rows are those of a run of the
+//! events of the history's entries, and what went through each ring is what the history says. A pump that
+//! moves nothing saw nothing in the ring; a send-out that moves nothing found no place, or no message.
+//!
+//! [`Kept`] is what a gate has under its lock: a board, a mark that it is closed and a count of wakes.
+//! [`News`] says whom moves concern, for those that wait; no contract speaks of it.
+//!
+//! All of it stands on any `gate_calls::Gate`, so that its proofs never read the engine.
+#![tactic(auto)]
+
+mod board;
+mod fault;
+mod kept;
+mod moves;
+mod news;
+mod rounds;
+mod turn;
+
+pub use board::Board;
+pub use fault::BoardFault;
+pub use kept::Kept;
+pub use news::{News, SEAT_WORDS, SEATS, seat_of};
+pub use turn::Turn;

@@ -1,0 +1,189 @@
+//! The board's calls on its parts: the gateway and the lines.
+ghost use Rattle.std.specs.Prelude.{◌≡◌, ◌↔◌, ◌⊎◌, IsTrue, IsNone, IsSome, IsErrOf, OnOk, OnErr, Some, None, true, false};
+ghost use Rattle.std.specs.Option.{option_map};
+ghost use Rattle.gateway_state.specs.Step.{step};
+ghost use Rattle.board_history.specs.Calls.{uses_up};
+ghost use Rattle.board_history.specs.History.{is_for_desk, item_event};
+ghost use Rattle.board_moves.specs.Answers.{board_of, IsDesk, IsPump, IsSendOut, KeepsRings};
+ghost use Rattle.board_moves.specs.Rounds.{dests_of};
+
+use crate::fault::BoardFault;
+use crate::news::News;
+use board_history::MOST_SENT;
+use board_rings::{Inbound, Lines};
+use gate_calls::{Gate, StepFault};
+use gateway_state::{Dest, Event};
+
+/// Whether a step was refused before.
+pub(crate) fn has_failed<G: Gate>(gate: &mut G) -> bool
+    ensures failed { IsTrue result ↔ IsNone (G.state gate.old) }
+    ensures same { G.state gate.new ≡ G.state gate.old }
+{
+    gate.is_open(Dest::Session(0)).is_err()
+}
+
+/// What a connection's item is as an event.
+fn event_of(dest: Dest, item: Inbound) -> Event
+    ensures { result ≡ item_event dest item }
+{
+    match (dest, item) {
+        (Dest::Session(number), Inbound::Message(message)) => Event::Client(number, message),
+        (Dest::Session(number), Inbound::Gone) => Event::Lost(number),
+        (Dest::Upstream(number), Inbound::Message(message)) => Event::Server(number, message),
+        (Dest::Upstream(number), Inbound::Gone) => Event::UpLost(number),
+    }
+}
+
+/// Whether the event may be handed in at the desk.
+fn is_for_desk(event: &Event) -> bool
+    ensures { result ≡ is_for_desk event.now }
+{
+    !matches!(
+        event,
+        Event::Client(..) | Event::Server(..) | Event::Drain(..)
+    )
+}
+
+/// Performs the event of a connection's item, and notes the connection where that was its end.
+fn perform_item<G: Gate>(
+    gate: &mut G,
+    news: &mut News,
+    dest: Dest,
+    item: Inbound,
+) -> Result<(), StepFault>
+    ensures ok { OnOk result (G.state gate.new ≡ option_map (λ w. step w (item_event dest item)) (G.state gate.old)) }
+    ensures used_up { IsErrOf result StepFault.NumbersUsedUp → uses_up (item_event dest item) (G.state gate.old) ≡ Some true }
+    ensures in_range { OnOk result (uses_up (item_event dest item) (G.state gate.old) ≡ Some false) }
+    ensures failed { IsErrOf result StepFault.Failed ↔ IsNone (G.state gate.old) }
+    ensures err { OnErr result (G.state gate.new ≡ None) }
+{
+    let is_gone = matches!(item, Inbound::Gone);
+    match gate.step(event_of(dest, item)) {
+        Ok(()) => {
+            if is_gone || !matches!(gate.must_end(dest), Ok(false)) {
+                news.note(dest);
+            }
+            Ok(())
+        }
+        Err(fault) => Err(fault),
+    }
+}
+
+/// Receives one item of a connection and performs its event, on a gateway that hasn't failed. An item
+/// whose event is refused is gone with the gateway. The guess is where the connection's line may stand.
+#[tactic(auto, using(crate::proofs::Moved::pumped, crate::proofs::Moved::pump_refused, crate::proofs::Moved::pump_used_up, crate::proofs::Changed::received_dests, crate::proofs::Changed::received_rings))]
+pub(crate) fn pump_standing<G: Gate>(
+    gate: &mut G,
+    lines: &mut Lines,
+    news: &mut News,
+    dest: Dest,
+    guess: usize,
+) -> Result<bool, BoardFault>
+    requires stands { IsSome (G.state gate.old) }
+    ensures pump { IsPump dest (board_of (G.state gate.old) lines.old) result (board_of (G.state gate.new) lines.new) }
+    ensures stands { OnOk result (IsSome (G.state gate.new)) }
+    ensures dests { dests_of lines.new ≡ dests_of lines.old }
+    ensures rings { KeepsRings lines.old lines.new }
+{
+    let Some((item, left)) = lines.receive(dest, guess) else {
+        return Ok(false);
+    };
+    news.note_received(dest, left);
+    match perform_item(gate, news, dest, item) {
+        Ok(()) => Ok(true),
+        Err(fault) => Err(BoardFault::Step(fault)),
+    }
+}
+
+/// Receives one item of a connection and performs its event.
+pub(crate) fn pump<G: Gate>(
+    gate: &mut G,
+    lines: &mut Lines,
+    news: &mut News,
+    dest: Dest,
+) -> Result<bool, BoardFault>
+    ensures pump { IsPump dest (board_of (G.state gate.old) lines.old) result (board_of (G.state gate.new) lines.new) }
+    ensures rings { KeepsRings lines.old lines.new }
+{
+    if !lines.is_attached(dest) {
+        return Ok(false);
+    }
+    if has_failed(gate) {
+        return Err(BoardFault::Step(StepFault::Failed));
+    }
+    pump_standing(gate, lines, news, dest, 0)
+}
+
+/// Performs an event that comes through no ring.
+pub(crate) fn desk<G: Gate>(
+    gate: &mut G,
+    lines: &Lines,
+    news: &mut News,
+    event: Event,
+) -> Result<(), BoardFault>
+    ensures { IsDesk event (board_of (G.state gate.old) lines.now) result (board_of (G.state gate.new) lines.now) }
+{
+    if !is_for_desk(&event) {
+        return Err(BoardFault::NotHere);
+    }
+    match event {
+        Event::Lost(number) => news.note(Dest::Session(number)),
+        Event::UpLost(number) => news.note(Dest::Upstream(number)),
+        _ => (),
+    }
+    match gate.step(event) {
+        Ok(()) => Ok(()),
+        Err(fault) => Err(BoardFault::Step(fault)),
+    }
+}
+
+/// Takes as many messages of a connection as places of its ring are free, up to 64, and pushes them, on a
+/// gateway that hasn't failed. The guess is where its line may stand.
+#[tactic(auto, using(crate::proofs::Moved::send_refused, crate::proofs::Moved::send_used_up, crate::proofs::Changed::looked_dests, crate::proofs::Changed::looked_rings))]
+fn send_standing<G: Gate>(
+    gate: &mut G,
+    lines: &mut Lines,
+    news: &mut News,
+    dest: Dest,
+    guess: usize,
+) -> Result<usize, BoardFault>
+    requires stands { IsSome (G.state gate.old) }
+    ensures sent { IsSendOut dest (board_of (G.state gate.old) lines.old) result (board_of (G.state gate.new) lines.new) }
+    ensures dests { dests_of lines.new ≡ dests_of lines.old }
+    ensures rings { KeepsRings lines.old lines.new }
+{
+    let found = lines.room(dest, guess);
+    if found == 0 {
+        return Ok(0);
+    }
+    match gate.drain(dest, MOST_SENT.min(found)) {
+        Ok(outs) => {
+            let count = outs.len();
+            news.note(dest);
+            lines.push_all(dest, guess, outs);
+            Ok(count)
+        }
+        Err(fault) => Err(BoardFault::Step(fault)),
+    }
+}
+
+/// Takes as many messages of a connection as places of its ring are free, up to 64, and pushes them. The
+/// guess is where its line may stand. A connection for which no message waits costs one look.
+pub(crate) fn send_out<G: Gate>(
+    gate: &mut G,
+    lines: &mut Lines,
+    news: &mut News,
+    dest: Dest,
+    guess: usize,
+) -> Result<usize, BoardFault>
+    ensures sent { IsSendOut dest (board_of (G.state gate.old) lines.old) result (board_of (G.state gate.new) lines.new) }
+    ensures dests { dests_of lines.new ≡ dests_of lines.old }
+    ensures rings { KeepsRings lines.old lines.new }
+{
+    match gate.queued(dest) {
+        Ok(0) => Ok(0),
+        Ok(_) => send_standing(gate, lines, news, dest, guess),
+        Err(_) if lines.is_attached(dest) => Err(BoardFault::Step(StepFault::Failed)),
+        Err(_) => Ok(0),
+    }
+}

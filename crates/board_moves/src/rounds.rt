@@ -1,0 +1,103 @@
+//! A round: a pump for each connection, and then a send-out for each.
+ghost use Rattle.std.specs.Prelude.{◌≡◌, map, IsSome, OnOk};
+ghost use Rattle.board_moves.specs.Answers.{board_of, KeepsRings};
+ghost use Rattle.board_moves.specs.Rounds.{dests_of, IsRound, Performs, PerformsUpTo};
+
+use crate::fault::BoardFault;
+use crate::moves::{has_failed, pump_standing, send_out};
+use crate::news::News;
+use board_rings::Lines;
+use gate_calls::{Gate, StepFault};
+use gateway_state::Dest;
+
+/// One call of a round.
+#[derive(Clone, Copy)]
+enum Call {
+    Pump(Dest),
+    SendOut(Dest),
+}
+
+/// Pumps a connection whose line may stand at the guess, and answers how many items it moved.
+fn pump_one<G: Gate>(
+    gate: &mut G,
+    lines: &mut Lines,
+    news: &mut News,
+    dest: Dest,
+    guess: usize,
+) -> Result<usize, BoardFault>
+    requires stands { IsSome (G.state gate.old) }
+    ensures performed { Performs (Call.Pump dest) (board_of (G.state gate.old) lines.old) result (board_of (G.state gate.new) lines.new) }
+    ensures stands { OnOk result (IsSome (G.state gate.new)) }
+    ensures dests { dests_of lines.new ≡ dests_of lines.old }
+    ensures rings { KeepsRings lines.old lines.new }
+{
+    match pump_standing(gate, lines, news, dest, guess) {
+        Ok(true) => Ok(1),
+        Ok(false) => Ok(0),
+        Err(fault) => Err(fault),
+    }
+}
+
+/// Pumps each attached connection, in order, on a gateway that hasn't failed.
+#[tactic(auto, using(crate::proofs::RoundCalls::next_performed))]
+fn pump_all<G: Gate>(gate: &mut G, lines: &mut Lines, news: &mut News) -> Result<usize, BoardFault>
+    requires stands { IsSome (G.state gate.old) }
+    ensures calls { PerformsUpTo (map Call.Pump (dests_of lines.old)) (board_of (G.state gate.old) lines.old) result (board_of (G.state gate.new) lines.new) }
+    ensures dests { dests_of lines.new ≡ dests_of lines.old }
+    ensures rings { KeepsRings lines.old lines.new }
+{
+    let mut moved = 0usize;
+    for n in 0..lines.len() {
+        let Some(dest) = lines.dest(n) else {
+            break;
+        };
+        match pump_one(gate, lines, news, dest, n) {
+            Ok(count) => moved = moved.saturating_add(count),
+            Err(fault) => return Err(fault),
+        }
+    }
+    Ok(moved)
+}
+
+/// Sends out to each attached connection, in order.
+#[tactic(auto, using(crate::proofs::RoundCalls::next_performed))]
+fn send_all<G: Gate>(gate: &mut G, lines: &mut Lines, news: &mut News) -> Result<usize, BoardFault>
+    ensures calls { PerformsUpTo (map Call.SendOut (dests_of lines.old)) (board_of (G.state gate.old) lines.old) result (board_of (G.state gate.new) lines.new) }
+    ensures dests { dests_of lines.new ≡ dests_of lines.old }
+    ensures rings { KeepsRings lines.old lines.new }
+{
+    let mut moved = 0usize;
+    for n in 0..lines.len() {
+        let Some(dest) = lines.dest(n) else {
+            break;
+        };
+        match send_out(gate, lines, news, dest, n) {
+            Ok(count) => moved = moved.saturating_add(count),
+            Err(fault) => return Err(fault),
+        }
+    }
+    Ok(moved)
+}
+
+/// Pumps each attached connection, then sends out to each, up to the first fault. It answers how many
+/// items were moved. The lines are walked in place: none is searched for.
+pub(crate) fn round<G: Gate>(
+    gate: &mut G,
+    lines: &mut Lines,
+    news: &mut News,
+) -> Result<usize, BoardFault>
+    ensures round { IsRound (board_of (G.state gate.old) lines.old) result (board_of (G.state gate.new) lines.new) }
+    ensures rings { KeepsRings lines.old lines.new }
+{
+    if has_failed(gate) {
+        return Err(BoardFault::Step(StepFault::Failed));
+    }
+    let received = match pump_all(gate, lines, news) {
+        Ok(received) => received,
+        Err(fault) => return Err(fault),
+    };
+    match send_all(gate, lines, news) {
+        Ok(sent) => Ok(received.saturating_add(sent)),
+        Err(fault) => Err(fault),
+    }
+}

@@ -1,6 +1,0 @@
-mod Begun
-mod Changed
-mod Kept
-mod Moved
-mod Performed
-mod RoundCalls

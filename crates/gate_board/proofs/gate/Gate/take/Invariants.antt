@@ -1,7 +1,0 @@
-use Rattle.std.proofs.Common.{◌≡◌}
-use Rattle.gate_board.proofs.gate.Gate.take.Given as goal
-
--- nothing was taken yet
-abbrev pub invariant-loop : goal.invariant-loop
-invariant-loop g l =
-    ((goal.iterator-loop g).can_next l.iterator' × (goal.iterator-loop g).is_finite l.iterator') × (l.outlet ≡ l.fn.outlet)

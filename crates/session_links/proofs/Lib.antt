@@ -1,0 +1,3 @@
+pub mod Keeping
+mod Pieces
+pub mod Writings
