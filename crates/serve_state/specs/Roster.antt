@@ -1,0 +1,82 @@
+-- The rows of connections.
+use Rattle.std.specs.Prelude.{◌≡◌, ℕ, ◌-◌, ◌==◌, ◌≤◌, ◌<◌, List, [], ◌∷◌, ◌++◌, Bool, true, false, Option, Some, None}
+use Rattle.std.specs.List.{list_any}
+use Rattle.std.specs.Option.{option_or}
+use Rattle.rows.specs.Rows.{change_first, remove_first}
+use Rattle.gateway_state.specs.Connections.{same_dest}
+use Rattle.gateway_state.specs.declared.event.Dest.{Dest}
+use Rattle.gateway_state.specs.declared.event.Dest.TheVariants.{Session}
+use Rattle.serve_state.specs.declared.notice.Cut.{Cut}
+use Rattle.serve_state.specs.declared.notice.Cut.TheVariants.{TooSlow}
+
+-- a connection: how many of its workers have not ended, whether it was made and waits for them, and why it is
+-- cut off
+pub record RowState : Type 0 where
+  pub dest : Dest
+  pub workers : ℕ
+  pub reached : Bool
+  pub cut : Option Cut
+
+-- the rows in the order in which connections began, and the status that a closing program ends with
+pub record RosterState : Type 0 where
+  pub rows : List RowState
+  pub closing : Option ℕ
+
+-- the row of this connection
+abbrev pub is_row : Dest → RowState → Bool
+is_row dest row = same_dest row.dest dest
+
+abbrev pub holds : Dest → List RowState → Bool
+holds dest rows = list_any (is_row dest) rows
+
+-- a connection has two workers
+abbrev pub new_row : Dest → RowState
+new_row dest = record { dest = dest; workers = 2; reached = false; cut = None }
+
+abbrev pub with_row : Dest → RosterState → RosterState
+with_row dest roster = record roster { rows = roster.rows ++ new_row dest ∷ [] }
+
+-- the least number of clients, which are 1 to 1024, that no connection holds
+pub record IsLeastFree (n : ℕ) (rows : List RowState) : Type 0 where
+  pub low : 1 ≤ n
+  pub high : n ≤ 1024
+  pub free : holds (Session n) rows ≡ false
+  pub least : (m : ℕ) → 1 ≤ m → m < n → holds (Session m) rows ≡ true
+
+abbrev pub IsFull : List RowState → Type 0
+IsFull rows = (m : ℕ) → 1 ≤ m → m ≤ 1024 → holds (Session m) rows ≡ true
+
+-- the first status stands
+abbrev pub closed_with : ℕ → RosterState → RosterState
+closed_with status roster = record roster { closing = option_or roster.closing (Some status) }
+
+-- each reason but that it is too slow stands
+abbrev pub cut_after : Option Cut → Cut → Option Cut
+cut_after None why = Some why
+cut_after (Some TooSlow) why = Some why
+cut_after (Some first) why = Some first
+
+abbrev pub with_cut : Cut → RowState → RowState
+with_cut why row = record row { cut = cut_after row.cut why }
+
+abbrev pub with_left : RowState → RowState
+with_left row = record row { workers = row.workers - 1 }
+
+abbrev pub with_reached : RowState → RowState
+with_reached row = record row { reached = true }
+
+abbrev pub with_served : RowState → RowState
+with_served row = record row { reached = false }
+
+-- a row changed
+abbrev pub changed : Dest → (RowState → RowState) → RosterState → RosterState
+changed dest f roster = record roster { rows = change_first (is_row dest) f roster.rows }
+
+abbrev pub without : Dest → RosterState → RosterState
+without dest roster = record roster { rows = remove_first (is_row dest) roster.rows }
+
+abbrev pub is_reached : RowState → Bool
+is_reached row = row.reached
+
+abbrev pub has_ended : RowState → Bool
+has_ended row = row.workers == 0
