@@ -1,0 +1,224 @@
+#!/usr/bin/env python3
+"""Runs the built server with the client library of EPICS base (libca 4.13.5, by ctypes): `clients.py [PROGRAM]`.
+
+Where Debian's packages libca4.13.5 and libcom3.17.6 aren't installed it says so and ends with 0. Prints each check that
+failed, and a last line with the counts; the status is 1 where one failed.
+"""
+import os
+import socket
+import sys
+import threading
+import traceback
+
+ROOT = os.path.dirname(os.path.dirname(os.path.abspath(__file__)))
+LONGEST = 280
+
+sys.dont_write_bytecode = True
+sys.path.insert(0, os.path.join(ROOT, ".ci"))
+import served  # noqa: E402  (sets the path to examples/)
+import ca_wire as ca  # noqa: E402
+from served import libca  # noqa: E402
+from served.room import Room, variable  # noqa: E402
+from served.values import NATIVE, WIDER  # noqa: E402
+
+MANY = 1000
+
+
+def variables():
+    every = [variable(ca.NAMES[base], base, values) for base, values in NATIVE.items()]
+    single = [variable(f"ONE:{ca.NAMES[base]}", base, values[:1]) for base, values in NATIVE.items()]
+    return [*every, *single, variable("V", values=[1]), variable("LARGE", ca.LONG, range(200_000)),
+            *(variable(f"N{it:04}", values=[it]) for it in range(MANY))]
+
+
+def connecting(room, up, server, library):
+    channels = {name: library.channel(name) for name in up.variables if not name.startswith("N0")}
+    for name, channel in channels.items():
+        room.eventually(f"{name} connects", channel.is_connected)
+        wanted = up.variables[name]
+        room.equal(f"type, count and rights of {name}", channel.facts(), (wanted.base, wanted.count, True, True))
+        room.equal(f"port of {name}'s server", channel.host().rpartition(":")[2], str(server.address[1]))
+    lost = library.channel("MISSING")
+    room.check("a name that isn't there doesn't connect", not room.wait(lost.is_connected, 1))
+    lost.clear()
+    return channels
+
+
+def getting(room, up, channels):
+    for base, values in NATIVE.items():
+        name = ca.NAMES[base]
+        up.give(name, values, status=3, severity=2)
+        for form in (0, ca.STS, ca.TIME):
+            for count in (1, 2, 3):
+                wanted = ca.payload_of(base + form, up.variables[name].value._replace(values=values[:count]))
+                room.equal(f"get {count} of {name} in form {form}", channels[name].get(base + form, count)[:3], (ca.NORMAL, count, wanted))
+        for asked in NATIVE:
+            if asked != base:
+                status, _, payload, _ = channels[name].get(asked, 3)
+                good = (base, asked) in WIDER
+                room.equal(f"get {name} as {ca.NAMES[asked]}", status, ca.NORMAL if good else ca.BADTYPE)
+                if good:
+                    room.equal(f"values of {name} as {ca.NAMES[asked]}", ca.values_in(asked, 3, payload), ca.as_type(asked, values))
+        single = channels[f"ONE:{name}"]
+        room.equal(f"get one {name}", ca.values_in(base, 1, single.get(base, 1)[2]), values[:1])
+    large = channels["LARGE"].get(ca.LONG, 200_000)
+    room.equal("get 200,000 elements", large[:2], (ca.NORMAL, 200_000))
+    room.check("each of them", ca.values_in(ca.LONG, 200_000, large[2]) == list(range(200_000)))
+
+
+def putting(room, up, channels):
+    for base, values in NATIVE.items():
+        name = ca.NAMES[base]
+        for count in (1, 2, 3):
+            new = values[::-1][:count]
+            room.equal(f"put {count} of {name}", channels[name].put(base, new), ca.NORMAL)
+            wanted = ca.elements(base, new)
+            room.equal(f"what came of {count} {name}", up.writes[-1][:3] + (up.writes[-1][3][:len(wanted)],), (name, base, count, wanted))
+        room.equal(f"put one {name}", channels[f"ONE:{name}"].put(base, values[1:2]), ca.NORMAL)
+        room.eventually("and read it", lambda: ca.values_in(base, 1, channels[f"ONE:{name}"].get(base, 1)[2]) == values[1:2])
+    many = len(up.writes)
+    room.equal("put without a callback", channels["V"].put_alone(ca.LONG, [5]), ca.NORMAL)
+    room.eventually("comes", lambda: up.writes[many:] and up.writes[many][:2] == ("V", ca.LONG))
+    room.equal("put as text", channels["V"].put(ca.STRING, ["1"]), ca.NORMAL)
+    up.statuses["V"] = ca.PUTFAIL
+    room.equal("a put that the server refuses", channels["V"].put(ca.LONG, [1]), ca.PUTFAIL)
+    up.statuses.clear()
+    large = list(range(200_000, 0, -1))
+    room.equal("put 200,000 elements", channels["LARGE"].put(ca.LONG, large), ca.NORMAL)
+    room.eventually("and read them", lambda: ca.values_in(ca.LONG, 200_000, channels["LARGE"].get(ca.LONG, 200_000)[2]) == large)
+
+
+def monitoring(room, up, channels):
+    """A subscription with each mask; what clients want together changes, so a value may come anew at first."""
+    channel = channels["V"]
+    up.give("V", [0])
+    watched = {mask: channel.watch(ca.TIME + ca.LONG, 1, mask) for mask in (1, 2, 4, 3, 5, 6, 7)}
+    text = channel.watch(ca.STRING, 1, 1)
+    for mask, seen in watched.items():
+        room.eventually(f"mask {mask} begins with the value", lambda: seen.values()[-1:] == [[0]])
+    up.give("V", [1])
+    up.give("V", [2], severity=1, status=3)
+    up.give("V", [3], severity=1, status=3)
+    for mask, seen in watched.items():
+        wanted = [[1], [2], [3]] if mask & 3 else [[2]]
+        room.eventually(f"mask {mask} has its updates", lambda: seen.values()[-len(wanted):] == wanted)
+    room.eventually("as text", lambda: text.values()[-1:] == [["3"]])
+    for seen in [*watched.values(), text]:
+        seen.clear()
+    room.eventually("no subscription is left", lambda: up.subscriptions("V") == [])
+    array = channels["DOUBLE"].watch(ca.TIME + ca.DOUBLE, 2, 5)
+    up.give("DOUBLE", [4.5, 5.5, 6.5])
+    room.eventually("two elements of an array", lambda: array.values()[-1:] == [[4.5, 5.5]])
+    whole = channels["CHAR"].watch(ca.CHAR, 0, 1)
+    up.give("CHAR", [9, 8])
+    room.eventually("as many elements as there are", lambda: whole.values()[-1:] == [[9, 8]])
+    array.clear()
+    whole.clear()
+
+
+def rights(room, up, server, channels):
+    channel, large = channels["V"], channels["LARGE"]
+    before = len(channel.rights)
+    room.file("groups", "everyone READ\nlarge WRITE\n")
+    server.write("reload")
+    room.eventually("the write right goes", lambda: channel.rights[-1] == (True, False))
+    room.equal("a put without it", channel.put(ca.LONG, [1]), ca.NOWTACCESS)
+    room.check("no right of another group changes", large.rights[-1] == (True, True))
+    room.file("groups", "everyone NONE\nlarge WRITE\n")
+    server.write("reload")
+    room.eventually("the read right goes", lambda: channel.rights[-1] == (False, False))
+    room.equal("a get without it", channel.get(ca.LONG, 1)[0], ca.NORDACCESS)
+    up.set_rights("V", 1)
+    room.file("groups", "everyone WRITE\nlarge WRITE\n")
+    server.write("reload")
+    room.eventually("what the server leaves comes back", lambda: channel.rights[-1] == (True, False))
+    up.set_rights("V", 3)
+    room.eventually("all comes back", lambda: channel.rights[-1] == (True, True))
+    room.check("each change is told once", len(channel.rights) - before <= 5, channel.rights[before:])
+
+
+def reconnecting(room, up, server, channels):
+    channel = channels["V"]
+    seen = channel.watch(ca.LONG, 1, 1)
+    up.give("V", [7])
+    room.eventually("subscribed", lambda: seen.values()[-1:] == [[7]])
+    up.stop()
+    room.eventually("the server is lost, the channel disconnects", lambda: not channel.is_connected())
+    up.start()
+    room.eventually("the gateway is connected again", lambda: server.write("connect 1") or up.count_clients() == 1)
+    room.eventually("the channel connects again by itself", channel.is_connected)
+    up.give("V", [8])
+    room.eventually("and so does its subscription", lambda: seen.values()[-1:] == [[8]])
+    room.equal("and it is read", ca.values_in(ca.LONG, 1, channel.get(ca.LONG, 1)[2]), [8])
+    room.equal("and written", channel.put(ca.LONG, [9]), ca.NORMAL)
+    room.equal("the connection callback told each change", channel.changes, [libca.UP, libca.DOWN, libca.UP])
+    seen.clear()
+
+
+def many_names(room, library):
+    names = [f"N{it:04}" for it in range(MANY)]
+    many = [library.channel(name) for name in names]
+    room.eventually(f"{MANY} names connect", lambda: all(it.is_connected() for it in many))
+    # 256 reads of a client may wait at once.
+    for at in range(0, MANY, 200):
+        replies = [it.start_get(ca.LONG, 1) for it in many[at:at + 200]]
+        seen = [it.wait() for it in replies]
+        values = [ca.values_in(ca.LONG, 1, payload) for status, _, payload, _ in seen if status == ca.NORMAL]
+        room.equal(f"{len(seen)} are read", values, [[at + it] for it in range(len(seen))])
+    for it in many:
+        it.clear()
+
+
+def another_gateway(room, up, server, library, channels):
+    """The gateway itself goes, and one at the same address comes."""
+    from served.room import Server, text_of
+    room.equal("quit", server.quit(), 0)
+    room.eventually("all disconnect", lambda: not any(it.is_connected() for it in channels.values()))
+    again = Server(room.words(text_of(server.address), [text_of(up.address)], ".* ALLOW everyone\n", "everyone WRITE\n"))
+    room.started.append(again.kill)
+    room.eventually("all connect to the next one", lambda: all(it.is_connected() for it in channels.values()), 120)
+    room.equal("and read from it", channels["V"].get(ca.LONG, 1)[0], ca.NORMAL)
+    library.end()
+    room.equal("quit again", again.quit(), 0)
+
+
+def run(room, repeater):
+    up = room.upstream(*variables())
+    server = room.server(up, rules=".* ALLOW everyone\nLARGE ALLOW large\n", groups="everyone WRITE\nlarge WRITE\n")
+    library = libca.Library(server.address, repeater)
+    channels = connecting(room, up, server, library)
+    getting(room, up, channels)
+    putting(room, up, channels)
+    monitoring(room, up, channels)
+    rights(room, up, server, channels)
+    reconnecting(room, up, server, channels)
+    many_names(room, library)
+    another_gateway(room, up, server, library, channels)
+    room.equal("nothing that the library complains of", library.exceptions, [])
+
+
+def main():
+    program = os.path.abspath(sys.argv[1] if len(sys.argv) > 1 else os.path.join(ROOT, "crates", "pvgate", "out", "pvgate"))
+    if not libca.is_installed():
+        print("clients: skipped, since libca 4.13.5 and libCom 3.17.6 (Debian's libca4.13.5, libcom3.17.6) aren't installed")
+        return 0
+    if not os.access(program, os.X_OK):
+        sys.exit(f"{program} isn't built")
+    watchdog = threading.Timer(LONGEST, lambda: (print("clients: not done in time", flush=True), room.end(), os._exit(1)))
+    watchdog.daemon = True
+    watchdog.start()
+    room = Room(program)
+    with socket.socket(socket.AF_INET, socket.SOCK_DGRAM) as repeater:  # so that the library starts none
+        repeater.bind(("127.0.0.1", 0))
+        try:
+            run(room, repeater.getsockname()[1])
+        except Exception:
+            room.check("it ran to its end", False, traceback.format_exc(limit=-4))
+        room.end()
+    print(f"clients: {room.passed} passed, {len(room.failed)} failed", flush=True)
+    # The library's threads may still be about; nothing of them is needed.
+    os._exit(1 if room.failed else 0)
+
+
+if __name__ == "__main__":
+    sys.exit(main())

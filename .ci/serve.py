@@ -1,0 +1,109 @@
+#!/usr/bin/env python3
+"""Runs the built server with clients and servers over real sockets: `serve.py [PROGRAM [STORY..]]`.
+
+Each story has a gateway, servers and clients of its own, on free ports, and runs in a process of its own, several
+at a time. Prints each check that failed, and a last line with the counts; the status is 1 where one failed.
+Whatever still runs after LONGEST seconds is ended, and counts as failed.
+"""
+import os
+import resource
+import signal
+import subprocess
+import sys
+import tempfile
+import time
+import traceback
+
+ROOT = os.path.dirname(os.path.dirname(os.path.abspath(__file__)))
+LONGEST = 280
+
+sys.dont_write_bytecode = True
+sys.path.insert(0, os.path.join(ROOT, ".ci"))
+import served  # noqa: E402  (sets the path to examples/)
+from served import chain, crowds, damage, lines, rules, samples, servers, values  # noqa: E402
+from served.room import Room  # noqa: E402
+
+# The long ones first.
+STORIES = [crowds.thousand, crowds.never_reading, crowds.quitting, damage.damaged, samples.examples, crowds.descriptors, servers.losing,
+           servers.several, servers.unanswered, values.creating, values.reading, values.watching, values.writing, rules.rights, rules.hosts,
+           lines.ordering, lines.starting, lines.remembering, chain.chained]
+
+
+def tell(program, name):
+    """Runs one story here; its last line has the counts."""
+    most = resource.getrlimit(resource.RLIMIT_NOFILE)[1]
+    resource.setrlimit(resource.RLIMIT_NOFILE, (most, most))
+    room = Room(program)
+    try:
+        next(it for it in STORIES if it.__name__ == name)(room)
+    except Exception:
+        room.check(f"{name} ran to its end", False, traceback.format_exc(limit=-4))
+    room.end()
+    print(f"counts {room.passed} {len(room.failed)}")
+
+
+class Run:
+    """A story in a process of its own."""
+
+    def __init__(self, program, story):
+        self.name = story.__name__
+        self.began = time.monotonic()
+        words = [sys.executable, os.path.abspath(__file__), "--story", program, self.name]
+        self.process = subprocess.Popen(words, stdin=subprocess.DEVNULL, stdout=subprocess.PIPE, stderr=subprocess.STDOUT,
+                                        start_new_session=True)
+
+    def end(self):
+        """Ends it with all that it started."""
+        os.killpg(self.process.pid, signal.SIGKILL)
+
+    def result(self, ended):
+        """The counts, once it is over; prints what it printed."""
+        if not ended:
+            self.end()
+        said = self.process.communicate()[0].decode(errors="replace").splitlines()
+        counts = said.pop().split() if said and said[-1].startswith("counts ") else None
+        if counts is None:
+            said.append(f"failed: it {'ended' if ended else 'was ended'} without counts")
+        for line in said:
+            print(f"{self.name}: {line}")
+        print(f"{self.name}: {time.monotonic() - self.began:.1f} s", file=sys.stderr, flush=True)
+        return (int(counts[1]), int(counts[2])) if counts else (0, 1)
+
+
+def run_all(program, stories):
+    """The counts of all stories together."""
+    until = time.monotonic() + LONGEST
+    waiting, running, passed, failed = list(stories), [], 0, 0
+    try:
+        while waiting or running:
+            while waiting and len(running) < max(2, min(4, os.cpu_count() or 2)):
+                running.append(Run(program, waiting.pop(0)))
+            late = time.monotonic() > until
+            for run in [it for it in running if late or it.process.poll() is not None]:
+                running.remove(run)
+                good, bad = run.result(run.process.poll() is not None)
+                passed, failed = passed + good, failed + bad
+            time.sleep(0.05)
+    finally:
+        for run in running:
+            run.end()
+    return passed, failed
+
+
+def main():
+    if sys.argv[1:2] == ["--story"]:
+        return tell(*sys.argv[2:])
+    program = os.path.abspath(sys.argv[1] if len(sys.argv) > 1 else os.path.join(ROOT, "crates", "pvgate", "out", "pvgate"))
+    if not os.access(program, os.X_OK):
+        sys.exit(f"{program} isn't built")
+    names = sys.argv[2:]
+    signal.signal(signal.SIGTERM, lambda *_: sys.exit(1))
+    with tempfile.TemporaryDirectory(prefix="serve-") as folder:
+        os.environ["TMPDIR"] = folder
+        passed, failed = run_all(program, [it for it in STORIES if not names or it.__name__ in names])
+    print(f"served: {passed} passed, {failed} failed")
+    return 1 if failed else 0
+
+
+if __name__ == "__main__":
+    sys.exit(main())
