@@ -1,0 +1,5 @@
+pub mod PatternsCross
+pub mod PartsCross
+pub mod StateCrosses
+pub mod RingsCross
+pub mod GateCrosses

@@ -1,0 +1,53 @@
+-- What the gateway's tables, messages and rules hold may go to another thread.
+use denote.Param.Send.{IsSend, sendable}
+use denote.Param.SendFields.{declared_send}
+use Rattle.std.proofs.Crossing.{crosses, send}
+use Rattle.bytes.proofs.Crosses as shared
+use Rattle.bytes.proofs.block.Seen.TheSendSync as seen
+use Rattle.value_cache.specs.contracts.cached.Cached as cached
+use Rattle.fanout.specs.contracts.outbox.Outbox as outbox
+use Rattle.fanout.specs.contracts.outbox.Out as out
+use Rattle.pv_name.specs.contracts.name.Name as name
+use Rattle.channel_table.specs.contracts.table.Table as table
+use Rattle.link_table.specs.contracts.table.Links as links
+use Rattle.pvlist.specs.contracts.rules.Rules as rules
+use Rattle.pvlist.specs.contracts.groups.Groups as groups
+use Rattle.pvlist.specs.contracts.row.Row as row
+use Rattle.pvlist.specs.contracts.row.Verb as verb
+use Rattle.rule_desk.specs.contracts.policy.Policy as policy
+use Rattle.gate_board.proofs.PatternsCross.{regex_send}
+
+pub ruleset bytes_cross = (crosses, send, seen.the_send, shared.block-send, shared.block-sync)
+
+pub out_send : IsSend out.the_row
+out_send = search (sendable, bytes_cross) depth 40 fits 5000
+
+pub outbox_send : IsSend outbox.the_row
+outbox_send = search (sendable, crosses, out_send) depth 40 fits 5000
+
+pub cached_send : IsSend cached.the_row
+cached_send = search (sendable, bytes_cross) depth 40 fits 5000
+
+pub name_send : IsSend name.the_row
+name_send = search (sendable, crosses) depth 40 fits 5000
+
+pub table_send : IsSend table.the_row
+table_send = search (sendable, crosses, name_send) depth 60 fits 20000
+
+pub links_send : IsSend links.the_row
+links_send = search (sendable, crosses, name_send) depth 60 fits 20000
+
+groups_send : IsSend groups.the_row
+groups_send = search (sendable, crosses) depth 60 fits 20000
+
+verb_send : IsSend verb.the_row
+verb_send = search (sendable, crosses) depth 60 fits 20000
+
+row_send : IsSend row.the_row
+row_send = declared_send row.the_type (regex_send, (verb_send, tt))
+
+rules_send : IsSend rules.the_row
+rules_send = search (sendable, crosses, row_send) depth 60 fits 20000
+
+pub policy_send : IsSend policy.the_row
+policy_send = search (sendable, crosses, rules_send, groups_send) depth 60 fits 20000
