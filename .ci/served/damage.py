@@ -110,7 +110,7 @@ def from_the_server(room, up, server, good, channel):
     up.give("V", [1])
     room.equal("the channel is as before", good.values(channel), [1])
     other = room.upstream(variable("X", values=[1]))
-    for label, data in (("a size of 5", struct.pack(">HHHHII", 0, 5, 0, 0, 0, 0)), ("random bytes", os.urandom(4000) + b"\xff" * 24)):
+    for label, data in (("a size of 5", struct.pack(">HHHHII", 0, 5, 0, 0, 0, 0)), ("bytes that are no message", b"\xff\xfe\xfd\xfb" + os.urandom(4000))):
         inner = room.server(other)
         client = room.client(inner)
         own = client.open("X")

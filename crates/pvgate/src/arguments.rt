@@ -90,11 +90,36 @@ read or standard output can't be written, 4 where memory runs out.
 Example:
   pvgate check-rules examples/site.pvlist --groups examples/site.groups --name BEAM:CURRENT";
 
+const SERVE_ABOUT: &str = "Serves clients with the variables of servers, over TCP and UDP";
+
+const SERVE_LONG_ABOUT: &str = "\
+Serves clients with the variables of servers, over TCP and UDP.
+
+Clients find it at LISTEN. It connects to each UPSTREAM once, at the start; they are numbered from 1.
+With no rule file every name is served. Once it listens it prints: listening ADDR";
+
+const SERVE_AFTER_HELP: &str = "\
+Lines of standard input:
+  ask         the servers are asked for the names that clients look for
+  sweep       the gateway forgets which names clients looked for
+  reload      the rule files are read again; a faulty line is printed, and changes nothing
+  connect N   UPSTREAM number N is connected to again, where it is lost
+  quit        the gateway ends, as at the end of input
+
+What happens is told on standard error, one line each.
+
+Exit status: 0 where it was told to end, 1 for a faulty line of the rule files, 2 for bad arguments, 3
+where a file, LISTEN or a standard stream can't be opened, read or written, 4 where memory runs out.
+
+Example:
+  pvgate serve 127.0.0.1:5064 127.0.0.1:5070 --rules examples/site.pvlist --groups examples/site.groups";
+
 /// The programs that a command line can name.
-#[derive(Clone, Copy, Debug)]
+#[derive(Drop)]
 pub enum Program<'a> {
     Replay(Body),
     CheckRules(CheckRules<'a>),
+    Serve(Serve<'a>),
 }
 
 /// The gateway that a script is performed on.
@@ -114,6 +139,15 @@ pub struct CheckRules<'a> {
     pub host: &'a str,
 }
 
+/// What `serve` is to serve: the texts of its addresses, and the paths of the rule files.
+#[derive(Drop)]
+pub struct Serve<'a> {
+    pub listen: &'a str,
+    pub upstreams: Vec<&'a str>,
+    pub rules: Option<&'a str>,
+    pub groups: Option<&'a str>,
+}
+
 /// Reads a command line, the program's own name first.
 pub fn read<'a>(alloc: Global, words: &'a [String]) -> Result<Program<'a>, Error> {
     let command = Command::new(alloc, "pvgate")
@@ -122,10 +156,14 @@ pub fn read<'a>(alloc: Global, words: &'a [String]) -> Result<Program<'a>, Error
         .arg_required_else_help(true)
         .subcommand_required(true)
         .subcommand(replay_command(alloc)?)?
-        .subcommand(check_rules_command(alloc)?)?;
+        .subcommand(check_rules_command(alloc)?)?
+        .subcommand(serve_command(alloc)?)?;
     let matches = command.try_get_matches_from(words)?;
     if let Some(found) = matches.subcommand_matches("check-rules") {
         return Ok(Program::CheckRules(check_rules_arguments(found)));
+    }
+    if let Some(found) = matches.subcommand_matches("serve") {
+        return Ok(Program::Serve(serve_arguments(alloc, found)?));
     }
     // The other subcommand was named.
     let found = matches.subcommand_matches("replay");
@@ -167,6 +205,31 @@ fn check_rules_command<'a>(alloc: Global) -> Result<Command<'a>, Error> {
     )
 }
 
+fn serve_command<'a>(alloc: Global) -> Result<Command<'a>, Error> {
+    let listen = Arg::new(alloc, "listen")
+        .value_name("LISTEN")
+        .help("The address on which clients find it, as 127.0.0.1:5064")
+        .required(true);
+    let upstreams = Arg::new(alloc, "upstream")
+        .value_name("UPSTREAM")
+        .help("The address of a server, as 127.0.0.1:5070; at most 16")
+        .required(true)
+        .num_args(1..)
+        .action(ArgAction::Append);
+    let rules = option(alloc, "rules", "FILE", "The rule file");
+    let groups = option(alloc, "groups", "FILE", "The group file");
+    Ok(
+        Command::new(alloc, "serve")
+            .about(SERVE_ABOUT)
+            .long_about(SERVE_LONG_ABOUT)
+            .after_help(SERVE_AFTER_HELP)
+            .arg(listen)?
+            .arg(upstreams)?
+            .arg(rules)?
+            .arg(groups)?,
+    )
+}
+
 fn option<'a>(alloc: Global, id: &'a str, value: &'a str, help: &'a str) -> Arg<'a> {
     Arg::new(alloc, id)
         .long(id)
@@ -182,4 +245,17 @@ fn check_rules_arguments<'a>(found: &ArgMatches<'a>) -> CheckRules<'a> {
         name: found.get_str("name"),
         host: found.get_str("host").unwrap_or(LOCAL),
     }
+}
+
+fn serve_arguments<'a>(alloc: Global, found: &ArgMatches<'a>) -> Result<Serve<'a>, Error> {
+    let mut upstreams = Vec::new(alloc);
+    for word in found.get_strs("upstream").unwrap_or(&[]) {
+        upstreams.push(*word)?;
+    }
+    Ok(Serve {
+        listen: found.get_str("listen").unwrap_or(""),
+        upstreams,
+        rules: found.get_str("rules"),
+        groups: found.get_str("groups"),
+    })
 }

@@ -2,7 +2,7 @@
 
 use pv_name::NameFault;
 use replay::status;
-use std::alloc::Global;
+use std::alloc::{AllocError, Global};
 use std::io;
 use thiserror::Error;
 
@@ -16,6 +16,14 @@ pub enum Fault {
     /// The path of a file that can't be read.
     #[error("{0}: {1}")]
     File(String, io::Error),
+    /// An address that is none.
+    #[error("the address is bad, as 127.0.0.1:5064 is good: {0}")]
+    BadAddress(String),
+    #[error("there are more than 16 upstreams")]
+    TooManyUpstreams,
+    /// LISTEN can't be opened.
+    #[error("the address can't be listened on: {0}")]
+    Listen(io::Error),
     #[error("standard output can't be written")]
     Output,
     #[error("out of memory")]
@@ -26,8 +34,11 @@ impl Fault {
     /// The status that the program ends with.
     pub fn status(&self) -> u8 {
         match self {
-            Fault::BadName(_) | Fault::BadHost(_) => status::BAD_INPUT,
-            Fault::File(_, _) | Fault::Output => status::STREAM_FAILED,
+            Fault::BadName(_)
+            | Fault::BadHost(_)
+            | Fault::BadAddress(_)
+            | Fault::TooManyUpstreams => status::BAD_INPUT,
+            Fault::File(_, _) | Fault::Listen(_) | Fault::Output => status::STREAM_FAILED,
             Fault::OutOfMemory => status::FAILED,
         }
     }
@@ -64,5 +75,11 @@ impl From<io::Error> for Fault {
             io::ErrorKind::OutOfMemory => Fault::OutOfMemory,
             _ => Fault::Output,
         }
+    }
+}
+
+impl From<AllocError> for Fault {
+    fn from(_e: AllocError) -> Fault {
+        Fault::OutOfMemory
     }
 }

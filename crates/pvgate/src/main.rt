@@ -4,18 +4,37 @@
 mod arguments;
 mod check_rules;
 mod fault;
+mod site;
 
 use arguments::{Body, Program};
 use check_rules::check_rules;
 use clap::error::ErrorKind;
+use fault::Fault;
 use replay::{replay, replay_plain, status};
+use serve::open;
+use site::{Site, ended, read_site};
 use std::io::BufWriter;
 use std::process::ExitCode;
 use std::{env, io};
 
+/// How far the command line leads.
+#[derive(Drop)]
+enum Begun {
+    /// The program has ended, with this status.
+    Ended(u8),
+    /// A gateway is to be served.
+    Serve(Site),
+}
+
 fn main(rt: HostRuntime) -> ExitCode {
-    let status = match run(&rt) {
-        Ok(status) => status,
+    let status = match begin(&rt) {
+        Ok(Begun::Ended(status)) => status,
+        Ok(Begun::Serve(site)) => {
+            match open(rt, rt.alloc(), site.listen, site.servers, site.files) {
+                Ok(status) => status,
+                Err(fault) => told(&rt, ended(fault)),
+            }
+        }
         Err(fault) => {
             let _ = eprintln!(rt; "pvgate: {fault}");
             match fault.kind() {
@@ -29,25 +48,36 @@ fn main(rt: HostRuntime) -> ExitCode {
     ExitCode::from(status)
 }
 
-fn run(rt: &HostRuntime) -> io::Result<u8> {
+// The status, once a fault is told.
+fn told(rt: &HostRuntime, ended: Result<u8, Fault>) -> u8 {
+    match ended {
+        Ok(status) => status,
+        Err(fault) => {
+            let _ = eprintln!(rt; "pvgate: {fault}");
+            fault.status()
+        }
+    }
+}
+
+fn begin(rt: &HostRuntime) -> io::Result<Begun> {
     let alloc = rt.alloc();
     let words: Vec<String> = env::args(rt)?.collect(alloc)?;
     match arguments::read(alloc, &words) {
-        Ok(Program::Replay(body)) => replay_script(rt, body),
-        Ok(Program::CheckRules(arguments)) => match check_rules(rt, &arguments) {
-            Ok(status) => Ok(status),
-            Err(fault) => {
-                let _ = eprintln!(rt; "pvgate: {fault}");
-                Ok(fault.status())
-            }
+        Ok(Program::Replay(body)) => Ok(Begun::Ended(replay_script(rt, body)?)),
+        Ok(Program::CheckRules(arguments)) => {
+            Ok(Begun::Ended(told(rt, check_rules(rt, &arguments))))
+        }
+        Ok(Program::Serve(arguments)) => match read_site(alloc, &arguments) {
+            Ok(site) => Ok(Begun::Serve(site)),
+            Err(fault) => Ok(Begun::Ended(told(rt, Err(fault)))),
         },
         Err(fault) => {
             fault.print(rt)?;
-            Ok(match fault.kind() {
+            Ok(Begun::Ended(match fault.kind() {
                 ErrorKind::DisplayHelp | ErrorKind::DisplayVersion => status::GOOD,
                 ErrorKind::OutOfMemory => status::FAILED,
                 _ => status::BAD_INPUT,
-            })
+            }))
         }
     }
 }

@@ -1,0 +1,116 @@
+//! Clients that connect.
+use crate::hub::{Arrival, AsHub, Hub, complain, tell, warn_of};
+use crate::machine::System;
+use crate::workers::start_workers;
+use gateway_core::{Dest, Event};
+use pv_name::Host;
+use serve_state::{Notice, Refusal};
+use std::fmt::Write;
+use std::net::{Shutdown, SocketAddr, TcpStream};
+use std::sync::Arc;
+use std::thread;
+use std::thread::Scope;
+use std::time::Duration;
+
+/// How many milliseconds pass after no connection could be accepted.
+const PAUSE: u64 = 20;
+
+/// Accepts clients, and hands each on at once: the system keeps few that wait to be accepted, and forgets the
+/// others half.
+pub fn accept_clients<R: System, H: AsHub>(rt: R, hub: &H) {
+    for _ in rt.forever() {
+        let accepted = hub.hub().sockets.listener.accept();
+        if hub.hub().is_closing(&rt) {
+            return;
+        }
+        match accepted {
+            Ok((stream, peer)) => hand_on(rt, hub.hub(), Arrival { stream, peer }),
+            Err(_) => thread::sleep(&rt, Duration::from_millis(PAUSE)),
+        }
+    }
+}
+
+fn hand_on<R: System>(rt: R, hub: &Hub, arrival: Arrival) {
+    let added = hub.arrivals.lock(&rt).waiting.push_back(arrival);
+    match added {
+        Ok(()) => hub.arrived.notify_all(),
+        Err(_) => complain(&rt, Notice::OutOfMemory),
+    }
+}
+
+/// Greets the clients that were accepted, in order, and starts the workers of each.
+pub fn greet_clients<'x, 's: 'x, E: 's, R: System + 's, H: AsHub + Sync + 's>(
+    rt: R,
+    scope: &'x Scope<'s, E>,
+    hub: &'s H,
+) {
+    for _ in rt.forever() {
+        let Some(Arrival { stream, peer }) = next_arrival(rt, hub.hub()) else {
+            return;
+        };
+        greet(rt, &*scope, &*hub, stream, peer);
+    }
+}
+
+// The next client to greet. None where the gateway closes.
+fn next_arrival<R: System>(rt: R, hub: &Hub) -> Option<Arrival> {
+    let arrivals = hub.arrivals.lock(&rt);
+    let mut arrivals = hub.arrived.wait_while(&rt, arrivals, |arrivals| {
+        !arrivals.end && arrivals.waiting.is_empty()
+    });
+    if arrivals.end {
+        return None;
+    }
+    arrivals.waiting.pop_front()
+}
+
+fn greet<'x, 's: 'x, E: 's, R: System + 's, H: AsHub + Sync + 's>(
+    rt: R,
+    scope: &'x Scope<'s, E>,
+    hub: &'s H,
+    stream: TcpStream,
+    peer: SocketAddr,
+) {
+    let _ = stream.set_nodelay(true);
+    let (Ok(host), Ok(stream)) = (host_of(hub.hub(), &peer), Arc::new(hub.hub().alloc, stream))
+    else {
+        complain(&rt, Notice::OutOfMemory);
+        return;
+    };
+    let Ok(link) = Arc::try_clone(&stream) else {
+        complain(&rt, Notice::OutOfMemory);
+        return;
+    };
+    let admitted = hub.hub().roster.lock(&rt).admit_client(link, peer);
+    let number = match admitted {
+        Ok(number) => number,
+        Err(refusal) => {
+            let _ = stream.shutdown(Shutdown::Both);
+            refuse(rt, peer, refusal);
+            return;
+        }
+    };
+    tell(&rt, Notice::ClientConnected(number, peer));
+    let _ = hub.gate().desk(&rt, Event::Opened(number, host));
+    start_workers(rt, &*scope, &*hub, Dest::Session(number), stream);
+}
+
+fn refuse<R: System>(rt: R, peer: SocketAddr, refusal: Refusal) {
+    match refusal {
+        Refusal::Full => warn_of(
+            &rt,
+            Notice::ClientRefused(peer, "1024 clients are connected"),
+        ),
+        Refusal::OutOfMemory => warn_of(&rt, Notice::ClientRefused(peer, "out of memory")),
+        Refusal::Closing | Refusal::Held => (),
+    }
+}
+
+/// The host that has this address.
+pub fn host_of(hub: &Hub, peer: &SocketAddr) -> Result<Host, ()> {
+    let mut text = String::new(hub.alloc);
+    if write!(text, "{}", peer.ip()).is_err() {
+        return Err(());
+    }
+    Host::read(hub.alloc, text.as_bytes()).map_err(|_| ())
+}

@@ -1,0 +1,197 @@
+//! What all threads share.
+use crate::machine::System;
+use gate_board::Gate;
+use gateway_core::Dest;
+use log::{error, info, warn};
+use serve_state::{Asked, Cut, Notice, Roster};
+use std::alloc::Global;
+use std::collections::VecDeque;
+use std::net::{Shutdown, SocketAddr, TcpListener, TcpStream, UdpSocket};
+use std::sync::{Arc, Condvar, Mutex, Wait};
+
+/// A connection's socket.
+pub type Stream = Arc<TcpStream, Global>;
+
+/// The rows of connections, by socket and peer.
+pub type Rows = Roster<Stream, SocketAddr>;
+
+/// The sockets on LISTEN, each with a second handle, by which it is shut.
+#[derive(Drop)]
+pub struct Sockets {
+    pub listener: TcpListener,
+    pub datagrams: UdpSocket,
+    pub listener_door: TcpStream,
+    pub datagrams_door: TcpStream,
+}
+
+/// What is wanted of the asker.
+#[derive(Clone, Copy)]
+pub struct Wanted {
+    pub asks: bool,
+    pub end: bool,
+}
+
+/// A client that was accepted, and isn't greeted yet.
+#[derive(Drop)]
+pub struct Arrival {
+    pub stream: TcpStream,
+    pub peer: SocketAddr,
+}
+
+/// The clients that wait to be greeted.
+#[derive(Drop)]
+pub struct Arrivals {
+    pub waiting: VecDeque<Arrival>,
+    pub end: bool,
+}
+
+/// What all threads share besides the gate. Of its locks a thread holds one at a time.
+#[derive(Drop)]
+pub struct Hub {
+    pub alloc: Global,
+    pub sockets: Sockets,
+    pub servers: Vec<SocketAddr>,
+    pub roster: Mutex<Rows>,
+    /// A row has to be looked at.
+    pub changed: Condvar,
+    pub arrivals: Mutex<Arrivals>,
+    pub arrived: Condvar,
+    pub wanted: Mutex<Wanted>,
+    pub asker: Condvar,
+    pub asked: Mutex<Asked>,
+}
+
+impl Hub {
+    pub fn new(alloc: Global, sockets: Sockets, servers: Vec<SocketAddr>) -> Hub {
+        Hub {
+            alloc,
+            sockets,
+            servers,
+            roster: Mutex::new(Roster::new(alloc)),
+            changed: Condvar::new(),
+            arrivals: Mutex::new(Arrivals {
+                waiting: VecDeque::new(alloc),
+                end: false,
+            }),
+            arrived: Condvar::new(),
+            wanted: Mutex::new(Wanted {
+                asks: false,
+                end: false,
+            }),
+            asker: Condvar::new(),
+            asked: Mutex::new(Asked::new(alloc)),
+        }
+    }
+
+    /// Has the servers asked for all names that are wanted.
+    pub fn ask<R: Wait>(&self, rt: &R) {
+        self.wanted.lock(rt).asks = true;
+        self.asker.notify_all();
+    }
+
+    pub fn is_closing<R: Wait>(&self, rt: &R) -> bool {
+        self.roster.lock(rt).is_closing()
+    }
+
+    /// Shuts each socket and wakes each thread, so that all end.
+    pub fn shut<R: Wait>(&self, rt: &R) {
+        {
+            let roster = self.roster.lock(rt);
+            for row in roster.rows() {
+                if let Some(link) = row.link() {
+                    let _ = link.shutdown(Shutdown::Both);
+                }
+            }
+        }
+        let _ = self.sockets.listener_door.shutdown(Shutdown::Both);
+        let _ = self.sockets.datagrams_door.shutdown(Shutdown::Both);
+        self.arrivals.lock(rt).end = true;
+        self.arrived.notify_all();
+        self.wanted.lock(rt).end = true;
+        self.asker.notify_all();
+        self.changed.notify_all();
+    }
+
+    /// A worker of the connection has ended.
+    pub fn left<R: Wait>(&self, rt: &R, dest: Dest) {
+        let was_last = self.roster.lock(rt).left(dest);
+        if was_last {
+            self.changed.notify_all();
+        }
+    }
+
+    pub fn cut<R: Wait>(&self, rt: &R, dest: Dest, why: Cut) {
+        self.roster.lock(rt).cut(dest, why);
+    }
+}
+
+/// What lends the gate and the hub. All that starts threads is written for whatever does: so it need not know
+/// that the two, with all that they have, may be shared.
+pub trait AsHub {
+    fn gate(&self) -> &Gate;
+
+    fn hub(&self) -> &Hub;
+
+    /// Has the program end with this status, unless it is ending already.
+    final fn end<R: Wait>(&self, rt: &R, status: u8)
+    where
+        Self: Sized,
+    {
+        self.hub().roster.lock(rt).close(status);
+        self.gate().close(rt);
+    }
+}
+
+/// What lends a gate.
+pub trait AsGate {
+    fn lent(&self) -> &Gate;
+}
+
+impl AsGate for Gate {
+    fn lent(&self) -> &Gate {
+        self
+    }
+}
+
+/// What lends all else.
+pub trait AsRest {
+    fn lent(&self) -> &Hub;
+}
+
+impl AsRest for Hub {
+    fn lent(&self) -> &Hub {
+        self
+    }
+}
+
+/// A gate that is served, and what its threads share besides.
+#[derive(Drop)]
+pub struct Served<G, P> {
+    pub gate: G,
+    pub rest: P,
+}
+
+impl<G: AsGate, P: AsRest> AsHub for Served<G, P> {
+    fn gate(&self) -> &Gate {
+        self.gate.lent()
+    }
+
+    fn hub(&self) -> &Hub {
+        self.rest.lent()
+    }
+}
+
+/// Logs what is as it should be.
+pub fn tell<R: System>(rt: &R, notice: Notice<'_>) {
+    info!(*rt; target: "pvgate", "{notice}");
+}
+
+/// Logs what somebody may want to do something about.
+pub fn warn_of<R: System>(rt: &R, notice: Notice<'_>) {
+    warn!(*rt; target: "pvgate", "{notice}");
+}
+
+/// Logs what stops the gateway or one of its calls.
+pub fn complain<R: System>(rt: &R, notice: Notice<'_>) {
+    error!(*rt; target: "pvgate", "{notice}");
+}

@@ -1,0 +1,47 @@
+//! The gateway served to real clients: threads and sockets round a `gate_board::Gate`.
+//!
+//! [`open`] reads the rule files, makes the gateway and its sockets, and serves until it is told to end.
+//! Its threads, and what each waits for:
+//!
+//! - the calling thread moves the board (`serve_core`);
+//! - one accepts clients, one greets them and starts their workers, and one receives datagrams;
+//! - one asks servers for names: it alone sends asks, and rests after 64;
+//! - one keeps the connections: it starts the workers of a server that was reached, and takes the rows away of
+//!   those that are lost;
+//! - one looks now and then whether a connection must end whose writer waits for its peer;
+//! - two for each connection, which read and write;
+//! - one reads the orders of standard input, and one for each connection to a server that is being made: these
+//!   stand outside, and nobody waits for them.
+#![tactic(auto)]
+
+mod asker;
+mod clients;
+mod datagrams;
+mod fault;
+mod hub;
+mod keeper;
+mod link;
+mod machine;
+mod opening;
+mod orders;
+mod rules;
+mod servers;
+mod watcher;
+mod workers;
+
+pub use fault::ServeFault;
+pub use machine::{Machine, System};
+pub use opening::{SERVER_LIMIT, open};
+pub use rules::Files;
+
+/// What the exit statuses of the program mean.
+pub mod status {
+    /// It was told to end.
+    pub const GOOD: u8 = 0;
+    /// The rules are refused.
+    pub const REFUSED: u8 = 1;
+    /// A file, a standard stream or the address can't be opened, read or written.
+    pub const STREAM_FAILED: u8 = 3;
+    /// Memory ran out, or the gateway failed.
+    pub const FAILED: u8 = 4;
+}

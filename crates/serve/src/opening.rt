@@ -1,0 +1,185 @@
+//! From the command line to a gateway that serves.
+use crate::asker::ask_servers;
+use crate::clients::{accept_clients, greet_clients};
+use crate::datagrams::{DATAGRAM_SIZE, receive};
+use crate::fault::ServeFault;
+use crate::hub::{AsGate, AsHub, AsRest, Hub, Served, Sockets, complain, tell};
+use crate::keeper::keep_rows;
+use crate::machine::{Machine, System};
+use crate::orders::{Orders, read_orders};
+use crate::rules::{Files, read_policy, read_texts};
+use crate::servers::connect;
+use crate::status;
+use crate::watcher::watch;
+use crate::workers::STACK_SIZE;
+use gate_board::{Board, Gate};
+use gateway_core::{Config, Engine, Policy};
+use pv_name::Name;
+use rule_desk::Desk;
+use serve_state::Notice;
+use session_worker::{CoreEnd, serve_core};
+use std::alloc::Global;
+use std::fmt::Write;
+use std::mem::forget;
+use std::net::{Net, SocketAddr, TcpListener, TcpStream, UdpSocket};
+use std::os::fd::OwnedFd;
+use std::sync::Arc;
+use std::thread::{Builder, Scope, Threads, scope_env};
+use std::{io, thread};
+
+/// The most servers that there can be.
+pub const SERVER_LIMIT: u32 = 16;
+
+/// Serves clients on an address, from servers, of which the first `SERVER_LIMIT` count, until it is told to end on standard input. Returns the status
+/// that the program ends with.
+///
+/// The rule files are read first and then tested, and the address is opened last; then `listening ADDR` is
+/// printed. Where the files are refused the line that says so is printed.
+pub fn open<
+    R: Machine + System + Threads + Net<Listener = TcpListener, Stream = TcpStream> + 'static,
+>(
+    rt: R,
+    alloc: Global,
+    listen: SocketAddr,
+    servers: Vec<SocketAddr>,
+    files: Files,
+) -> Result<u8, ServeFault> {
+    let mut desk = Desk::new(alloc);
+    let texts = read_texts(&rt, alloc, &files)?;
+    let policy = read_policy(&rt, alloc, &mut desk, &texts)?;
+    let (sockets, address) = open_sockets(rt, listen).map_err(ServeFault::Listen)?;
+    let gate = gate(alloc, address.port(), policy)?;
+    let rest = Hub::new(alloc, sockets, servers);
+    tell_address(&rt, alloc, address)?;
+    serve(rt, alloc, gate, rest, Orders { desk, files })
+}
+
+// Prints where it listens.
+fn tell_address<R: Machine>(rt: &R, alloc: Global, address: SocketAddr) -> Result<(), ServeFault> {
+    let mut line = String::new(alloc);
+    if write!(line, "listening {address}").is_err() {
+        return Err(ServeFault::OutOfMemory);
+    }
+    match rt.print_line(line.as_str()) {
+        Ok(()) => Ok(()),
+        Err(_) => Err(ServeFault::Output),
+    }
+}
+
+// Serves a gate until it is closed or fails.
+fn serve<
+    R: Machine + System + Threads + Net<Listener = TcpListener, Stream = TcpStream> + 'static,
+    G: AsGate + Send + Sync + Drop + 'static,
+    P: AsRest + Send + Sync + Drop + 'static,
+>(rt: R, alloc: Global, gate: G, rest: P, orders: Orders) -> Result<u8, ServeFault> {
+    let Ok(hub) = Arc::new(alloc, Served { gate, rest }) else {
+        return Err(ServeFault::OutOfMemory);
+    };
+    for number in 1..=SERVER_LIMIT {
+        connect(rt, &hub, number);
+    }
+    let again = Arc::try_clone(&hub)?;
+    let started = Builder::new()
+        .stack_size(STACK_SIZE)
+        .spawn(&rt, move || read_orders(rt, again, orders));
+    if started.is_err() {
+        return Err(ServeFault::OutOfMemory);
+    }
+    let mut buffer = Vec::new(alloc);
+    buffer.resize(DATAGRAM_SIZE, 0u8)?;
+    let shared: &Served<G, P> = &hub;
+    let ended = run(rt, shared, buffer);
+    // The process ends now, with whatever waits for clients.
+    forget(hub);
+    Ok(ended)
+}
+
+// All threads but those that nobody waits for, until the gate is closed or fails.
+fn run<R: System + Threads, H: AsHub + Sync>(rt: R, hub: &H, buffer: Vec<u8>) -> u8 {
+    thread::scope(scope_env(), &rt, |scope| {
+        let others = start_others(rt, &*scope, &*hub, buffer);
+        let keeper = Builder::new()
+            .stack_size(STACK_SIZE)
+            .spawn_scoped(scope, move || keep_rows(rt, scope, hub));
+        let greeter = Builder::new()
+            .stack_size(STACK_SIZE)
+            .spawn_scoped(scope, move || greet_clients(rt, scope, hub));
+        if !others || keeper.is_err() || greeter.is_err() {
+            complain(&rt, Notice::OutOfMemory);
+            hub.end(&rt, status::FAILED);
+        }
+        perform_rounds(rt, hub);
+    });
+    hub.hub()
+        .roster
+        .lock(&rt)
+        .status()
+        .unwrap_or(status::FAILED)
+}
+
+// The threads that start no others. False where one can't be made.
+fn start_others<'x, 's: 'x, E: 's, R: System + 's, H: AsHub + Sync + 's>(
+    rt: R,
+    scope: &'x Scope<'s, E>,
+    hub: &'s H,
+    buffer: Vec<u8>,
+) -> bool {
+    let acceptor = Builder::new()
+        .stack_size(STACK_SIZE)
+        .spawn_scoped(&*scope, move || accept_clients(rt, hub));
+    let receiver = Builder::new()
+        .stack_size(STACK_SIZE)
+        .spawn_scoped(&*scope, move || receive(rt, hub, buffer));
+    let asker = Builder::new()
+        .stack_size(STACK_SIZE)
+        .spawn_scoped(&*scope, move || ask_servers(rt, hub));
+    let watcher = Builder::new()
+        .stack_size(STACK_SIZE)
+        .spawn_scoped(&*scope, move || watch(rt, hub));
+    acceptor.is_ok() && receiver.is_ok() && asker.is_ok() && watcher.is_ok()
+}
+
+// Moves the board until the gate is closed or fails, and then has all threads end.
+fn perform_rounds<R: System, H: AsHub>(rt: R, hub: &H) {
+    match serve_core(&rt, hub.gate()) {
+        CoreEnd::Closed => tell(&rt, Notice::Closing),
+        CoreEnd::GateFailed => {
+            complain(&rt, Notice::Failed);
+            hub.end(&rt, status::FAILED);
+        }
+    }
+    hub.hub().shut(&rt);
+}
+
+fn gate(alloc: Global, port: u16, policy: Policy) -> Result<Gate, ServeFault> {
+    let (Ok(client_name), Ok(host_name)) = (Name::read(alloc, b"pvgate"), Name::read(alloc, b"gw"))
+    else {
+        return Err(ServeFault::OutOfMemory);
+    };
+    let config = Config {
+        client_name,
+        host_name,
+        port,
+        first: 1,
+    };
+    let engine = Engine::new(alloc, config, policy)?;
+    Ok(Gate::new(Board::new(alloc, engine)))
+}
+
+fn open_sockets<R: System + Net<Listener = TcpListener, Stream = TcpStream>>(
+    rt: R,
+    listen: SocketAddr,
+) -> io::Result<(Sockets, SocketAddr)> {
+    let listener: TcpListener = TcpListener::bind(&rt, listen)?;
+    let address = listener.local_addr()?;
+    let datagrams = UdpSocket::bind(&rt, address)?;
+    let listener_door = TcpStream::from(OwnedFd::from(listener.try_clone()?));
+    let datagrams_door = TcpStream::from(OwnedFd::from(datagrams.try_clone()?));
+    let sockets = Sockets {
+        listener,
+        datagrams,
+        listener_door,
+        datagrams_door,
+    };
+    Ok((sockets, address))
+}
