@@ -1,0 +1,91 @@
+"""Which line of a script is its first bad one, told from the table of commands alone."""
+import re
+
+NUMBER32, NUMBER16, SIZE = 2**32 - 1, 2**16 - 1, 2**64 - 1
+
+
+def number(most):
+    return lambda word: re.fullmatch(rb"[0-9]+", word) and int(word) <= most
+
+
+def connection(kinds):
+    return lambda word: word[:1] in kinds and len(word) > 1 and number(NUMBER32)(word[1:])
+
+
+def is_name(word):
+    return 1 <= len(word) <= 127 and all(33 <= byte <= 126 for byte in word)
+
+
+def is_hexadecimal(word):
+    return word == b"-" or re.fullmatch(rb"([0-9a-fA-F]{2})+", word)
+
+
+CLIENT, SERVER, EITHER = connection((b"s",)), connection((b"u",)), connection((b"s", b"u"))
+
+# What the words behind a command have to be; `open` has two forms.
+FORMS = {
+    b"open": [(CLIENT, is_name), (SERVER,)], b"lost": [(EITHER,)], b"client": [(CLIENT, is_hexadecimal)],
+    b"server": [(SERVER, is_hexadecimal)], b"found": [(is_name, SERVER)], b"search": [(is_name, is_hexadecimal)], b"sweep": [()],
+    b"edit": [(number(SIZE), number(SIZE))], b"hold": [(EITHER,)], b"flow": [(EITHER,)], b"drain": [(EITHER, number(SIZE))],
+    b"asks": [()], b"read": [(CLIENT, number(NUMBER32), number(NUMBER16), number(NUMBER32))], b"sub": [(is_name,)],
+    b"rights": [(CLIENT, number(NUMBER32))],
+}
+
+
+def of_text(text):
+    """The lines of a script; the last one may end with the text."""
+    parts = text.split(b"\n")
+    return parts if parts[-1] else parts[:-1]
+
+
+def is_skipped(line):
+    return line == b"" or line.startswith(b"#")
+
+
+def is_good(line):
+    """Whether a line by itself is one of a script."""
+    command, *words = line.split(b" ")
+    return any(len(form) == len(words) and all(is_word(word) for is_word, word in zip(form, words))
+               for form in FORMS.get(command, ()))
+
+
+def is_text(lines):
+    try:
+        b"\n".join(lines).decode()
+    except UnicodeDecodeError:
+        return False
+    return True
+
+
+def entries(lines):
+    """The places of the lines that are no lines of files, each with the place behind its files; ends at a bad one, with None."""
+    place = 0
+    while place < len(lines):
+        line, behind = lines[place], place + 1
+        if not is_skipped(line):
+            if not is_good(line):
+                yield place, None
+                return
+            if line.startswith(b"edit "):
+                sizes = [int(word) for word in line.split(b" ")[1:]]
+                behind += sum(sizes)
+                if behind > len(lines) or not is_text(lines[place + 1:place + 1 + sizes[0]]) or not is_text(lines[place + 1 + sizes[0]:behind]):
+                    yield place, None
+                    return
+        yield place, behind
+        place = behind
+
+
+def first_bad(lines):
+    """The place of the first bad line, or None."""
+    return next((place for place, behind in entries(lines) if behind is None), None)
+
+
+def entry_places(lines):
+    """For each line the place of the line to which it belongs: its own, or that of an edit."""
+    places = list(range(len(lines)))
+    for place, behind in entries(lines):
+        if behind is None:  # an edit may be bad by any line behind it
+            behind = len(lines) if lines[place].startswith(b"edit ") else place
+        places[place + 1:behind] = [place] * (behind - place - 1)
+    return places
