@@ -4,21 +4,23 @@
     .ci/hostile.py [--program PATH] [--jobs N] [--budget SECONDS | --all] [--every] [--seed TEXT] [--list] [WORD ..]
     .ci/hostile.py [--program PATH] --only SCRIPT:PLACE:KIND
 
-Every example and every story is damaged in every way that `damaged/damage.py` has, each damage alone. `replay` and `replay --plain`
-have to print the same bytes and to end with the same status, neither by a signal nor never. What stood before the damaged line
+Every example and every story is damaged in every way that `damaged/damage.py` has, each alone. `replay` and `replay --plain` have to
+print the same bytes and to end with the same status, neither by a signal nor never. What stood before the damaged line
 prints what it printed; the status is 0, or 2 with `line N: bad` as the last line where that line is none of a script; and a datagram
 that is cut inside a message is answered as one that is cut before it.
 
 --budget is in seconds of a processor, for all jobs together: 120 for each job if not given. --all does everything. Which part is
 done in a budget is chosen by the seed, the commit's hash if not given; each script gets the same time, and of those with hundreds of
 messages in a line, or of lines, there are two. Of these messages and lines only some are damaged, but with --every. WORDs choose
-scripts whose names contain one. --list counts. --only shows one damaged script with what both gateways print. The status is 1 where one differs.
+scripts whose names contain one. --list counts. --only shows one damaged script with what both gateways print. The status is 1 where
+one isn't as it must be.
 """
 import argparse
 import os
 import random
 import sys
 import time
+from collections import Counter
 
 sys.dont_write_bytecode = True
 from damaged import lines, scripts, shares  # noqa: E402
@@ -58,7 +60,7 @@ class Piece:
         self.count = self.damages.count
         self.entries = lines.entry_places(script.lines)
         self.bad = lines.first_bad(script.lines)
-        self.kept = {}
+        self.kept, self.notes = {}, Counter()
 
     def do(self, number):
         """Tries one damage; a text that tells what is wrong, or None."""
@@ -120,21 +122,24 @@ def show(program, chosen, wanted):
     """Shows one damaged script, and what it prints; says whether it is as it must be."""
     name, _, place = wanted.partition(":")
     script = next((it for it in chosen if it.name == name), None)
-    for family in FAMILIES if script else ():
-        piece = Piece(program, script, family, True)
+    for piece in [Piece(program, script, family, True) for family in FAMILIES if script]:
         found = piece.damages.called(place)
         if found:
-            text = script.text(piece.damages.made(*found))
-            sys.stdout.buffer.write(text + (b"" if text.endswith(b"\n") else b"\n"))
-            runs = [program.run(body, text) for body in BODIES]
-            for body, ran in zip(BODIES, runs):
-                print(f"-- {' '.join(body)}: status {ran.status}", flush=True)
-                sys.stdout.buffer.write(ran.printed)
-                sys.stdout.buffer.flush()
-            fault = piece.fault(*found, text, *runs)
-            print(f"-- {fault or 'as it must be'}")
-            return not fault
+            return show_one(piece, found)
     sys.exit(f"no such damage: {wanted}")
+
+
+def show_one(piece, found):
+    text = piece.script.text(piece.damages.made(*found))
+    sys.stdout.buffer.write(text + (b"" if text.endswith(b"\n") else b"\n"))
+    runs = [piece.program.run(body, text) for body in BODIES]
+    for body, ran in zip(BODIES, runs):
+        print(f"-- {' '.join(body)}: status {ran.status}", flush=True)
+        sys.stdout.buffer.write(ran.printed)
+        sys.stdout.buffer.flush()
+    fault = piece.fault(*found, text, *runs)
+    print(f"-- {fault or 'as it must be'}")
+    return not fault
 
 
 def counted(chosen, family, every):
@@ -177,16 +182,16 @@ def main():
     began, program = time.monotonic(), Program(path)
     chosen = chosen if given.all else part_of(chosen, given.seed)
     faults = [fault for fault in (undamaged(program, script) for script in chosen) if fault]
-    budget = None if given.all else given.budget or EACH_JOB * given.jobs
+    budget, found = None if given.all else given.budget or EACH_JOB * given.jobs, len(faults)
     if not faults:
         print(f"hostile: seed {given.seed}, {'everything' if budget is None else f'{budget:.0f} s of a processor'}", flush=True)
         done = shares.work_by(lambda: pieces(Program(path), chosen, given.every), given.jobs, budget, given.seed)
-        faults = done.faults
+        faults, found = done.faults, done.counts["faults"]
         counts = ", ".join(f"{family} {done.counts[family]:,}" for family in FAMILIES)
         print(f"hostile: {len(chosen)} scripts damaged: {counts}; {done.spent:.0f} s of a processor, {time.monotonic() - began:.0f} s")
     for fault in faults:
         print(fault)
-    print(f"hostile: {len(faults)} faults told" if faults else "hostile: no fault")
+    print(f"hostile: {found} not as they must be")
     return 1 if faults else 0
 
 

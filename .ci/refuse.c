@@ -75,4 +75,7 @@ static ssize_t moved(const char *kind, long call, int file, void *bytes, size_t 
 }
 
 ssize_t read(int file, void *bytes, size_t size) { return moved(file == 0 ? "read" : "file", SYS_read, file, bytes, size); }
-ssize_t write(int file, const void *bytes, size_t size) { return moved(file == 1 ? "write" : "other", SYS_write, file, (void *)bytes, size); }
+
+ssize_t write(int file, const void *bytes, size_t size) {
+    return moved(file == 1 ? "write" : "other", SYS_write, file, (void *)bytes, size);
+}

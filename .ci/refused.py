@@ -22,7 +22,7 @@ import subprocess
 import sys
 import tempfile
 import time
-from collections import namedtuple
+from collections import Counter, namedtuple
 
 sys.dont_write_bytecode = True
 import hostile  # noqa: E402
@@ -37,9 +37,10 @@ SCRIPTS = [
     "examples.first", "examples.read", "examples.subscribe", "examples.edit", "hostile.three_searches",
     "channels.refuses_messages_that_servers_send", "channels.takes_no_host_name_after_a_channel_was_asked_for",
     "clients.ends_clients_of_an_old_version", "edits.leads_names_by_the_rules_of_an_edit", "edits.refuses_faulty_files",
-    "links.ignores_what_servers_say_of_unknown_things", "links.tells_clients_of_a_channel_that_a_server_drops",
-    "reads.asks_for_the_greatest_count_that_is_read", "servers.keeps_messages_back_while_a_server_is_held",
-    "servers.tells_clients_that_a_server_is_gone", "writes.writes_while_events_are_off_and_values_are_read",
+    "links.ignores_what_servers_say_of_unknown_things",
+    "links.tells_clients_of_a_channel_that_a_server_drops", "reads.asks_for_the_greatest_count_that_is_read",
+    "servers.keeps_messages_back_while_a_server_is_held", "servers.tells_clients_that_a_server_is_gone",
+    "writes.writes_while_events_are_off_and_values_are_read",
     "limits.holds_updates_back_while_4096_messages_wait", "limits.ends_a_client_that_never_reads",
 ]
 FROM_CLIENTS = {0, 1, 2, 4, 8, 9, 12, 15, 18, 19, 20, 21, 23, 99}
@@ -50,8 +51,8 @@ FILES = {
     "aliases": b"EVALUATION ORDER DENY, ALLOW\n\\(.*\\):\\(SET\\|SP\\) ALIAS \\1:\\2 ops\n[A-Z]+[0-9]* ALLOW\nX.* DENY FROM lab7 lab8\n",
     "no-verb": b"A ALLOW\n# x\nB GRANT\n", "bad-groups": b"ops READ\nops MAYBE\n",
 }
-CHECKS = ["site", "site --groups groups --name BEAM:CURRENT", "site --name S01:ILK:DOOR", "aliases --name A:SET --host lab7 --groups groups",
-          "no-verb", "aliases --groups bad-groups"]
+CHECKS = ["site", "site --groups groups --name BEAM:CURRENT", "site --name S01:ILK:DOOR",
+          "aliases --name A:SET --host lab7 --groups groups", "no-verb", "aliases --groups bad-groups"]
 
 # Arguments, standard input, and whether a gateway runs.
 Case = namedtuple("Case", "name words script is_gateway")
@@ -132,6 +133,7 @@ class Piece:
     def __init__(self, shim, case, kind):
         self.shim, self.case, self.kind, self.family = shim, case, kind, kind.family
         self.name = f"{case.name}:{kind.name}"
+        self.notes = Counter()
         self.ample, calls = shim.run(case, kind, 0)
         self.count = min(calls, 1) if kind.family == "short" else calls
 
@@ -143,6 +145,7 @@ class Piece:
 
     def fault(self, ran):
         if ran == self.ample:
+            self.notes["done without"] += self.family == "memory"
             return None if self.family != "failing" else "a failure isn't told"
         if self.family == "short":
             return "it isn't what is printed else"
@@ -210,8 +213,8 @@ def run_all(given, path, library, chosen):
     for fault in done.faults:
         print(fault)
     counts = ", ".join(f"{family} {done.counts[family]:,}" for family in FAMILIES)
-    print(f"refused: {len(chosen)} runs: {counts}; {done.counts['faults']} not as they must be; {done.spent:.0f} s of a processor, "
-          f"{time.monotonic() - began:.0f} s")
+    print(f"refused: {len(chosen)} runs: {counts}; {done.counts['done without']:,} did without the memory; "
+          f"{done.counts['faults']} not as they must be; {done.spent:.0f} s of a processor, {time.monotonic() - began:.0f} s")
     return 1 if done.counts["faults"] else 0
 
 

@@ -79,6 +79,8 @@ class Soak:
                 self.edit(self.chance.choice(RULES), self.chance.choice(GROUPS))
                 self.server.write("sweep", "connect 1", "connect 2", "ask")
                 self.disturb(second, dead)
+                if second % 60 == 0:
+                    print(f"  {second} s on: {self.server.resident():.1f} MB", flush=True)
             self.change()
             time.sleep(1 / CHANGES)
         for up in dead:
@@ -116,7 +118,8 @@ class Soak:
         """All stand still, and everything is there."""
         self.is_still = True
         self.edit(OPEN, GROUPS[0])
-        self.room.eventually("the upstreams are connected again", lambda: self.server.write("connect 1", "connect 2") or self.are_connected())
+        self.room.eventually("the upstreams are connected again",
+                             lambda: self.server.write("connect 1", "connect 2") or self.are_connected())
         self.room.eventually("all clients stand", lambda: all(it.stands for it in self.visitors))
         return self.measured()
 

@@ -69,7 +69,8 @@ def entries(lines):
             if line.startswith(b"edit "):
                 sizes = [int(word) for word in line.split(b" ")[1:]]
                 behind += sum(sizes)
-                if behind > len(lines) or not is_text(lines[place + 1:place + 1 + sizes[0]]) or not is_text(lines[place + 1 + sizes[0]:behind]):
+                middle = place + 1 + sizes[0]
+                if behind > len(lines) or not is_text(lines[place + 1:middle]) or not is_text(lines[middle:behind]):
                     yield place, None
                     return
         yield place, behind

@@ -78,7 +78,8 @@ def beginnings():
     with open(os.path.join(STORIES, "beginnings.rt"), encoding="utf-8") as file:
         source = file.read()
     parts = {name: unescaped(text) for name, text in re.findall(r'const (\w+): &\[u8\] = b"((?:\\.|[^"\\])*)";', source)}
-    named = {name: [parts[it.strip()] for it in names.split(",")] for name, names in re.findall(r'b"(\w+)" => Some\(&\[([^\]]*)\]\)', source)}
+    arms = re.findall(r'b"(\w+)" => Some\(&\[([^\]]*)\]\)', source)
+    named = {name: [parts[it.strip()] for it in names.split(",")] for name, names in arms}
     if not named:
         raise Unread("beginnings.rt has no beginnings")
     return named

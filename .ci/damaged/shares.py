@@ -1,7 +1,8 @@
 """Divides work between processes, in an order that a seed gives, until a budget of processor time is used.
 
 Each piece of work has a number of parts. The pieces get equal shares of the time, so that a dear one doesn't take it all; what
-one doesn't use, as all its parts are done, is the others'.
+one doesn't use, as all its parts are done, is the others'. A piece has a name, a family under which its parts are counted, their count,
+`do`, which answers a text where something is wrong, and `notes`, counts of its own.
 """
 import hashlib
 import heapq
@@ -67,7 +68,7 @@ def work_through(pieces, at, of, budget, seed):
             counts["faults"] += 1
             faults += [fault] if len(faults) < TOLD else []
         heapq.heappush(waiting, (spent + processor() - before, number))
-    return Done(counts, faults, processor() - began)
+    return Done(sum((piece.notes for piece in pieces), counts), faults, processor() - began)
 
 
 def work_by(make_pieces, jobs, budget, seed):
