@@ -1,7 +1,7 @@
 #!/usr/bin/env python3
 """Performs scripts with damaged bytes, datagrams and lines on both gateways, which have to print the same and end the same way.
 
-    .ci/hostile.py [--program PATH] [--jobs N] [--budget SECONDS | --all] [--every] [--seed TEXT] [--list] [WORD ..]
+    .ci/hostile.py [--program PATH] [--jobs N] [--budget SECONDS] [--all] [--every] [--seed TEXT] [--list] [WORD ..]
     .ci/hostile.py [--program PATH] --only SCRIPT:PLACE:KIND
 
 Every example and every story is damaged in every way that `damaged/damage.py` has, each alone. `replay` and `replay --plain` have to
@@ -9,8 +9,8 @@ print the same bytes and to end with the same status, neither by a signal nor ne
 prints what it printed; the status is 0, or 2 with `line N: bad` as the last line where that line is none of a script; and a datagram
 that is cut inside a message is answered as one that is cut before it.
 
---budget is in seconds of a processor, for all jobs together: 120 for each job if not given. --all does everything. Which part is
-done in a budget is chosen by the seed, the commit's hash if not given; each script gets the same time, and of those with hundreds of
+--budget is in seconds of a processor, for all jobs together: 120 for each job if not given. --all does everything, or all scripts as
+far as a budget goes that is given. Which part is done in a budget is chosen by the seed, the commit's hash if not given; each script gets the same time, and of those with hundreds of
 messages in a line, or of lines, there are two. Of these messages and lines only some are damaged, but with --every. WORDs choose
 scripts whose names contain one. --list counts. --only shows one damaged script with what both gateways print. The status is 1 where
 one isn't as it must be.
@@ -182,7 +182,7 @@ def main():
     began, program = time.monotonic(), Program(path)
     chosen = chosen if given.all else part_of(chosen, given.seed)
     faults = [fault for fault in (undamaged(program, script) for script in chosen) if fault]
-    budget, found = None if given.all else given.budget or EACH_JOB * given.jobs, len(faults)
+    budget, found = given.budget or (None if given.all else EACH_JOB * given.jobs), len(faults)
     if not faults:
         print(f"hostile: seed {given.seed}, {'everything' if budget is None else f'{budget:.0f} s of a processor'}", flush=True)
         done = shares.work_by(lambda: pieces(Program(path), chosen, given.every), given.jobs, budget, given.seed)

@@ -207,7 +207,7 @@ def show(shim, chosen, wanted):
 
 def run_all(given, path, library, chosen):
     began = time.monotonic()
-    budget = None if given.all else given.budget or EACH_JOB * given.jobs
+    budget = given.budget or (None if given.all else EACH_JOB * given.jobs)
     print(f"refused: seed {given.seed}, {'everything' if budget is None else f'{budget:.0f} s of a processor'}", flush=True)
     done = shares.work_by(lambda: pieces(Shim(path, library), chosen), given.jobs, budget, given.seed)
     for fault in done.faults:

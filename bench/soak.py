@@ -32,6 +32,7 @@ OPEN = "Q\\(.*\\) ALIAS V\\1 ops\n.* ALLOW ops\n"
 RULES = [OPEN, OPEN + "V.[37] DENY\n", OPEN + "Q.* DENY FROM lab7\n", "EVALUATION ORDER DENY, ALLOW\n" + OPEN + "V0.* DENY\n",
          "Q\\(.*\\) ALIAS V\\1 eng\nV[01]. ALLOW ops\nV[23]. ALLOW eng\n", "Q1\\(.*\\) ALIAS V0\\1 eng\n.* ALLOW\n", OPEN + "T2 GRANT\n"]
 GROUPS = ["ops WRITE\neng WRITE\n", "ops READ\n", "ops WRITE\neng READ\n", "eng NONE\n"]
+ASKS_KEPT = 65_536
 CHANGES = 10  # times a second that variables get other values
 
 
@@ -47,10 +48,22 @@ class Soak:
         self.server = room.server(*self.ups, rules=OPEN, groups=GROUPS[0])
         self.address = self.server.address
         room.eventually("the upstreams are connected", self.are_connected)
+        self.fill_asks()
         self.at_first = self.measured()
         self.visitors = [Visitor(self, it) for it in range(clients)]
         for it in self.visitors:
             it.start()
+
+    def fill_asks(self):
+        """Makes as many asks as the gateway keeps, so that these don't come to its memory later; a datagram makes one for each name."""
+        client = self.room.client(self.server)
+        for at in range(0, 1000, 200):
+            client.search(*(f"Z{it:03}" for it in range(at, at + 200)))
+        for _ in range(ASKS_KEPT // 1000 + 30):
+            client.search("Z000")
+            time.sleep(0.05)
+        self.server.write("sweep")
+        client.close()
 
     def real(self, name):
         return f"V{name[1:]}"
@@ -144,7 +157,9 @@ class Soak:
             it.join(PATIENCE)
         faults = [fault for it in self.visitors for fault in it.faults]
         self.room.check("no client saw a fault", not faults, f"{len(faults)}: " + "; ".join(faults[:5]))
-        self.room.eventually("descriptors and threads are those of the beginning", lambda: self.measured()[:2] == self.at_first[:2])
+        gone = self.measured()
+        told("at the end, no client", gone)
+        self.room.equal("descriptors and threads are those of the beginning", gone[:2], self.at_first[:2])
         self.room.equal("quit", self.server.quit(), 0)
 
 

@@ -29,6 +29,7 @@ class Visitor(threading.Thread):
 
     def forget(self):
         self.wanted, self.rights, self.channels, self.subscriptions, self.waiting = {}, {}, {}, {}, {}
+        self.crossing = set()  # what may still be answered, though its channel was cleared
         self.paused = False
 
     def run(self):
@@ -88,11 +89,12 @@ class Visitor(threading.Thread):
     def take(self, it):
         if it.command == ca.ACCESS_RIGHTS:
             self.rights[it.p1] = it.p2
-        elif it.command == ca.CREATE_CHAN:
-            name = self.wanted.pop(it.p1)
-            self.channels[it.p1] = Channel(name, it.p1, it.p2, it.dtype, it.count, self.rights.get(it.p1))
-        elif it.command == ca.CREATE_CH_FAIL:
-            self.wanted.pop(it.p1)
+        elif it.command in (ca.CREATE_CHAN, ca.CREATE_CH_FAIL):
+            name = self.wanted.pop(it.p1, None)
+            if name is None:
+                self.faults.append(f"client {self.number}: a channel that it didn't ask for: {it}")
+            elif it.command == ca.CREATE_CHAN:
+                self.channels[it.p1] = Channel(name, it.p1, it.p2, it.dtype, it.count, self.rights.get(it.p1))
         elif it.command == ca.SERVER_DISCONN:
             self.lose(it.p1)
         elif it.command == ca.EVENT_ADD and it.p2 in self.subscriptions:
@@ -100,7 +102,7 @@ class Visitor(threading.Thread):
             self.subscriptions[it.p2][2] = ca.value_of(it.dtype, it.count, it.payload).values
         elif it.command in (ca.READ_NOTIFY, ca.WRITE_NOTIFY):
             self.counts["answers"] += 1
-            if self.waiting.pop(it.p2, None) is None:
+            if self.waiting.pop(it.p2, None) is None and it.p2 not in self.crossing:
                 self.faults.append(f"client {self.number}: an answer that it didn't ask for: {it}")
         elif it.command == ca.ERROR and it.p2 not in EXPECTED:
             self.faults.append(f"client {self.number}: ERROR {it.p2}")
@@ -151,6 +153,7 @@ class Visitor(threading.Thread):
         channel = self.some_channel()
         if channel and self.chance.random() < 0.5:
             self.client.send(ca.message(ca.CLEAR_CHANNEL, b"", 0, 0, channel.sid, channel.cid))
+            self.crossing |= {own for own, cid in self.waiting.items() if cid == channel.cid}
             self.lose(channel.cid)
 
     def read(self):
