@@ -4,16 +4,16 @@
     .ci/hostile.py [--program PATH] [--jobs N] [--budget SECONDS] [--all] [--every] [--seed TEXT] [--list] [WORD ..]
     .ci/hostile.py [--program PATH] --only SCRIPT:PLACE:KIND
 
-Every example and every story is damaged in every way that `damaged/damage.py` has, each alone. `replay` and `replay --plain` have to
-print the same bytes and to end with the same status, neither by a signal nor never. What stood before the damaged line
-prints what it printed; the status is 0, or 2 with `line N: bad` as the last line where that line is none of a script; and a datagram
-that is cut inside a message is answered as one that is cut before it.
+Every example and every story is damaged in every way that `damaged/damage.py` has, each alone. `replay` and `replay --plain` have
+to print the same bytes and to end with the same status, neither by a signal nor never. What stood before the damaged line prints
+what it printed; the status is 0, or 2 with `line N: bad` as the last line where that line is none of a script; and a datagram that
+is cut inside a message is answered as one that is cut before it.
 
---budget is in seconds of a processor, for all jobs together: 120 for each job if not given. --all does everything, or all scripts as
-far as a budget goes that is given. Which part is done in a budget is chosen by the seed, the commit's hash if not given; each script gets the same time, and of those with hundreds of
-messages in a line, or of lines, there are two. Of these messages and lines only some are damaged, but with --every. WORDs choose
-scripts whose names contain one. --list counts. --only shows one damaged script with what both gateways print. The status is 1 where
-one isn't as it must be.
+--budget is in seconds of a processor, for all jobs together: 120 for each job if not given. What is done in a budget is chosen by
+the seed, the commit's hash if not given: each script gets the same time, and of the wide ones, those with many messages in a line
+or many lines, there are two. --all does everything, or goes through all scripts, wide or not, as far as a given budget goes. Of
+many messages or lines only some are damaged, but with --every. WORDs choose scripts whose names contain one. --list counts. --only
+shows one damaged script with what both gateways print. The status is 1 where one isn't as it must be.
 """
 import argparse
 import os

@@ -59,9 +59,13 @@ class Soak:
         client = self.room.client(self.server)
         for at in range(0, 1000, 200):
             client.search(*(f"Z{it:03}" for it in range(at, at + 200)))
-        for _ in range(ASKS_KEPT // 1000 + 30):
-            client.search("Z000")
-            time.sleep(0.05)
+        resident = 0
+        while self.server.resident() > resident + 0.05:
+            resident = self.server.resident()
+            for _ in range(ASKS_KEPT // 1000):
+                client.search("Z000")
+                time.sleep(0.05)
+            self.room.check("the gateway goes on", client.echo())
         self.server.write("sweep")
         client.close()
 
