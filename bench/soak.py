@@ -33,6 +33,7 @@ RULES = [OPEN, OPEN + "V.[37] DENY\n", OPEN + "Q.* DENY FROM lab7\n", "EVALUATIO
          "Q\\(.*\\) ALIAS V\\1 eng\nV[01]. ALLOW ops\nV[23]. ALLOW eng\n", "Q1\\(.*\\) ALIAS V0\\1 eng\n.* ALLOW\n", OPEN + "T2 GRANT\n"]
 GROUPS = ["ops WRITE\neng WRITE\n", "ops READ\n", "ops WRITE\neng READ\n", "eng NONE\n"]
 ASKS_KEPT = 65_536
+CALM = 15  # seconds
 CHANGES = 10  # times a second that variables get other values
 
 
@@ -132,11 +133,15 @@ class Soak:
                     up.give(name, [self.value], self.chance.choice((0, 0, 0, 7)), self.chance.choice((0, 2)))
 
     def rest(self):
-        """All stand still, and everything is there."""
-        self.is_still = True
+        """All go on for a while with everything there, so that subscriptions stand, and then stand still."""
         self.edit(OPEN, GROUPS[0])
         self.room.eventually("the upstreams are connected again",
                              lambda: self.server.write("connect 1", "connect 2") or self.are_connected())
+        for _ in range(CALM):
+            self.server.write("ask")
+            self.change()
+            time.sleep(1)
+        self.is_still = True
         self.room.eventually("all clients stand", lambda: all(it.stands for it in self.visitors))
         return self.measured()
 

@@ -8,7 +8,9 @@ import hashlib
 import heapq
 import multiprocessing
 import resource
+import signal
 import subprocess
+import sys
 from collections import Counter, namedtuple
 from math import gcd
 
@@ -77,10 +79,11 @@ def work_by(make_pieces, jobs, budget, seed):
         end.send(work_through(make_pieces(), at, jobs, budget and budget / jobs, seed))
         end.close()
 
+    signal.signal(signal.SIGTERM, lambda *_: sys.exit(1))  # the processes end with this one
     running = []
     for at in range(jobs):
         here, there = FORK.Pipe(duplex=False)
-        process = FORK.Process(target=tell, args=(at, there))
+        process = FORK.Process(target=tell, args=(at, there), daemon=True)
         process.start()
         there.close()
         running.append((process, here))
