@@ -8,6 +8,7 @@
 //! - `same_answers`: lists of events that are drawn and told to both gateways, which have to print the
 //!   same.
 //! - `boards`: stories of a board with its rings, and a reader's worker before the core comes.
+//! - `workers`: writers, the ends of rings, and each call of a gate.
 //!
 //! The first lines of each folder's `mod.rt` say how a test is added there.
 #![tactic(auto)]
@@ -20,3 +21,5 @@ mod same_answers;
 mod scripts;
 #[cfg(test)]
 mod stories;
+#[cfg(test)]
+mod workers;
