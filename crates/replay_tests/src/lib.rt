@@ -8,7 +8,8 @@
 //! - `same_answers`: lists of events that are drawn and told to both gateways, which have to print the
 //!   same.
 //! - `boards`: stories of a board with its rings, and a reader's worker before the core comes.
-//! - `workers`: writers, the ends of rings, and each call of a gate.
+//! - `workers`: the workers of connections, the core and the gate between them, in threads where it
+//!   matters.
 //!
 //! The first lines of each folder's `mod.rt` say how a test is added there.
 #![tactic(auto)]

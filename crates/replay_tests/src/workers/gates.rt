@@ -1,13 +1,20 @@
-//! The calls of a gate, where they answer at once.
-use crate::workers::stand::{attach, bytes, echo, gate, is_echo};
-use gate_board::{BoardFault, Gate, Inbound, Inlet, Taken, Turn};
+//! The calls of a gate, where they answer at once and where they wait.
+use crate::workers::stand::{Lends, attach, bytes, echo, gate, is_echo};
+use gate_board::{BoardFault, Gate, Inbound, Inlet, Outlet, Taken, Turn};
 use gateway_core::{Dest, Event, Failed};
 use pv_name::{Host, Name};
 use session_worker::{CoreEnd, serve_core};
+use std::rt::Clock;
 use std::sync::Wait;
 use std::test::Fail;
+use std::thread;
+use std::thread::{Threads, join};
+use std::time::Duration;
 
 const CLIENT: Dest = Dest::Session(1);
+
+/// How long a round comes late.
+const WHILE_MILLIS: u64 = 50;
 
 // The command of the message that was taken.
 fn command_of(taken: &Taken) -> Option<u8> {
@@ -51,13 +58,89 @@ fn room_and_messages_are_used_at_once(rt: HostRuntime) -> Result<(), Fail> {
     Ok(())
 }
 
-/// A gate that is closed gives back what has no room, and brings nothing.
+// Puts a message where there is no room. Another thread has a round performed once the first try has woken
+// the gate.
+fn put_beside_a_turn<R: Threads + Wait + Sync, G: Lends + Sync>(
+    rt: &R,
+    gate: &G,
+    inlet: &mut Inlet,
+) -> (Turn, bool) {
+    let seen = gate.gate().pause(rt, u64::MAX);
+    join(
+        rt,
+        || {
+            gate.gate().pause(rt, seen);
+            gate.gate().turn(rt)
+        },
+        || gate.gate().put(rt, inlet, echo(256)).is_ok(),
+    )
+}
+
+/// A full ring's reader waits until a round has made room.
+#[test]
+fn a_put_waits_for_room(rt: HostRuntime) -> Result<(), Fail> {
+    let gate = gate(rt.alloc(), 1)?;
+    let (mut inlet, _outlet) = attach(&rt, rt.alloc(), &gate, CLIENT)?;
+    assert_eq!(rt; fill(&mut inlet), 256);
+    assert_eq!(rt;
+        put_beside_a_turn(&rt, &gate, &mut inlet),
+        (Turn::Moved, true)
+    );
+    Ok(())
+}
+
+// Takes a message where there is none yet. Another thread has a round performed a while later.
+fn take_beside_a_turn<R: Threads + Wait + Clock + Sync, G: Lends + Sync>(
+    rt: &R,
+    gate: &G,
+    outlet: &mut Outlet,
+) -> (Turn, Option<u8>) {
+    join(
+        rt,
+        || {
+            thread::sleep(rt, Duration::from_millis(WHILE_MILLIS));
+            gate.gate().turn(rt)
+        },
+        || command_of(&gate.gate().take(rt, outlet, CLIENT)),
+    )
+}
+
+/// An empty ring's writer waits until a round has brought a message.
+#[test]
+fn a_take_waits_for_a_message(rt: HostRuntime) -> Result<(), Fail> {
+    let gate = gate(rt.alloc(), 1)?;
+    let (_inlet, mut outlet) = attach(&rt, rt.alloc(), &gate, CLIENT)?;
+    assert_eq!(rt;
+        take_beside_a_turn(&rt, &gate, &mut outlet),
+        (Turn::Moved, Some(0))
+    );
+    Ok(())
+}
+
+fn put_beside_a_close<R: Threads + Wait + Sync, G: Lends + Sync>(
+    rt: &R,
+    gate: &G,
+    inlet: &mut Inlet,
+) -> bool {
+    let seen = gate.gate().pause(rt, u64::MAX);
+    let (_closed, back) = join(
+        rt,
+        || {
+            gate.gate().pause(rt, seen);
+            gate.gate().close(rt)
+        },
+        || gives_back(rt, gate.gate(), inlet, 256),
+    );
+    back
+}
+
+/// A gate that is closed gives back what has no room, also to one who waits already; it brings nothing.
 #[test]
 fn a_closed_gate_stops_both(rt: HostRuntime) -> Result<(), Fail> {
     let gate = gate(rt.alloc(), 1)?;
     let (mut inlet, mut outlet) = attach(&rt, rt.alloc(), &gate, CLIENT)?;
     assert_eq!(rt; fill(&mut inlet), 256);
-    gate.close(&rt);
+    assert!(rt; put_beside_a_close(&rt, &gate, &mut inlet));
     assert!(rt; gives_back(&rt, &gate, &mut inlet, 257));
     assert!(rt; matches!(gate.take(&rt, &mut outlet, CLIENT), Taken::Stopped));
     assert!(rt; !gate.wake(&rt));

@@ -37,6 +37,18 @@ pub(crate) fn gate(alloc: Global, first: u32) -> Result<Gate, Fail>
     Ok(Gate::new(board(alloc, first)?))
 }
 
+/// What lends a gate. What starts threads is written for whatever does: so it need not know that a gate, with
+/// all that it has, may be shared.
+pub(crate) trait Lends {
+    fn gate(&self) -> &Gate;
+}
+
+impl Lends for Gate {
+    fn gate(&self) -> &Gate {
+        self
+    }
+}
+
 /// Opens a connection and gives it rings.
 pub(crate) fn attach<R: Wait>(
     rt: &R,
