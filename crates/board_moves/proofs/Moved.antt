@@ -4,7 +4,7 @@ use Rattle.std.specs.Prelude.{◌↔◌, Bool, IsNone, IsSome, IsTrue, ◌⊎◌
 use Rattle.std.specs.Option.{option_map}
 use Rattle.rows.specs.Rows.{change_first}
 use Rattle.fanout.specs.declared.outbox.Out.{Out}
-use Rattle.gate_calls.specs.declared.fault.StepFault.TheVariants as steps
+use Rattle.gateway_calls.specs.declared.fault.StepFault.TheVariants as steps
 use Rattle.gateway_state.specs.Asked.{queued}
 use Rattle.gateway_state.specs.Gateway.{Gateway}
 use Rattle.gateway_state.specs.Step.{step, taken}

@@ -2,7 +2,7 @@
 use Rattle.std.specs.Prelude.{◌≡◌, ℕ, ◌⊎◌, List, length, min, true, false, Bool, Option, Some, IsSome, IsNone, Result, Ok, Err, ⊤}
 use Rattle.std.specs.Option.{option_map}
 use Rattle.fanout.specs.declared.outbox.Out.{Out}
-use Rattle.gate_calls.specs.declared.fault.StepFault.TheVariants as steps
+use Rattle.gateway_calls.specs.declared.fault.StepFault.TheVariants as steps
 use Rattle.gateway_state.specs.Gateway.{Gateway, initial}
 use Rattle.gateway_state.specs.Asked.{queued}
 use Rattle.gateway_state.specs.declared.config.Config.{Config}

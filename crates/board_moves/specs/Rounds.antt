@@ -1,6 +1,6 @@
 -- A round of calls.
 use Rattle.std.specs.Prelude.{◌≡◌, ℕ, ◌+◌, List, [], ◌∷◌, ◌++◌, map, min, true, false, Bool, Option, Some, None, Result, Ok, Err}
-use Rattle.gate_calls.specs.declared.fault.StepFault.TheVariants as steps
+use Rattle.gateway_calls.specs.declared.fault.StepFault.TheVariants as steps
 use Rattle.gateway_state.specs.Gateway.{Gateway}
 use Rattle.gateway_state.specs.declared.event.Dest.{Dest}
 use Rattle.board_rings.specs.Rings.{LineState}

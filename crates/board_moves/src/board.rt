@@ -1,7 +1,7 @@
 //! The board.
 ghost use Rattle.std.specs.Prelude.{◌≡◌, ◌↔◌, ◌⊎◌, [], Some, IsSome, IsNone, IsOk, OnOk, OnErr, IfOk, IfSome, IsErrOf, filter, true, false};
 ghost use Rattle.std.specs.Option.{option_map};
-ghost use Rattle.gate_calls.specs.Searching.{IsSearched};
+ghost use Rattle.gateway_calls.specs.Searching.{IsSearched};
 ghost use Rattle.gateway_state.specs.Asked.{stands, ends, queued};
 ghost use Rattle.gateway_state.specs.Variables.{asks};
 ghost use Rattle.board_rings.specs.Lines.{are_in_order, is_attached, is_not_line, line_of};
@@ -15,7 +15,7 @@ use crate::fault::BoardFault;
 use crate::news::News;
 use crate::{moves, rounds};
 use board_rings::{Ends, Inlet, Lines, Outlet};
-use gate_calls::{AskFault, Failed, Gate};
+use gateway_calls::{AskFault, Failed, GatewayCalls};
 use gateway_state::{Dest, Event};
 use pv_name::{Host, Name};
 use pv_search::SearchAnswer;
@@ -25,7 +25,7 @@ use std::marker::Model;
 /// A gateway, and a line with two rings for each connection that is attached. A refused step leaves it
 /// failed for good; then it still attaches and retires.
 #[derive(Drop)]
-pub struct Board<G: Gate + Drop> {
+pub struct Board<G: GatewayCalls + Drop> {
     alloc: Global,
     gate: G,
     lines: Lines,
@@ -33,7 +33,7 @@ pub struct Board<G: Gate + Drop> {
     news: News,
 }
 
-impl<G: Gate + Drop> Model for Board<G> {
+impl<G: GatewayCalls + Drop> Model for Board<G> {
     ghost use Rattle.board_history.specs.Board.{BoardState};
     ghost use Rattle.board_history.specs.History.{HasHistory};
     ghost use Rattle.board_moves.specs.Answers.{board_of};
@@ -50,7 +50,7 @@ impl<G: Gate + Drop> Model for Board<G> {
     ghost invariant = { λ b. HasHistory (board_of (G.state b.gate) b.lines) };
 }
 
-impl<G: Gate + Drop> Board<G> {
+impl<G: GatewayCalls + Drop> Board<G> {
     /// A board for a gateway to which nothing happened yet. No connection is attached.
     pub fn new(alloc: Global, gate: G) -> Board<G>
         requires new { IsNew (G.state gate) }

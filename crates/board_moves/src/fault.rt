@@ -1,5 +1,5 @@
 //! Why a board did not do what it was asked to.
-use gate_calls::StepFault;
+use gateway_calls::StepFault;
 
 /// Why a board did not do what it was asked to.
 #[derive(Clone, Copy, Debug, PartialEq, Eq)]

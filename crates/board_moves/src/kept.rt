@@ -1,7 +1,7 @@
 //! What stands under a gate's lock.
 ghost use Rattle.std.specs.Prelude.{◌≡◌, ◌↔◌, ◌⊎◌, [], Some, IsSome, IsNone, IsOk, IsTrue, OnOk, OnErr, IfOk, IfSome, IsErrOf, filter, true, false};
 ghost use Rattle.std.specs.Option.{option_map};
-ghost use Rattle.gate_calls.specs.Searching.{IsSearched};
+ghost use Rattle.gateway_calls.specs.Searching.{IsSearched};
 ghost use Rattle.gateway_state.specs.Asked.{stands, ends};
 ghost use Rattle.gateway_state.specs.Variables.{asks};
 ghost use Rattle.board_rings.specs.Lines.{is_attached, is_not_line, line_of};
@@ -16,7 +16,7 @@ use crate::fault::BoardFault;
 use crate::news::News;
 use crate::turn::Turn;
 use board_rings::{Ends, Inlet, Outlet};
-use gate_calls::{AskFault, Failed, Gate};
+use gateway_calls::{AskFault, Failed, GatewayCalls};
 use gateway_state::{Dest, Event};
 use pv_name::{Host, Name};
 use pv_search::SearchAnswer;
@@ -25,13 +25,13 @@ use std::marker::Model;
 /// A board, a mark that its gate is closed, and a count of wakes: a thread that remembers the count from
 /// before it tried misses none.
 #[derive(Drop)]
-pub struct Kept<G: Gate + Drop> {
+pub struct Kept<G: GatewayCalls + Drop> {
     board: Board<G>,
     closed: bool,
     wakes: u64,
 }
 
-impl<G: Gate + Drop> Model for Kept<G> {
+impl<G: GatewayCalls + Drop> Model for Kept<G> {
     ghost use Rattle.board_moves.specs.Keeping.{KeptState};
     ghost use Rattle.rule_desk.specs.contracts.policy.Policy as the_policy;
     ghost use Rattle.std.specs.Coded.{codes};
@@ -43,7 +43,7 @@ impl<G: Gate + Drop> Model for Kept<G> {
     ghost view = { λ k. record { board = k.board; closed = k.closed; wakes = k.wakes } };
 }
 
-impl<G: Gate + Drop> Kept<G> {
+impl<G: GatewayCalls + Drop> Kept<G> {
     /// A gate's keep that is open, for a board.
     pub fn new(board: Board<G>) -> Kept<G>
         ensures { result ≡ record { board = board; closed = false; wakes = 0 } }

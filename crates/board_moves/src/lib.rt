@@ -16,7 +16,7 @@
 //! [`Kept`] is what a gate has under its lock: a board, a mark that it is closed and a count of wakes.
 //! [`News`] says whom moves concern, for those that wait; no contract speaks of it.
 //!
-//! All of it stands on any `gate_calls::Gate`, so that its proofs never read the engine.
+//! All of it stands on any `gateway_calls::GatewayCalls`, so that its proofs never read the engine.
 #![tactic(auto)]
 
 mod board;

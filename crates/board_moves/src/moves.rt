@@ -11,11 +11,11 @@ use crate::fault::BoardFault;
 use crate::news::News;
 use board_history::MOST_SENT;
 use board_rings::{Inbound, Lines};
-use gate_calls::{Gate, StepFault};
+use gateway_calls::{GatewayCalls, StepFault};
 use gateway_state::{Dest, Event};
 
 /// Whether a step was refused before.
-pub(crate) fn has_failed<G: Gate>(gate: &mut G) -> bool
+pub(crate) fn has_failed<G: GatewayCalls>(gate: &mut G) -> bool
     ensures failed { IsTrue result ↔ IsNone (G.state gate.old) }
     ensures same { G.state gate.new ≡ G.state gate.old }
 {
@@ -45,7 +45,7 @@ fn is_for_desk(event: &Event) -> bool
 }
 
 /// Performs the event of a connection's item, and notes the connection where that was its end.
-fn perform_item<G: Gate>(
+fn perform_item<G: GatewayCalls>(
     gate: &mut G,
     news: &mut News,
     dest: Dest,
@@ -72,7 +72,7 @@ fn perform_item<G: Gate>(
 /// Receives one item of a connection and performs its event, on a gateway that hasn't failed. An item
 /// whose event is refused is gone with the gateway. The guess is where the connection's line may stand.
 #[tactic(auto, using(crate::proofs::Moved::pumped, crate::proofs::Moved::pump_refused, crate::proofs::Moved::pump_used_up, crate::proofs::Changed::received_dests, crate::proofs::Changed::received_rings))]
-pub(crate) fn pump_standing<G: Gate>(
+pub(crate) fn pump_standing<G: GatewayCalls>(
     gate: &mut G,
     lines: &mut Lines,
     news: &mut News,
@@ -96,7 +96,7 @@ pub(crate) fn pump_standing<G: Gate>(
 }
 
 /// Receives one item of a connection and performs its event.
-pub(crate) fn pump<G: Gate>(
+pub(crate) fn pump<G: GatewayCalls>(
     gate: &mut G,
     lines: &mut Lines,
     news: &mut News,
@@ -115,7 +115,7 @@ pub(crate) fn pump<G: Gate>(
 }
 
 /// Performs an event that comes through no ring.
-pub(crate) fn desk<G: Gate>(
+pub(crate) fn desk<G: GatewayCalls>(
     gate: &mut G,
     lines: &Lines,
     news: &mut News,
@@ -140,7 +140,7 @@ pub(crate) fn desk<G: Gate>(
 /// Takes as many messages of a connection as places of its ring are free, up to 64, and pushes them, on a
 /// gateway that hasn't failed. The guess is where its line may stand.
 #[tactic(auto, using(crate::proofs::Moved::send_refused, crate::proofs::Moved::send_used_up, crate::proofs::Changed::looked_dests, crate::proofs::Changed::looked_rings))]
-fn send_standing<G: Gate>(
+fn send_standing<G: GatewayCalls>(
     gate: &mut G,
     lines: &mut Lines,
     news: &mut News,
@@ -169,7 +169,7 @@ fn send_standing<G: Gate>(
 
 /// Takes as many messages of a connection as places of its ring are free, up to 64, and pushes them. The
 /// guess is where its line may stand. A connection for which no message waits costs one look.
-pub(crate) fn send_out<G: Gate>(
+pub(crate) fn send_out<G: GatewayCalls>(
     gate: &mut G,
     lines: &mut Lines,
     news: &mut News,

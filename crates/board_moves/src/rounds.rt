@@ -7,7 +7,7 @@ use crate::fault::BoardFault;
 use crate::moves::{has_failed, pump_standing, send_out};
 use crate::news::News;
 use board_rings::Lines;
-use gate_calls::{Gate, StepFault};
+use gateway_calls::{GatewayCalls, StepFault};
 use gateway_state::Dest;
 
 /// One call of a round.
@@ -18,7 +18,7 @@ enum Call {
 }
 
 /// Pumps a connection whose line may stand at the guess, and answers how many items it moved.
-fn pump_one<G: Gate>(
+fn pump_one<G: GatewayCalls>(
     gate: &mut G,
     lines: &mut Lines,
     news: &mut News,
@@ -40,7 +40,7 @@ fn pump_one<G: Gate>(
 
 /// Pumps each attached connection, in order, on a gateway that hasn't failed.
 #[tactic(auto, using(crate::proofs::RoundCalls::next_performed))]
-fn pump_all<G: Gate>(gate: &mut G, lines: &mut Lines, news: &mut News) -> Result<usize, BoardFault>
+fn pump_all<G: GatewayCalls>(gate: &mut G, lines: &mut Lines, news: &mut News) -> Result<usize, BoardFault>
     requires stands { IsSome (G.state gate.old) }
     ensures calls { PerformsUpTo (map Call.Pump (dests_of lines.old)) (board_of (G.state gate.old) lines.old) result (board_of (G.state gate.new) lines.new) }
     ensures dests { dests_of lines.new ≡ dests_of lines.old }
@@ -61,7 +61,7 @@ fn pump_all<G: Gate>(gate: &mut G, lines: &mut Lines, news: &mut News) -> Result
 
 /// Sends out to each attached connection, in order.
 #[tactic(auto, using(crate::proofs::RoundCalls::next_performed))]
-fn send_all<G: Gate>(gate: &mut G, lines: &mut Lines, news: &mut News) -> Result<usize, BoardFault>
+fn send_all<G: GatewayCalls>(gate: &mut G, lines: &mut Lines, news: &mut News) -> Result<usize, BoardFault>
     ensures calls { PerformsUpTo (map Call.SendOut (dests_of lines.old)) (board_of (G.state gate.old) lines.old) result (board_of (G.state gate.new) lines.new) }
     ensures dests { dests_of lines.new ≡ dests_of lines.old }
     ensures rings { KeepsRings lines.old lines.new }
@@ -81,7 +81,7 @@ fn send_all<G: Gate>(gate: &mut G, lines: &mut Lines, news: &mut News) -> Result
 
 /// Pumps each attached connection, then sends out to each, up to the first fault. It answers how many
 /// items were moved. The lines are walked in place: none is searched for.
-pub(crate) fn round<G: Gate>(
+pub(crate) fn round<G: GatewayCalls>(
     gate: &mut G,
     lines: &mut Lines,
     news: &mut News,

@@ -6,7 +6,7 @@ ghost use Rattle.gateway_state.specs.Clients.{versioned};
 ghost use Rattle.gateway_state.specs.Requests.{client_said, requested, unreadable};
 ghost use Rattle.gateway_state.specs.Settled.{HasSidsInOrder, HasWriteIdsBelow};
 ghost use Rattle.gateway_state.specs.Telling.{told};
-ghost use Rattle.gateway_state.specs.Told.{AreTold};
+ghost use Rattle.gateway_state.specs.Told.{KnowRights};
 ghost use Rattle.touched_rows.specs.Touches.{request_touches};
 
 use crate::clear_channel::clear_channel;
@@ -38,7 +38,7 @@ pub fn hear_client(
 ) -> Result<Touched, Refusal>
     requires order { HasSidsInOrder rows.old }
     requires ids { HasWriteIdsBelow rows.old }
-    requires told { AreTold rows.old }
+    requires told { KnowRights rows.old }
     ensures ok { OnOk result (rows.new ≡ client_said rows.old number message) }
     ensures touched { IfOk result (λ touched. touched ≡ request_touches rows.old number (request_of message.head message.payload)) }
     ensures used_up { IsErrOf result Refusal.NumbersUsedUp → is_past_numbers (client_said rows.old number message) ≡ true }
@@ -63,7 +63,7 @@ fn hear_request(
 ) -> Result<Touched, Refusal>
     requires order { HasSidsInOrder rows.old }
     requires ids { HasWriteIdsBelow rows.old }
-    requires told { AreTold rows.old }
+    requires told { KnowRights rows.old }
     ensures ok { OnOk result (rows.new ≡ requested rows.old number message.now (Ok request.entry)) }
     ensures touched { IfOk result (λ touched. touched ≡ request_touches rows.old number (Ok request.entry)) }
     ensures used_up { IsErrOf result Refusal.NumbersUsedUp → is_past_numbers (requested rows.old number message.now (Ok request.entry)) ≡ true }

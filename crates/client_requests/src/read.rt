@@ -4,7 +4,7 @@ ghost use Rattle.channel_table.specs.ClientRows.{has_channel};
 ghost use Rattle.gateway_state.specs.Answer.{cached_value};
 ghost use Rattle.gateway_state.specs.Clients.{accepted, is_one_too_many, read_asked, read_refused, read_verdict, verdict_natively};
 ghost use Rattle.gateway_state.specs.Rights.{channel_of};
-ghost use Rattle.gateway_state.specs.Told.{AreTold, IsTold};
+ghost use Rattle.gateway_state.specs.Told.{KnowRights, KnowsRights};
 ghost use Rattle.touched_rows.specs.Touches.{accepted_touches, new_read, read_touches};
 
 use crate::refusals::refuse_channel;
@@ -46,7 +46,7 @@ fn read_verdict_on(
     dtype: u16,
     count: u32,
 ) -> Result<ReadVerdict, AllocError>
-    requires told { IsTold rows.now channel.now }
+    requires told { KnowsRights rows.now channel.now }
     ensures { IfOk result (λ verdict. verdict ≡ verdict_natively rows.now channel.now link.now dtype count (Some native)) }
 {
     if let Some(code) = read_refusal(native, channel.rights, dtype, count) {
@@ -70,7 +70,7 @@ fn read_verdict(
     dtype: u16,
     count: u32,
 ) -> Result<ReadVerdict, AllocError>
-    requires told { AreTold rows.now }
+    requires told { KnowRights rows.now }
     ensures found { IfOk result (λ verdict. verdict ≡ read_verdict rows.now number sid dtype count) }
     ensures bound { visits.new ≤ visits.old + 1 }
 {
@@ -133,7 +133,7 @@ pub(crate) fn read(
     count: u32,
     head: &Header,
 ) -> Result<Touched, AllocError>
-    requires told { AreTold rows.old }
+    requires told { KnowRights rows.old }
     ensures ok { OnOk result (rows.new ≡ read_asked number sid ioid dtype count head.now rows.old) }
     ensures touched { IfOk result (λ touched. touched ≡ read_touches rows.old (new_read number sid ioid dtype count)) }
     ensures bound { visits.new ≤ visits.old + 3 }

@@ -3,7 +3,7 @@ ghost use Rattle.std.specs.Prelude.{◌≡◌, ◌≤◌, ◌+◌, true, OnOk, I
 ghost use Rattle.gateway_state.specs.Gateway.{Gateway};
 ghost use Rattle.gateway_state.specs.Numbers.{is_past_numbers};
 ghost use Rattle.gateway_state.specs.Settled.{HasWriteIdsBelow};
-ghost use Rattle.gateway_state.specs.Told.{AreTold, IsTold};
+ghost use Rattle.gateway_state.specs.Told.{KnowRights, KnowsRights};
 ghost use Rattle.gateway_state.specs.Writing.{may_write, new_write, notified_by, with_write, write_answered, write_asked, write_handed_on, write_judged, write_notify_asked, write_verdict, write_verdict_in, write_waits, written_by};
 
 use crate::refusals::{refuse_channel, refuse_request};
@@ -40,7 +40,7 @@ fn judge<'a>(
     sid: u32,
     value: Result<WrittenValue<'a>, WriteFault>,
 ) -> WriteVerdict<'a>
-    ensures { (w : Gateway) → IsTold w channel.now → result ≡ write_judged w channel.now server sid value.entry }
+    ensures { (w : Gateway) → KnowsRights w channel.now → result ≡ write_judged w channel.now server sid value.entry }
 {
     let cid = channel.cid;
     match value {
@@ -62,7 +62,7 @@ fn write_verdict_over<'a>(
     write: Write,
     payload: &ValueBytes<'a>,
 ) -> WriteVerdict<'a>
-    ensures { (w : Gateway) → IsTold w channel.now → result ≡ write_verdict_in w channel.now link.now.server write.dtype write.count payload.now link.now.state }
+    ensures { (w : Gateway) → KnowsRights w channel.now → result ≡ write_verdict_in w channel.now link.now.server write.dtype write.count payload.now link.now.state }
 {
     match link.state {
         LinkState::Connected { sid, count, .. } => {
@@ -80,7 +80,7 @@ fn write_verdict<'a>(
     write: Write,
     payload: &ValueBytes<'a>,
 ) -> WriteVerdict<'a>
-    requires told { AreTold rows.now }
+    requires told { KnowRights rows.now }
     ensures found { result ≡ write_verdict rows.now write.session write.sid write.dtype write.count payload.now }
     ensures bound { visits.new ≤ visits.old + 1 }
 {
@@ -101,7 +101,7 @@ pub(crate) fn hear_write(
     payload: &ValueBytes<'_>,
     head: &Header,
 ) -> Result<(), AllocError>
-    requires told { AreTold rows.old }
+    requires told { KnowRights rows.old }
     ensures ok { OnOk result (rows.new ≡ write_asked write.session write.sid write.dtype write.count payload.now head.now rows.old) }
     ensures bound { visits.new ≤ visits.old + 1 }
 {
@@ -191,7 +191,7 @@ pub(crate) fn hear_write_notify(
     payload: &ValueBytes<'_>,
     head: &Header,
 ) -> Result<(), Refusal>
-    requires told { AreTold rows.old }
+    requires told { KnowRights rows.old }
     requires ids { HasWriteIdsBelow rows.old }
     ensures ok { OnOk result (rows.new ≡ write_notify_asked write.session write.sid ioid write.dtype write.count payload.now head.now rows.old) }
     ensures used_up { IsErrOf result Refusal.NumbersUsedUp → is_past_numbers (write_notify_asked write.session write.sid ioid write.dtype write.count payload.now head.now rows.old) ≡ true }

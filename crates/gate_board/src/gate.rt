@@ -25,7 +25,7 @@ ghost use Rattle.gate_board.specs.Taking.{IsTaken};
 use board_moves::{Board, BoardFault, Kept, News, SEAT_WORDS, SEATS, Turn, seat_of};
 use board_rings::{Ends, Inbound, Inlet, Outlet};
 use fanout::Out;
-use gate_calls::{AskFault, Failed, Gate};
+use gateway_calls::{AskFault, Failed, GatewayCalls};
 use gateway_state::{Dest, Event};
 use pv_name::{Host, Name};
 use pv_search::SearchAnswer;
@@ -46,7 +46,7 @@ pub enum Taken {
 /// The board, a mark that the gate is closed, and a count of wakes, under a lock, and the seats to wait
 /// on. No call lends the board or puts another one in its place.
 #[derive(Drop)]
-pub struct GateOver<G: Gate + Drop> {
+pub struct GateOver<G: GatewayCalls + Drop> {
     kept: Mutex<Kept<G>>,
     core: Condvar,
     paused: Condvar,
@@ -61,7 +61,7 @@ enum End {
     Stopped,
 }
 
-impl<G: Gate + Drop> GateOver<G> {
+impl<G: GatewayCalls + Drop> GateOver<G> {
     /// A gate that is open, for a board.
     pub fn new(board: Board<G>) -> GateOver<G> {
         GateOver {

@@ -10,7 +10,7 @@ ghost use Rattle.gateway_state.specs.Asked.{stands, ends, queued};
 ghost use Rattle.gateway_state.specs.Interest.{subscription_of};
 ghost use Rattle.gateway_state.specs.Rights.{rights_asked};
 ghost use Rattle.gateway_state.specs.Variables.{asks};
-ghost use Rattle.gate_calls.specs.Searching.{IsSearched};
+ghost use Rattle.gateway_calls.specs.Searching.{IsSearched};
 ghost use Rattle.gateway_core.specs.Looks.{event_looks};
 ghost use Rattle.gateway_rows.specs.Own.{IsWithin};
 
@@ -18,7 +18,7 @@ use crate::search::search;
 use crate::step::{drain, step};
 use channel_table::Visits;
 use fanout::Out;
-use gate_calls::{AskFault, Failed, NoMemory, StepFault};
+use gateway_calls::{AskFault, Failed, NoMemory, StepFault};
 use gateway_rows::{Refusal, Rows};
 use gateway_state::{Config, Dest, Event, Policy, Reading, Sub};
 use pv_name::{Host, Name};

@@ -2,13 +2,13 @@
 
 use crate::engine::Engine;
 use fanout::Out;
-use gate_calls::{AskFault, Failed, Gate, NoMemory, StepFault};
+use gateway_calls::{AskFault, Failed, GatewayCalls, NoMemory, StepFault};
 use gateway_state::{Config, Dest, Event, Policy, Reading, Sub};
 use pv_name::{Host, Name};
 use pv_search::SearchAnswer;
 use std::alloc::Global;
 
-impl Gate for Engine {
+impl GatewayCalls for Engine {
     ghost state = { λ engine. engine.state };
 
     fn new(alloc: Global, config: Config, policy: Policy) -> Result<Engine, NoMemory> {

@@ -21,6 +21,6 @@ mod step;
 
 pub use engine::Engine;
 pub use fanout::Out;
-pub use gate_calls::{AskFault, Failed, NoMemory, StepFault};
+pub use gateway_calls::{AskFault, Failed, NoMemory, StepFault};
 pub use gateway_state::{Config, Dest, Event, Policy, Reading, Sub};
 pub use pv_search::SearchAnswer;

@@ -1,6 +1,6 @@
 //! Searches by datagram.
 ghost use Rattle.std.specs.Prelude.{IfOk};
-ghost use Rattle.gate_calls.specs.Searching.{IsSearched};
+ghost use Rattle.gateway_calls.specs.Searching.{IsSearched};
 
 use gateway_rows::Rows;
 use pv_name::{Host, Name};

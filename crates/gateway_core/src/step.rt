@@ -7,7 +7,7 @@ ghost use Rattle.gateway_state.specs.Direct.{direct_effect, searched};
 ghost use Rattle.gateway_state.specs.Reached.{IsReached};
 ghost use Rattle.gateway_state.specs.Settled.{HasCidsInOrder, HasSessionsConnected, HasSidsInOrder, HasWriteIdsBelow};
 ghost use Rattle.gateway_state.specs.Step.{step, taken};
-ghost use Rattle.gateway_state.specs.Told.{AreTold};
+ghost use Rattle.gateway_state.specs.Told.{KnowRights};
 ghost use Rattle.gateway_state.specs.Variables.{search_names};
 ghost use Rattle.touched_rows.specs.Touches.{drain_touches, event_touches};
 
@@ -76,7 +76,7 @@ fn perform(rows: &mut Rows, visits: &mut Visits, event: Event) -> Result<Touched
     requires cids { HasCidsInOrder rows.old }
     requires sessions { HasSessionsConnected rows.old }
     requires ids { HasWriteIdsBelow rows.old }
-    requires told { AreTold rows.old }
+    requires told { KnowRights rows.old }
     ensures ok { OnOk result (rows.new ≡ direct_effect rows.old event) }
     ensures touched { IfOk result (λ touched. touched ≡ event_touches rows.old event) }
     ensures used_up { IsErrOf result Refusal.NumbersUsedUp → is_past_numbers (direct_effect rows.old event) ≡ true }

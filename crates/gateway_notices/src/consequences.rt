@@ -5,7 +5,7 @@ ghost use Rattle.gateway_rows.specs.Own.{IsWithin};
 ghost use Rattle.gateway_state.specs.Numbers.{is_past_numbers};
 ghost use Rattle.gateway_state.specs.Settled.{AreInOrder};
 ghost use Rattle.gateway_state.specs.Step.{consequences};
-ghost use Rattle.gateway_state.specs.Told.{AreTold};
+ghost use Rattle.gateway_state.specs.Told.{KnowRights};
 ghost use Rattle.touched_rows.specs.Touched.{channels_told_on, variable_told};
 ghost use Rattle.touched_rows.specs.Touches.{IsReady, follows};
 
@@ -53,7 +53,7 @@ fn follow_anew(rows: &mut Rows, visits: &mut Visits) -> Result<(), Refusal>
 #[tactic(auto, using(touched_rows::proofs::Numbers::variable_follows_past, touched_rows::proofs::Ready::order_before_link, touched_rows::proofs::Ready::told_after_withheld, touched_rows::proofs::Ready::told_after_link, touched_rows::proofs::Ready::told_after_reads))]
 fn follow_variable(rows: &mut Rows, visits: &mut Visits, name: &Name) -> Result<(), Refusal>
     requires order { AreInOrder rows.old }
-    requires told { AreTold (channels_told_on name.now rows.old) }
+    requires told { KnowRights (channels_told_on name.now rows.old) }
     ensures ok { OnOk result (rows.new ≡ variable_told name.now rows.old) }
     ensures used_up { IsErrOf result Refusal.NumbersUsedUp → is_past_numbers (variable_told name.now rows.old) ≡ true }
 {

@@ -5,7 +5,7 @@ ghost use Rattle.link_table.specs.Links.{has_subscription};
 ghost use Rattle.gateway_state.specs.Numbers.{is_past_numbers};
 ghost use Rattle.gateway_state.specs.Notices.{dropped, interest_notices, link_notices, link_notices_of, link_told, links_told, subscribed_to, with_subscription_of};
 ghost use Rattle.gateway_state.specs.Settled.{AreInOrder, HasCidsInOrder, HasLinksApart};
-ghost use Rattle.gateway_state.specs.Told.{AreTold};
+ghost use Rattle.gateway_state.specs.Told.{KnowRights};
 ghost use Rattle.gateway_state.specs.Variables.{link_of};
 ghost use Rattle.touched_rows.specs.Touched.{interest_notices_over, interest_told, is_link_among, link_notices_among, link_notices_over, link_told_on, links_told_among};
 ghost use Rattle.touched_rows.specs.Touches.{AreReady};
@@ -25,7 +25,7 @@ fn add_interest_notices(
     notices: &mut Vec<LinkNotice>,
     link: &Link,
 ) -> Result<(), AllocError>
-    requires told { AreTold rows.now }
+    requires told { KnowRights rows.now }
     ensures { OnOk result (notices.new.items ≡ notices.old.items ++ interest_notices rows.now link.now link.now.state) }
 {
     let LinkState::Connected { sid, dtype, count } = link.state else {
@@ -64,7 +64,7 @@ fn add_link_notices(
     notices: &mut Vec<LinkNotice>,
     link: &Link,
 ) -> Result<(), AllocError>
-    requires told { AreTold rows.now }
+    requires told { KnowRights rows.now }
     ensures { OnOk result (notices.new.items ≡ notices.old.items ++ link_notices_of rows.now link.now) }
 {
     add_interest_notices(rows, notices, link)?;
@@ -79,7 +79,7 @@ fn add_link_notices(
 }
 
 fn link_notices(rows: &Rows) -> Result<Vec<LinkNotice>, AllocError>
-    requires told { AreTold rows.now }
+    requires told { KnowRights rows.now }
     ensures { IfOk result (λ notices. notices.items ≡ link_notices rows.now) }
 {
     let mut notices = Vec::new(rows.alloc);
@@ -215,7 +215,7 @@ fn tell_each(rows: &mut Rows, notices: &[LinkNotice]) -> Result<(), Refusal>
 /// Asks servers for what is wanted of each variable, and drops links that are no longer wanted.
 pub(crate) fn tell_links(rows: &mut Rows) -> Result<(), Refusal>
     requires order { AreInOrder rows.old }
-    requires told { AreTold rows.old }
+    requires told { KnowRights rows.old }
     ensures ok { OnOk result (rows.new ≡ links_told rows.old) }
     ensures used_up { IsErrOf result Refusal.NumbersUsedUp → is_past_numbers (links_told rows.old) ≡ true }
 {
@@ -224,7 +224,7 @@ pub(crate) fn tell_links(rows: &mut Rows) -> Result<(), Refusal>
 }
 
 fn interest_notices_on(rows: &Rows, name: &Name) -> Result<Vec<LinkNotice>, AllocError>
-    requires told { AreTold rows.now }
+    requires told { KnowRights rows.now }
     ensures { IfOk result (λ notices. notices.items ≡ interest_notices_over rows.now (link_of rows.now name.now)) }
 {
     let mut notices = Vec::new(rows.alloc);
@@ -237,7 +237,7 @@ fn interest_notices_on(rows: &Rows, name: &Name) -> Result<Vec<LinkNotice>, Allo
 /// Asks one variable's server for what is wanted of it.
 pub(crate) fn tell_interest(rows: &mut Rows, name: &Name) -> Result<(), Refusal>
     requires order { AreInOrder rows.old }
-    requires told { AreTold rows.old }
+    requires told { KnowRights rows.old }
     ensures ok { OnOk result (rows.new ≡ interest_told name.now rows.old) }
     ensures used_up { IsErrOf result Refusal.NumbersUsedUp → is_past_numbers (interest_told name.now rows.old) ≡ true }
 {
@@ -246,7 +246,7 @@ pub(crate) fn tell_interest(rows: &mut Rows, name: &Name) -> Result<(), Refusal>
 }
 
 fn link_notices_on(rows: &Rows, name: &Name) -> Result<Vec<LinkNotice>, AllocError>
-    requires told { AreTold rows.now }
+    requires told { KnowRights rows.now }
     ensures { IfOk result (λ notices. notices.items ≡ link_notices_over rows.now (link_of rows.now name.now)) }
 {
     let mut notices = Vec::new(rows.alloc);
@@ -259,7 +259,7 @@ fn link_notices_on(rows: &Rows, name: &Name) -> Result<Vec<LinkNotice>, AllocErr
 /// The same, and drops its link where it is no longer wanted.
 pub(crate) fn tell_link_on(rows: &mut Rows, name: &Name) -> Result<(), Refusal>
     requires order { AreInOrder rows.old }
-    requires told { AreTold rows.old }
+    requires told { KnowRights rows.old }
     ensures ok { OnOk result (rows.new ≡ link_told_on name.now rows.old) }
     ensures used_up { IsErrOf result Refusal.NumbersUsedUp → is_past_numbers (link_told_on name.now rows.old) ≡ true }
 {
@@ -296,7 +296,7 @@ fn links_among<'a>(rows: &'a Rows, names: &Names) -> Result<Vec<&'a Link>, Alloc
 fn link_notices_among(rows: &Rows, names: &Names) -> Result<Vec<LinkNotice>, AllocError>
     requires order { HasCidsInOrder rows.now }
     requires apart { HasLinksApart rows.now }
-    requires told { AreTold rows.now }
+    requires told { KnowRights rows.now }
     ensures { IfOk result (λ notices. notices.items ≡ link_notices_among names.now rows.now) }
 {
     let mut notices = Vec::new(rows.alloc);

@@ -2,7 +2,7 @@
 ghost use Rattle.std.specs.Prelude.{◌≡◌, ◌≤◌, ◌+◌, ◌*◌, fold, OnOk, IfOk};
 ghost use Rattle.gateway_rows.specs.Own.{reads_on};
 ghost use Rattle.gateway_state.specs.Notices.{answered_natively, answered_over, read_notice, read_notices, read_told, reads_told};
-ghost use Rattle.gateway_state.specs.Told.{AreTold};
+ghost use Rattle.gateway_state.specs.Told.{KnowRights};
 ghost use Rattle.gateway_state.specs.Variables.{link_of};
 ghost use Rattle.touched_rows.specs.Touched.{one_read_told, read_notices_on, reads_told_on};
 
@@ -41,7 +41,7 @@ fn read_notice(
     visits: &mut Visits,
     read: WaitingRead,
 ) -> Result<Option<ReadNotice>, AllocError>
-    requires told { AreTold rows.now }
+    requires told { KnowRights rows.now }
     ensures found { IfOk result (λ notice. notice ≡ read_notice rows.now read) }
     ensures bound { visits.new ≤ visits.old + 1 }
 {
@@ -56,7 +56,7 @@ fn read_notice(
 }
 
 fn read_notices(rows: &Rows, visits: &mut Visits) -> Result<VecDeque<ReadNotice>, AllocError>
-    requires told { AreTold rows.now }
+    requires told { KnowRights rows.now }
     ensures { IfOk result (λ notices. notices.items ≡ read_notices rows.now) }
 {
     let mut notices = VecDeque::new(rows.alloc);
@@ -74,7 +74,7 @@ fn read_notices_on(
     visits: &mut Visits,
     name: &Name,
 ) -> Result<VecDeque<ReadNotice>, AllocError>
-    requires told { AreTold rows.now }
+    requires told { KnowRights rows.now }
     ensures found { IfOk result (λ notices. notices.items ≡ read_notices_on name.now rows.now) }
     ensures bound { OnOk result (visits.new ≤ visits.old + 2 * reads_on rows.now name.now) }
 {
@@ -125,7 +125,7 @@ fn tell_each(rows: &mut Rows, mut notices: VecDeque<ReadNotice>) -> Result<(), A
 
 /// Answers reads that are covered, and refuses those whose right is gone.
 pub(crate) fn tell_reads(rows: &mut Rows, visits: &mut Visits) -> Result<(), AllocError>
-    requires told { AreTold rows.old }
+    requires told { KnowRights rows.old }
     ensures { OnOk result (rows.new ≡ reads_told rows.old) }
 {
     let notices = read_notices(rows, visits)?;
@@ -138,7 +138,7 @@ pub(crate) fn tell_reads_on(
     visits: &mut Visits,
     name: &Name,
 ) -> Result<(), AllocError>
-    requires told { AreTold rows.old }
+    requires told { KnowRights rows.old }
     ensures ok { OnOk result (rows.new ≡ reads_told_on name.now rows.old) }
     ensures bound { OnOk result (visits.new ≤ visits.old + 2 * reads_on rows.old name.now) }
 {
@@ -152,7 +152,7 @@ pub(crate) fn tell_one_read(
     visits: &mut Visits,
     read: WaitingRead,
 ) -> Result<(), AllocError>
-    requires told { AreTold rows.old }
+    requires told { KnowRights rows.old }
     ensures ok { OnOk result (rows.new ≡ one_read_told read rows.old) }
     ensures bound { visits.new ≤ visits.old + 1 }
 {

@@ -2,7 +2,7 @@
 ghost use Rattle.std.specs.Prelude.{◌≡◌, ◌≤◌, ◌+◌, ◌*◌, length, Some, fold, OnOk, IfOk};
 ghost use Rattle.gateway_rows.specs.Own.{subs_on};
 ghost use Rattle.gateway_state.specs.Rights.{channel_of};
-ghost use Rattle.gateway_state.specs.Told.{AreTold, IsTold};
+ghost use Rattle.gateway_state.specs.Told.{KnowRights, KnowsRights};
 ghost use Rattle.gateway_state.specs.Updates.{is_open_to, is_paused, is_unreadable, is_withheld, update_notice, update_notices, update_on, update_over, update_told, updates_told, updates_withheld, withheld};
 ghost use Rattle.gateway_state.specs.Variables.{link_of};
 ghost use Rattle.touched_rows.specs.Touched.{one_update_told, update_notices_on, update_notices_to, updates_told_on, updates_told_to, updates_withheld_on, withheld_on};
@@ -17,7 +17,7 @@ use std::collections::VecDeque;
 
 /// Whether a channel stands that may not be read.
 fn is_unreadable(rows: &Rows, visits: &mut Visits, session: u32, sid: u32) -> bool
-    requires told { AreTold rows.now }
+    requires told { KnowRights rows.now }
     ensures { result ≡ is_unreadable rows.now (channel_of rows.now session sid) }
 {
     match rows.told_channel(visits, session, sid) {
@@ -28,14 +28,14 @@ fn is_unreadable(rows: &Rows, visits: &mut Visits, session: u32, sid: u32) -> bo
 
 /// Whether a subscription's channel may not be read, and nothing is owed to it yet.
 fn is_withheld(rows: &Rows, visits: &mut Visits, sub: &ClientSub) -> bool
-    requires told { AreTold rows.now }
+    requires told { KnowRights rows.now }
     ensures { result ≡ is_withheld rows.now sub.now }
 {
     !sub.owed && is_unreadable(rows, visits, sub.session, sub.sid)
 }
 
 fn withheld(rows: &Rows, visits: &mut Visits) -> Result<Vec<ClientSub>, AllocError>
-    requires told { AreTold rows.now }
+    requires told { KnowRights rows.now }
     ensures { IfOk result (λ subs. subs.items ≡ withheld rows.now) }
 {
     let mut subs = Vec::new(rows.alloc);
@@ -49,7 +49,7 @@ fn withheld(rows: &Rows, visits: &mut Visits) -> Result<Vec<ClientSub>, AllocErr
 
 /// Owes the latest value to subscriptions whose channels may not be read.
 pub(crate) fn withhold_updates(rows: &mut Rows, visits: &mut Visits) -> Result<(), AllocError>
-    requires told { AreTold rows.old }
+    requires told { KnowRights rows.old }
     ensures { OnOk result (rows.new ≡ updates_withheld rows.old) }
 {
     let subs = withheld(rows, visits)?;
@@ -58,7 +58,7 @@ pub(crate) fn withhold_updates(rows: &mut Rows, visits: &mut Visits) -> Result<(
 }
 
 fn withheld_on(rows: &Rows, visits: &mut Visits, name: &Name) -> Result<Vec<ClientSub>, AllocError>
-    requires told { AreTold rows.now }
+    requires told { KnowRights rows.now }
     ensures { IfOk result (λ subs. subs.items ≡ withheld_on name.now rows.now) }
 {
     let mut subs = Vec::new(rows.alloc);
@@ -76,7 +76,7 @@ pub(crate) fn withhold_updates_on(
     visits: &mut Visits,
     name: &Name,
 ) -> Result<(), AllocError>
-    requires told { AreTold rows.old }
+    requires told { KnowRights rows.old }
     ensures { OnOk result (rows.new ≡ updates_withheld_on name.now rows.old) }
 {
     let subs = withheld_on(rows, visits, name)?;
@@ -132,7 +132,7 @@ fn update_on(
     sub: &ClientSub,
     channel: &Channel,
 ) -> Result<Option<UpdateNotice>, AllocError>
-    requires told { IsTold rows.now channel.now }
+    requires told { KnowsRights rows.now channel.now }
     ensures { IfOk result (λ notice. notice ≡ update_on rows.now sub.now (Some channel.now)) }
 {
     if may_read(channel.rights) {
@@ -149,7 +149,7 @@ fn update_notice(
     visits: &mut Visits,
     sub: ClientSub,
 ) -> Result<Option<UpdateNotice>, AllocError>
-    requires told { AreTold rows.now }
+    requires told { KnowRights rows.now }
     ensures found { IfOk result (λ notice. notice ≡ update_notice rows.now sub) }
     ensures bound { visits.new ≤ visits.old + 2 }
 {
@@ -163,7 +163,7 @@ fn update_notice(
 }
 
 fn update_notices(rows: &Rows, visits: &mut Visits) -> Result<VecDeque<UpdateNotice>, AllocError>
-    requires told { AreTold rows.now }
+    requires told { KnowRights rows.now }
     ensures { IfOk result (λ notices. notices.items ≡ update_notices rows.now) }
 {
     let mut notices = VecDeque::new(rows.alloc);
@@ -181,7 +181,7 @@ fn update_notices_on(
     visits: &mut Visits,
     name: &Name,
 ) -> Result<VecDeque<UpdateNotice>, AllocError>
-    requires told { AreTold rows.now }
+    requires told { KnowRights rows.now }
     ensures found { IfOk result (λ notices. notices.items ≡ update_notices_on name.now rows.now) }
     ensures bound { OnOk result (visits.new ≤ visits.old + 3 * subs_on rows.now name.now) }
     ensures fewer { IfOk result (λ notices. length notices.items ≤ subs_on rows.now name.now) }
@@ -201,7 +201,7 @@ fn update_notices_to(
     visits: &mut Visits,
     number: u32,
 ) -> Result<VecDeque<UpdateNotice>, AllocError>
-    requires told { AreTold rows.now }
+    requires told { KnowRights rows.now }
     ensures { IfOk result (λ notices. notices.items ≡ update_notices_to number rows.now) }
 {
     let mut notices = VecDeque::new(rows.alloc);
@@ -247,7 +247,7 @@ fn tell_each(
 
 /// Gives the updates that are due.
 pub(crate) fn tell_updates(rows: &mut Rows, visits: &mut Visits) -> Result<(), AllocError>
-    requires told { AreTold rows.old }
+    requires told { KnowRights rows.old }
     ensures { OnOk result (rows.new ≡ updates_told rows.old) }
 {
     let notices = update_notices(rows, visits)?;
@@ -260,7 +260,7 @@ pub(crate) fn tell_updates_on(
     visits: &mut Visits,
     name: &Name,
 ) -> Result<(), AllocError>
-    requires told { AreTold rows.old }
+    requires told { KnowRights rows.old }
     ensures ok { OnOk result (rows.new ≡ updates_told_on name.now rows.old) }
     ensures bound { OnOk result (visits.new ≤ visits.old + 4 * subs_on rows.old name.now) }
 {
@@ -274,7 +274,7 @@ pub(crate) fn tell_updates_to(
     visits: &mut Visits,
     number: u32,
 ) -> Result<(), AllocError>
-    requires told { AreTold rows.old }
+    requires told { KnowRights rows.old }
     ensures { OnOk result (rows.new ≡ updates_told_to number rows.old) }
 {
     let notices = update_notices_to(rows, visits, number)?;
@@ -287,7 +287,7 @@ pub(crate) fn tell_one_update(
     visits: &mut Visits,
     sub: ClientSub,
 ) -> Result<(), AllocError>
-    requires told { AreTold rows.old }
+    requires told { KnowRights rows.old }
     ensures ok { OnOk result (rows.new ≡ one_update_told sub rows.old) }
     ensures bound { visits.new ≤ visits.old + 3 }
 {

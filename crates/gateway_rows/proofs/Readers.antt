@@ -18,7 +18,7 @@ use Rattle.gateway_state.specs.declared.interest.TheConstants.{READ_EVENTS}
 use Rattle.gateway_state.specs.Gateway.{Gateway}
 use Rattle.gateway_state.specs.Interest.{channel_want, interest_of, is_read_through, is_reader, is_subscriber, readers, sub_want}
 use Rattle.gateway_state.specs.Rights.{channel_of, may_read, rights_of}
-use Rattle.gateway_state.specs.Told.{AreTold, IsTold}
+use Rattle.gateway_state.specs.Told.{KnowRights, KnowsRights}
 use Rattle.gateway_state.proofs.ToldRights.{found_told}
 use Rattle.gateway_rows.specs.ToldReaders.{is_told_reader, is_told_subscriber, is_told_through}
 use Rattle.gateway_state.specs.Updates.{is_sub_to}
@@ -36,26 +36,26 @@ passing_both {A = A} test wider (row ∷ rows) =
 
 -- ---- where clients know their rights, those that they were told of say who reads
 
-told_through : (w : Gateway) (name : List ℕ) (session sid : ℕ) (found : Option Channel) → AreTold w → channel_of w session sid ≡ found
+told_through : (w : Gateway) (name : List ℕ) (session sid : ℕ) (found : Option Channel) → KnowRights w → channel_of w session sid ≡ found
     → is_read_through w name found ≡ is_told_through name found
 told_through w name session sid None told is = refl
 told_through w name session sid (Some c) told is = ap (λ (rights : ℕ). is_on name c && may_read rights) (sym (found_told w session sid c told is))
 
-subscribers_as_told : (w : Gateway) (name : List ℕ) (subs : List ClientSub) → AreTold w → filter (is_subscriber w name) subs ≡ filter (is_told_subscriber w name) subs
+subscribers_as_told : (w : Gateway) (name : List ℕ) (subs : List ClientSub) → KnowRights w → filter (is_subscriber w name) subs ≡ filter (is_told_subscriber w name) subs
 subscribers_as_told w name [] told = refl
 subscribers_as_told w name (sub ∷ subs) told =
     let first = told_through w name sub.session sub.sid (channel_of w sub.session sub.sid) told refl in
     let rest = subscribers_as_told w name subs told in
     λ i. cond (first i) (sub ∷ rest i) (rest i)
 
-channels_as_told : (w : Gateway) (name : List ℕ) (channels : List Channel) → All (IsTold w) channels → filter (is_reader w name) channels ≡ filter (is_told_reader name) channels
+channels_as_told : (w : Gateway) (name : List ℕ) (channels : List Channel) → All (KnowsRights w) channels → filter (is_reader w name) channels ≡ filter (is_told_reader name) channels
 channels_as_told w name [] told = refl
 channels_as_told w name (c ∷ channels) told =
-    let first : c.rights ≡ rights_of w c = All-head (IsTold w) c channels told in
-    let rest = channels_as_told w name channels (All-tail (IsTold w) c channels told) in
+    let first : c.rights ≡ rights_of w c = All-head (KnowsRights w) c channels told in
+    let rest = channels_as_told w name channels (All-tail (KnowsRights w) c channels told) in
     λ i. cond (is_on name c && nat_lt 0 c.reach && may_read (sym first i)) (c ∷ rest i) (rest i)
 
-pub readers_as_told : (w : Gateway) (name : List ℕ) (native : ℕ) → AreTold w
+pub readers_as_told : (w : Gateway) (name : List ℕ) (native : ℕ) → KnowRights w
     → readers w name native
     ≡ map (sub_want native) (filter (is_told_subscriber w name) w.clients.subs) ++ map channel_want (filter (is_told_reader name) w.clients.channels)
 readers_as_told w name native told =
@@ -130,7 +130,7 @@ channels_counted native name (c ∷ channels) =
     mapped true cs = refl
     mapped false cs = refl
 
-pub interest_as_counted : (w : Gateway) (name : List ℕ) (native : ℕ) → AreTold w → want_on w.clients.channels w.clients.subs native name ≡ interest_of w name native
+pub interest_as_counted : (w : Gateway) (name : List ℕ) (native : ℕ) → KnowRights w → want_on w.clients.channels w.clients.subs native name ≡ interest_of w name native
 interest_as_counted w name native told =
     let subs = subs_counted native name w w.clients.subs in
     let channels = channels_counted native name w.clients.channels in
@@ -138,6 +138,6 @@ interest_as_counted w name native told =
     ap merged (apart ∙ (λ i. subs i ++ channels i) ∙ sym (readers_as_told w name native told))
 
 -- a channel that is found is one of those that stand
-pub found_if_told : (w : Gateway) (session sid : ℕ) (found : Option Channel) → AreTold w → channel_of w session sid ≡ found → IfSome found (IsTold w)
+pub found_if_told : (w : Gateway) (session sid : ℕ) (found : Option Channel) → KnowRights w → channel_of w session sid ≡ found → IfSome found (KnowsRights w)
 found_if_told w session sid None told is = record {}
 found_if_told w session sid (Some c) told is = found_told w session sid c told is

@@ -2,7 +2,7 @@
 ghost use Rattle.std.specs.Prelude.{◌≡◌, Some, IfOk};
 ghost use Rattle.gateway_state.specs.Answer.{is_type_served, converts_to, fits_payload, meant_count, refusal, value_refusal, cached_as, cached_value, reading, reading_at, reading_on, reading_of, refused_or};
 ghost use Rattle.gateway_state.specs.Servers.{time_of};
-ghost use Rattle.gateway_state.specs.Told.{AreTold, IsTold};
+ghost use Rattle.gateway_state.specs.Told.{KnowRights, KnowsRights};
 ghost use Rattle.dbr_layout.specs.Dbr.{dbr_of};
 
 use crate::rights::may_read;
@@ -71,7 +71,7 @@ impl Rows {
     }
 
     fn reading_at(&self, channel: &Channel, dtype: u16, count: u32) -> Result<Reading, AllocError>
-        requires told { IsTold self.now channel.now }
+        requires told { KnowsRights self.now channel.now }
         ensures { IfOk result (λ reading. reading ≡ reading_at self.now channel.now dtype count) }
     {
         let rights = channel.rights;
@@ -93,7 +93,7 @@ impl Rows {
         dtype: u16,
         count: u32,
     ) -> Result<Reading, AllocError>
-        requires told { AreTold self.now }
+        requires told { KnowRights self.now }
         ensures { IfOk result (λ answer. answer ≡ reading self.now session sid dtype count) }
     {
         match self.told_channel(visits, session, sid) {

@@ -1,7 +1,7 @@
 //! What the readers of a variable want together.
 ghost use Rattle.std.specs.Prelude.{◌≡◌};
 ghost use Rattle.gateway_state.specs.Interest.{interest_of, is_for, minor_of, sent_count, subscription_of};
-ghost use Rattle.gateway_state.specs.Told.{AreTold};
+ghost use Rattle.gateway_state.specs.Told.{KnowRights};
 
 use crate::state::Rows;
 use gateway_state::{Sub, UPDATE_MINOR};
@@ -14,7 +14,7 @@ impl Rows {
     /// none. The table of clients has it counted, so this looks at no row.
     #[tactic(auto, using(crate::proofs::Readers::interest_as_counted))]
     pub fn interest_of(&self, name: &Name, native: u32) -> Option<Want>
-        requires told { AreTold self.now }
+        requires told { KnowRights self.now }
         ensures { result ≡ interest_of self.now name.now native }
     {
         self.clients.want_on(name, native)

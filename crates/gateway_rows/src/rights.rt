@@ -4,7 +4,7 @@ ghost use Rattle.std.specs.Option.{option_copied};
 ghost use Rattle.gateway_state.specs.Variables.{link_of};
 ghost use Rattle.gateway_state.specs.Reached.{rights_told};
 ghost use Rattle.gateway_state.specs.Resolution.{is_real, rights_left};
-ghost use Rattle.gateway_state.specs.Told.{AreTold, IsTold};
+ghost use Rattle.gateway_state.specs.Told.{KnowRights, KnowsRights};
 ghost use Rattle.gateway_state.specs.Rights.{is_found, may_read, link_rights, link_connected, channel_of};
 
 use crate::state::Rows;
@@ -81,9 +81,9 @@ impl Rows {
         session: u32,
         sid: u32,
     ) -> Option<&'a Channel>
-        requires told { AreTold self.now }
+        requires told { KnowRights self.now }
         ensures found { option_copied result ≡ channel_of self.now session sid }
-        ensures told { IfSome (option_copied result) (IsTold self.now) }
+        ensures told { IfSome (option_copied result) (KnowsRights self.now) }
         ensures bound { visits.new ≤ visits.old + 1 }
     {
         self.channel_of(visits, session, sid)

@@ -9,7 +9,7 @@ use Rattle.gateway_state.specs.Reached.{IsReached}
 use Rattle.gateway_state.specs.Rights.{channel_of}
 use Rattle.gateway_state.specs.Settled.{AreInOrder, IsUpToDate}
 use Rattle.gateway_state.specs.Step.{run}
-use Rattle.gateway_state.specs.Told.{AreTold, IsTold}
+use Rattle.gateway_state.specs.Told.{KnowRights, KnowsRights}
 use Rattle.gateway_state.specs.Updates.{updates_withheld}
 use Rattle.gateway_state.proofs.OrderKept.{order_before_links}
 use Rattle.gateway_state.proofs.RowTests.{found_passes}
@@ -22,17 +22,17 @@ use Rattle.gateway_state.proofs.SettledSteps.{links_keep_channels}
 use Rattle.gateway_state.proofs.SettledWithheld.{withheld_keeps_channels}
 
 -- where no channel is owed a notice
-pub quiet_told : (w : Gateway) → channel_notices w ≡ [] → AreTold w
-quiet_told w none = All-weaker (IsUpToDate w) (IsTold w) (λ (c : Channel) (up : IsUpToDate w c). up.rights) w.clients.channels (quiet_up_to_date w none)
+pub quiet_told : (w : Gateway) → channel_notices w ≡ [] → KnowRights w
+quiet_told w none = All-weaker (IsUpToDate w) (KnowsRights w) (λ (c : Channel) (up : IsUpToDate w c). up.rights) w.clients.channels (quiet_up_to_date w none)
 
 -- in every state that a run reaches
-pub reached_told : (w : Gateway) → IsReached w → AreTold w
+pub reached_told : (w : Gateway) → IsReached w → KnowRights w
 reached_told w reached =
-    subst AreTold (sym reached.by_run) (quiet_told (run (initial reached.config reached.policy) reached.events) (run_settled reached.config reached.policy reached.events).channels)
+    subst KnowRights (sym reached.by_run) (quiet_told (run (initial reached.config reached.policy) reached.events) (run_settled reached.config reached.policy reached.events).channels)
 
 -- so has a channel that is found
-pub found_told : (w : Gateway) (session sid : ℕ) (c : Channel) → AreTold w → channel_of w session sid ≡ Some c → IsTold w c
-found_told w session sid c told is = found_passes (IsTold w) (is_channel session sid) w.clients.channels c told is
+pub found_told : (w : Gateway) (session sid : ℕ) (c : Channel) → KnowRights w → channel_of w session sid ≡ Some c → KnowsRights w c
+found_told w session sid c told is = found_passes (KnowsRights w) (is_channel session sid) w.clients.channels c told is
 
 -- once clients were told, in each of the later passes
 module _ (w : Gateway) (order : AreInOrder w) where
@@ -45,16 +45,16 @@ module _ (w : Gateway) (order : AreInOrder w) where
       (links_passed (updates_withheld (channels_told w)) (order_before_links w order).links)
       ∙ quiet_held_back
 
-  pub told_before_withheld : AreTold (channels_told w)
+  pub told_before_withheld : KnowRights (channels_told w)
   told_before_withheld = quiet_told (channels_told w) (channels_settled w order.channels)
 
-  pub told_before_links : AreTold (updates_withheld (channels_told w))
+  pub told_before_links : KnowRights (updates_withheld (channels_told w))
   told_before_links = quiet_told (updates_withheld (channels_told w)) quiet_held_back
 
-  pub told_before_reads : AreTold (links_told (updates_withheld (channels_told w)))
+  pub told_before_reads : KnowRights (links_told (updates_withheld (channels_told w)))
   told_before_reads = quiet_told (links_told (updates_withheld (channels_told w))) quiet_links
 
-  pub told_before_updates : AreTold (reads_told (links_told (updates_withheld (channels_told w))))
+  pub told_before_updates : KnowRights (reads_told (links_told (updates_withheld (channels_told w))))
   told_before_updates =
       quiet_told (reads_told (links_told (updates_withheld (channels_told w))))
       (reads_keep_channels (links_told (updates_withheld (channels_told w))) ∙ quiet_links)

@@ -6,9 +6,9 @@ use Rattle.gateway_state.specs.Gateway.{Gateway}
 use Rattle.gateway_state.specs.Rights.{rights_of}
 
 -- a channel has the rights that its client was last told
-abbrev pub IsTold : Gateway → Channel → Type 0
-IsTold w c = c.rights ≡ rights_of w c
+abbrev pub KnowsRights : Gateway → Channel → Type 0
+KnowsRights w c = c.rights ≡ rights_of w c
 
 -- so has each channel
-abbrev pub AreTold : Gateway → Type 0
-AreTold w = All (IsTold w) w.clients.channels
+abbrev pub KnowRights : Gateway → Type 0
+KnowRights w = All (KnowsRights w) w.clients.channels

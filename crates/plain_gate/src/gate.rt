@@ -10,13 +10,13 @@ ghost use Rattle.gateway_state.specs.Asked.{stands, ends, queued};
 ghost use Rattle.gateway_state.specs.Interest.{subscription_of};
 ghost use Rattle.gateway_state.specs.Rights.{rights_asked};
 ghost use Rattle.gateway_state.specs.Variables.{asks};
-ghost use Rattle.gate_calls.specs.Searching.{IsSearched};
+ghost use Rattle.gateway_calls.specs.Searching.{IsSearched};
 
 use crate::numbers::Refusal;
 use crate::state::Rows;
 use crate::step::{drain, step};
 use fanout::Out;
-use gate_calls::{AskFault, Failed, Gate, NoMemory, StepFault};
+use gateway_calls::{AskFault, Failed, GatewayCalls, NoMemory, StepFault};
 use gateway_state::{Config, Dest, Event, Policy, Reading, Sub};
 use pv_name::{Host, Name};
 use pv_search::{SearchAnswer, answer};
@@ -62,7 +62,7 @@ impl PlainGate {
     }
 }
 
-impl Gate for PlainGate {
+impl GatewayCalls for PlainGate {
     ghost state = { λ gate. gate };
 
     fn new(alloc: Global, config: Config, policy: Policy) -> Result<PlainGate, NoMemory> {

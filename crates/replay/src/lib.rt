@@ -19,7 +19,7 @@ ghost use Rattle.std.specs.Prelude.{◌≡◌, ℕ, IsSome};
 ghost use Rattle.script_player.specs.Replay.{EndsIn, IsStatus, bad_line};
 ghost use Rattle.script_player.specs.Script.{IsBadAt, IsGood};
 
-use gate_calls::Gate;
+use gateway_calls::GatewayCalls;
 use gateway_core::Engine;
 use gateway_state::{Config, Policy};
 use plain_gate::PlainGate;
@@ -61,7 +61,7 @@ pub fn replay_plain<R: Read + Drop, W: Write>(alloc: Global, reader: R, writer: 
 
 /// The gateway that scripts are performed on. It admits every name. There is none where memory is
 /// refused.
-fn gateway<G: Gate>(alloc: Global) -> Option<G> {
+fn gateway<G: GatewayCalls>(alloc: Global) -> Option<G> {
     let config = Config {
         client_name: Name::read(alloc, b"pvgate").ok()?,
         host_name: Name::read(alloc, b"gw").ok()?,

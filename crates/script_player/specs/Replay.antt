@@ -3,8 +3,8 @@ use Rattle.std.specs.Prelude.{◌≡◌, ℕ, ◌⊎◌, List, [], ◌++◌, cod
 use Rattle.std.specs.Fmt.{decimal}
 use Rattle.std.specs.declared.io.ErrorKind.{ErrorKind}
 use Rattle.std.specs.declared.io.ErrorKind.TheVariants as kinds
-use Rattle.gate_calls.specs.declared.fault.AskFault.{AskFault}
-use Rattle.gate_calls.specs.declared.fault.AskFault.TheVariants as asking
+use Rattle.gateway_calls.specs.declared.fault.AskFault.{AskFault}
+use Rattle.gateway_calls.specs.declared.fault.AskFault.TheVariants as asking
 use Rattle.script_player.specs.declared.fault.Fault.{Fault}
 use Rattle.script_player.specs.declared.fault.Fault.TheVariants.{StreamFailed, OutOfMemory, EngineFailed}
 use Rattle.script_player.specs.declared.fault.ReplayFault.{ReplayFault}

@@ -3,7 +3,7 @@ ghost use Rattle.std.specs.Prelude.{◌≡◌};
 ghost use Rattle.script_player.specs.Replay.{IsStatus, status_of};
 
 use crate::status;
-use gate_calls::{AskFault, Failed, StepFault};
+use gateway_calls::{AskFault, Failed, StepFault};
 use std::alloc::{AllocError, AllocFailed};
 use std::io;
 use thiserror::Error;

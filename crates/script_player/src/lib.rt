@@ -25,7 +25,7 @@ mod script;
 pub mod status;
 
 use fault::{Fault, ReplayFault};
-use gate_calls::Gate;
+use gateway_calls::GatewayCalls;
 use player::Player;
 use script::Script;
 use std::alloc::Global;
@@ -37,7 +37,7 @@ use std::io::{Read, Write};
 /// line of the script was performed, bad input only at the first line that is none of a script, of
 /// which the last line that is printed has the number. What a line prints is flushed before more of
 /// the script is waited for, and at the end.
-pub fn play<G: Gate + Drop, R: Read + Drop, W: Write>(
+pub fn play<G: GatewayCalls + Drop, R: Read + Drop, W: Write>(
     alloc: Global,
     gate: G,
     reader: R,
@@ -55,7 +55,7 @@ pub fn play<G: Gate + Drop, R: Read + Drop, W: Write>(
     }
 }
 
-fn play_script<G: Gate + Drop, R: Read + Drop, W: Write>(
+fn play_script<G: GatewayCalls + Drop, R: Read + Drop, W: Write>(
     alloc: Global,
     gate: G,
     reader: R,
@@ -69,7 +69,7 @@ fn play_script<G: Gate + Drop, R: Read + Drop, W: Write>(
     play_entries(&mut player, &mut script, writer)
 }
 
-fn play_entries<G: Gate + Drop, R: Read + Drop, W: Write>(
+fn play_entries<G: GatewayCalls + Drop, R: Read + Drop, W: Write>(
     player: &mut Player<G>,
     script: &mut Script<R>,
     writer: &mut W,

@@ -11,7 +11,7 @@ use crate::entry::{Entry, Files};
 use crate::fault::Fault;
 use ca_header::{FrameFault, Intake, IntakeFault, Message};
 use fanout::Out;
-use gate_calls::Gate;
+use gateway_calls::GatewayCalls;
 use gateway_state::{Dest, Event};
 use pv_name::{Host, Name};
 use replay_text::{
@@ -29,7 +29,7 @@ const PIECE: usize = 1_024;
 
 /// A gateway, and what a script needs to know beside it.
 #[derive(Drop)]
-pub struct Player<G: Gate + Drop> {
+pub struct Player<G: GatewayCalls + Drop> {
     alloc: Global,
     gate: G,
     desk: Desk,
@@ -46,7 +46,7 @@ struct Misframed {
     fault: FrameFault,
 }
 
-impl<G: Gate + Drop> Player<G> {
+impl<G: GatewayCalls + Drop> Player<G> {
     /// A player of scripts on this gateway.
     pub fn new(alloc: Global, gate: G) -> Player<G> {
         Player {
@@ -269,7 +269,7 @@ fn lost(dest: Dest) -> Event
 }
 
 /// Prints all that waits for a connection, or nothing where it is held.
-fn print_unheld<G: Gate, W: Write>(
+fn print_unheld<G: GatewayCalls, W: Write>(
     gate: &mut G,
     held: &BTreeSet<Dest>,
     dest: Dest,
@@ -290,7 +290,7 @@ fn print_unheld<G: Gate, W: Write>(
 }
 
 /// Takes the oldest messages of a connection, and prints them. Says how many there were.
-fn print_messages<G: Gate, W: Write>(
+fn print_messages<G: GatewayCalls, W: Write>(
     gate: &mut G,
     dest: Dest,
     count: usize,

@@ -19,7 +19,7 @@ use Rattle.gateway_state.specs.Searches.{leads_to}
 use Rattle.gateway_state.specs.Settled.{AreInOrder, HasLinksApart}
 use Rattle.gateway_state.specs.Step.{step}
 use Rattle.gateway_state.specs.Telling.{sent, told}
-use Rattle.gateway_state.specs.Told.{AreTold, IsTold}
+use Rattle.gateway_state.specs.Told.{KnowRights, KnowsRights}
 use Rattle.gateway_state.specs.Updates.{is_taking, owed_to_all, update_notice, update_told, with_owed_of}
 use Rattle.gateway_state.specs.Variables.{is_on, is_wanted, link_of}
 use Rattle.gateway_state.proofs.OrderKept.{order_after_effect}
@@ -51,16 +51,16 @@ alike_after : (w x y : Gateway) → AreAlike w x → AreAlike x y → AreAlike w
 alike_after w x y first second = record { channels = second.channels ∙ first.channels; rights = λ c. second.rights c ∙ first.rights c }
 
 -- what each has, by rights that are the same
-each_told : (w x : Gateway) (channels : List Channel) → ((c : Channel) → rights_of x c ≡ rights_of w c) → All (IsTold w) channels → All (IsTold x) channels
-each_told w x [] same told = All-nil (IsTold x)
+each_told : (w x : Gateway) (channels : List Channel) → ((c : Channel) → rights_of x c ≡ rights_of w c) → All (KnowsRights w) channels → All (KnowsRights x) channels
+each_told w x [] same told = All-nil (KnowsRights x)
 each_told w x (c ∷ channels) same told =
-    All-cons (IsTold x) c channels (All-head (IsTold w) c channels told ∙ sym (same c)) (each_told w x channels same (All-tail (IsTold w) c channels told))
+    All-cons (KnowsRights x) c channels (All-head (KnowsRights w) c channels told ∙ sym (same c)) (each_told w x channels same (All-tail (KnowsRights w) c channels told))
 
-told_on : (w x : Gateway) → AreAlike w x → AreTold w → AreTold x
+told_on : (w x : Gateway) → AreAlike w x → KnowRights w → KnowRights x
 told_on w x alike told =
-    subst (λ (channels : List Channel). All (IsTold x) channels) (sym alike.channels) (each_told w x w.clients.channels alike.rights told)
+    subst (λ (channels : List Channel). All (KnowsRights x) channels) (sym alike.channels) (each_told w x w.clients.channels alike.rights told)
 
-told_back : (w x : Gateway) → AreAlike w x → AreTold x → AreTold w
+told_back : (w x : Gateway) → AreAlike w x → KnowRights x → KnowRights w
 told_back w x alike told =
     told_on x w (record { channels = sym alike.channels; rights = λ c. sym (alike.rights c) }) told
 
@@ -122,11 +122,11 @@ module _ (x : Gateway) (notices : List LinkNotice) (spares : SparesWanted x noti
   same_channels : after.clients.channels ≡ x.clients.channels
   same_channels = ap (λ (v : Gateway). v.clients.channels) (links_told_shape notices x)
 
-  links_back : AreTold after → AreTold x
-  links_back told k d within = subst (λ (channels : List Channel). All (IsTold after) channels) same_channels told k d within ∙ rights_kept k d within
+  links_back : KnowRights after → KnowRights x
+  links_back told k d within = subst (λ (channels : List Channel). All (KnowsRights after) channels) same_channels told k d within ∙ rights_kept k d within
 
-  links_on : AreTold x → AreTold after
-  links_on told = subst (λ (channels : List Channel). All (IsTold after) channels) (sym same_channels) (λ k d within. told k d within ∙ sym (rights_kept k d within))
+  links_on : KnowRights x → KnowRights after
+  links_on told = subst (λ (channels : List Channel). All (KnowsRights after) channels) (sym same_channels) (λ k d within. told k d within ∙ sym (rights_kept k d within))
 
 -- ---- what is told rests on what was told before
 
@@ -150,7 +150,7 @@ order_before_link name x order =
     let told : Gateway = channels_told_on name x in
     kept_owed_to_all AreInOrder in_order_kept.rows (withheld_on name told) told (kept_channels AreInOrder in_order_kept.rows (channel_notices_on name x) x order)
 
-back : (touched : Touched) (x : Gateway) → AreInOrder x → HasLinksApart x → AreTold (follows touched x) → IsReady touched x
+back : (touched : Touched) (x : Gateway) → AreInOrder x → HasLinksApart x → KnowRights (follows touched x) → IsReady touched x
 back Everything x order apart told = record {}
 back Nothing x order apart told = record {}
 back (Session number) x order apart told = told_back x (follows (Session number) x) (alike_updates (update_notices_to number x) x) told
@@ -190,7 +190,7 @@ apart_after_effect w event reached = kept_direct_effect HasLinksApart links_apar
 pub ready_after_effect : (w : Gateway) (event : Event) → IsReached w → IsReady (event_touches w event) (direct_effect w event)
 ready_after_effect w event reached =
     back (event_touches w event) (direct_effect w event) (order_after_effect w event reached) (apart_after_effect w event reached)
-    (subst AreTold (step_alone w event reached) (reached_told (step w event) (reached_step w event reached)))
+    (subst KnowRights (step_alone w event reached) (reached_told (step w event) (reached_step w event reached)))
 
 -- the same of what it is said to touch and to leave
 pub ready_as : (w : Gateway) (event : Event) → IsReached w → (touched : Touched) (x : Gateway) → touched ≡ event_touches w event → x ≡ direct_effect w event → IsReady touched x
@@ -198,14 +198,14 @@ ready_as w event reached touched x is leaves =
     subst (λ (t : Touched). IsReady t x) (sym is) (subst (λ (v : Gateway). IsReady (event_touches w event) v) (sym leaves) (ready_after_effect w event reached))
 
 -- and between the passes over one variable
-pub told_after_reads : (name : List ℕ) (x : Gateway) → AreTold x → AreTold (reads_told_on name x)
+pub told_after_reads : (name : List ℕ) (x : Gateway) → KnowRights x → KnowRights (reads_told_on name x)
 told_after_reads name x told = told_on x (reads_told_on name x) (alike_reads (read_notices_on name x) x) told
 
-pub told_after_interest : (name : List ℕ) (x : Gateway) → AreTold x → AreTold (interest_told name x)
+pub told_after_interest : (name : List ℕ) (x : Gateway) → KnowRights x → KnowRights (interest_told name x)
 told_after_interest name x told = told_on x (interest_told name x) (alike_interest name x) told
 
-pub told_after_withheld : (name : List ℕ) (x : Gateway) → AreTold x → AreTold (updates_withheld_on name x)
+pub told_after_withheld : (name : List ℕ) (x : Gateway) → KnowRights x → KnowRights (updates_withheld_on name x)
 told_after_withheld name x told = told_on x (updates_withheld_on name x) (alike_held (withheld_on name x) x) told
 
-pub told_after_link : (name : List ℕ) (x : Gateway) → AreInOrder x → AreTold x → AreTold (link_told_on name x)
+pub told_after_link : (name : List ℕ) (x : Gateway) → AreInOrder x → KnowRights x → KnowRights (link_told_on name x)
 told_after_link name x order told = links_on x (link_notices_over x (link_of x name)) (one_spares x x.upstream.counters.cid order.links name) told

@@ -35,7 +35,7 @@ use Rattle.gateway_state.specs.Servers.{is_value}
 use Rattle.gateway_state.specs.Settled.{HasLinksApart}
 use Rattle.gateway_state.specs.Step.{consequences}
 use Rattle.gateway_state.specs.Subscribing.{is_on_sid, new_sub, sub_of, sub_verdict}
-use Rattle.gateway_state.specs.Told.{AreTold}
+use Rattle.gateway_state.specs.Told.{KnowRights}
 use Rattle.gateway_state.specs.Updates.{is_taking}
 use Rattle.gateway_state.specs.Variables.{channel_names, is_connected, is_creating, search_names}
 use Rattle.touched_rows.specs.declared.touched.Touched.{Touched}
@@ -58,7 +58,7 @@ follows (SubscriptionTo name sub) w = one_update_told sub (interest_told name w)
 
 -- clients know their rights, and no name has two links
 pub record AreReady (w : Gateway) : Type 0 where
-  pub told : AreTold w
+  pub told : KnowRights w
   pub apart : HasLinksApart w
 
 -- what tells these alone rests on that clients know their rights; where all was touched, it tells them
@@ -67,15 +67,15 @@ pub record AreReady (w : Gateway) : Type 0 where
 abbrev pub IsReady : Touched → Gateway → Type 0
 IsReady All w = Unit {0}
 IsReady Nothing w = Unit {0}
-IsReady (Session number) w = AreTold w
-IsReady (Variable name) w = AreTold (channels_told_on name w)
-IsReady (Value name) w = AreTold w
-IsReady (Interest name) w = AreTold w
-IsReady (LinkOf name) w = AreTold w
+IsReady (Session number) w = KnowRights w
+IsReady (Variable name) w = KnowRights (channels_told_on name w)
+IsReady (Value name) w = KnowRights w
+IsReady (Interest name) w = KnowRights w
+IsReady (LinkOf name) w = KnowRights w
 IsReady (Links names) w = AreReady w
 IsReady (Gone names) w = Unit {0}
-IsReady (Read name read) w = AreTold w
-IsReady (SubscriptionTo name sub) w = AreTold w
+IsReady (Read name read) w = KnowRights w
+IsReady (SubscriptionTo name sub) w = KnowRights w
 
 -- CLIENTS' MESSAGES
 

@@ -7,20 +7,20 @@ use Rattle.board_moves.proofs.rounds.round.Goals as goal
 -- a pump was refused
 pub returns-in-Err : goal.returns-in-Err
 returns-in-Err g c =
-    let some = has_rows c.has_failed.result (g.G.Gate.state c.args.gate.now) c.has_failed.ensures.failed c.if-has_failed.false in
+    let some = has_rows c.has_failed.result (g.G.GatewayCalls.state c.args.gate.now) c.has_failed.ensures.failed c.if-has_failed.false in
     record {
       round =
-          pumps_end (g.G.Gate.state c.args.gate.now) (g.G.Gate.state c.has_failed.new.gate) (g.G.Gate.state c.pump_all.new.gate) c.args.lines.now c.pump_all.new.lines c.in-Err.fault some c.has_failed.ensures.same c.in-Err.ensures.calls;
+          pumps_end (g.G.GatewayCalls.state c.args.gate.now) (g.G.GatewayCalls.state c.has_failed.new.gate) (g.G.GatewayCalls.state c.pump_all.new.gate) c.args.lines.now c.pump_all.new.lines c.in-Err.fault some c.has_failed.ensures.same c.in-Err.ensures.calls;
       rings = c.pump_all.ensures.rings;
     }
 
 -- all calls were performed
 pub returns-in-Ok-send_all : goal.returns-in-Ok-send_all
 returns-in-Ok-send_all g c =
-    let some = has_rows c.has_failed.result (g.G.Gate.state c.args.gate.now) c.has_failed.ensures.failed c.if-has_failed.false in
+    let some = has_rows c.has_failed.result (g.G.GatewayCalls.state c.args.gate.now) c.has_failed.ensures.failed c.if-has_failed.false in
     record {
       round =
-          round_ends (g.G.Gate.state c.args.gate.now) (g.G.Gate.state c.has_failed.new.gate) (g.G.Gate.state c.pump_all.new.gate) (g.G.Gate.state c.send_all.new.gate) c.args.lines.now c.pump_all.new.lines c.send_all.new.lines c.in-Ok.received c.in-Ok-send_all.sent
+          round_ends (g.G.GatewayCalls.state c.args.gate.now) (g.G.GatewayCalls.state c.has_failed.new.gate) (g.G.GatewayCalls.state c.pump_all.new.gate) (g.G.GatewayCalls.state c.send_all.new.gate) c.args.lines.now c.pump_all.new.lines c.send_all.new.lines c.in-Ok.received c.in-Ok-send_all.sent
           c.saturating_add.result some c.has_failed.ensures.same c.pump_all.ensures.dests c.in-Ok.ensures.calls c.in-Ok-send_all.ensures.calls (omega (arith, c.saturating_add.ensures));
       rings = rings_stay c.args.lines.now c.pump_all.new.lines c.send_all.new.lines c.pump_all.ensures.rings c.send_all.ensures.rings;
     }
@@ -28,10 +28,10 @@ returns-in-Ok-send_all g c =
 -- a send-out was refused
 pub returns-in-Err-send_all : goal.returns-in-Err-send_all
 returns-in-Err-send_all g c =
-    let some = has_rows c.has_failed.result (g.G.Gate.state c.args.gate.now) c.has_failed.ensures.failed c.if-has_failed.false in
+    let some = has_rows c.has_failed.result (g.G.GatewayCalls.state c.args.gate.now) c.has_failed.ensures.failed c.if-has_failed.false in
     record {
       round =
-          sends_end (g.G.Gate.state c.args.gate.now) (g.G.Gate.state c.has_failed.new.gate) (g.G.Gate.state c.pump_all.new.gate) (g.G.Gate.state c.send_all.new.gate) c.args.lines.now c.pump_all.new.lines c.send_all.new.lines c.in-Ok.received c.in-Err-send_all.fault some
+          sends_end (g.G.GatewayCalls.state c.args.gate.now) (g.G.GatewayCalls.state c.has_failed.new.gate) (g.G.GatewayCalls.state c.pump_all.new.gate) (g.G.GatewayCalls.state c.send_all.new.gate) c.args.lines.now c.pump_all.new.lines c.send_all.new.lines c.in-Ok.received c.in-Err-send_all.fault some
           c.has_failed.ensures.same c.pump_all.ensures.dests c.in-Ok.ensures.calls c.in-Err-send_all.ensures.calls;
       rings = rings_stay c.args.lines.now c.pump_all.new.lines c.send_all.new.lines c.pump_all.ensures.rings c.send_all.ensures.rings;
     }

@@ -1,6 +1,6 @@
 use Rattle.std.proofs.Common.{sym, ap, subst, ◌∙◌}
 use Rattle.gateway_state.specs.Settled.{AreInOrder}
-use Rattle.gateway_state.specs.Told.{AreTold}
+use Rattle.gateway_state.specs.Told.{KnowRights}
 use Rattle.gateway_state.specs.Updates.{updates_withheld}
 use Rattle.gateway_state.proofs.OrderKept.{order_before_links}
 use Rattle.gateway_state.proofs.ToldRights.{told_before_links}
@@ -12,5 +12,5 @@ tell_links-requires c =
     let before = c.in_ok-withhold_updates.ensures ∙ ap updates_withheld c.in_ok-tell_channels.ensures in
     record {
       order = subst AreInOrder (sym before) (order_before_links c.args.rows.now c.requires.order);
-      told = subst AreTold (sym before) (told_before_links c.args.rows.now c.requires.order);
+      told = subst KnowRights (sym before) (told_before_links c.args.rows.now c.requires.order);
     }

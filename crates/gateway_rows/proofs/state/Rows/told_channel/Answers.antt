@@ -2,12 +2,12 @@ use Rattle.std.proofs.Common.{Option, refl, sym, subst}
 use Rattle.std.specs.Prelude.{IfSome}
 use Rattle.channel_table.specs.declared.channels.Channel.{Channel}
 use Rattle.gateway_state.specs.Rights.{channel_of}
-use Rattle.gateway_state.specs.Told.{IsTold}
+use Rattle.gateway_state.specs.Told.{KnowsRights}
 use Rattle.gateway_rows.proofs.Readers.{found_if_told}
 use Rattle.gateway_rows.proofs.state.Rows.told_channel.Goals as goal
 
 -- what is found is one of those that stand
 pub returns-clause-told : goal.returns-clause-told
 returns-clause-told c =
-    subst (λ (found : Option Channel). IfSome found (IsTold c.args.self.now)) (sym c.channel_of.ensures.found)
+    subst (λ (found : Option Channel). IfSome found (KnowsRights c.args.self.now)) (sym c.channel_of.ensures.found)
     (found_if_told c.args.self.now c.args.session c.args.sid (channel_of c.args.self.now c.args.session c.args.sid) c.requires.told refl)

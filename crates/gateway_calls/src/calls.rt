@@ -10,7 +10,7 @@ ghost use Rattle.gateway_state.specs.Asked.{stands, ends, queued};
 ghost use Rattle.gateway_state.specs.Interest.{subscription_of};
 ghost use Rattle.gateway_state.specs.Rights.{rights_asked};
 ghost use Rattle.gateway_state.specs.Variables.{asks};
-ghost use Rattle.gate_calls.specs.Searching.{IsSearched};
+ghost use Rattle.gateway_calls.specs.Searching.{IsSearched};
 
 use crate::NoMemory;
 use crate::fault::{AskFault, Failed, StepFault};
@@ -21,7 +21,7 @@ use pv_search::SearchAnswer;
 use std::alloc::Global;
 
 /// A gateway, one event at a time. A refused step leaves it failed for good.
-pub trait Gate {
+pub trait GatewayCalls {
     /// Its state, none once it failed.
     ghost state: { Self → Option Gateway };
 

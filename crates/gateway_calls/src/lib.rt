@@ -1,22 +1,22 @@
 //! What a gateway can be called for, whichever body it has.
 //!
-//! [`Gate`] has the calls of a gateway, each with what it does to the gateway's state as the
+//! [`GatewayCalls`] has the calls of a gateway, each with what it does to the gateway's state as the
 //! definitions of `gateway_state` say it. `gateway_core::Engine` and `plain_gate::PlainGate` are
 //! gates; what stands on a gate, as a player of scripts, runs on either.
 //!
 //! ```rust
-//! fn greet<G: Gate>(gate: &mut G, host: Host) -> Result<Vec<Out>, StepFault> {
+//! fn greet<G: GatewayCalls>(gate: &mut G, host: Host) -> Result<Vec<Out>, StepFault> {
 //!     gate.step(Event::Opened(1, host))?;
 //!     gate.drain(Dest::Session(1), 1)
 //! }
 //! ```
 #![tactic(auto)]
 
+mod calls;
 mod fault;
-mod gate;
 
+pub use calls::GatewayCalls;
 pub use fault::{AskFault, Failed, StepFault};
-pub use gate::Gate;
 
 /// Want of memory, of a call that fails for nothing else.
 pub type NoMemory = std::alloc::AllocError;
