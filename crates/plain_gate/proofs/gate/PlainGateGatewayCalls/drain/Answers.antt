@@ -1,6 +1,6 @@
 use Rattle.gateway_state.specs.declared.event.Event.TheVariants.{Drain}
 use Rattle.gateway_state.proofs.ReachedStates.{reached_after}
-use Rattle.plain_gate.proofs.gate.PlainGateGate.drain.Goals as goal
+use Rattle.plain_gate.proofs.gate.PlainGateGatewayCalls.drain.Goals as goal
 
 -- one event more
 pub invariant_of-self-in-Ok : goal.invariant_of-self-in-Ok

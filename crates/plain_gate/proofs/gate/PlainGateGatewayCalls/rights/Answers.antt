@@ -3,7 +3,7 @@ use Rattle.std.specs.Option.{option_map}
 use Rattle.gateway_state.specs.Gateway.{Gateway}
 use Rattle.gateway_state.specs.Rights.{rights_asked}
 use Rattle.gateway_state.proofs.ReachedStates.{told_rights_hold}
-use Rattle.plain_gate.proofs.gate.PlainGateGate.rights.Goals as goal
+use Rattle.plain_gate.proofs.gate.PlainGateGatewayCalls.rights.Goals as goal
 
 -- what the client was last told is what holds
 pub returns-clause-found : goal.returns-clause-found

@@ -2,7 +2,7 @@ use Rattle.std.proofs.Common.{◌≡◌, IsSome, length}
 use Rattle.std.specs.Option.{option_map}
 use Rattle.gateway_state.specs.Numbers.{runs_out}
 use Rattle.gateway_state.specs.Step.{run}
-use Rattle.plain_gate.proofs.gate.PlainGateGate.run.Given as goal
+use Rattle.plain_gate.proofs.gate.PlainGateGatewayCalls.run.Given as goal
 
 -- running what is left goes on from here to where running all of it would
 abbrev pub invariant-loop-event : goal.invariant-loop-event

@@ -1,5 +1,5 @@
 use Rattle.gateway_state.proofs.ReachedStates.{reached_after}
-use Rattle.plain_gate.proofs.gate.PlainGateGate.step.Goals as goal
+use Rattle.plain_gate.proofs.gate.PlainGateGatewayCalls.step.Goals as goal
 
 -- one event more
 pub invariant_of-self-in-Ok : goal.invariant_of-self-in-Ok
