@@ -3,7 +3,7 @@ use Rattle.std.proofs.Common.{◌≡◌, ℕ, List, [], ◌∷◌, ◌++◌, Boo
 use Rattle.std.specs.List.{filter, find, list_any}
 use Rattle.std.proofs.lemmas.List.Elements.{filter-append}
 use Rattle.std.proofs.lemmas.List.{append_assoc, map-append}
-use Rattle.mask_merge.specs.declared.want.Want.{Want}
+use Rattle.mask_merge.specs.declared.want.Ask.{Ask}
 use Rattle.mask_merge.specs.Counts.{Counts, nothing_counted, counted, counted_with, counted_without, exchanged}
 use Rattle.mask_merge.proofs.CountLemmas.{with_middle, without_middle, exchanged_middle}
 use Rattle.rows.specs.Rows.{change_first}
@@ -13,7 +13,7 @@ use Rattle.row_index.proofs.Keys.{same_key_is_same}
 use Rattle.channel_table.specs.declared.subs.ClientSub.{ClientSub}
 use Rattle.channel_table.specs.Indexes.{IsApart}
 use Rattle.channel_table.specs.Subs.{is_sub_on}
-use Rattle.channel_table.specs.Told.{IsCount, all_exchanged, ask_of_sub, exchanged_on}
+use Rattle.channel_table.specs.Demand.{IsCount, all_exchanged, ask_of_sub, exchanged_on}
 use Rattle.channel_table.proofs.Keyed.{value_at_keyed}
 use Rattle.channel_table.proofs.Lists.{none_dropped, unfound_is_absent}
 
@@ -57,8 +57,8 @@ module _ {V : Type 0} (key : V → Key) (k : Key) where
       ] refl found
 
 -- what the rows that pass a test ask for, with other asks before and behind
-module _ {V : Type 0} (f : V → Option Want) (p : V → Bool) (some more : List (Option Want)) where
-  abbrev pub asks : List V → List (Option Want)
+module _ {V : Type 0} (f : V → Option Ask) (p : V → Bool) (some more : List (Option Ask)) where
+  abbrev pub asks : List V → List (Option Ask)
   asks rows = some ++ (map f (filter p rows) ++ more)
 
   asks_apart : (xs ys : List V) → asks (xs ++ ys) ≡ (some ++ map f (filter p xs)) ++ (map f (filter p ys) ++ more)
@@ -95,7 +95,7 @@ module _ {V : Type 0} (f : V → Option Want) (p : V → Bool) (some more : List
   asks_beside xs row ys fails = asks_apart xs (row ∷ ys) ∙ rw fails (sym (asks_apart xs ys))
 
 -- tests and asks that agree on the rows that pass
-pub asks_agree : {V : Type 0} (f g : V → Option Want) (p : V → Bool) (rows : List V) → ((row : V) → p row ≡ true → f row ≡ g row) → map f (filter p rows) ≡ map g (filter p rows)
+pub asks_agree : {V : Type 0} (f g : V → Option Ask) (p : V → Bool) (rows : List V) → ((row : V) → p row ≡ true → f row ≡ g row) → map f (filter p rows) ≡ map g (filter p rows)
 asks_agree f g p [] agree = refl
 asks_agree f g p (row ∷ rows) agree =
     elim (p row) as (λ t. p row ≡ t → map f (cond t (row ∷ filter p rows) (filter p rows)) ≡ map g (cond t (row ∷ filter p rows) (filter p rows))) [
@@ -104,16 +104,16 @@ asks_agree f g p (row ∷ rows) agree =
     ] refl
 
 -- subscriptions on one channel ask for something else, one after the other
-module _ (f g : ClientSub → Option Want) (before after : Bool) (session sid : ℕ)
+module _ (f g : ClientSub → Option Ask) (before after : Bool) (session sid : ℕ)
     (on : (sub : ClientSub) → is_sub_on session sid sub ≡ true → (f sub ≡ ask_of_sub before sub) × (g sub ≡ ask_of_sub after sub)) where
-  one_exchanged : (sub : ClientSub) (xs ys : List (Option Want)) → (is_sub_on session sid sub ≡ false → f sub ≡ g sub) → exchanged_on before after session sid sub (counted (xs ++ f sub ∷ ys)) ≡ counted (xs ++ g sub ∷ ys)
+  one_exchanged : (sub : ClientSub) (xs ys : List (Option Ask)) → (is_sub_on session sid sub ≡ false → f sub ≡ g sub) → exchanged_on before after session sid sub (counted (xs ++ f sub ∷ ys)) ≡ counted (xs ++ g sub ∷ ys)
   one_exchanged sub xs ys beside =
       elim (is_sub_on session sid sub) as (λ t. is_sub_on session sid sub ≡ t → cond t (exchanged (ask_of_sub before sub) (ask_of_sub after sub) (counted (xs ++ f sub ∷ ys))) (counted (xs ++ f sub ∷ ys)) ≡ counted (xs ++ g sub ∷ ys)) [
         | true ↦ λ here. rw ((on sub here).0, (on sub here).1) (exchanged_middle (ask_of_sub before sub) (ask_of_sub after sub) xs ys)
         | false ↦ λ other. ap (λ a. counted (xs ++ a ∷ ys)) (beside other)
       ] refl
 
-  pub subs_exchanged : (some : List (Option Want)) (subs : List ClientSub) (more : List (Option Want)) → ((sub : ClientSub) → is_sub_on session sid sub ≡ false → f sub ≡ g sub)
+  pub subs_exchanged : (some : List (Option Ask)) (subs : List ClientSub) (more : List (Option Ask)) → ((sub : ClientSub) → is_sub_on session sid sub ≡ false → f sub ≡ g sub)
       → all_exchanged before after session sid subs (counted (some ++ (map f subs ++ more))) ≡ counted (some ++ (map g subs ++ more))
   subs_exchanged some [] more beside = refl
   subs_exchanged some (sub ∷ subs) more beside =
@@ -135,7 +135,7 @@ all_exchanged_of_nothing before after session sid (sub ∷ subs) =
     ap (all_exchanged before after session sid subs) (exchanged_on_nothing before after session sid sub) ∙ all_exchanged_of_nothing before after session sid subs
 
 -- what is counted, and counted no longer
-pub with_undone : (ask : Option Want) (counts : Counts) → IsCount counts → counted_without ask (counted_with ask counts) ≡ counts
+pub with_undone : (ask : Option Ask) (counts : Counts) → IsCount counts → counted_without ask (counted_with ask counts) ≡ counts
 with_undone ask counts count = ap (λ c. counted_without ask (counted_with ask c)) count.is ∙ without_middle [] ask count.asks ∙ sym count.is
 
 -- a row behind all others is the one that is found, and the one that goes

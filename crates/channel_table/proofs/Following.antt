@@ -8,6 +8,7 @@ use Rattle.row_index.specs.declared.key.Key.{Key}
 use Rattle.row_index.specs.Lists.{of, AddsTo, RemovesFrom, SameLists}
 use Rattle.row_index.specs.Rows.{same_key}
 use Rattle.channel_table.specs.declared.channels.Channel.{Channel}
+use Rattle.channel_table.specs.declared.channels.Reach.{Reach}
 use Rattle.channel_table.specs.declared.subs.ClientSub.{ClientSub}
 use Rattle.channel_table.specs.Channels.{is_channel, is_not_channel, is_channel_of, is_channel_on, with_reach_and_rights}
 use Rattle.channel_table.specs.Subs.{is_sub, is_not_sub, is_sub_on, is_not_sub_on}

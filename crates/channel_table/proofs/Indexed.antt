@@ -6,6 +6,7 @@ use Rattle.row_index.specs.declared.key.Key.{Key}
 use Rattle.row_index.specs.Lists.{of, AddsTo, SameLists}
 use Rattle.row_index.specs.Rows.{same_key, row_of, has_key, lacks_key, value_at, HasKeysApart}
 use Rattle.channel_table.specs.declared.channels.Channel.{Channel}
+use Rattle.channel_table.specs.declared.channels.Reach.{Reach}
 use Rattle.channel_table.specs.Channels.{is_on, with_reach_and_rights}
 use Rattle.channel_table.specs.Indexes.{channel_key, keyed, changed_by, AreListed, IsChannelIndex, IsListedOn, IsUnlistedOn}
 use Rattle.std.specs.Option.{option_map}

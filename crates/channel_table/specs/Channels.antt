@@ -1,6 +1,7 @@
 -- Rows of channels.
 use Rattle.std.specs.Prelude.{ℕ, List, Bool, false, not, ◌&&◌, ◌==◌, bytes_eq, Option, Some, None}
 use Rattle.channel_table.specs.declared.channels.Channel.{Channel}
+use Rattle.channel_table.specs.declared.channels.Reach.{Reach}
 
 -- the session's channel of this ID
 abbrev pub is_channel : ℕ → ℕ → Channel → Bool
@@ -19,8 +20,8 @@ abbrev pub is_not_channel_of : ℕ → Channel → Bool
 is_not_channel_of session channel = not (is_channel_of session channel)
 
 -- the channel with its reach and the rights last told
-abbrev pub with_reach_and_rights : ℕ → ℕ → Channel → Channel
-with_reach_and_rights reach rights channel = record channel { reach = reach; rights = rights }
+abbrev pub with_reach_and_rights : Reach → ℕ → Channel → Channel
+with_reach_and_rights reach rights channel = record channel { reach = reach; rights_told = rights }
 
 -- a channel on this real name
 abbrev pub is_on : List ℕ → Channel → Bool

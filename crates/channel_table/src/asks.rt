@@ -1,10 +1,11 @@
 //! What rows ask for of the variables that they lead to.
 ghost use Rattle.std.specs.Prelude.{◌≡◌};
-ghost use Rattle.channel_table.specs.Told.{ask_of_reach, ask_of_sub, channel_ask, differs, may_read};
+ghost use Rattle.channel_table.specs.Demand.{ask_of_reach, ask_of_sub, channel_ask, differs, may_read, names_properties, own_ask, reach_ask};
 
-use crate::channels::Channel;
+use crate::channels::{Channel, Reach};
 use crate::subs::ClientSub;
-use mask_merge::{ALWAYS_ASKED, Want};
+use dbr_layout::{has_properties_by, is_text_by};
+use mask_merge::{ALWAYS_ASKED, Ask, PROPERTY_EVENT, Want};
 
 /// The right to read, a bit of access rights.
 pub const READ_RIGHT: u32 = 1;
@@ -24,36 +25,58 @@ pub(crate) fn differ(before: bool, after: bool) -> bool
 }
 
 /// What a channel of this reach and these rights asks for by itself.
-pub(crate) fn of_reach(reach: u32, rights: u32) -> Option<Want>
+pub(crate) fn of_reach(reach: Reach, rights: u32) -> Option<Ask>
     ensures { result ≡ ask_of_reach reach rights }
 {
-    if reach > 0 && may_read(rights) {
-        Some(Want {
-            mask: ALWAYS_ASKED,
-            count: reach,
-        })
+    if reach.count > 0 && may_read(rights) {
+        Some(reach_ask(reach))
     } else {
         None
+    }
+}
+
+fn reach_ask(reach: Reach) -> Ask
+    ensures { result ≡ reach_ask reach }
+{
+    Ask {
+        want: Want {
+            mask: ALWAYS_ASKED,
+            count: reach.count,
+        },
+        props: reach.props,
+        texts: false,
     }
 }
 
 /// What a channel asks for by itself.
-pub(crate) fn of_channel(channel: &Channel) -> Option<Want>
+pub(crate) fn of_channel(channel: &Channel) -> Option<Ask>
     ensures { result ≡ channel_ask channel.now }
 {
-    of_reach(channel.reach, channel.rights)
+    of_reach(channel.reach, channel.rights_told)
 }
 
 /// What a subscription asks for, where its client may read, or may not.
-pub(crate) fn of_sub(reads: bool, sub: &ClientSub) -> Option<Want>
+pub(crate) fn of_sub(reads: bool, sub: &ClientSub) -> Option<Ask>
     ensures { result ≡ ask_of_sub reads sub.now }
 {
-    if reads {
-        Some(Want {
+    if reads { Some(own_ask(sub)) } else { None }
+}
+
+fn own_ask(sub: &ClientSub) -> Ask
+    ensures { result ≡ own_ask sub.now }
+{
+    Ask {
+        want: Want {
             mask: sub.mask,
             count: sub.count,
-        })
-    } else {
-        None
+        },
+        props: names_properties(sub.mask) || has_properties_by(sub.dtype),
+        texts: is_text_by(sub.dtype),
     }
+}
+
+fn names_properties(mask: u16) -> bool
+    ensures { result ≡ names_properties mask }
+{
+    mask & PROPERTY_EVENT == PROPERTY_EVENT
 }

@@ -14,6 +14,15 @@ use row_index::{Key, NameLists, RowMap};
 use std::alloc::{AllocError, Global};
 use std::marker::Model;
 
+/// How far accepted reads on a channel went.
+#[derive(Clone, Copy, Debug, PartialEq, Eq)]
+pub struct Reach {
+    /// The most elements that one of them asked for, 0 where there was none.
+    pub count: u32,
+    /// Whether one of them needs the properties of the variable.
+    pub props: bool,
+}
+
 /// A client's channel.
 #[derive(Debug, Drop)]
 pub struct Channel {
@@ -27,10 +36,10 @@ pub struct Channel {
     pub asked: Name,
     /// The name of the process variable that this leads to.
     pub real: Name,
-    /// The most elements that an accepted read on it asked for, 0 where there was none.
-    pub reach: u32,
+    /// How far its accepted reads went.
+    pub reach: Reach,
     /// The access rights that the client was last told.
-    pub rights: u32,
+    pub rights_told: u32,
 }
 
 /// All channels, found by their IDs and by their real names.
@@ -164,7 +173,7 @@ impl Channels {
         }
     }
 
-    pub(crate) fn put(&mut self, session: u32, sid: u32, reach: u32, rights: u32)
+    pub(crate) fn put(&mut self, session: u32, sid: u32, reach: Reach, rights: u32)
         ensures { self.new ≡
             change_first (is_channel session sid) (with_reach_and_rights reach rights) self.old }
     {
@@ -208,11 +217,11 @@ fn unlist(rows: &RowMap<Channel>, on: &mut NameLists, key: Key)
     }
 }
 
-fn put(rows: &mut RowMap<Channel>, key: Key, reach: u32, rights: u32)
+fn put(rows: &mut RowMap<Channel>, key: Key, reach: Reach, rights: u32)
     ensures { rows.new ≡ change_first (has_key key) (changed_by (with_reach_and_rights reach rights)) rows.old }
 {
     if let Some(row) = rows.get_mut(key) {
         row.reach = reach;
-        row.rights = rights;
+        row.rights_told = rights;
     }
 }

@@ -9,7 +9,8 @@
 //! - `nth_session` gives the sessions one by one, by rising number.
 //! - `channel_of`, `sub_of` and `read_of` give the rows of a session one by one, and `channel_on`,
 //!   `sub_on` and `read_on` those of a real name: of the channels on it, and of what hangs on these.
-//! - `want_on` tells what the subscriptions to a real name and the channels on it want together.
+//! - `want_on` tells what the subscriptions to a real name and the channels on it want together, and
+//!   `props_on` whether any of them needs the properties of the variable.
 //! - `put_session`, `put_channel` and `put_sub` change a row that stands.
 //! - `remove_session` and `remove_channel` take the rows that name theirs along.
 //!
@@ -49,6 +50,8 @@
 
 mod asks;
 mod channels;
+mod counted_rows;
+mod demand;
 mod keys;
 pub mod laws;
 mod numbers;
@@ -56,12 +59,10 @@ mod reads;
 mod sessions;
 mod subs;
 mod table;
-mod telling;
-mod told;
 mod visits;
 
 pub use asks::READ_RIGHT;
-pub use channels::Channel;
+pub use channels::{Channel, Reach};
 pub use reads::WaitingRead;
 pub use sessions::Session;
 pub use subs::ClientSub;

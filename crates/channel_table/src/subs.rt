@@ -7,7 +7,7 @@ ghost use Rattle.row_index.specs.Lists.{of, AddsTo, RemovesFrom, SameLists};
 ghost use Rattle.row_index.specs.Rows.{has_key, value_at};
 ghost use Rattle.channel_table.specs.Indexes.{changed_by, sub_key, row_at, rows_at, IsApart};
 ghost use Rattle.channel_table.specs.Subs.{is_sub, is_not_sub, is_sub_of, is_sub_on, with_owed};
-ghost use Rattle.channel_table.specs.Told.{all_exchanged, exchanged_on};
+ghost use Rattle.channel_table.specs.Demand.{all_exchanged, exchanged_on};
 
 use crate::asks;
 use crate::keys::nth_key;

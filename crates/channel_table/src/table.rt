@@ -8,15 +8,15 @@ ghost use Rattle.channel_table.specs.Channels.{is_channel, is_not_channel, is_ch
 ghost use Rattle.channel_table.specs.ClientRows.{has_session, has_channel, has_sub, channel_count, sub_count, read_count, is_sub_to, is_read_for};
 ghost use Rattle.channel_table.specs.Reads.{same_read, is_read_of, is_not_read_of, is_read_on, is_not_read_on};
 ghost use Rattle.channel_table.specs.Sessions.{is_numbered, is_not_numbered, nth_by_number, with_host_and_pause};
-ghost use Rattle.channel_table.specs.Told.{want_on};
+ghost use Rattle.channel_table.specs.Demand.{props_on, want_on};
 ghost use Rattle.channel_table.specs.Subs.{is_sub, is_not_sub, is_sub_of, is_not_sub_of, is_sub_on, is_not_sub_on, with_owed};
 
-use crate::channels::{Channel, Channels};
+use crate::channels::{Channel, Channels, Reach};
+use crate::counted_rows;
+use crate::demand::Demand;
 use crate::reads::{KeptRead, Reads, WaitingRead};
 use crate::sessions::{Session, Sessions};
 use crate::subs::{ClientSub, Subs};
-use crate::telling;
-use crate::told::Told;
 use crate::visits::Visits;
 use mask_merge::Want;
 use pv_name::{Host, Name};
@@ -52,14 +52,14 @@ pub struct Table {
     sessions: Sessions,
     channels: Channels,
     subs: Subs,
-    told: Told,
+    demand: Demand,
     reads: Reads,
 }
 
 impl Model for Table {
     ghost use Rattle.channel_table.specs.ClientRows.{ClientRows};
     ghost use Rattle.channel_table.specs.Indexes.{reads_in};
-    ghost use Rattle.channel_table.specs.Told.{FollowRows};
+    ghost use Rattle.channel_table.specs.Demand.{FollowRows};
 
     ghost Value = { ClientRows };
 
@@ -70,7 +70,7 @@ impl Model for Table {
       reads = reads_in t.reads;
     } };
 
-    ghost invariant = { λ t. FollowRows t.channels t.subs t.reads t.told };
+    ghost invariant = { λ t. FollowRows t.channels t.subs t.reads t.demand };
 }
 
 impl Table {
@@ -89,7 +89,7 @@ impl Table {
             sessions: Sessions::new(alloc),
             channels: Channels::new(alloc),
             subs: Subs::new(alloc),
-            told: Told::new(alloc),
+            demand: Demand::new(alloc),
             reads: Reads::new(alloc),
         }
     }
@@ -321,7 +321,15 @@ impl Table {
     pub fn want_on(&self, name: &Name, native: u32) -> Option<Want>
         ensures { result ≡ want_on self.now.channels self.now.subs native name.now }
     {
-        self.told.want_of(name, native)
+        self.demand.want_of(name, native)
+    }
+
+    /// Whether any of them needs the properties of the variable, whose elements are states or are not: as
+    /// far as their clients were told that they may read. It looks at no row.
+    pub fn props_on(&self, name: &Name, states: bool) -> bool
+        ensures { result ≡ props_on self.now.channels self.now.subs states name.now }
+    {
+        self.demand.props_of(name, states)
     }
 
     /// Adds a session. The caller sees to it that none of its number stands.
@@ -362,7 +370,7 @@ impl Table {
         if self.channels.count_of(channel.session) >= CHANNEL_LIMIT {
             return Err(TableFault::Full);
         }
-        match telling::add_channel(&mut self.channels, &mut self.told, channel) {
+        match counted_rows::add_channel(&mut self.channels, &mut self.demand, channel) {
             Ok(()) => Ok(()),
             Err(_) => Err(TableFault::OutOfMemory),
         }
@@ -388,7 +396,7 @@ impl Table {
         if self.subs.count_of(sub.session) >= SUB_LIMIT {
             return Err(TableFault::Full);
         }
-        match telling::add_sub(&mut self.subs, &mut self.told, channel, sub) {
+        match counted_rows::add_sub(&mut self.subs, &mut self.demand, channel, sub) {
             Ok(()) => Ok(()),
             Err(_) => Err(TableFault::OutOfMemory),
         }
@@ -459,7 +467,7 @@ impl Table {
         visits: &mut Visits,
         session: u32,
         sid: u32,
-        reach: u32,
+        reach: Reach,
         rights: u32,
     )
         ensures put { self.new ≡ record self.old {
@@ -472,8 +480,8 @@ impl Table {
         visits.count(1);
         self.channels.are_apart();
         self.subs.are_apart();
-        let (channels, told) = (&mut self.channels, &mut self.told);
-        telling::put_channel(channels, &self.subs, told, session, sid, reach, rights);
+        let (channels, demand) = (&mut self.channels, &mut self.demand);
+        counted_rows::put_channel(channels, &self.subs, demand, session, sid, reach, rights);
     }
 
     /// Changes a subscription that stands: whether an update is owed.
@@ -523,8 +531,8 @@ impl Table {
         };
         self.subs.are_apart();
         if let Some(channel) = self.channels.get(sub.session, sub.sid) {
-            let (subs, told) = (&mut self.subs, &mut self.told);
-            telling::remove_sub(subs, told, channel, &sub, session, id);
+            let (subs, demand) = (&mut self.subs, &mut self.demand);
+            counted_rows::remove_sub(subs, demand, channel, &sub, session, id);
         }
     }
 
@@ -569,8 +577,8 @@ impl Table {
         self.subs.are_apart();
         match self.subs.first_on(&channel.real, session, sid) {
             Some(sub) => {
-                let (subs, told) = (&mut self.subs, &mut self.told);
-                telling::remove_sub(subs, told, channel, &sub, session, sub.id);
+                let (subs, demand) = (&mut self.subs, &mut self.demand);
+                counted_rows::remove_sub(subs, demand, channel, &sub, session, sub.id);
                 true
             }
             None => false,
@@ -601,7 +609,7 @@ impl Table {
         ensures { self.new ≡ record self.old { channels = filter (is_not_channel session sid) self.old.channels } }
     {
         self.channels.are_apart();
-        telling::remove_channel(&mut self.channels, &mut self.told, session, sid);
+        counted_rows::remove_channel(&mut self.channels, &mut self.demand, session, sid);
     }
 
     /// Removes the last channel of a session with what hangs on it, and tells whether there was one.

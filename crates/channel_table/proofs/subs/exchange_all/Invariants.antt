@@ -1,7 +1,7 @@
 use Rattle.std.proofs.Common.{◌≡◌, drop}
 use Rattle.std.specs.List.{filter_map}
 use Rattle.row_index.specs.Rows.{value_at}
-use Rattle.channel_table.specs.Told.{all_exchanged}
+use Rattle.channel_table.specs.Demand.{all_exchanged}
 use Rattle.channel_table.proofs.subs.exchange_all.Given as goal
 
 -- what is left to be exchanged decides

@@ -3,7 +3,7 @@ use Rattle.std.specs.List.{filter_map}
 use Rattle.row_index.specs.Lists.{of}
 use Rattle.row_index.specs.Rows.{value_at}
 use Rattle.channel_table.specs.Indexes.{SubRows, sub_key, rows_at}
-use Rattle.channel_table.specs.Told.{all_exchanged}
+use Rattle.channel_table.specs.Demand.{all_exchanged}
 use Rattle.channel_table.proofs.Keyed.{entry_found}
 use Rattle.channel_table.proofs.subs.Subs.exchange_on.Goals as goal
 

@@ -3,8 +3,8 @@ use Rattle.channel_table.specs.Channels.{is_channel}
 use Rattle.channel_table.specs.ClientRows.{has_channel, has_sub, sub_count}
 use Rattle.channel_table.specs.Indexes.{sub_home, sub_key}
 use Rattle.channel_table.proofs.Following.{follow_added, follow_same}
-use Rattle.channel_table.specs.Told.{asks_on}
-use Rattle.channel_table.proofs.Asking.{told_added, told_same}
+use Rattle.channel_table.specs.Demand.{asks_on}
+use Rattle.channel_table.proofs.Asking.{demand_added, demand_same}
 use Rattle.channel_table.proofs.Lists.{found_is_there, unfound_is_absent}
 use Rattle.channel_table.proofs.table.Table.add_sub.Goals.{in-Ok, in-Err}
 use Rattle.channel_table.proofs.table.Table.add_sub.Goals as goal
@@ -38,12 +38,12 @@ invariant_of-self c =
       | in-Ok w ↦ record {
         subs_follow = follow_added sub_key sub_home _ _ _ _ _ c.args.sub c.in-Some.channel.now found w.in-Ok.ensures.ok_rows w.in-Ok.ensures.ok_on c.self.invariant.subs_follow;
         reads_follow = c.self.invariant.reads_follow;
-        told = told_added _ _ _ c.args.sub c.in-Some.channel.now _ _ found w.in-Ok.ensures.ok_rows w.in-Ok.ensures.ok_told c.self.invariant.told;
+        demand = demand_added _ _ _ c.args.sub c.in-Some.channel.now _ _ found w.in-Ok.ensures.ok_rows w.in-Ok.ensures.ok_demand c.self.invariant.demand;
       }
       | in-Err w ↦ record {
         subs_follow = follow_same sub_key sub_home _ _ _ _ _ w.in-Err.ensures.err_rows w.in-Err.ensures.err_on c.self.invariant.subs_follow;
         reads_follow = c.self.invariant.reads_follow;
-        told = told_same _ _ _ _ _ w.in-Err.ensures.err_rows w.in-Err.ensures.err_told c.self.invariant.told;
+        demand = demand_same _ _ _ _ _ w.in-Err.ensures.err_rows w.in-Err.ensures.err_demand c.self.invariant.demand;
       }
     ]
 
@@ -51,7 +51,7 @@ invariant_of-self c =
 pub add_sub-requires : goal.add_sub-requires
 add_sub-requires c = record {
   new = ap (has_sub c.args.sub.session c.args.sub.id) c.self.view_is ∙ c.requires.new;
-  counts = λ name. record { asks = asks_on c.self.inside.channels c.self.inside.subs.rows name; is = c.self.invariant.told name };
+  counts = λ name. record { asks = asks_on c.self.inside.channels c.self.inside.subs.rows name; is = c.self.invariant.demand name };
 }
 
 pub returns-clause-there : goal.returns-clause-there

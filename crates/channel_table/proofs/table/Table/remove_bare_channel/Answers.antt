@@ -5,7 +5,7 @@ use Rattle.channel_table.specs.Subs.{is_sub_on}
 use Rattle.channel_table.specs.Indexes.{read_home, read_in, read_key, sub_home, sub_key}
 use Rattle.channel_table.specs.ClientRows.{ClientRows}
 use Rattle.channel_table.proofs.Following.{follow_without}
-use Rattle.channel_table.proofs.Asking.{told_removed}
+use Rattle.channel_table.proofs.Asking.{demand_removed}
 use Rattle.channel_table.proofs.Mapped.{any_mapped}
 use Rattle.channel_table.proofs.table.Table.remove_bare_channel.Goals as goal
 
@@ -16,5 +16,5 @@ invariant_of-self c =
     record {
       subs_follow = rw c.remove_channel.ensures.rows (follow_without sub_key sub_home c.self.inside.channels _ _ c.args.session c.args.sid bare c.self.invariant.subs_follow);
       reads_follow = rw c.remove_channel.ensures.rows (follow_without read_key read_home c.self.inside.channels _ _ c.args.session c.args.sid no_read c.self.invariant.reads_follow);
-      told = told_removed c.self.inside.channels _ c.self.inside.subs.rows (record { owner = c.args.session; id = c.args.sid }) _ _ c.are_apart.ensures c.remove_channel.ensures.rows bare c.remove_channel.ensures.told c.self.invariant.told;
+      demand = demand_removed c.self.inside.channels _ c.self.inside.subs.rows (record { owner = c.args.session; id = c.args.sid }) _ _ c.are_apart.ensures c.remove_channel.ensures.rows bare c.remove_channel.ensures.demand c.self.invariant.demand;
     }

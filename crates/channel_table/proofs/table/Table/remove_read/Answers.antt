@@ -36,7 +36,7 @@ invariant_of-self c =
     record {
       subs_follow = c.self.invariant.subs_follow;
       reads_follow = follow_removed read_key read_home c.self.inside.channels _ _ _ _ (read_key row) row c.in-Some.channel.now c.are_apart.ensures (found_again read_key (is_kept_like c.args.read.now) c.self.inside.reads.rows row c.are_apart.ensures found) on c.remove.ensures.rows c.remove.ensures.on c.self.invariant.reads_follow;
-      told = c.self.invariant.told;
+      demand = c.self.invariant.demand;
     }
 
 pub returns-in-Some-first_like : goal.returns-in-Some-first_like

@@ -5,7 +5,7 @@ use Rattle.channel_table.specs.Subs.{is_sub}
 use Rattle.channel_table.specs.ClientRows.{ClientRows}
 use Rattle.channel_table.specs.Indexes.{sub_home, sub_key}
 use Rattle.channel_table.proofs.Following.{follow_removed, stands_of}
-use Rattle.channel_table.proofs.Asking.{told_less_row}
+use Rattle.channel_table.proofs.Asking.{demand_less_row}
 use Rattle.channel_table.proofs.Lists.{none_dropped, unfound_is_absent}
 use Rattle.channel_table.proofs.table.Table.remove_sub.Goals as goal
 
@@ -22,7 +22,7 @@ invariant_of-self c =
     record {
       subs_follow = follow_removed sub_key sub_home _ _ _ _ _ (record { owner = c.args.session; id = c.args.id }) c.in-Some.sub c.in-Some-get.channel.now c.are_apart.ensures found on c.remove_sub.ensures.rows c.remove_sub.ensures.on c.self.invariant.subs_follow;
       reads_follow = c.self.invariant.reads_follow;
-      told = told_less_row _ _ _ c.args.session c.args.id c.in-Some.sub c.in-Some-get.channel.now _ _ c.are_apart.ensures found on c.remove_sub.ensures.rows c.remove_sub.ensures.told c.self.invariant.told;
+      demand = demand_less_row _ _ _ c.args.session c.args.id c.in-Some.sub c.in-Some-get.channel.now _ _ c.are_apart.ensures found on c.remove_sub.ensures.rows c.remove_sub.ensures.demand c.self.invariant.demand;
     }
 
 -- its channel stands

@@ -5,7 +5,7 @@ use Rattle.channel_table.specs.Subs.{is_sub, is_sub_on, is_not_sub_on}
 use Rattle.channel_table.specs.ClientRows.{ClientRows}
 use Rattle.channel_table.specs.Indexes.{sub_home, sub_key}
 use Rattle.channel_table.proofs.Following.{bare_without, elsewhere_kept, first_found, follow_first_removed, found_by_key, on_ids}
-use Rattle.channel_table.proofs.Asking.{told_less_row}
+use Rattle.channel_table.proofs.Asking.{demand_less_row}
 use Rattle.channel_table.proofs.Lists.{found_is_there, found_passes, one_fewer_left, unfound_is_absent}
 use Rattle.channel_table.proofs.table.Table.remove_sub_on.Goals as goal
 
@@ -24,7 +24,7 @@ invariant_of-self c =
     record {
       subs_follow = follow_first_removed _ _ _ c.args.session c.args.sid c.in-Some-first_on.sub c.in-Some.channel.now c.are_apart.ensures first (sym c.in-Some.ensures) c.remove_sub.ensures.rows c.remove_sub.ensures.on c.self.invariant.subs_follow;
       reads_follow = c.self.invariant.reads_follow;
-      told = told_less_row _ _ _ c.args.session c.in-Some-first_on.sub.id c.in-Some-first_on.sub c.in-Some.channel.now _ _ c.are_apart.ensures key on c.remove_sub.ensures.rows c.remove_sub.ensures.told c.self.invariant.told;
+      demand = demand_less_row _ _ _ c.args.session c.in-Some-first_on.sub.id c.in-Some-first_on.sub c.in-Some.channel.now _ _ c.are_apart.ensures key on c.remove_sub.ensures.rows c.remove_sub.ensures.demand c.self.invariant.demand;
     }
 
 pub returns-in-Some-first_on-clause-elsewhere : goal.returns-in-Some-first_on-clause-elsewhere

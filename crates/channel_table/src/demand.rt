@@ -1,14 +1,14 @@
 //! What is asked for of each real name, counted.
 ghost use Rattle.std.specs.Prelude.{◌≡◌, ℕ, List, None, OnOk, OnErr, bytes_eq, if◌then◌else◌};
 ghost use Rattle.indexmap.specs.IndexMap.{get};
-ghost use Rattle.mask_merge.specs.Counts.{counted_with, counted_without, exchanged, nothing_counted, wanted_of};
+ghost use Rattle.mask_merge.specs.Counts.{counted_with, counted_without, exchanged, nothing_counted, props_wanted, wanted_of};
 ghost use Rattle.channel_table.specs.Indexes.{sub_key, rows_at};
-ghost use Rattle.channel_table.specs.Told.{all_exchanged, told_of, Retells, SameTold};
+ghost use Rattle.channel_table.specs.Demand.{all_exchanged, demand_of, ChangesDemand, SameDemand};
 ghost use Rattle.row_index.specs.Lists.{of};
 
 use crate::subs::Subs;
 use indexmap::IndexMap;
-use mask_merge::{Tally, Want};
+use mask_merge::{Ask, Tally, Want};
 use pv_name::Name;
 use std::alloc::{AllocError, Global};
 use std::marker::Model;
@@ -16,12 +16,12 @@ use std::marker::Model;
 /// What the subscriptions to each real name and the channels on it ask for. A name of which nothing
 /// stands takes no memory.
 #[derive(Drop)]
-pub(crate) struct Told {
+pub(crate) struct Demand {
     tallies: IndexMap<Name, Tally>,
     alloc: Global,
 }
 
-impl Model for Told {
+impl Model for Demand {
     ghost use Rattle.std.specs.Prelude.{ℕ, List};
     ghost use Rattle.mask_merge.specs.Counts.{Counts};
 
@@ -30,11 +30,11 @@ impl Model for Told {
     ghost view = { λ t. t.tallies.entries };
 }
 
-impl Told {
-    pub(crate) fn new(alloc: Global) -> Told
-        ensures { (name : List ℕ) → told_of result name ≡ nothing_counted }
+impl Demand {
+    pub(crate) fn new(alloc: Global) -> Demand
+        ensures { (name : List ℕ) → demand_of result name ≡ nothing_counted }
     {
-        Told {
+        Demand {
             tallies: IndexMap::new(alloc),
             alloc,
         }
@@ -42,7 +42,7 @@ impl Told {
 
     /// What is asked for of a name together, where its native count is this.
     pub(crate) fn want_of(&self, name: &Name, native: u32) -> Option<Want>
-        ensures { result ≡ wanted_of native (told_of self.now name.now) }
+        ensures { result ≡ wanted_of native (demand_of self.now name.now) }
     {
         match self.tallies.get(name) {
             Some(tally) => tally.want_of(native),
@@ -50,10 +50,20 @@ impl Told {
         }
     }
 
+    /// Whether properties are asked for of a name, whose elements are states or are not.
+    pub(crate) fn props_of(&self, name: &Name, states: bool) -> bool
+        ensures { result ≡ props_wanted states (demand_of self.now name.now) }
+    {
+        match self.tallies.get(name) {
+            Some(tally) => tally.props_of(states),
+            None => false,
+        }
+    }
+
     /// One more row asks for something, or for nothing yet.
-    pub(crate) fn add(&mut self, name: &Name, ask: Option<Want>) -> Result<(), AllocError>
-        ensures ok { OnOk result (Retells name.now (counted_with ask) self.old self.new) }
-        ensures err { OnErr result (SameTold self.old self.new) }
+    pub(crate) fn add(&mut self, name: &Name, ask: Option<Ask>) -> Result<(), AllocError>
+        ensures ok { OnOk result (ChangesDemand name.now (counted_with ask) self.old self.new) }
+        ensures err { OnErr result (SameDemand self.old self.new) }
     {
         match self.tallies.get_mut(name) {
             Some(tally) => add_to(tally, ask),
@@ -62,10 +72,10 @@ impl Told {
     }
 
     // The first row on a name.
-    fn add_first(&mut self, name: &Name, ask: Option<Want>) -> Result<(), AllocError>
-        requires { told_of self.old name.now ≡ nothing_counted }
-        ensures ok { OnOk result (Retells name.now (counted_with ask) self.old self.new) }
-        ensures err { OnErr result (SameTold self.old self.new) }
+    fn add_first(&mut self, name: &Name, ask: Option<Ask>) -> Result<(), AllocError>
+        requires { demand_of self.old name.now ≡ nothing_counted }
+        ensures ok { OnOk result (ChangesDemand name.now (counted_with ask) self.old self.new) }
+        ensures err { OnErr result (SameDemand self.old self.new) }
     {
         let Ok(copy) = name.copy() else {
             return Err(AllocError);
@@ -79,8 +89,8 @@ impl Told {
     }
 
     /// One row less asks for this.
-    pub(crate) fn remove(&mut self, name: &Name, ask: Option<Want>)
-        ensures { Retells name.now (counted_without ask) self.old self.new }
+    pub(crate) fn remove(&mut self, name: &Name, ask: Option<Ask>)
+        ensures { ChangesDemand name.now (counted_without ask) self.old self.new }
     {
         let Some(tally) = self.tallies.get_mut(name) else {
             return;
@@ -92,8 +102,8 @@ impl Told {
     }
 
     /// A row asks for something else. This takes no memory.
-    pub(crate) fn exchange(&mut self, name: &Name, before: Option<Want>, after: Option<Want>)
-        ensures { Retells name.now (exchanged before after) self.old self.new }
+    pub(crate) fn exchange(&mut self, name: &Name, before: Option<Ask>, after: Option<Ask>)
+        ensures { ChangesDemand name.now (exchanged before after) self.old self.new }
     {
         if let Some(tally) = self.tallies.get_mut(name) {
             tally.exchange(before, after);
@@ -111,7 +121,7 @@ impl Told {
         before: bool,
         after: bool,
     )
-        ensures { Retells name.now (all_exchanged before after session sid (rows_at sub_key subs.now.rows (of subs.now.on name.now))) self.old self.new }
+        ensures { ChangesDemand name.now (all_exchanged before after session sid (rows_at sub_key subs.now.rows (of subs.now.on name.now))) self.old self.new }
     {
         let Some(tally) = self.tallies.get_mut(name) else {
             return;
@@ -120,21 +130,21 @@ impl Told {
     }
 }
 
-fn add_to(tally: &mut Tally, ask: Option<Want>) -> Result<(), AllocError>
+fn add_to(tally: &mut Tally, ask: Option<Ask>) -> Result<(), AllocError>
     ensures ok { OnOk result (tally.new ≡ counted_with ask tally.old) }
     ensures err { OnErr result (tally.new ≡ tally.old) }
 {
     match ask {
-        Some(want) => tally.add(want.mask, want.count),
+        Some(ask) => tally.add_ask(ask),
         None => tally.add_silent(),
     }
 }
 
-fn remove_from(tally: &mut Tally, ask: Option<Want>)
+fn remove_from(tally: &mut Tally, ask: Option<Ask>)
     ensures { tally.new ≡ counted_without ask tally.old }
 {
     match ask {
-        Some(want) => tally.remove(want.mask, want.count),
+        Some(ask) => tally.remove_ask(ask),
         None => tally.remove_silent(),
     }
 }

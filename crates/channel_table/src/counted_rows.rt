@@ -7,29 +7,29 @@ ghost use Rattle.row_index.specs.Lists.{AddsTo, RemovesFrom, SameLists};
 ghost use Rattle.channel_table.specs.Channels.{is_channel, is_not_channel, with_reach_and_rights};
 ghost use Rattle.channel_table.specs.Indexes.{sub_key};
 ghost use Rattle.channel_table.specs.Subs.{is_sub, is_not_sub};
-ghost use Rattle.channel_table.specs.Told.{ask_of_sub, channel_ask, may_read, AreCounts, IsCounted, IsRetold, IsUncounted, Retells, SameTold};
+ghost use Rattle.channel_table.specs.Demand.{ask_of_sub, channel_ask, may_read, AreCounts, IsCounted, IsRecounted, IsUncounted, ChangesDemand, SameDemand};
 
 use crate::asks::{self, may_read};
-use crate::channels::{Channel, Channels};
+use crate::channels::{Channel, Channels, Reach};
+use crate::demand::Demand;
 use crate::subs::{ClientSub, Subs};
-use crate::told::Told;
 use std::alloc::AllocError;
 
 /// Adds a channel. At an error it is let go, and all else is as before.
 pub(crate) fn add_channel(
     channels: &mut Channels,
-    told: &mut Told,
+    demand: &mut Demand,
     channel: Channel,
 ) -> Result<(), AllocError>
     requires new { list_any (is_channel channel.session channel.sid) channels.old ≡ false }
     ensures ok { OnOk result (channels.new ≡ channels.old ++ channel ∷ []) }
-    ensures ok_told { OnOk result (Retells channel.real (counted_with (channel_ask channel)) told.old told.new) }
+    ensures ok_demand { OnOk result (ChangesDemand channel.real (counted_with (channel_ask channel)) demand.old demand.new) }
     ensures err { OnErr result (channels.new ≡ channels.old) }
-    ensures err_told { OnErr result (SameTold told.old told.new) }
+    ensures err_demand { OnErr result (SameDemand demand.old demand.new) }
 {
     let (session, sid) = (channel.session, channel.sid);
     channels.add(channel)?;
-    match count_channel(channels, told, session, sid) {
+    match count_channel(channels, demand, session, sid) {
         Ok(()) => Ok(()),
         Err(e) => {
             channels.remove(session, sid);
@@ -41,15 +41,15 @@ pub(crate) fn add_channel(
 /// Counts what a channel that stands asks for.
 fn count_channel(
     channels: &Channels,
-    told: &mut Told,
+    demand: &mut Demand,
     session: u32,
     sid: u32,
 ) -> Result<(), AllocError>
-    ensures ok { OnOk result (IsCounted (find (is_channel session sid) channels.now) told.old told.new) }
-    ensures err { OnErr result (SameTold told.old told.new) }
+    ensures ok { OnOk result (IsCounted (find (is_channel session sid) channels.now) demand.old demand.new) }
+    ensures err { OnErr result (SameDemand demand.old demand.new) }
 {
     match channels.get(session, sid) {
-        Some(channel) => told.add(&channel.real, asks::of_channel(channel)),
+        Some(channel) => demand.add(&channel.real, asks::of_channel(channel)),
         None => Ok(()),
     }
 }
@@ -58,28 +58,28 @@ fn count_channel(
 pub(crate) fn put_channel(
     channels: &mut Channels,
     subs: &Subs,
-    told: &mut Told,
+    demand: &mut Demand,
     session: u32,
     sid: u32,
-    reach: u32,
+    reach: Reach,
     rights: u32,
 )
     ensures put { channels.new ≡ change_first (is_channel session sid) (with_reach_and_rights reach rights) channels.old }
-    ensures told { IsRetold (find (is_channel session sid) channels.old) reach rights subs.now told.old told.new }
+    ensures demand { IsRecounted (find (is_channel session sid) channels.old) reach rights subs.now demand.old demand.new }
 {
     if let Some(channel) = channels.get(session, sid) {
-        retell(subs, told, channel, reach, rights);
+        recount(subs, demand, channel, reach, rights);
     }
     channels.put(session, sid, reach, rights);
 }
 
 /// A channel and the subscriptions on it ask for something else.
-fn retell(subs: &Subs, told: &mut Told, channel: &Channel, reach: u32, rights: u32)
-    ensures { IsRetold (Some channel.now) reach rights subs.now told.old told.new }
+fn recount(subs: &Subs, demand: &mut Demand, channel: &Channel, reach: Reach, rights: u32)
+    ensures { IsRecounted (Some channel.now) reach rights subs.now demand.old demand.new }
 {
-    let (before, after) = (may_read(channel.rights), may_read(rights));
+    let (before, after) = (may_read(channel.rights_told), may_read(rights));
     if asks::differ(before, after) {
-        told.exchange_on(
+        demand.exchange_on(
             &channel.real,
             subs,
             channel.session,
@@ -88,7 +88,7 @@ fn retell(subs: &Subs, told: &mut Told, channel: &Channel, reach: u32, rights: u
             after,
         );
     }
-    told.exchange(
+    demand.exchange(
         &channel.real,
         asks::of_channel(channel),
         asks::of_reach(reach, rights),
@@ -96,12 +96,12 @@ fn retell(subs: &Subs, told: &mut Told, channel: &Channel, reach: u32, rights: u
 }
 
 /// Removes a channel. This takes no memory.
-pub(crate) fn remove_channel(channels: &mut Channels, told: &mut Told, session: u32, sid: u32)
+pub(crate) fn remove_channel(channels: &mut Channels, demand: &mut Demand, session: u32, sid: u32)
     ensures rows { channels.new ≡ filter (is_not_channel session sid) channels.old }
-    ensures told { IsUncounted (find (is_channel session sid) channels.old) told.old told.new }
+    ensures demand { IsUncounted (find (is_channel session sid) channels.old) demand.old demand.new }
 {
     if let Some(channel) = channels.get(session, sid) {
-        told.remove(&channel.real, asks::of_channel(channel));
+        demand.remove(&channel.real, asks::of_channel(channel));
     }
     channels.remove(session, sid);
 }
@@ -109,25 +109,25 @@ pub(crate) fn remove_channel(channels: &mut Channels, told: &mut Told, session: 
 /// Adds a subscription on a channel. At an error nothing changes.
 pub(crate) fn add_sub(
     subs: &mut Subs,
-    told: &mut Told,
+    demand: &mut Demand,
     channel: &Channel,
     sub: ClientSub,
 ) -> Result<(), AllocError>
     requires new { list_any (is_sub sub.session sub.id) subs.old.rows ≡ false }
-    requires counts { AreCounts told.old }
+    requires counts { AreCounts demand.old }
     ensures ok_rows { OnOk result (subs.new.rows ≡ subs.old.rows ++ sub ∷ []) }
     ensures ok_on { OnOk result (AddsTo channel.now.real (sub_key sub) subs.old.on subs.new.on) }
-    ensures ok_told { OnOk result (Retells channel.now.real (counted_with (ask_of_sub (may_read channel.now.rights) sub)) told.old told.new) }
+    ensures ok_demand { OnOk result (ChangesDemand channel.now.real (counted_with (ask_of_sub (may_read channel.now.rights_told) sub)) demand.old demand.new) }
     ensures err_rows { OnErr result (subs.new.rows ≡ subs.old.rows) }
     ensures err_on { OnErr result (SameLists subs.old.on subs.new.on) }
-    ensures err_told { OnErr result (SameTold told.old told.new) }
+    ensures err_demand { OnErr result (SameDemand demand.old demand.new) }
 {
-    let ask = asks::of_sub(may_read(channel.rights), &sub);
-    told.add(&channel.real, ask)?;
+    let ask = asks::of_sub(may_read(channel.rights_told), &sub);
+    demand.add(&channel.real, ask)?;
     match subs.add(&channel.real, sub) {
         Ok(()) => Ok(()),
         Err(e) => {
-            told.remove(&channel.real, ask);
+            demand.remove(&channel.real, ask);
             Err(e)
         }
     }
@@ -136,7 +136,7 @@ pub(crate) fn add_sub(
 /// Removes a subscription on a channel, by its IDs. This takes no memory.
 pub(crate) fn remove_sub(
     subs: &mut Subs,
-    told: &mut Told,
+    demand: &mut Demand,
     channel: &Channel,
     sub: &ClientSub,
     session: u32,
@@ -144,8 +144,11 @@ pub(crate) fn remove_sub(
 )
     ensures rows { subs.new.rows ≡ filter (is_not_sub session id) subs.old.rows }
     ensures on { RemovesFrom channel.now.real (record { owner = session; id = id }) subs.old.on subs.new.on }
-    ensures told { Retells channel.now.real (counted_without (ask_of_sub (may_read channel.now.rights) sub.now)) told.old told.new }
+    ensures demand { ChangesDemand channel.now.real (counted_without (ask_of_sub (may_read channel.now.rights_told) sub.now)) demand.old demand.new }
 {
     subs.remove(&channel.real, session, id);
-    told.remove(&channel.real, asks::of_sub(may_read(channel.rights), sub));
+    demand.remove(
+        &channel.real,
+        asks::of_sub(may_read(channel.rights_told), sub),
+    );
 }

@@ -3,15 +3,15 @@ use Rattle.std.specs.Cmp.{nat_eq_equiv}
 use Rattle.std.specs.List.{filter, find}
 use Rattle.channel_table.specs.declared.channels.Channel.{Channel}
 use Rattle.channel_table.specs.Channels.{is_channel, is_not_channel}
-use Rattle.channel_table.specs.Told.{IsCounted}
+use Rattle.channel_table.specs.Demand.{IsCounted}
 use Rattle.channel_table.proofs.Counting.{last_goes, last_is_found}
-use Rattle.channel_table.proofs.telling.add_channel.Goals as goal
+use Rattle.channel_table.proofs.counted_rows.add_channel.Goals as goal
 
-pub returns-in-Ok-clause-ok_told : goal.returns-in-Ok-clause-ok_told
-returns-in-Ok-clause-ok_told c =
+pub returns-in-Ok-clause-ok_demand : goal.returns-in-Ok-clause-ok_demand
+returns-in-Ok-clause-ok_demand c =
     let own : is_channel c.args.channel.session c.args.channel.sid c.args.channel ≡ true = rw (nat_eq_equiv.refl c.args.channel.session, nat_eq_equiv.refl c.args.channel.sid) refl in
     let last = ap (find (is_channel c.args.channel.session c.args.channel.sid)) c.in_ok-add.ensures.ok ∙ last_is_found (is_channel c.args.channel.session c.args.channel.sid) c.args.channels.now c.args.channel c.requires.new own in
-    subst (λ (o : Option Channel). IsCounted o c.args.told.now c.count_channel.new.told) last c.in-Ok.ensures.ok
+    subst (λ (o : Option Channel). IsCounted o c.args.demand.now c.count_channel.new.demand) last c.in-Ok.ensures.ok
 
 -- what was added is removed again
 pub returns-in-Err-clause-err : goal.returns-in-Err-clause-err
