@@ -1,6 +1,6 @@
 -- What the rows of clients ask for of a real name, by the rights that their clients were last told: one by
 -- one, and counted, which is the demand for it.
-use Rattle.std.specs.Prelude.{◌≡◌, ℕ, List, [], ◌∷◌, ◌++◌, Bool, false, not, ◌&&◌, ◌||◌, ◌==◌, nat_lt, bit_and, bytes_eq, map, if◌then◌else◌, Option, Some, None}
+use Rattle.std.specs.Prelude.{◌≡◌, ℕ, List, [], ◌∷◌, ◌++◌, Bool, false, not, ◌&&◌, ◌||◌, ◌==◌, nat_lt, bit_and, bytes_eq, map, if◌then◌else◌, Option, Some, None, IfSome}
 use Rattle.std.specs.List.{filter, find, list_any}
 use Rattle.std.specs.Map.{lookup}
 use Rattle.std.specs.Option.{unwrap_or}
@@ -9,7 +9,7 @@ use Rattle.mask_merge.specs.declared.want.TheConstants.{ALWAYS_ASKED, PROPERTY_E
 use Rattle.mask_merge.specs.declared.want.Ask.{Ask}
 use Rattle.mask_merge.specs.declared.want.Want.{Want}
 use Rattle.mask_merge.specs.Merged.{merged}
-use Rattle.mask_merge.specs.Counts.{as_native, asks_props, wants_in, Counts, counted, counted_with, counted_without, exchanged, nothing_counted}
+use Rattle.mask_merge.specs.Counts.{as_native, asks_props, wants_in, Counts, counted, counted_with, counted_without, exchanged, is_nothing, nothing_counted}
 use Rattle.row_index.specs.Lists.{of}
 use Rattle.channel_table.specs.declared.asks.TheConstants.{READ_RIGHT}
 use Rattle.channel_table.specs.declared.channels.Channel.{Channel}
@@ -81,6 +81,10 @@ props_on channels subs states name = list_any (asks_props states) (asks_on chann
 -- what is counted under a name
 abbrev pub demand_of : List (List ℕ × Counts) → List ℕ → Counts
 demand_of tallies name = unwrap_or (lookup (bytes_eq name) tallies) nothing_counted
+
+-- somebody is counted under each name that is kept
+abbrev pub CountSomebody : List (List ℕ × Counts) → Type 0
+CountSomebody tallies = (name : List ℕ) → IfSome (lookup (bytes_eq name) tallies) (λ counts. is_nothing counts ≡ false)
 
 -- the new counts are the old ones, but that those under this name are changed by f
 abbrev pub ChangesDemand : List ℕ → (Counts → Counts) → List (List ℕ × Counts) → List (List ℕ × Counts) → Type 0

@@ -146,9 +146,7 @@ pub(crate) fn remove_sub(
     ensures on { RemovesFrom channel.now.real (record { owner = session; id = id }) subs.old.on subs.new.on }
     ensures demand { ChangesDemand channel.now.real (counted_without (ask_of_sub (may_read channel.now.rights_told) sub.now)) demand.old demand.new }
 {
+    let asked = asks::of_sub(may_read(channel.rights_told), sub);
     subs.remove(&channel.real, session, id);
-    demand.remove(
-        &channel.real,
-        asks::of_sub(may_read(channel.rights_told), sub),
-    );
+    demand.remove(&channel.real, asked);
 }

@@ -14,7 +14,7 @@ use std::alloc::{AllocError, Global};
 use std::marker::Model;
 
 /// What the subscriptions to each real name and the channels on it ask for. A name of which nothing
-/// stands takes no memory.
+/// stands has no tally, and takes no memory.
 #[derive(Drop)]
 pub(crate) struct Demand {
     tallies: IndexMap<Name, Tally>,
@@ -24,10 +24,13 @@ pub(crate) struct Demand {
 impl Model for Demand {
     ghost use Rattle.std.specs.Prelude.{ℕ, List};
     ghost use Rattle.mask_merge.specs.Counts.{Counts};
+    ghost use Rattle.channel_table.specs.Demand.{CountSomebody};
 
     ghost Value = { List (List ℕ × Counts) };
 
-    ghost view = { λ t. t.tallies.entries };
+    ghost view = { λ d. d.tallies.entries };
+
+    ghost invariant = { λ d. CountSomebody d.tallies.entries };
 }
 
 impl Demand {

@@ -40,6 +40,7 @@ impl Visits {
     pub(crate) fn count(&mut self, rows: usize)
         ensures exact { self.new ≡ u64_saturate (self.old + rows) }
         ensures bound { self.new ≤ self.old + rows }
+        ensures no_less { self.old ≤ self.new }
     {
         self.rows = self.rows.saturating_add(rows as u64);
     }

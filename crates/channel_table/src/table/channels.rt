@@ -1,0 +1,146 @@
+//! The table's channels.
+ghost use Rattle.std.specs.Prelude.{◌≡◌, ◌≤◌, ◌<◌, ◌↔◌, ◌+◌, [], ◌∷◌, ◌++◌, length, map, slice_get, true, false, Err, OnOk, OnErr, IfOk, IsErrOf};
+ghost use Rattle.std.specs.Io.Iter.{u64_saturate};
+ghost use Rattle.std.specs.List.{filter, find, list_any};
+ghost use Rattle.std.specs.Option.{option_copied};
+ghost use Rattle.rows.specs.Rows.{change_first};
+ghost use Rattle.channel_table.specs.Channels.{is_channel, is_channel_of, is_on, with_reach_and_rights};
+ghost use Rattle.channel_table.specs.ClientRows.{has_session, has_channel, channel_count};
+
+use super::{CHANNEL_LIMIT, Table, TableFault};
+use crate::channels::{Channel, Reach};
+use crate::counted_rows;
+use crate::visits::Visits;
+use pv_name::Name;
+use std::alloc::{AllocError, Global};
+
+impl Table {
+    /// All channels, in the order in which they were added.
+    pub fn channels<'a>(
+        &'a self,
+        visits: &mut Visits,
+        alloc: Global,
+    ) -> Result<Vec<&'a Channel>, AllocError>
+        ensures all { IfOk result (λ rows. map (λ row. row.now) rows.items ≡ self.now.channels) }
+        ensures visits { visits.new ≡ u64_saturate (visits.old + length self.now.channels) }
+        ensures bound { visits.new ≤ visits.old + length self.now.channels }
+        ensures no_less { visits.old ≤ visits.new }
+    {
+        visits.count(self.channels.len());
+        self.channels.all(alloc)
+    }
+
+    /// The session's channel of this ID.
+    pub fn channel<'a>(&'a self, visits: &mut Visits, session: u32, sid: u32) -> Option<&'a Channel>
+        ensures found { option_copied result ≡ find (is_channel session sid) self.now.channels }
+        ensures visits { visits.new ≡ u64_saturate (visits.old + 1) }
+        ensures bound { visits.new ≤ visits.old + 1 }
+        ensures no_less { visits.old ≤ visits.new }
+    {
+        visits.count(1);
+        self.channels.get(session, sid)
+    }
+
+    /// How many channels of the session stand.
+    pub fn channel_count(&self, session: u32) -> usize
+        ensures { result ≡ channel_count session self.now }
+    {
+        self.channels.count_of(session)
+    }
+
+    /// The session's nth channel, counted from 0 in the order in which they were added.
+    pub fn channel_of<'a>(
+        &'a self,
+        visits: &mut Visits,
+        session: u32,
+        n: usize,
+    ) -> Option<&'a Channel>
+        ensures nth { option_copied result ≡ slice_get (filter (is_channel_of session) self.now.channels) n }
+        ensures visits { visits.new ≡ u64_saturate (visits.old + 1) }
+        ensures bound { visits.new ≤ visits.old + 1 }
+        ensures no_less { visits.old ≤ visits.new }
+    {
+        visits.count(1);
+        self.channels.nth_of(session, n)
+    }
+
+    /// Whether a channel is on this real name.
+    pub fn is_used(&self, name: &Name) -> bool
+        ensures { result ≡ list_any (is_on name.now) self.now.channels }
+    {
+        self.channels.is_used(name)
+    }
+
+    /// How many channels are on this real name.
+    pub fn channels_on(&self, name: &Name) -> usize
+        ensures { result ≡ length (filter (is_on name.now) self.now.channels) }
+    {
+        self.channels.count_on(name)
+    }
+
+    /// The nth channel on this real name, counted from 0 in the order in which they were added.
+    pub fn channel_on<'a>(
+        &'a self,
+        visits: &mut Visits,
+        name: &Name,
+        n: usize,
+    ) -> Option<&'a Channel>
+        ensures nth { option_copied result ≡ slice_get (filter (is_on name.now) self.now.channels) n }
+        ensures visits { visits.new ≡ u64_saturate (visits.old + 1) }
+        ensures bound { visits.new ≤ visits.old + 1 }
+        ensures no_less { visits.old ≤ visits.new }
+    {
+        visits.count(1);
+        self.channels.nth_on(name, n)
+    }
+
+    /// Adds a channel to the session that it names. The caller sees to it that none of its ID stands
+    /// there.
+    pub fn add_channel(&mut self, channel: Channel) -> Result<(), TableFault>
+        requires new { has_channel channel.session channel.sid self.old ≡ false }
+        ensures ok { OnOk result (self.new ≡ record self.old { channels = self.old.channels ++ channel ∷ [] }) }
+        ensures there { OnOk result (has_session channel.session self.old ≡ true) }
+        ensures room { OnOk result (channel_count channel.session self.old < CHANNEL_LIMIT) }
+        ensures missing { IsErrOf result TableFault.Missing ↔
+            (has_session channel.session self.old ≡ false) }
+        ensures full { IsErrOf result TableFault.Full ↔
+            ((has_session channel.session self.old ≡ true)
+            × (CHANNEL_LIMIT ≤ channel_count channel.session self.old)) }
+        ensures err { OnErr result (self.new ≡ self.old) }
+    {
+        if !self.sessions.contains(channel.session) {
+            return Err(TableFault::Missing);
+        }
+        if self.channels.count_of(channel.session) >= CHANNEL_LIMIT {
+            return Err(TableFault::Full);
+        }
+        match counted_rows::add_channel(&mut self.channels, &mut self.demand, channel) {
+            Ok(()) => Ok(()),
+            Err(_) => Err(TableFault::OutOfMemory),
+        }
+    }
+
+    /// Changes a channel that stands: its reach and the rights last told.
+    pub fn put_channel(
+        &mut self,
+        visits: &mut Visits,
+        session: u32,
+        sid: u32,
+        reach: Reach,
+        rights: u32,
+    )
+        ensures put { self.new ≡ record self.old {
+          channels = change_first
+              (is_channel session sid) (with_reach_and_rights reach rights) self.old.channels;
+        } }
+        ensures visits { visits.new ≡ u64_saturate (visits.old + 1) }
+        ensures bound { visits.new ≤ visits.old + 1 }
+        ensures no_less { visits.old ≤ visits.new }
+    {
+        visits.count(1);
+        self.channels.are_apart();
+        self.subs.are_apart();
+        let (channels, demand) = (&mut self.channels, &mut self.demand);
+        counted_rows::put_channel(channels, &self.subs, demand, session, sid, reach, rights);
+    }
+}

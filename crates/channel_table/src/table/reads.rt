@@ -1,0 +1,151 @@
+//! The table's waiting reads.
+ghost use Rattle.std.specs.Prelude.{◌≡◌, ◌≤◌, ◌<◌, ◌↔◌, ◌+◌, [], ◌∷◌, ◌++◌, length, slice_get, true, false, Err, OnOk, OnErr, IfOk, IsErrOf, IsTrue};
+ghost use Rattle.std.specs.Io.Iter.{u64_saturate};
+ghost use Rattle.std.specs.List.{filter, list_any};
+ghost use Rattle.rows.specs.Rows.{remove_first};
+ghost use Rattle.channel_table.specs.ClientRows.{has_channel, read_count, is_read_for};
+ghost use Rattle.channel_table.specs.Reads.{same_read, is_read_of, is_read_on, is_not_read_on};
+
+use super::{READ_LIMIT, Table, TableFault};
+use crate::reads::{KeptRead, WaitingRead};
+use crate::visits::Visits;
+use pv_name::Name;
+use std::alloc::{AllocError, Global};
+
+impl Table {
+    /// All waiting reads, in the order in which they were added.
+    pub fn reads(&self, visits: &mut Visits, alloc: Global) -> Result<Vec<WaitingRead>, AllocError>
+        ensures all { IfOk result (λ rows. rows.items ≡ self.now.reads) }
+        ensures visits { visits.new ≡ u64_saturate (visits.old + length self.now.reads) }
+        ensures bound { visits.new ≤ visits.old + length self.now.reads }
+        ensures no_less { visits.old ≤ visits.new }
+    {
+        visits.count(self.reads.len());
+        self.reads.all(alloc)
+    }
+
+    /// How many reads of the session wait.
+    pub fn read_count(&self, session: u32) -> usize
+        ensures { result ≡ read_count session self.now }
+    {
+        self.reads.count_of(session)
+    }
+
+    /// The session's nth waiting read.
+    pub fn read_of(&self, visits: &mut Visits, session: u32, n: usize) -> Option<WaitingRead>
+        ensures nth { result ≡ slice_get (filter (is_read_of session) self.now.reads) n }
+        ensures visits { visits.new ≡ u64_saturate (visits.old + 1) }
+        ensures bound { visits.new ≤ visits.old + 1 }
+        ensures no_less { visits.old ≤ visits.new }
+    {
+        visits.count(1);
+        self.reads.nth_of(session, n)
+    }
+
+    /// How many reads wait on channels on this real name.
+    pub fn reads_on(&self, name: &Name) -> usize
+        ensures { result ≡ length (filter (is_read_for self.now name.now) self.now.reads) }
+    {
+        self.reads.count_on(name)
+    }
+
+    /// The nth read that waits on a channel on this real name.
+    pub fn read_on(&self, visits: &mut Visits, name: &Name, n: usize) -> Option<WaitingRead>
+        ensures nth { result ≡ slice_get (filter (is_read_for self.now name.now) self.now.reads) n }
+        ensures visits { visits.new ≡ u64_saturate (visits.old + 1) }
+        ensures bound { visits.new ≤ visits.old + 1 }
+        ensures no_less { visits.old ≤ visits.new }
+    {
+        visits.count(1);
+        self.reads.are_apart();
+        self.reads.nth_on(name, n)
+    }
+
+    /// The reads that wait on channels on this real name, in the order of asking. They are counted as
+    /// looked at.
+    pub fn reads_for(
+        &self,
+        visits: &mut Visits,
+        alloc: Global,
+        name: &Name,
+    ) -> Result<Vec<WaitingRead>, AllocError>
+        ensures found { IfOk result (λ reads. reads.items ≡ filter (is_read_for self.now name.now) self.now.reads) }
+        ensures visits { IfOk result (λ reads. visits.new ≡ u64_saturate (visits.old + length reads.items)) }
+        ensures bound { IfOk result (λ reads. visits.new ≤ visits.old + length reads.items) }
+        ensures no_less { visits.old ≤ visits.new }
+    {
+        self.reads.are_apart();
+        let reads = self.reads.all_on(name, alloc)?;
+        visits.count(reads.len());
+        Ok(reads)
+    }
+
+    /// Adds a read to the channel that it names. An equal one may wait there.
+    pub fn add_read(&mut self, read: WaitingRead) -> Result<(), TableFault>
+        ensures ok { OnOk result (self.new ≡ record self.old { reads = self.old.reads ++ read ∷ [] }) }
+        ensures there { OnOk result (has_channel read.session read.sid self.old ≡ true) }
+        ensures room { OnOk result (read_count read.session self.old < READ_LIMIT) }
+        ensures missing { IsErrOf result TableFault.Missing ↔
+            (has_channel read.session read.sid self.old ≡ false) }
+        ensures full { IsErrOf result TableFault.Full ↔
+            ((has_channel read.session read.sid self.old ≡ true)
+            × (READ_LIMIT ≤ read_count read.session self.old)) }
+        ensures err { OnErr result (self.new ≡ self.old) }
+    {
+        if !self.channels.contains(read.session, read.sid) {
+            return Err(TableFault::Missing);
+        }
+        if self.reads.count_of(read.session) >= READ_LIMIT {
+            return Err(TableFault::Full);
+        }
+        match self.keep_read(read) {
+            Ok(()) => Ok(()),
+            Err(_) => Err(TableFault::OutOfMemory),
+        }
+    }
+
+    /// Adds a read past the limit too, to a channel that stands: for a caller that tests both itself,
+    /// and answers what is past the limit before anything else happens.
+    pub fn keep_read(&mut self, read: WaitingRead) -> Result<(), AllocError>
+        requires there { has_channel read.session read.sid self.old ≡ true }
+        ensures ok { OnOk result (self.new ≡ record self.old { reads = self.old.reads ++ read ∷ [] }) }
+        ensures err { OnErr result (self.new ≡ self.old) }
+    {
+        let Some(channel) = self.channels.get(read.session, read.sid) else {
+            return Err(AllocError);
+        };
+        let id = self.reads.free_id(read.session)?;
+        self.reads.add(&channel.real, KeptRead { id, read })?;
+        Ok(())
+    }
+
+    /// Removes a read, the first of those that are equal.
+    pub fn remove_read(&mut self, read: &WaitingRead)
+        ensures { self.new ≡ record self.old { reads = remove_first (same_read read.now) self.old.reads } }
+    {
+        let Some(channel) = self.channels.get(read.session, read.sid) else {
+            return;
+        };
+        self.reads.are_apart();
+        if let Some(row) = self.reads.first_like(read) {
+            self.reads.remove(&channel.real, row);
+        }
+    }
+
+    /// Removes the first read that waits on a channel, and tells whether there was one.
+    pub(super) fn remove_read_on(&mut self, session: u32, sid: u32) -> bool
+        ensures others { self.new ≡ record self.old { reads = self.new.reads } }
+        ensures elsewhere { filter (is_not_read_on session sid) self.new.reads ≡
+            filter (is_not_read_on session sid) self.old.reads }
+        ensures one { IsTrue result → length self.new.reads < length self.old.reads }
+        ensures none { result ≡ false → list_any (is_read_on session sid) self.new.reads ≡ false }
+    {
+        match self.reads.first_on(session, sid) {
+            Some(row) => {
+                self.remove_read(&row.read);
+                true
+            }
+            None => false,
+        }
+    }
+}

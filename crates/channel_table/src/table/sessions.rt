@@ -1,0 +1,76 @@
+//! The table's sessions.
+ghost use Rattle.std.specs.Prelude.{◌≡◌, ◌≢◌, ◌≤◌, ◌<◌, ◌↔◌, ◌+◌, [], ◌∷◌, ◌++◌, length, false, Err, OnOk, OnErr, IsErrOf};
+ghost use Rattle.std.specs.Io.Iter.{u64_saturate};
+ghost use Rattle.std.specs.List.{find};
+ghost use Rattle.std.specs.Option.{option_copied};
+ghost use Rattle.rows.specs.Rows.{change_first};
+ghost use Rattle.channel_table.specs.ClientRows.{has_session};
+ghost use Rattle.channel_table.specs.Sessions.{is_numbered, nth_by_number, with_host_and_pause};
+
+use super::{SESSION_LIMIT, Table, TableFault};
+use crate::sessions::Session;
+use crate::visits::Visits;
+use pv_name::Host;
+
+impl Table {
+    /// The session of this number.
+    pub fn session<'a>(&'a self, visits: &mut Visits, number: u32) -> Option<&'a Session>
+        ensures found { option_copied result ≡ find (is_numbered number) self.now.sessions }
+        ensures visits { visits.new ≡ u64_saturate (visits.old + 1) }
+        ensures bound { visits.new ≤ visits.old + 1 }
+        ensures no_less { visits.old ≤ visits.new }
+    {
+        visits.count(1);
+        self.sessions.get(number)
+    }
+
+    /// The nth session by rising number, counted from 0.
+    pub fn nth_session<'a>(&'a self, visits: &mut Visits, n: usize) -> Option<&'a Session>
+        ensures nth { option_copied result ≡ nth_by_number n self.now.sessions }
+        ensures visits { visits.new ≡ u64_saturate (visits.old + 1) }
+        ensures bound { visits.new ≤ visits.old + 1 }
+        ensures no_less { visits.old ≤ visits.new }
+    {
+        visits.count(1);
+        self.sessions.nth(n)
+    }
+
+    /// Adds a session. The caller sees to it that none of its number stands.
+    pub fn add_session(&mut self, session: Session) -> Result<(), TableFault>
+        requires new { has_session session.number self.old ≡ false }
+        ensures ok { OnOk result (self.new ≡ record self.old { sessions = self.old.sessions ++ session ∷ [] }) }
+        ensures room { OnOk result (length self.old.sessions < SESSION_LIMIT) }
+        ensures missing { result ≢ Err TableFault.Missing }
+        ensures full { IsErrOf result TableFault.Full ↔ (SESSION_LIMIT ≤ length self.old.sessions) }
+        ensures err { OnErr result (self.new ≡ self.old) }
+    {
+        if self.sessions.len() >= SESSION_LIMIT {
+            return Err(TableFault::Full);
+        }
+        match self.sessions.add(session) {
+            Ok(()) => Ok(()),
+            Err(_) => Err(TableFault::OutOfMemory),
+        }
+    }
+
+    /// Changes a session that stands: its host, whether that stays, and whether it wants no updates.
+    pub fn put_session(
+        &mut self,
+        visits: &mut Visits,
+        number: u32,
+        host: Host,
+        host_fixed: bool,
+        paused: bool,
+    )
+        ensures put { self.new ≡ record self.old {
+          sessions = change_first
+              (is_numbered number) (with_host_and_pause host host_fixed paused) self.old.sessions;
+        } }
+        ensures visits { visits.new ≡ u64_saturate (visits.old + 1) }
+        ensures bound { visits.new ≤ visits.old + 1 }
+        ensures no_less { visits.old ≤ visits.new }
+    {
+        visits.count(1);
+        self.sessions.put(number, host, host_fixed, paused);
+    }
+}

@@ -1,0 +1,160 @@
+//! The table's subscriptions.
+ghost use Rattle.std.specs.Prelude.{◌≡◌, ◌≤◌, ◌<◌, ◌↔◌, ◌+◌, [], ◌∷◌, ◌++◌, length, map, slice_get, true, false, Err, OnOk, OnErr, IfOk, IsErrOf, IsTrue};
+ghost use Rattle.std.specs.Io.Iter.{u64_saturate};
+ghost use Rattle.std.specs.List.{filter, find, list_any};
+ghost use Rattle.std.specs.Option.{option_copied};
+ghost use Rattle.rows.specs.Rows.{change_first};
+ghost use Rattle.channel_table.specs.ClientRows.{has_channel, has_sub, sub_count, is_sub_to};
+ghost use Rattle.channel_table.specs.Subs.{is_sub, is_not_sub, is_sub_of, is_sub_on, is_not_sub_on, with_owed};
+
+use super::{SUB_LIMIT, Table, TableFault};
+use crate::counted_rows;
+use crate::subs::ClientSub;
+use crate::visits::Visits;
+use pv_name::Name;
+use std::alloc::{AllocError, Global};
+
+impl Table {
+    /// All subscriptions, in the order in which they were added.
+    pub fn subs<'a>(
+        &'a self,
+        visits: &mut Visits,
+        alloc: Global,
+    ) -> Result<Vec<&'a ClientSub>, AllocError>
+        ensures all { IfOk result (λ rows. map (λ row. row.now) rows.items ≡ self.now.subs) }
+        ensures visits { visits.new ≡ u64_saturate (visits.old + length self.now.subs) }
+        ensures bound { visits.new ≤ visits.old + length self.now.subs }
+        ensures no_less { visits.old ≤ visits.new }
+    {
+        visits.count(self.subs.len());
+        self.subs.all(alloc)
+    }
+
+    /// The session's subscription of this ID.
+    pub fn sub<'a>(&'a self, visits: &mut Visits, session: u32, id: u32) -> Option<&'a ClientSub>
+        ensures found { option_copied result ≡ find (is_sub session id) self.now.subs }
+        ensures visits { visits.new ≡ u64_saturate (visits.old + 1) }
+        ensures bound { visits.new ≤ visits.old + 1 }
+        ensures no_less { visits.old ≤ visits.new }
+    {
+        visits.count(1);
+        self.subs.get(session, id)
+    }
+
+    /// How many subscriptions of the session stand.
+    pub fn sub_count(&self, session: u32) -> usize
+        ensures { result ≡ sub_count session self.now }
+    {
+        self.subs.count_of(session)
+    }
+
+    /// The session's nth subscription.
+    pub fn sub_of<'a>(
+        &'a self,
+        visits: &mut Visits,
+        session: u32,
+        n: usize,
+    ) -> Option<&'a ClientSub>
+        ensures nth { option_copied result ≡ slice_get (filter (is_sub_of session) self.now.subs) n }
+        ensures visits { visits.new ≡ u64_saturate (visits.old + 1) }
+        ensures bound { visits.new ≤ visits.old + 1 }
+        ensures no_less { visits.old ≤ visits.new }
+    {
+        visits.count(1);
+        self.subs.nth_of(session, n)
+    }
+
+    /// How many subscriptions are to channels on this real name.
+    pub fn subs_on(&self, name: &Name) -> usize
+        ensures { result ≡ length (filter (is_sub_to self.now name.now) self.now.subs) }
+    {
+        self.subs.count_on(name)
+    }
+
+    /// The nth subscription to a channel on this real name.
+    pub fn sub_on<'a>(&'a self, visits: &mut Visits, name: &Name, n: usize) -> Option<&'a ClientSub>
+        ensures nth { option_copied result ≡ slice_get (filter (is_sub_to self.now name.now) self.now.subs) n }
+        ensures visits { visits.new ≡ u64_saturate (visits.old + 1) }
+        ensures bound { visits.new ≤ visits.old + 1 }
+        ensures no_less { visits.old ≤ visits.new }
+    {
+        visits.count(1);
+        self.subs.are_apart();
+        self.subs.nth_on(name, n)
+    }
+
+    /// Adds a subscription to the channel that it names. The caller sees to it that none of its ID
+    /// stands in the session.
+    pub fn add_sub(&mut self, sub: ClientSub) -> Result<(), TableFault>
+        requires new { has_sub sub.session sub.id self.old ≡ false }
+        ensures ok { OnOk result (self.new ≡ record self.old { subs = self.old.subs ++ sub ∷ [] }) }
+        ensures there { OnOk result (has_channel sub.session sub.sid self.old ≡ true) }
+        ensures room { OnOk result (sub_count sub.session self.old < SUB_LIMIT) }
+        ensures missing { IsErrOf result TableFault.Missing ↔
+            (has_channel sub.session sub.sid self.old ≡ false) }
+        ensures full { IsErrOf result TableFault.Full ↔
+            ((has_channel sub.session sub.sid self.old ≡ true)
+            × (SUB_LIMIT ≤ sub_count sub.session self.old)) }
+        ensures err { OnErr result (self.new ≡ self.old) }
+    {
+        let Some(channel) = self.channels.get(sub.session, sub.sid) else {
+            return Err(TableFault::Missing);
+        };
+        if self.subs.count_of(sub.session) >= SUB_LIMIT {
+            return Err(TableFault::Full);
+        }
+        match counted_rows::add_sub(&mut self.subs, &mut self.demand, channel, sub) {
+            Ok(()) => Ok(()),
+            Err(_) => Err(TableFault::OutOfMemory),
+        }
+    }
+
+    /// Changes a subscription that stands: whether an update is owed.
+    pub fn put_sub(&mut self, visits: &mut Visits, session: u32, id: u32, owed: bool)
+        ensures put { self.new ≡ record self.old {
+          subs = change_first (is_sub session id) (with_owed owed) self.old.subs;
+        } }
+        ensures visits { visits.new ≡ u64_saturate (visits.old + 1) }
+        ensures bound { visits.new ≤ visits.old + 1 }
+        ensures no_less { visits.old ≤ visits.new }
+    {
+        visits.count(1);
+        self.subs.put(session, id, owed);
+    }
+
+    /// Removes the session's subscription of this ID.
+    pub fn remove_sub(&mut self, session: u32, id: u32)
+        ensures { self.new ≡ record self.old { subs = filter (is_not_sub session id) self.old.subs } }
+    {
+        let Some(sub) = self.subs.get(session, id).copied() else {
+            return;
+        };
+        self.subs.are_apart();
+        if let Some(channel) = self.channels.get(sub.session, sub.sid) {
+            let (subs, demand) = (&mut self.subs, &mut self.demand);
+            counted_rows::remove_sub(subs, demand, channel, &sub, session, id);
+        }
+    }
+
+    /// Removes the first subscription on a channel, and tells whether there was one.
+    pub(super) fn remove_sub_on(&mut self, session: u32, sid: u32) -> bool
+        ensures others { self.new ≡ record self.old { subs = self.new.subs } }
+        ensures elsewhere { filter (is_not_sub_on session sid) self.new.subs ≡
+            filter (is_not_sub_on session sid) self.old.subs }
+        ensures one { IsTrue result → length self.new.subs < length self.old.subs }
+        ensures none { result ≡ false → list_any (is_sub_on session sid) self.new.subs ≡ false }
+    {
+        let Some(channel) = self.channels.get(session, sid) else {
+            return false;
+        };
+        self.subs.are_apart();
+        match self.subs.first_on(&channel.real, session, sid) {
+            Some(sub) => {
+                let (subs, demand) = (&mut self.subs, &mut self.demand);
+                counted_rows::remove_sub(subs, demand, channel, &sub, session, sub.id);
+                true
+            }
+            None => false,
+        }
+    }
+}
