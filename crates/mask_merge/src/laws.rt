@@ -1,10 +1,11 @@
 //! Laws of what is wanted together. Each is a call that does nothing, and its contract is the law.
-ghost use Rattle.std.specs.Prelude.{◌≡◌, ℕ, ◌+◌, List, [], ◌∷◌, ◌++◌, map, Option, Some, IfSome, All};
+ghost use Rattle.std.specs.Prelude.{◌≡◌, ℕ, ◌+◌, List, [], ◌∷◌, ◌++◌, map, Bool, Option, Some, IfSome, All};
+ghost use Rattle.std.specs.List.{list_any};
 ghost use Rattle.rows.specs.Rows.{remove_first};
 ghost use Rattle.mask_merge.specs.declared.want.TheConstants.{KNOWN_EVENTS, LOG_EVENT, ALWAYS_ASKED, PROPERTY_EVENT};
 ghost use Rattle.mask_merge.specs.declared.want.Ask.{Ask};
 ghost use Rattle.mask_merge.specs.declared.want.Want.{Want};
-ghost use Rattle.mask_merge.specs.Counts.{counted, counted_with, counted_without, exchanged, wanted, wanted_of, as_native, wants_in};
+ghost use Rattle.mask_merge.specs.Counts.{counted, counted_with, counted_without, exchanged, wanted, wanted_of, as_native, want_asked, wants_in, asks_props, props_wanted};
 ghost use Rattle.mask_merge.specs.Laws.{AsksAlways, HasSame, Meets};
 ghost use Rattle.mask_merge.specs.Merged.{is_want, merged};
 
@@ -62,11 +63,14 @@ pub fn an_exchange_is_one_less_and_one_more()
 {}
 
 /// The counts are enough: they say what the readers that want something want together, where a count
-/// of 0 stands for the native count, and where each wants something and 0 stands for itself.
+/// of 0 stands for the native count, and where each wants something and 0 stands for itself; and
+/// whether any of them asks for the properties.
 pub fn counts_are_enough()
     ensures native { (native : ℕ) (asks : List (Option Ask)) →
         wanted_of native (counted asks) ≡ merged (map (as_native native) (wants_in asks)) }
-    ensures listed { (wants : List Want) → wanted (counted (map Some wants)) ≡ merged wants }
+    ensures listed { (asks : List Ask) → wanted (counted (map Some asks)) ≡ merged (map want_asked asks) }
+    ensures props { (states : Bool) (asks : List (Option Ask)) →
+        props_wanted states (counted asks) ≡ list_any (asks_props states) asks }
 {}
 
 /// What is counted depends on no order.
