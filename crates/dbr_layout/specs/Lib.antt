@@ -1,4 +1,5 @@
 pub mod Dbr
+pub mod Needs
 pub mod Fault
 pub mod Parts
 pub mod Layout

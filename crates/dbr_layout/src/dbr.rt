@@ -10,7 +10,7 @@ pub const ALIGNMENT: usize = 8;
 pub const MAX_PAYLOAD: u32 = 1_048_576;
 
 /// How many bases there are. The types of one form have as many numbers in a row.
-const BASES: u16 = 7;
+pub(crate) const BASES: u16 = 7;
 
 /// What an element is, numbered from 0 in this order.
 #[derive(Clone, Copy, Debug, PartialEq, Eq, Hash)]
@@ -47,7 +47,7 @@ pub enum Form {
 }
 
 impl Base {
-    fn of(number: u16) -> Option<Base>
+    pub(crate) fn of(number: u16) -> Option<Base>
         ensures found { IfSome result (λ base. base_number base ≡ number) }
         ensures none { IsNone result → BASES ≤ number }
     {
@@ -71,7 +71,7 @@ impl Base {
 }
 
 impl Form {
-    fn of(number: u16) -> Option<Form>
+    pub(crate) fn of(number: u16) -> Option<Form>
         ensures found { IfSome result (λ form. form_number form ≡ BASES * number) }
         ensures none { IsNone result → 5 ≤ number }
     {

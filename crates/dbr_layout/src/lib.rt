@@ -7,6 +7,8 @@
 //!   no memory.
 //! - [`Converted::write`] lays what a view shows out under a type, and [`converts`] tells whether there
 //!   is a conversion: none changes a FLOAT or a DOUBLE.
+//! - [`has_properties_by`], [`is_text_by`] and [`is_state_by`] tell of the number of any type, served
+//!   or not, what it needs beside a value: properties, or texts where elements are states.
 //!
 //! The plain, STS and TIME types are served. What is laid out is shown again, whatever bytes follow
 //! (`laws::layouts_read_back`, `laws::views_write_back`). Offsets and element sizes are the tables of
@@ -26,6 +28,7 @@ pub use conversion::converts;
 pub use converted::Converted;
 pub use dbr::{ALIGNMENT, Base, Dbr, Form, MAX_PAYLOAD};
 pub use fault::LayoutFault;
+pub use needs::{has_properties_by, is_state_by, is_text_by};
 pub use view::{Stamp, View};
 
 mod conversion;
@@ -34,4 +37,5 @@ mod dbr;
 mod fault;
 mod fields;
 pub mod laws;
+mod needs;
 mod view;

@@ -4,11 +4,18 @@ use Rattle.mask_merge.specs.declared.kept.Kept.{Kept}
 use Rattle.mask_merge.specs.Counts.{Counts}
 
 abbrev pub counts_of : Kept → Counts
-counts_of kept = record { logs = kept.logs; silent = kept.silent; counts = kept.counts.items }
+counts_of kept =
+    record { logs = kept.logs; silent = kept.silent; props = kept.props; texts = kept.texts; counts = kept.counts.items }
 
--- no more ask for LOG than want something, and there is room for each reader's count
+-- no more ask for LOG, for properties or for texts than want something
+pub record AreWithin (c : Counts) : Type 0 where
+  pub logs : c.logs ≤ length c.counts
+  pub props : c.props ≤ length c.counts
+  pub texts : c.texts ≤ length c.counts
+
+-- and there is room for each reader's count
 pub record Fits (kept : Kept) : Type 0 where
-  pub within : kept.logs ≤ length kept.counts.items
+  pub within : AreWithin (counts_of kept)
   pub room : length kept.counts.items + kept.silent ≤ vec_capacity kept.counts
 
 -- there is room for one reader more

@@ -1,17 +1,19 @@
 //! What a tally keeps: counts, and room for the count of each reader.
-ghost use Rattle.std.specs.Prelude.{◌≡◌, ◌≤◌, ◌<◌, true, length, position, vec_len, vec_capacity, OnOk};
+ghost use Rattle.std.specs.Prelude.{◌≡◌, ◌≤◌, ◌<◌, ◌+◌, ◌^◌, true, length, position, vec_len, vec_capacity, OnOk};
 ghost use Rattle.std.specs.List.{position_or_len};
 ghost use Rattle.rows.specs.Rows.{remove_first};
-ghost use Rattle.mask_merge.specs.Counts.{asks_log, is_count, put_rising, counted_with, left_of, holds, log_mask, greatest_of, wanted_by};
+ghost use Rattle.mask_merge.specs.Counts.{asks_log, more_if, less_if, has_such, is_count, put_rising, counted_with, left_of, holds, log_mask, greatest_of, wanted_by};
 ghost use Rattle.mask_merge.specs.Kept.{counts_of, is_not_less, Fits, HasRoom};
 
-use crate::want::{ALWAYS_ASKED, KNOWN_EVENTS, LOG_EVENT, Want};
+use crate::want::{ALWAYS_ASKED, Ask, KNOWN_EVENTS, LOG_EVENT, Want};
 use std::alloc::AllocError;
 
 #[derive(Debug, Drop)]
 pub(crate) struct Kept {
     pub(crate) logs: usize,
     pub(crate) silent: usize,
+    pub(crate) props: usize,
+    pub(crate) texts: usize,
     pub(crate) counts: Vec<u32>,
 }
 
@@ -21,21 +23,37 @@ fn asks_log(mask: u16) -> bool
     mask & LOG_EVENT == LOG_EVENT
 }
 
+fn more_if(asked: bool, count: usize) -> usize
+    requires { count + 1 < 2 ^ 64 }
+    ensures { result ≡ more_if asked count }
+{
+    if asked { count + 1 } else { count }
+}
+
+fn less_if(asked: bool, count: usize) -> usize
+    ensures { result ≡ less_if asked count }
+{
+    if asked { count.saturating_sub(1) } else { count }
+}
+
+fn has_such(asked: bool, count: usize, all: usize) -> bool
+    ensures { result ≡ has_such asked count all }
+{
+    if asked { count > 0 } else { count < all }
+}
+
 /// Whether such a reader can be among those that are counted.
-pub(crate) fn is_held(kept: &Kept, ask: Option<Want>) -> bool
+pub(crate) fn is_held(kept: &Kept, ask: Option<Ask>) -> bool
     ensures { result ≡ holds ask (counts_of kept.now) }
 {
-    let Some(want) = ask else {
+    let Some(ask) = ask else {
         return kept.silent > 0;
     };
-    if !kept.counts.contains(&want.count) {
-        return false;
-    }
-    if asks_log(want.mask) {
-        kept.logs > 0
-    } else {
-        kept.logs < kept.counts.len()
-    }
+    let all = kept.counts.len();
+    kept.counts.contains(&ask.want.count)
+        && has_such(asks_log(ask.want.mask), kept.logs, all)
+        && has_such(ask.props, kept.props, all)
+        && has_such(ask.texts, kept.texts, all)
 }
 
 /// Makes room for one reader more.
@@ -49,38 +67,38 @@ pub(crate) fn make_room(kept: &mut Kept) -> Result<(), AllocError>
 }
 
 /// Counts one reader more. There is room for it, so no memory is taken.
-pub(crate) fn count_in(kept: &mut Kept, ask: Option<Want>)
+pub(crate) fn count_in(kept: &mut Kept, ask: Option<Ask>)
     requires fits { Fits kept.old }
     requires room { HasRoom kept.old }
     ensures fits { Fits kept.new }
     ensures counted { counts_of kept.new ≡ counted_with ask (counts_of kept.old) }
 {
-    let Some(want) = ask else {
+    let Some(ask) = ask else {
         kept.silent += 1;
         return;
     };
-    put(&mut kept.counts, want.count);
-    if asks_log(want.mask) {
-        kept.logs += 1;
-    }
+    kept.logs = more_if(asks_log(ask.want.mask), kept.logs);
+    kept.props = more_if(ask.props, kept.props);
+    kept.texts = more_if(ask.texts, kept.texts);
+    put(&mut kept.counts, ask.want.count);
 }
 
 /// Counts one reader less, which leaves room for another.
-pub(crate) fn count_out(kept: &mut Kept, ask: Option<Want>)
+pub(crate) fn count_out(kept: &mut Kept, ask: Option<Ask>)
     requires fits { Fits kept.old }
     requires held { holds ask (counts_of kept.old) ≡ true }
     ensures fits { Fits kept.new }
     ensures room { HasRoom kept.new }
     ensures left { counts_of kept.new ≡ left_of ask (counts_of kept.old) }
 {
-    let Some(want) = ask else {
+    let Some(ask) = ask else {
         kept.silent -= 1;
         return;
     };
-    take_away(&mut kept.counts, want.count);
-    if asks_log(want.mask) {
-        kept.logs -= 1;
-    }
+    kept.logs = less_if(asks_log(ask.want.mask), kept.logs);
+    kept.props = less_if(ask.props, kept.props);
+    kept.texts = less_if(ask.texts, kept.texts);
+    take_away(&mut kept.counts, ask.want.count);
 }
 
 fn first_not_less(counts: &[u32], count: u32) -> Option<usize>

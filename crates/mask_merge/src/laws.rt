@@ -1,17 +1,20 @@
 //! Laws of what is wanted together. Each is a call that does nothing, and its contract is the law.
-ghost use Rattle.std.specs.Prelude.{◌≡◌, ℕ, ◌+◌, List, [], ◌∷◌, ◌++◌, map, Option, Some, IfSome, All};
+ghost use Rattle.std.specs.Prelude.{◌≡◌, ℕ, ◌+◌, List, [], ◌∷◌, ◌++◌, map, Bool, Option, Some, IfSome, All};
+ghost use Rattle.std.specs.List.{list_any};
 ghost use Rattle.rows.specs.Rows.{remove_first};
-ghost use Rattle.mask_merge.specs.declared.want.TheConstants.{KNOWN_EVENTS, LOG_EVENT, ALWAYS_ASKED};
+ghost use Rattle.mask_merge.specs.declared.want.TheConstants.{KNOWN_EVENTS, LOG_EVENT, ALWAYS_ASKED, PROPERTY_EVENT};
+ghost use Rattle.mask_merge.specs.declared.want.Ask.{Ask};
 ghost use Rattle.mask_merge.specs.declared.want.Want.{Want};
-ghost use Rattle.mask_merge.specs.Counts.{counted, counted_with, counted_without, exchanged, wanted, wanted_of, as_native, wants_in};
+ghost use Rattle.mask_merge.specs.Counts.{counted, counted_with, counted_without, exchanged, wanted, wanted_of, as_native, want_asked, wants_in, asks_props, props_wanted};
 ghost use Rattle.mask_merge.specs.Laws.{AsksAlways, HasSame, Meets};
 ghost use Rattle.mask_merge.specs.Merged.{is_want, merged};
 
-/// The masks: VALUE is 1, LOG is 2 and ALARM is 4.
+/// The masks: VALUE is 1, LOG is 2, ALARM is 4 and PROPERTY is 8.
 pub fn numbers_are_these()
     ensures known_events { KNOWN_EVENTS ≡ 1 + 2 + 4 }
     ensures log { LOG_EVENT ≡ 2 }
     ensures always_asked { ALWAYS_ASKED ≡ 1 + 4 }
+    ensures property { PROPERTY_EVENT ≡ 8 }
 {}
 
 /// What is asked for meets the want of each reader: none of its known events is left out, and it
@@ -41,33 +44,36 @@ pub fn coming_and_leaving_changes_nothing()
 
 /// One more reader is counted with the others, wherever it comes.
 pub fn counts_follow_one_more()
-    ensures last { (asks : List (Option Want)) (ask : Option Want) →
+    ensures last { (asks : List (Option Ask)) (ask : Option Ask) →
         counted (asks ++ ask ∷ []) ≡ counted_with ask (counted asks) }
-    ensures anywhere { (xs : List (Option Want)) (ask : Option Want) (ys : List (Option Want)) →
+    ensures anywhere { (xs : List (Option Ask)) (ask : Option Ask) (ys : List (Option Ask)) →
         counted (xs ++ ask ∷ ys) ≡ counted_with ask (counted (xs ++ ys)) }
 {}
 
 /// A reader that leaves is no longer counted, and all the others are.
 pub fn counts_follow_one_less()
-    ensures { (xs : List (Option Want)) (ask : Option Want) (ys : List (Option Want)) →
+    ensures { (xs : List (Option Ask)) (ask : Option Ask) (ys : List (Option Ask)) →
         counted_without ask (counted (xs ++ ask ∷ ys)) ≡ counted (xs ++ ys) }
 {}
 
 /// A reader that wants something else than it did is counted as one that left and one that came.
 pub fn an_exchange_is_one_less_and_one_more()
-    ensures { (old new : Option Want) (xs ys : List (Option Want)) →
+    ensures { (old new : Option Ask) (xs ys : List (Option Ask)) →
         exchanged old new (counted (xs ++ old ∷ ys)) ≡ counted (xs ++ new ∷ ys) }
 {}
 
 /// The counts are enough: they say what the readers that want something want together, where a count
-/// of 0 stands for the native count, and where each wants something and 0 stands for itself.
+/// of 0 stands for the native count, and where each wants something and 0 stands for itself; and
+/// whether any of them asks for the properties.
 pub fn counts_are_enough()
-    ensures native { (native : ℕ) (asks : List (Option Want)) →
+    ensures native { (native : ℕ) (asks : List (Option Ask)) →
         wanted_of native (counted asks) ≡ merged (map (as_native native) (wants_in asks)) }
-    ensures listed { (wants : List Want) → wanted (counted (map Some wants)) ≡ merged wants }
+    ensures listed { (asks : List Ask) → wanted (counted (map Some asks)) ≡ merged (map want_asked asks) }
+    ensures props { (states : Bool) (asks : List (Option Ask)) →
+        props_wanted states (counted asks) ≡ list_any (asks_props states) asks }
 {}
 
 /// What is counted depends on no order.
 pub fn counts_have_no_order()
-    ensures { (xs ys : List (Option Want)) → counted (xs ++ ys) ≡ counted (ys ++ xs) }
+    ensures { (xs ys : List (Option Ask)) → counted (xs ++ ys) ≡ counted (ys ++ xs) }
 {}

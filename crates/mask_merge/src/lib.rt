@@ -43,4 +43,4 @@ pub use laws::{
     no_more_is_asked_for, numbers_are_these, order_and_repetition_do_not_matter,
 };
 pub use tally::Tally;
-pub use want::{ALWAYS_ASKED, KNOWN_EVENTS, LOG_EVENT, Want};
+pub use want::{ALWAYS_ASKED, Ask, KNOWN_EVENTS, LOG_EVENT, PROPERTY_EVENT, Want};

@@ -1,14 +1,14 @@
 //! The tally of what readers want.
-ghost use Rattle.std.specs.Prelude.{◌≡◌, Some, None, IsTrue, OnOk, OnErr};
-ghost use Rattle.mask_merge.specs.Counts.{nothing_counted, is_nothing, counted_with, counted_without, exchanged, wanted, wanted_of};
+ghost use Rattle.std.specs.Prelude.{◌≡◌, false, Some, None, IsTrue, OnOk, OnErr};
+ghost use Rattle.mask_merge.specs.Counts.{nothing_counted, is_nothing, ask_for, counted_with, counted_without, exchanged, wanted, wanted_of, props_wanted};
 
 use crate::kept::{Kept, count_in, count_out, is_held, make_room, wanted_by};
-use crate::want::Want;
+use crate::want::{Ask, Want};
 use std::alloc::{AllocError, Global};
 use std::marker::Model;
 
-/// How many readers of a variable ask for LOG and how many want nothing now, and how many elements
-/// each of the others wants. A contract sees it as these counts.
+/// How many readers of a variable ask for LOG, for properties and for texts, how many want nothing
+/// now, and how many elements each of the others wants. A contract sees it as these counts.
 #[derive(Debug, Drop)]
 pub struct Tally {
     kept: Kept,
@@ -34,6 +34,8 @@ impl Tally {
             kept: Kept {
                 logs: 0,
                 silent: 0,
+                props: 0,
+                texts: 0,
                 counts: Vec::new(alloc),
             },
         }
@@ -61,13 +63,41 @@ impl Tally {
         wanted_by(native, self.kept.logs, &self.kept.counts)
     }
 
-    /// Counts one reader more, which wants these events and this count. Equal ones may be there.
-    pub fn add(&mut self, mask: u16, count: u32) -> Result<(), AllocError>
-        ensures ok { OnOk result (self.new ≡ counted_with (Some (record { mask = mask; count = count })) self.old) }
+    /// Whether anybody asks for the properties, where texts don't take them.
+    pub fn props(&self) -> bool
+        ensures { result ≡ props_wanted false self.now }
+    {
+        self.props_of(false)
+    }
+
+    /// Whether anybody asks for the properties of a variable whose elements are states or aren't: of
+    /// states a text takes them too.
+    pub fn props_of(&self, states: bool) -> bool
+        ensures { result ≡ props_wanted states self.now }
+    {
+        self.kept.props > 0 || states && self.kept.texts > 0
+    }
+
+    /// Counts one reader more, which wants these events and this count, and the properties or not.
+    /// Equal ones may be there.
+    pub fn add(&mut self, mask: u16, count: u32, props: bool) -> Result<(), AllocError>
+        ensures ok { OnOk result (self.new ≡ counted_with (Some (ask_for mask count props)) self.old) }
+        ensures err { OnErr result (self.new ≡ self.old) }
+    {
+        self.add_ask(Ask {
+            want: Want { mask, count },
+            props,
+            texts: false,
+        })
+    }
+
+    /// Counts one reader more, which asks for this. Equal ones may be there.
+    pub fn add_ask(&mut self, ask: Ask) -> Result<(), AllocError>
+        ensures ok { OnOk result (self.new ≡ counted_with (Some ask) self.old) }
         ensures err { OnErr result (self.new ≡ self.old) }
     {
         make_room(&mut self.kept)?;
-        count_in(&mut self.kept, Some(Want { mask, count }));
+        count_in(&mut self.kept, Some(ask));
         Ok(())
     }
 
@@ -81,13 +111,24 @@ impl Tally {
         Ok(())
     }
 
-    /// Counts one reader less, which wanted these events and this count, where such a one is counted.
-    pub fn remove(&mut self, mask: u16, count: u32)
-        ensures { self.new ≡ counted_without (Some (record { mask = mask; count = count })) self.old }
+    /// Counts one reader less, which wanted these events and this count, and the properties or not,
+    /// where such a one is counted.
+    pub fn remove(&mut self, mask: u16, count: u32, props: bool)
+        ensures { self.new ≡ counted_without (Some (ask_for mask count props)) self.old }
     {
-        let want = Some(Want { mask, count });
-        if is_held(&self.kept, want) {
-            count_out(&mut self.kept, want);
+        self.remove_ask(Ask {
+            want: Want { mask, count },
+            props,
+            texts: false,
+        });
+    }
+
+    /// Counts one reader less, which asked for this, where such a one is counted.
+    pub fn remove_ask(&mut self, ask: Ask)
+        ensures { self.new ≡ counted_without (Some ask) self.old }
+    {
+        if is_held(&self.kept, Some(ask)) {
+            count_out(&mut self.kept, Some(ask));
         }
     }
 
@@ -100,9 +141,9 @@ impl Tally {
         }
     }
 
-    /// Counts a reader that wants something else than it did, where such a one is counted; `None` is
+    /// Counts a reader that asks for something else than it did, where such a one is counted; `None` is
     /// one that wants nothing. This takes no memory.
-    pub fn exchange(&mut self, old: Option<Want>, new: Option<Want>)
+    pub fn exchange(&mut self, old: Option<Ask>, new: Option<Ask>)
         ensures { self.new ≡ exchanged old new self.old }
     {
         if is_held(&self.kept, old) {
