@@ -6,8 +6,11 @@
 //! - `session N`, `channel S SID`, `sub S SID ID`, `read S SID IOID`: a row is added, but no session,
 //!   channel or subscription that stands. The last number may be a range, as `0-1023`, which adds so
 //!   many. An answer is given where a row is refused;
+//! - `typed S SID ID TYPE MASK`: a subscription of this type and these events; those that `sub` adds
+//!   are of type 20, and ask for VALUE and ALARM;
 //! - `put session N HOST`, `put channel S SID REACH RIGHTS`, `put sub S ID`: the session counts as
-//!   one of that host, which is fixed, and is paused; the subscription is owed nothing;
+//!   one of that host, which is fixed, and is paused; behind the rights of a channel may stand
+//!   `props`, where a read on it needs properties; the subscription is owed nothing;
 //! - `find session N`, `find channel S SID`, `find sub S ID`: the row, or `none`;
 //! - `remove` before what a row is named by;
 //! - `count S`: how many channels, subscriptions and reads the session has;
@@ -15,6 +18,8 @@
 //!   and these one by one. Channels 50 to 99 are on B:SP, others on A:SP;
 //! - `want NAME NATIVE`: the events and the count that its rows want together where its native count is
 //!   this, or `none`;
+//! - `props NAME`, `props NAME states`: whether its rows need properties, where its elements are no
+//!   states, or are states;
 //! - `of S`: the channels and subscriptions of the session, one by one;
 //! - `show`: all rows, of sessions the ten of the lowest numbers, in order;
 //! - `visits`: how many rows were looked at since the beginning.
@@ -22,7 +27,7 @@
 //! Numbers and words that aren't there are 0 and empty. The functions return no error, as in `link_rows`:
 //! what they tell would show one.
 use crate::words::Told;
-use channel_table::{Channel, ClientSub, Session, Table, TableFault, Visits, WaitingRead};
+use channel_table::{Channel, ClientSub, Reach, Session, Table, TableFault, Visits, WaitingRead};
 use pv_name::{Host, Name};
 use std::alloc::Global;
 use std::process::Abort;
@@ -56,8 +61,9 @@ fn call(alloc: Global, table: &mut Table, visits: &mut Visits, line: &str, told:
         "count" => count(table, number(line, 1), told),
         "show" => show(alloc, table, visits, told),
         "visits" => told.line(&visits.visited()),
-        "on" | "want" => show_name(alloc, table, visits, line, told),
+        "on" | "want" | "props" => show_name(alloc, table, visits, line, told),
         "of" => show_of(table, visits, number(line, 1), told),
+        "typed" => refused(add_sub(table, visits, typed_sub(line)), told),
         _ => add(alloc, table, visits, line, told),
     }
 }
@@ -168,8 +174,11 @@ fn channel(alloc: Global, session: u32, sid: u32) -> Option<Channel> {
         cid: 7,
         asked,
         real,
-        reach: 0,
-        rights: 3,
+        reach: Reach {
+            count: 0,
+            props: false,
+        },
+        rights_told: 3,
     })
 }
 
@@ -194,6 +203,19 @@ fn sub(session: u32, sid: u32, id: u32) -> ClientSub {
     }
 }
 
+/// A subscription whose type and events are told.
+fn typed_sub(line: &str) -> ClientSub {
+    ClientSub {
+        dtype: small(line, 4),
+        mask: small(line, 5),
+        ..sub(number(line, 1), number(line, 2), number(line, 3))
+    }
+}
+
+fn small(line: &str, place: usize) -> u16 {
+    word(line, place).parse().unwrap_or(0)
+}
+
 fn read(session: u32, sid: u32, ioid: u32) -> WaitingRead {
     WaitingRead {
         session,
@@ -212,8 +234,11 @@ fn put(alloc: Global, table: &mut Table, visits: &mut Visits, line: &str, told: 
             Err(_) => told.line(&"no host"),
         },
         "channel" => {
-            let (sid, reach, rights) = (number(line, 3), number(line, 4), number(line, 5));
-            table.put_channel(visits, session, sid, reach, rights);
+            let reach = Reach {
+                count: number(line, 4),
+                props: word(line, 6) == "props",
+            };
+            table.put_channel(visits, session, number(line, 3), reach, number(line, 5));
         }
         _ => table.put_sub(visits, session, number(line, 3), false),
     }
@@ -295,6 +320,7 @@ fn show_reads(rows: &[WaitingRead], told: &mut Told) {
 fn show_name(alloc: Global, table: &Table, visits: &mut Visits, line: &str, told: &mut Told) {
     match (Name::read(alloc, word(line, 1).as_bytes()), word(line, 0)) {
         (Ok(name), "on") => show_on(table, visits, &name, told),
+        (Ok(name), "props") => told.line(&table.props_on(&name, word(line, 2) == "states")),
         (Ok(name), _) => show_want(table, &name, number(line, 2), told),
         (Err(_), _) => told.line(&"no name"),
     }
@@ -370,9 +396,12 @@ fn show_channel(row: &Channel, told: &mut Told) {
     told.word(&row.sid);
     told.word(&row.real.text());
     told.word(&"reach");
-    told.word(&row.reach);
+    told.word(&row.reach.count);
+    if row.reach.props {
+        told.word(&"with props");
+    }
     told.word(&"rights");
-    told.line(&row.rights);
+    told.line(&row.rights_told);
 }
 
 fn show_read(row: &WaitingRead, told: &mut Told) {

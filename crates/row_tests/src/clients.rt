@@ -425,55 +425,6 @@ find channel 1 10
     );
 }
 
-/// What readers want goes by the rights that their clients were last told.
-#[test]
-fn what_is_wanted_follows_the_rows(rt: HostRuntime) {
-    tells(
-        &rt,
-        rt.alloc(),
-        "\
-session 1
-channel 1 11
-channel 1 12
-",
-        "\
-want A:SP 8
-> none
-sub 1 11 1
-sub 1 12 2
-want A:SP 8
-> want 5 8
-put channel 1 12 20 3
-want A:SP 8
-> want 5 20
-put channel 1 12 20 2
-want A:SP 8
-> want 5 8
-put channel 1 11 0 2
-want A:SP 8
-> none
-put channel 1 11 0 1
-put channel 1 12 20 1
-want A:SP 8
-> want 5 20
-remove channel 1 12
-want A:SP 8
-> want 5 8
-want B:SP 8
-> none
-remove sub 1 1
-want A:SP 8
-> none
-visits
-> 10
-want A:SP 8
-> none
-visits
-> 10
-",
-    );
-}
-
 /// The example at the head of the crate.
 #[test]
 fn a_read_names_a_channel(rt: HostRuntime) {

@@ -11,6 +11,8 @@ mod link_rows;
 #[cfg(test)]
 mod links;
 #[cfg(test)]
+mod readers;
+#[cfg(test)]
 mod wants;
 #[cfg(test)]
 mod words;
