@@ -174,7 +174,7 @@ same_where_alike true false sub e = cc
 same_where_alike false true sub e = cc
 same_where_alike false false sub e = refl
 
-module _ (channels : List Channel) (subs : List ClientSub) (k : Key) (channel : Channel) (reach rights : ℕ)
+module _ (channels : List Channel) (subs : List ClientSub) (k : Key) (channel : Channel) (reach : Reach) (rights : ℕ)
     (found : find (is_channel k.owner k.id) channels ≡ Some channel) where
   abbrev pub with_change : List Channel
   with_change = change_first (is_channel k.owner k.id) (with_reach_and_rights reach rights) channels
@@ -279,7 +279,7 @@ module _ (channels : List Channel) (subs : List ClientSub) (k : Key) (channel : 
         by_key n = ids_of_row (λ session sid. rights_exchanged (may_read channel.rights_told) (may_read rights) session sid (filter (is_to channels n) subs) (counted (asks_on channels subs n))) k.owner k.id channel own_ids
 
 -- a channel with another reach and other rights, where it stands
-pub demand_put : (channels after : List Channel) (subs : SubRows) (k : Key) (reach rights : ℕ) (old new : List (List ℕ × Counts)) → IsApart channel_key channels → IsApart sub_key subs.rows → FollowSubs channels subs
+pub demand_put : (channels after : List Channel) (subs : SubRows) (k : Key) (reach : Reach) (rights : ℕ) (old new : List (List ℕ × Counts)) → IsApart channel_key channels → IsApart sub_key subs.rows → FollowSubs channels subs
     → after ≡ change_first (is_channel k.owner k.id) (with_reach_and_rights reach rights) channels → IsRecounted (find (is_channel k.owner k.id) channels) reach rights subs old new → IsDemand channels subs.rows old → IsDemand after subs.rows new
 demand_put channels after subs k reach rights old new apart subs_apart follow is changes demand =
     elim (find (is_channel k.owner k.id) channels) as (λ o. find (is_channel k.owner k.id) channels ≡ o → IsRecounted o reach rights subs old new → IsDemand after subs.rows new) [

@@ -53,7 +53,7 @@ module _ {V : Type 0} (key home : V → Key) where
   }
 
   -- a channel with another reach and other rights
-  pub follow_changed : (channels : List Channel) (rows : List V) (on : List (List ℕ × List Key)) (session sid reach rights : ℕ) → FollowChannels key home channels rows on → FollowChannels key home (change_first (is_channel session sid) (with_reach_and_rights reach rights) channels) rows on
+  pub follow_changed : (channels : List Channel) (rows : List V) (on : List (List ℕ × List Key)) (session sid : ℕ) (reach : Reach) (rights : ℕ) → FollowChannels key home channels rows on → FollowChannels key home (change_first (is_channel session sid) (with_reach_and_rights reach rights) channels) rows on
   follow_changed channels rows on session sid reach rights before =
       let changed : List Channel = change_first (is_channel session sid) (with_reach_and_rights reach rights) channels in
       record {

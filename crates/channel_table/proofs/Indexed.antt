@@ -56,7 +56,7 @@ index_less old new before after k apart is unlisted index =
     ] refl unlisted)
 
 -- a channel with another reach and other rights
-pub index_put : (old new : List (Key × Channel)) (lists : List (List ℕ × List Key)) (k : Key) (reach rights : ℕ) → new ≡ change_first (has_key k) (changed_by (with_reach_and_rights reach rights)) old → IsChannelIndex old lists → IsChannelIndex new lists
+pub index_put : (old new : List (Key × Channel)) (lists : List (List ℕ × List Key)) (k : Key) (reach : Reach) (rights : ℕ) → new ≡ change_first (has_key k) (changed_by (with_reach_and_rights reach rights)) old → IsChannelIndex old lists → IsChannelIndex new lists
 index_put old new lists k reach rights is index =
     index_of new (change_first (λ row. same_key (channel_key row) k) (with_reach_and_rights reach rights) (map row_of old)) lists
     (under_change channel_key old index.under_keys k (with_reach_and_rights reach rights) new (λ row. refl) is)

@@ -10,6 +10,7 @@ pub mod Mapped
 pub mod Numbered
 pub mod Removal
 pub mod Rising
+pub mod Somebody
 pub mod TalliesByName
 pub mod Waiting
 pub mod Walked

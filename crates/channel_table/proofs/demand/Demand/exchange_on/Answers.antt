@@ -1,11 +1,21 @@
-use Rattle.std.proofs.Common.{is_some, ap, sym, ◌∙◌}
-use Rattle.mask_merge.specs.Counts.{Counts}
+use Rattle.std.proofs.Common.{is_some, subst, ap, sym, ◌∙◌}
+use Rattle.mask_merge.specs.Counts.{Counts, is_nothing}
 use Rattle.row_index.specs.Lists.{of}
 use Rattle.channel_table.specs.Indexes.{rows_at, sub_key}
 use Rattle.channel_table.specs.Demand.{all_exchanged}
 use Rattle.channel_table.proofs.Counting.{all_exchanged_of_nothing}
+use Rattle.channel_table.proofs.Somebody.{somebody_all_exchanged, somebody_there, somebody_updated}
 use Rattle.channel_table.proofs.TalliesByName.{demand_there, demand_updated, demand_without}
 use Rattle.channel_table.proofs.demand.Demand.exchange_on.Goals as goal
+
+pub invariant_of-self-2 : goal.invariant_of-self-2
+invariant_of-self-2 c =
+    let rows = rows_at sub_key c.args.subs.now.rows (of c.args.subs.now.on c.args.name.now) in
+    let old = c.self.inside.tallies.entries in
+    let written = c.get_mut.follows.holds c.exchange_on.new.tally in
+    somebody_updated c.args.name.now old (c.get_mut.follows.lender c.exchange_on.new.tally).entries c.exchange_on.new.tally (written.3 (sym (ap is_some c.in-Some.ensures.value))).0
+    (ap is_nothing c.exchange_on.ensures ∙ somebody_all_exchanged c.args.before c.args.after c.args.session c.args.sid rows c.in-Some.tally.now (somebody_there c.args.name.now old c.in-Some.tally.now c.in-Some.ensures.value c.self.invariant))
+    c.self.invariant
 
 pub returns-in_default : goal.returns-in_default
 returns-in_default c =

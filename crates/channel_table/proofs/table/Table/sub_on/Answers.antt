@@ -3,7 +3,7 @@ use Rattle.std.specs.List.{filter}
 use Rattle.channel_table.specs.ClientRows.{ClientRows, is_sub_to}
 use Rattle.channel_table.specs.Indexes.{sub_key, is_to}
 use Rattle.channel_table.proofs.Listed.{nth_listed}
-use Rattle.channel_table.proofs.table.subs.Table.sub_on.Goals as goal
+use Rattle.channel_table.proofs.table.Table.sub_on.Goals as goal
 
 -- the nth key of the name is the key of the nth subscription to it
 pub returns-clause-nth : goal.returns-clause-nth

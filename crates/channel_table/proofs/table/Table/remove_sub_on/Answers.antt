@@ -7,7 +7,7 @@ use Rattle.channel_table.specs.Indexes.{sub_home, sub_key}
 use Rattle.channel_table.proofs.Following.{bare_without, elsewhere_kept, first_found, follow_first_removed, found_by_key, on_ids}
 use Rattle.channel_table.proofs.Asking.{demand_less_row}
 use Rattle.channel_table.proofs.Lists.{found_is_there, found_passes, one_fewer_left, unfound_is_absent}
-use Rattle.channel_table.proofs.table.subs.Table.remove_sub_on.Goals as goal
+use Rattle.channel_table.proofs.table.Table.remove_sub_on.Goals as goal
 
 -- no such channel
 pub returns-in_default-clause-none : goal.returns-in_default-clause-none

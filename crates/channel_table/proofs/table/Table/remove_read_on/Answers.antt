@@ -6,7 +6,7 @@ use Rattle.channel_table.specs.Reads.{is_not_read_on, is_read_on, same_read}
 use Rattle.channel_table.proofs.Lists.{fewer_without_first, kept_without_first, unfound_is_absent}
 use Rattle.channel_table.proofs.Mapped.{any_mapped}
 use Rattle.channel_table.proofs.Waiting.{first_on_waits, like_stays}
-use Rattle.channel_table.proofs.table.reads.Table.remove_read_on.Goals as goal
+use Rattle.channel_table.proofs.table.Table.remove_read_on.Goals as goal
 
 pub returns-in-Some-clause-elsewhere : goal.returns-in-Some-clause-elsewhere
 returns-in-Some-clause-elsewhere c =

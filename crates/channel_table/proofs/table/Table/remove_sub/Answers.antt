@@ -7,7 +7,7 @@ use Rattle.channel_table.specs.Indexes.{sub_home, sub_key}
 use Rattle.channel_table.proofs.Following.{follow_removed, stands_of}
 use Rattle.channel_table.proofs.Asking.{demand_less_row}
 use Rattle.channel_table.proofs.Lists.{none_dropped, unfound_is_absent}
-use Rattle.channel_table.proofs.table.subs.Table.remove_sub.Goals as goal
+use Rattle.channel_table.proofs.table.Table.remove_sub.Goals as goal
 
 -- no subscription of these IDs
 pub returns-in_default : goal.returns-in_default

@@ -10,7 +10,7 @@ use Rattle.channel_table.proofs.Keyed.{found_again}
 use Rattle.channel_table.proofs.Lists.{found_passes, none_is_first, unfound_is_absent}
 use Rattle.channel_table.proofs.Mapped.{any_mapped}
 use Rattle.channel_table.proofs.Waiting.{first_like_goes, like_ids, none_like}
-use Rattle.channel_table.proofs.table.reads.Table.remove_read.Goals as goal
+use Rattle.channel_table.proofs.table.Table.remove_read.Goals as goal
 
 -- where no channel of its IDs stands, no equal read waits
 pub returns-in_default : goal.returns-in_default

@@ -1,8 +1,8 @@
 use Rattle.channel_table.specs.Indexes.{read_home, read_key, sub_home, sub_key}
 use Rattle.channel_table.proofs.Following.{follow_more}
 use Rattle.channel_table.proofs.Asking.{demand_more_channel, demand_same_channels}
-use Rattle.channel_table.proofs.table.channels.Table.add_channel.Goals.{in-Ok, in-Err}
-use Rattle.channel_table.proofs.table.channels.Table.add_channel.Goals as goal
+use Rattle.channel_table.proofs.table.Table.add_channel.Goals.{in-Ok, in-Err}
+use Rattle.channel_table.proofs.table.Table.add_channel.Goals as goal
 
 pub invariant_of-self : goal.invariant_of-self
 invariant_of-self c =

@@ -6,8 +6,8 @@ use Rattle.channel_table.proofs.Following.{follow_added, follow_same}
 use Rattle.channel_table.specs.Demand.{asks_on}
 use Rattle.channel_table.proofs.Asking.{demand_added, demand_same}
 use Rattle.channel_table.proofs.Lists.{found_is_there, unfound_is_absent}
-use Rattle.channel_table.proofs.table.subs.Table.add_sub.Goals.{in-Ok, in-Err}
-use Rattle.channel_table.proofs.table.subs.Table.add_sub.Goals as goal
+use Rattle.channel_table.proofs.table.Table.add_sub.Goals.{in-Ok, in-Err}
+use Rattle.channel_table.proofs.table.Table.add_sub.Goals as goal
 
 pub returns-in_default-clause-missing : goal.returns-in_default-clause-missing
 returns-in_default-clause-missing c =

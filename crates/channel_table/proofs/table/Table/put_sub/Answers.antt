@@ -3,7 +3,7 @@ use Rattle.channel_table.specs.Subs.{is_sub, with_owed}
 use Rattle.channel_table.specs.Indexes.{sub_home, sub_key}
 use Rattle.channel_table.proofs.Following.{follow_put}
 use Rattle.channel_table.proofs.Asking.{demand_owed}
-use Rattle.channel_table.proofs.table.subs.Table.put_sub.Goals as goal
+use Rattle.channel_table.proofs.table.Table.put_sub.Goals as goal
 
 pub invariant_of-self : goal.invariant_of-self
 invariant_of-self c = record {

@@ -2,7 +2,7 @@ use Rattle.std.proofs.Common.{ap, ◌∙◌}
 use Rattle.std.specs.List.{filter}
 use Rattle.channel_table.specs.ClientRows.{ClientRows, is_read_for}
 use Rattle.channel_table.proofs.Waiting.{all_waiting}
-use Rattle.channel_table.proofs.table.reads.Table.reads_for.Goals as goal
+use Rattle.channel_table.proofs.table.Table.reads_for.Goals as goal
 
 -- the keys of the name are those of the reads that wait for it
 pub returns-clause-found : goal.returns-clause-found
