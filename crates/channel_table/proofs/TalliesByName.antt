@@ -29,6 +29,17 @@ demand_without f name entries at none n =
       | false ↦ λ _. refl
     ] refl
 
+-- where what is kept under a name counts nobody any longer, and goes
+pub demand_gone : (f : Counts → Counts) (name : List ℕ) (old mid new : List (List ℕ × Counts)) (counts : Counts)
+    → ((n : List ℕ) → lookup (bytes_eq n) mid ≡ cond (bytes_eq name n) (Some counts) (lookup (bytes_eq n) old)) → ((n : List ℕ) → lookup (bytes_eq n) new ≡ cond (bytes_eq name n) None (lookup (bytes_eq n) mid))
+    → counts ≡ f (demand_of old name) → counts ≡ nothing_counted → ChangesDemand name f old new
+demand_gone f name old mid new counts updates goes is none n =
+    ap (λ found. unwrap_or found nothing_counted) (goes n)
+    ∙ elim (bytes_eq name n) as (λ t. bytes_eq name n ≡ t → unwrap_or (cond t None (lookup (bytes_eq n) mid)) nothing_counted ≡ cond t (f (demand_of old n)) (demand_of old n)) [
+      | true ↦ λ e. sym none ∙ is ∙ ap (λ k. f (demand_of old k)) (same_bytes name n e)
+      | false ↦ λ e. ap (λ found. unwrap_or found nothing_counted) (updates n ∙ ap (λ t. cond t (Some counts) (lookup (bytes_eq n) old)) e)
+    ] refl
+
 -- an ask that is counted and then counted no longer
 pub demand_back : (name : List ℕ) (ask : Option Ask) (old mid new : List (List ℕ × Counts)) → ChangesDemand name (counted_with ask) old mid → ChangesDemand name (counted_without ask) mid new → AreCounts old → SameDemand old new
 demand_back name ask old mid new first second counts n =

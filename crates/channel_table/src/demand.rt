@@ -108,9 +108,10 @@ impl Demand {
     pub(crate) fn exchange(&mut self, name: &Name, before: Option<Ask>, after: Option<Ask>)
         ensures { ChangesDemand name.now (exchanged before after) self.old self.new }
     {
-        if let Some(tally) = self.tallies.get_mut(name) {
-            tally.exchange(before, after);
-        }
+        let Some(tally) = self.tallies.get_mut(name) else {
+            return;
+        };
+        tally.exchange(before, after);
     }
 
     /// The client of a channel on this name may read now, or may no longer: what the subscriptions on
