@@ -1,5 +1,5 @@
 -- Counts after changes are those of the readers that stand.
-use Rattle.std.proofs.Common.{◌≡◌, ℕ, ◌+◌, List, [], ◌∷◌, ◌++◌, Bool, true, false, cond, ◌&&◌, ◌||◌, length, map, fold, Option, Some, None, refl, sym, ap, ap₂, ◌∙◌, arith, rules}
+use Rattle.std.proofs.Common.{◌≡◌, ℕ, List, [], ◌∷◌, Bool, true, false, cond, ◌||◌, length, map, fold, Option, Some, None, refl, sym, ap, ◌∙◌, arith, rules}
 use Rattle.std.specs.Prelude.{◌==◌}
 use Rattle.std.specs.List.{list_any}
 use Rattle.std.proofs.lemmas.Bool.Decides.{nat_tests}
@@ -7,7 +7,7 @@ use Rattle.rows.specs.Rows.{change_first, remove_first}
 use Rattle.mask_merge.specs.declared.want.Ask.{Ask}
 use Rattle.mask_merge.specs.Changes.{Change, Added, Removed, Exchanged, counts_after, after, is_flag, is_ask, readers_after, standing, IsFair, AreFairFrom, AreFair}
 use Rattle.mask_merge.specs.Counts.{counted, counted_with, counted_without, exchanged, is_nothing, wanted_of, as_native, wants_in, asks_props, props_wanted}
-use Rattle.mask_merge.specs.Merged.{is_want, merged}
+use Rattle.mask_merge.specs.Merged.{merged}
 use Rattle.mask_merge.proofs.CountLemmas.{with_twice, with_last, without_with, exchanged_with, within_counted, wanted_is_merged, props_are_asked, put_length}
 
 same_flag : (t u : Bool) → is_flag t u ≡ true → u ≡ t

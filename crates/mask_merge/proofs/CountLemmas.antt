@@ -1,18 +1,17 @@
 -- Counts of readers: what one more and one less leave, and that they are enough to know what all want.
-use Rattle.std.proofs.Common.{◌≡◌, ℕ, zero, suc, ◌+◌, ◌-◌, ◌<◌, ◌≤◌, List, [], ◌∷◌, ◌++◌, Bool, true, false, cond, not, ◌&&◌, ◌||◌, ltb, eqb, length, map, min, max, bit_and, bit_or, Option, Some, None, refl, sym, ap, ap₂, ◌∙◌, arith, rules, ltb-false, ltb-true, lt-ltb, append-nil, inl, inr, ◌⊎◌}
-use Rattle.std.specs.Prelude.{nat_lt, nat_eq, ◌==◌}
+use Rattle.std.proofs.Common.{◌≡◌, ℕ, zero, suc, ◌+◌, ◌-◌, ◌<◌, ◌≤◌, List, [], ◌∷◌, ◌++◌, Bool, true, false, cond, ◌&&◌, ◌||◌, length, map, max, bit_and, bit_or, Option, Some, None, refl, sym, ap, ap₂, ◌∙◌, arith, ltb-false, ltb-true, lt-ltb, append-nil, inl, inr, ◌⊎◌}
+use Rattle.std.specs.Prelude.{nat_lt, ◌==◌}
 use Rattle.std.specs.List.{list_any}
 use Rattle.std.specs.Int.{bit_at}
-use Rattle.std.proofs.lemmas.Grind.{common_steps}
 use Rattle.std.proofs.lemmas.Bool.Decides.{nat_tests}
 use Rattle.std.proofs.lemmas.Nat.{and_le_r}
 use Rattle.std.proofs.lemmas.Nat.Bits.{bit_at_and, bit_at_or, same_from_bits}
 use Rattle.rows.specs.Rows.{remove_first}
-use Rattle.mask_merge.specs.declared.want.TheConstants.{KNOWN_EVENTS, LOG_EVENT, ALWAYS_ASKED}
+use Rattle.mask_merge.specs.declared.want.TheConstants.{KNOWN_EVENTS, ALWAYS_ASKED}
 use Rattle.mask_merge.specs.declared.want.Ask.{Ask}
 use Rattle.mask_merge.specs.declared.want.Want.{Want}
-use Rattle.mask_merge.specs.Merged.{count_of, events, greatest, asked_for, merged}
-use Rattle.mask_merge.specs.Counts.{Counts, asks_log, nothing_counted, is_nothing, put_rising, is_count, more_if, less_if, counted_with, has_such, holds, left_of, counted_without, exchanged, counted, last_of, greatest_of, log_mask, wanted_by, wanted_of, wanted, native_count, as_native, asks_in, want_asked, wants_in, asks_props, props_wanted}
+use Rattle.mask_merge.specs.Merged.{events, greatest, asked_for, merged}
+use Rattle.mask_merge.specs.Counts.{Counts, asks_log, nothing_counted, is_nothing, put_rising, is_count, more_if, less_if, counted_with, has_such, holds, left_of, counted_without, exchanged, counted, last_of, greatest_of, log_mask, wanted_by, wanted_of, wanted, native_count, as_native, want_asked, wants_in, asks_props, props_wanted}
 use Rattle.mask_merge.specs.Kept.{AreWithin}
 use Rattle.mask_merge.proofs.MergedLemmas.{event-step, greatest-step}
 
