@@ -1,5 +1,5 @@
 -- What a type needs beside a value.
-use Rattle.std.specs.Prelude.{ℕ, List, [], ◌∷◌, Bool, true, false, ◌&&◌, not, ◌==◌, flat_map, find, Option, option_map, unwrap_or}
+use Rattle.std.specs.Prelude.{ℕ, [], ◌∷◌, Bool, true, false, ◌&&◌, not, ◌==◌, flat_map, find, Option, option_map, unwrap_or}
 use Rattle.dbr_layout.specs.declared.dbr.Base.{Base}
 use Rattle.dbr_layout.specs.declared.dbr.Base.TheVariants as base
 use Rattle.dbr_layout.specs.declared.dbr.Form.{Form}

@@ -1,5 +1,5 @@
 -- Where a count is put among others, and what is first and last.
-use Rattle.std.proofs.Common.{◌≡◌, ℕ, zero, suc, ◌+◌, ◌-◌, ◌<◌, ◌≤◌, List, [], ◌∷◌, ◌++◌, Bool, true, false, cond, not, length, get_or, take, drop, Option, Some, None, unwrap_or, refl, sym, ap, ◌∙◌, arith, ltb-false, one-add, max}
+use Rattle.std.proofs.Common.{◌≡◌, ℕ, ◌+◌, ◌-◌, ◌<◌, ◌≤◌, List, [], ◌∷◌, Bool, true, false, cond, not, length, get_or, Some, None, unwrap_or, refl, sym, ap, ◌∙◌, arith, ltb-false, one-add, max}
 use Rattle.std.specs.Prelude.{◌==◌, nat_lt, nat_le, insert, position}
 use Rattle.std.specs.List.{position_or_len}
 use Rattle.std.proofs.lemmas.Bool.Decides.{nat_tests}

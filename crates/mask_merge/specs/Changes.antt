@@ -1,5 +1,5 @@
 -- Readers that come, leave and change, one after another.
-use Rattle.std.specs.Prelude.{◌≡◌, List, [], ◌∷◌, ◌++◌, Bool, true, false, if◌then◌else◌, not, ◌&&◌, fold, Unit, Option, Some, None}
+use Rattle.std.specs.Prelude.{◌≡◌, List, [], ◌∷◌, ◌++◌, Bool, true, false, if◌then◌else◌, not, ◌&&◌, fold, Option, Some, None}
 use Rattle.std.specs.List.{list_any}
 use Rattle.rows.specs.Rows.{change_first, remove_first}
 use Rattle.mask_merge.specs.declared.want.Ask.{Ask}

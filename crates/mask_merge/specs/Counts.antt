@@ -66,7 +66,7 @@ holds None c = nat_lt 0 c.silent
 holds (Some ask) c =
     list_any (is_count ask.want.count) c.counts
     && (has_such (asks_log ask.want.mask) c.logs (length c.counts)
-      && (has_such ask.props c.props (length c.counts) && has_such ask.texts c.texts (length c.counts)))
+    && (has_such ask.props c.props (length c.counts) && has_such ask.texts c.texts (length c.counts)))
 
 -- what is left of the counts where such a reader is among them
 abbrev pub left_of : Option Ask → Counts → Counts

@@ -33,7 +33,11 @@ fn more_if(asked: bool, count: usize) -> usize
 fn less_if(asked: bool, count: usize) -> usize
     ensures { result ≡ less_if asked count }
 {
-    if asked { count.saturating_sub(1) } else { count }
+    if asked {
+        count.saturating_sub(1)
+    } else {
+        count
+    }
 }
 
 fn has_such(asked: bool, count: usize, all: usize) -> bool

@@ -1,11 +1,12 @@
 //! Laws of what is wanted together. Each is a call that does nothing, and its contract is the law.
-ghost use Rattle.std.specs.Prelude.{◌≡◌, ℕ, ◌+◌, List, [], ◌∷◌, ◌++◌, map, Bool, Option, Some, IfSome, All};
+ghost use Rattle.std.specs.Prelude.{◌≡◌, ℕ, ◌+◌, List, [], ◌∷◌, ◌++◌, ◌==◌, length, map, Bool, Option, Some, IfSome, All};
 ghost use Rattle.std.specs.List.{list_any};
 ghost use Rattle.rows.specs.Rows.{remove_first};
 ghost use Rattle.mask_merge.specs.declared.want.TheConstants.{KNOWN_EVENTS, LOG_EVENT, ALWAYS_ASKED, PROPERTY_EVENT};
 ghost use Rattle.mask_merge.specs.declared.want.Ask.{Ask};
 ghost use Rattle.mask_merge.specs.declared.want.Want.{Want};
-ghost use Rattle.mask_merge.specs.Counts.{counted, counted_with, counted_without, exchanged, wanted, wanted_of, as_native, want_asked, wants_in, asks_props, props_wanted};
+ghost use Rattle.mask_merge.specs.Changes.{Change, AreFair, after, standing};
+ghost use Rattle.mask_merge.specs.Counts.{is_nothing, counted, counted_with, counted_without, exchanged, wanted, wanted_of, as_native, want_asked, wants_in, asks_props, props_wanted};
 ghost use Rattle.mask_merge.specs.Laws.{AsksAlways, HasSame, Meets};
 ghost use Rattle.mask_merge.specs.Merged.{is_want, merged};
 
@@ -76,4 +77,20 @@ pub fn counts_are_enough()
 /// What is counted depends on no order.
 pub fn counts_have_no_order()
     ensures { (xs ys : List (Option Ask)) → counted (xs ++ ys) ≡ counted (ys ++ xs) }
+{}
+
+/// What a tally is for: readers come, leave and ask for something else, in whatever order, and its
+/// counts are always those of the readers that stand. So they say what those want together, whether
+/// any of them asks for the properties, and whether any stands at all. Each reader that leaves or
+/// changes has to stand; counts don't tell which mask goes with which count, so a call for a reader
+/// that isn't there may take something from two that are.
+pub fn tallies_follow_those_that_stand()
+    ensures counts { (changes : List Change) → AreFair changes →
+        after changes ≡ counted (standing changes) }
+    ensures wanted { (changes : List Change) → AreFair changes → (native : ℕ) →
+        wanted_of native (after changes) ≡ merged (map (as_native native) (wants_in (standing changes))) }
+    ensures props { (changes : List Change) → AreFair changes → (states : Bool) →
+        props_wanted states (after changes) ≡ list_any (asks_props states) (standing changes) }
+    ensures nobody { (changes : List Change) → AreFair changes →
+        is_nothing (after changes) ≡ (length (standing changes) == 0) }
 {}

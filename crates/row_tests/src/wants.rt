@@ -1,5 +1,5 @@
 //! Tallies that readers join and leave.
-use mask_merge::{Tally, Want};
+use mask_merge::{Ask, Tally, Want};
 use std::alloc::Global;
 use std::process::Abort;
 use std::test::Fail;
@@ -26,14 +26,14 @@ fn wanted(
     let mut tally = Tally::new(alloc);
     join(&mut tally, come)?;
     for (mask, count) in go {
-        tally.remove(*mask, *count);
+        tally.remove(*mask, *count, false);
     }
     Ok(tally.want().map(|want| (want.mask, want.count)))
 }
 
 fn join(tally: &mut Tally, come: &[(u16, u32)]) -> Result<(), Fail> {
     for (mask, count) in come {
-        tally.add(*mask, *count)?;
+        tally.add(*mask, *count, false)?;
     }
     Ok(())
 }
@@ -73,15 +73,21 @@ fn what_a_reader_wanted_leaves_with_it(rt: HostRuntime) -> Result<(), Fail> {
 #[test]
 fn a_reader_that_may_not_read_wants_nothing(rt: HostRuntime) -> Result<(), Fail> {
     let mut tally = Tally::new(rt.alloc());
-    let want = Some(Want { mask: 2, count: 9 });
+    let ask = Some(Ask {
+        want: Want { mask: 2, count: 9 },
+        props: true,
+        texts: false,
+    });
     tally.add_silent()?;
-    tally.add(1, 3)?;
+    tally.add(1, 3, false)?;
     assert_eq!(rt; tally.want(), Some(Want { mask: 5, count: 3 }));
-    tally.exchange(None, want);
+    tally.exchange(None, ask);
     assert_eq!(rt; tally.want(), Some(Want { mask: 7, count: 9 }));
-    tally.exchange(want, None);
+    assert!(rt; tally.props());
+    tally.exchange(ask, None);
     assert_eq!(rt; tally.want(), Some(Want { mask: 5, count: 3 }));
-    tally.remove(1, 3);
+    assert!(rt; !tally.props());
+    tally.remove(1, 3, false);
     assert_eq!(rt; tally.want(), None);
     assert!(rt; !tally.is_empty());
     tally.remove_silent();
@@ -92,10 +98,66 @@ fn a_reader_that_may_not_read_wants_nothing(rt: HostRuntime) -> Result<(), Fail>
 #[test]
 fn a_count_of_0_stands_for_the_native_count(rt: HostRuntime) -> Result<(), Fail> {
     let mut tally = Tally::new(rt.alloc());
-    tally.add(1, 3)?;
+    tally.add(1, 3, false)?;
     assert_eq!(rt; tally.want_of(8), Some(Want { mask: 5, count: 3 }));
-    tally.add(1, 0)?;
+    tally.add(1, 0, false)?;
     assert_eq!(rt; tally.want_of(8), Some(Want { mask: 5, count: 8 }));
     assert_eq!(rt; tally.want_of(2), Some(Want { mask: 5, count: 3 }));
+    Ok(())
+}
+
+#[test]
+fn properties_are_wanted_while_a_reader_asks_for_them(rt: HostRuntime) -> Result<(), Fail> {
+    let mut tally = Tally::new(rt.alloc());
+    assert!(rt; !tally.props());
+    tally.add(1, 3, false)?;
+    assert!(rt; !tally.props());
+    tally.add(4, 10, true)?;
+    tally.add(4, 10, true)?;
+    assert_eq!(rt; tally.want(), Some(Want { mask: 5, count: 10 }));
+    assert!(rt; tally.props());
+    tally.remove(4, 10, true);
+    assert!(rt; tally.props());
+    tally.remove(4, 10, true);
+    assert!(rt; !tally.props());
+    assert_eq!(rt; tally.want(), Some(Want { mask: 5, count: 3 }));
+    Ok(())
+}
+
+#[test]
+fn a_reader_leaves_as_it_came(rt: HostRuntime) -> Result<(), Fail> {
+    let mut tally = Tally::new(rt.alloc());
+    tally.add(8, 1, true)?;
+    tally.remove(8, 1, false);
+    assert_eq!(rt; tally.want(), Some(Want { mask: 5, count: 1 }));
+    assert!(rt; tally.props());
+    tally.remove(8, 1, true);
+    assert_eq!(rt; tally.want(), None);
+    assert!(rt; !tally.props());
+    assert!(rt; tally.is_empty());
+    Ok(())
+}
+
+#[test]
+fn texts_take_the_properties_of_states(rt: HostRuntime) -> Result<(), Fail> {
+    let texts = Ask {
+        want: Want { mask: 1, count: 0 },
+        props: false,
+        texts: true,
+    };
+    let mut tally = Tally::new(rt.alloc());
+    tally.add_ask(texts)?;
+    assert!(rt; !tally.props());
+    assert!(rt; !tally.props_of(false));
+    assert!(rt; tally.props_of(true));
+    tally.add(1, 0, true)?;
+    assert!(rt; tally.props_of(false));
+    assert!(rt; tally.props_of(true));
+    tally.remove(1, 0, true);
+    assert!(rt; !tally.props_of(false));
+    assert!(rt; tally.props_of(true));
+    tally.remove_ask(texts);
+    assert!(rt; !tally.props_of(true));
+    assert!(rt; tally.is_empty());
     Ok(())
 }

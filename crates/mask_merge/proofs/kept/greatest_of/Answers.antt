@@ -1,5 +1,5 @@
 -- Of rising counts the last is read, and the native count where the first is 0.
-use Rattle.std.proofs.Common.{◌≡◌, ◌<◌, ◌-◌, ◌∙◌, length, get_or, max, arith}
+use Rattle.std.proofs.Common.{◌≡◌, ◌<◌, ◌-◌, length, get_or, max, arith}
 use Rattle.mask_merge.specs.Counts.{greatest_of}
 use Rattle.mask_merge.proofs.PlaceLemmas.{greatest_native, greatest_last}
 use Rattle.mask_merge.proofs.kept.greatest_of.Goals as goal
