@@ -68,6 +68,11 @@ abbrev pub has_other_sub : ℕ → ℕ → Subject → ℕ → Link → Bool
 has_other_sub server cid subject id row =
     has_subscription server id (if is_link server cid row then with_subscription subject None row else row)
 
+-- the second subscription has the ID of the first
+abbrev pub is_same_id : Option Subscription → Option Subscription → Bool
+is_same_id was (Some sub) = has_id sub.id was
+is_same_id was None = false
+
 -- a link of which the server is just asked for the channel
 abbrev pub new_link : ℕ → ℕ → List ℕ → Link
 new_link server cid name = record {

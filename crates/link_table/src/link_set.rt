@@ -3,7 +3,7 @@ ghost use Rattle.std.specs.Prelude.{◌≡◌, [], ◌∷◌, ◌++◌, length, 
 ghost use Rattle.std.specs.List.{filter, find, list_any};
 ghost use Rattle.std.specs.Option.{option_copied};
 ghost use Rattle.rows.specs.Rows.{change_first};
-ghost use Rattle.link_table.specs.Links.{is_link, is_not_link, is_of, is_not_of, is_named, has_other_sub, has_subscription, new_link, with_state, with_subscription};
+ghost use Rattle.link_table.specs.Links.{is_link, is_not_link, is_of, is_not_of, is_named, has_other_sub, has_subscription, is_same_id, new_link, with_state, with_subscription};
 ghost use Rattle.link_table.specs.LinkIndex.{sub_key};
 
 use crate::links::{Link, LinkState, Subject, Subscription, Subscriptions};
@@ -175,10 +175,9 @@ impl LinkSet {
         let Some(link) = self.rows.get(key) else {
             return Ok(());
         };
-        let was = sub_key(server, link.subscriptions.at(subject));
-        let led = sub_key(server, sub);
-        if led != was {
-            self.leads.move_at(subject, was, led, key)?;
+        let was = link.subscriptions.at(subject);
+        if !is_same_id(was, sub) {
+            self.leads.move_at(subject, sub_key(server, was), sub_key(server, sub), key)?;
         }
         if let Some(row) = self.rows.get_mut(key) {
             row.subscriptions.put(subject, sub);
@@ -241,6 +240,16 @@ fn sub_key(server: u32, subscription: Option<Subscription>) -> Option<Key>
             id: server,
         }),
         None => None,
+    }
+}
+
+// Whether the second subscription has the ID of the first.
+fn is_same_id(was: Option<Subscription>, sub: Option<Subscription>) -> bool
+    ensures { result ≡ is_same_id was sub }
+{
+    match (was, sub) {
+        (Some(was), Some(sub)) => was.id == sub.id,
+        _ => false,
     }
 }
 
