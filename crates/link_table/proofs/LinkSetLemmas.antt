@@ -1,5 +1,5 @@
 -- The set of links stays indexed through each of its changes, and holds the links that it should.
-use Rattle.std.proofs.Common.{◌≡◌, ℕ, List, [], ◌∷◌, ◌++◌, false, ◌==◌, Option, Some, None, map, refl, sym, ap, ◌∙◌, true}
+use Rattle.std.proofs.Common.{◌≡◌, ℕ, List, [], ◌∷◌, ◌++◌, false, ◌==◌, Option, Some, None, map, refl, sym, ap, subst, ◌∙◌, true, cond}
 use Rattle.std.specs.Prelude.{slice_get, IfSome}
 use Rattle.std.specs.List.{find, filter, list_any}
 use Rattle.std.specs.Option.{option_and_then, option_or, option_to_list}
@@ -16,14 +16,14 @@ use Rattle.link_table.specs.declared.links.Link.{Link}
 use Rattle.link_table.specs.declared.links.Subject.{Subject}
 use Rattle.link_table.specs.declared.links.Subject.TheVariants.{Values, Properties}
 use Rattle.link_table.specs.declared.links.Subscription.{Subscription}
-use Rattle.link_table.specs.Links.{is_link, is_named, has_id, has_sub_to, has_subscription, has_other_sub, is_same_id, sub_at, with_subscription}
+use Rattle.link_table.specs.Links.{is_link, is_named, has_id, has_sub_to, has_subscription, has_other_sub, is_same_id, new_link, sub_at, with_subscription}
 use Rattle.link_table.specs.Keyed.{entry_by}
-use Rattle.link_table.specs.LinkIndex.{Leads, key, key_of, name_of, sub_key, sub_of, leads_at, led_by, IsFree, LeadEachWay, told_at, first_of, AreIndexed}
+use Rattle.link_table.specs.LinkIndex.{Leads, key, key_of, name_of, sub_key, sub_of, leads_at, led_by, IsFree, LeadEachWay, forgotten, renewed, told_at, first_of, AreIndexed}
 use Rattle.link_table.proofs.IndexLemmas.{found_by_index, led_nowhere, silent_added, same_put, told_added, told_removed}
 use Rattle.link_table.proofs.KeyedLemmas.{keyed_by, row_at, keyed_with_more, keyed_with_fewer, keyed_with_put, found_none, found_passes, none_at_a_key}
 use Rattle.link_table.proofs.LeadsBackLemmas.{lead_as}
 use Rattle.link_table.proofs.NameLemmas.{is_same, is_same_decides, first_of_added, first_beside_added, single_with_more, first_of_removed, first_beside_removed, single_with_fewer}
-use Rattle.link_table.proofs.SubLemmas.{subscribed_tells, subscribed_passes, its_own, found_either_first, found_either_second, second_none, moved_leads, fewer_leads, subs_without, subs_moved, parted_moved, parted_without}
+use Rattle.link_table.proofs.SubLemmas.{subscribed_tells, subscribed_passes, its_own, found_either_first, found_either_second, second_none, moved_leads, subs_without, same_sub_key, kept_key, subs_moved, parted_moved, parted_without}
 
 -- what a link says by its name
 named_tells : (name : List ℕ) (row : Link) → is_named name row ≡ true → name_of row ≡ Some name
@@ -103,6 +103,11 @@ module _ (links : List (Key × Link)) (names : List (List ℕ × List Key)) (lea
             ] refl said
       ] refl
 
+-- a new link has no subscription
+pub bare : (server cid : ℕ) (name : List ℕ) (subject : Subject) → sub_of subject (new_link server cid name) ≡ None
+bare server cid name Values = refl
+bare server cid name Properties = refl
+
 nothing_led : (subject : Subject) → LeadEachWay (told_at (sub_of subject) []) (λ k. value_at k (leads_at subject (record { values = []; properties = [] })))
 nothing_led Values = record { leads = λ k j e. cc; is_led_to = λ j k e. cc }
 nothing_led Properties = record { leads = λ k j e. cc; is_led_to = λ j k e. cc }
@@ -134,7 +139,7 @@ module _ (links : List (Key × Link)) (names names' : List (List ℕ × List Key
   }
 
   -- without the link under a key
-  pub indexed_with_fewer : (k : Key) (row : Link) → value_at k links ≡ Some row → RemovesFrom row.name k names names' → AreIndexed (filter (lacks_key k) links) names' (fewer_leads row leads)
+  pub indexed_with_fewer : (k : Key) (row : Link) → value_at k links ≡ Some row → RemovesFrom row.name k names names' → AreIndexed (filter (lacks_key k) links) names' (forgotten row.server row.subscriptions leads)
   indexed_with_fewer k row there removes =
       let led : first_of names row.name ≡ Some k = indexed.by_name.leads k row.name (ap (option_and_then name_of) there) in
       record {
@@ -168,6 +173,18 @@ module _ (links : List (Key × Link)) (names : List (List ℕ × List Key)) (lea
     by_sub = λ subject. same_put (sub_of subject) k row (f row) links (λ j. value_at j (leads_at subject leads)) (indexed.by_sub subject) there (same subject);
     parted = indexed.parted;
   }
+
+  -- the same, also where the ID is the one that it had
+  pub indexed_with_renewed : (k : Key) (subject : Subject) (sub : Option Subscription) (row : Link) → value_at k links ≡ Some row → row.server ≡ k.owner → (is_same_id (sub_at subject row.subscriptions) sub ≡ false → (to : Subject) → IsFree (sub_key k.owner sub) (leads_at to leads)) → AreIndexed (put_at k links (with_subscription subject sub row)) names (renewed subject (sub_at subject row.subscriptions) sub k leads)
+  indexed_with_renewed k subject sub row there own free =
+      let was = sub_at subject row.subscriptions in
+      let new = with_subscription subject sub row in
+      elim (is_same_id was sub) as (λ t. is_same_id was sub ≡ t → AreIndexed (put_at k links new) names (cond t leads (moved_leads subject (sub_key k.owner was) (sub_key k.owner sub) k leads))) [
+        | true ↦ λ h. indexed_with_kept k (with_subscription subject sub) (λ x. refl) row refl (λ to. kept_key subject to sub row (same_sub_key row.server was sub h)) there
+        | false ↦ λ h.
+            let P : ℕ → Type 0 = λ server. AreIndexed (put_at k links new) names (moved_leads subject (sub_key server was) (sub_key server sub) k leads) in
+            subst P own (indexed_with_sub k subject sub row there (λ to. subst (λ server. IsFree (sub_key server sub) (leads_at to leads)) (sym own) (free h to)))
+      ] refl
 
 -- lists of names in which each name has the same keys
 pub indexed_as : (links : List (Key × Link)) (names names' : List (List ℕ × List Key)) (leads : Leads) → AreIndexed links names leads → SameLists names names' → AreIndexed links names' leads

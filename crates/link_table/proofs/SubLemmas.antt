@@ -12,7 +12,7 @@ use Rattle.link_table.specs.declared.links.Subject.{Subject}
 use Rattle.link_table.specs.declared.links.Subject.TheVariants.{Values, Properties}
 use Rattle.link_table.specs.declared.links.Subscription.{Subscription}
 use Rattle.link_table.specs.Links.{is_of, is_link, has_id, sub_at, has_sub_to, has_subscription, has_other_sub, with_subscription, is_same_id}
-use Rattle.link_table.specs.LinkIndex.{Leads, key, sub_key, sub_of, leads_at, with_leads, with_led, without_led, AreParted, IsFree, LeadEachWay, told_at}
+use Rattle.link_table.specs.LinkIndex.{Leads, key, sub_key, sub_of, leads_at, with_leads, with_led, without_led, AreParted, IsFree, LeadEachWay, forgotten, told_at}
 use Rattle.link_table.proofs.IndexLemmas.{silent_removed, same_put, told_removed, told_put, untold_put, retold_put}
 use Rattle.link_table.proofs.ValueLemmas.{same_key_decides, value_of_added, value_beside_added, value_of_removed, value_beside_removed}
 
@@ -130,12 +130,15 @@ subs_with_put subject k row new (Some i) (Some j) links subs way there said says
 abbrev pub moved_leads : Subject → Option Key → Option Key → Key → Leads → Leads
 moved_leads subject was led k leads = with_leads subject (without_led was (with_led led k (leads_at subject leads))) leads
 
--- without the keys of a link's subscriptions
-abbrev pub fewer_leads : Link → Leads → Leads
-fewer_leads row leads = record { values = without_led (sub_of Values row) leads.values; properties = without_led (sub_of Properties row) leads.properties }
+-- a subscription of the same ID leaves what each subject says
+pub kept_key : (subject to : Subject) (sub : Option Subscription) (row : Link) → sub_key row.server sub ≡ sub_of subject row → sub_of to (with_subscription subject sub row) ≡ sub_of to row
+kept_key Values Values sub row same = same
+kept_key Values Properties sub row same = refl
+kept_key Properties Values sub row same = refl
+kept_key Properties Properties sub row same = same
 
 module _ (links : List (Key × Link)) (leads : Leads) (way : (subject : Subject) → LeadEachWay (told_at (sub_of subject) links) (λ j. value_at j (leads_at subject leads))) (k : Key) (row : Link) (there : value_at k links ≡ Some row) where
-  pub subs_without : (subject : Subject) → LeadEachWay (told_at (sub_of subject) (filter (lacks_key k) links)) (λ j. value_at j (leads_at subject (fewer_leads row leads)))
+  pub subs_without : (subject : Subject) → LeadEachWay (told_at (sub_of subject) (filter (lacks_key k) links)) (λ j. value_at j (leads_at subject (forgotten row.server row.subscriptions leads)))
   subs_without Values = subs_with_fewer Values k row (sub_of Values row) links leads.values (way Values) there refl
   subs_without Properties = subs_with_fewer Properties k row (sub_of Properties row) links leads.properties (way Properties) there refl
 
@@ -181,10 +184,12 @@ parted_beside j k was led subs others free parted =
 pub parted_moved : (subject : Subject) (was led : Option Key) (k : Key) (leads : Leads) → AreParted leads → ((to : Subject) → IsFree led (leads_at to leads)) → AreParted (moved_leads subject was led k leads)
 parted_moved Values was led k leads parted free j = parted_beside j k was led leads.values leads.properties (free Properties) (parted j)
 parted_moved Properties was led k leads parted free j =
-    flipped _ _ (parted_beside j k was led leads.properties leads.values (free Values) (flipped (is_some (value_at j leads.values)) (is_some (value_at j leads.properties)) (parted j)))
+    flipped (is_some (value_at j (without_led was (with_led led k leads.properties)))) (is_some (value_at j leads.values))
+    (parted_beside j k was led leads.properties leads.values (free Values) (flipped (is_some (value_at j leads.values)) (is_some (value_at j leads.properties)) (parted j)))
 
-pub parted_without : (row : Link) (leads : Leads) → AreParted leads → AreParted (fewer_leads row leads)
+pub parted_without : (row : Link) (leads : Leads) → AreParted leads → AreParted (forgotten row.server row.subscriptions leads)
 parted_without row leads parted j =
     let values = without_led (sub_of Values row) leads.values in
     let once = parted_beside j j (sub_of Values row) None leads.values leads.properties tt (parted j) in
-    flipped _ _ (parted_beside j j (sub_of Properties row) None leads.properties values tt (flipped (is_some (value_at j values)) (is_some (value_at j leads.properties)) once))
+    flipped (is_some (value_at j (without_led (sub_of Properties row) leads.properties))) (is_some (value_at j values))
+    (parted_beside j j (sub_of Properties row) None leads.properties values tt (flipped (is_some (value_at j values)) (is_some (value_at j leads.properties)) once))

@@ -1,5 +1,5 @@
 -- How links are found: the key of each, and what leads from a name or a subscription to it.
-use Rattle.std.specs.Prelude.{◌≡◌, ℕ, List, [], ◌∷◌, ◌++◌, Bool, false, ◌&&◌, Option, Some, None, map, slice_get, IfSome}
+use Rattle.std.specs.Prelude.{◌≡◌, ℕ, List, [], ◌∷◌, ◌++◌, Bool, false, ◌&&◌, Option, Some, None, map, slice_get, IfSome, if◌then◌else◌}
 use Rattle.std.specs.List.{filter}
 use Rattle.std.specs.Option.{option_and_then, option_or, option_to_list, is_some}
 use Rattle.row_index.specs.declared.key.Key.{Key}
@@ -9,8 +9,9 @@ use Rattle.link_table.specs.declared.links.Link.{Link}
 use Rattle.link_table.specs.declared.links.Subject.{Subject}
 use Rattle.link_table.specs.declared.links.Subject.TheVariants.{Values, Properties}
 use Rattle.link_table.specs.declared.links.Subscription.{Subscription}
+use Rattle.link_table.specs.declared.links.Subscriptions.{Subscriptions}
 use Rattle.link_table.specs.Keyed.{entry_by}
-use Rattle.link_table.specs.Links.{sub_at}
+use Rattle.link_table.specs.Links.{is_same_id, sub_at}
 
 -- the key of a row of this owner with this ID
 abbrev pub key : ℕ → ℕ → Key
@@ -69,6 +70,20 @@ without_led (Some from) entries = filter (lacks_key from) entries
 -- the key, if there is one, leads nowhere
 abbrev pub IsFree : Option Key → List (Key × Key) → Type 0
 IsFree from entries = IfSome from (λ k. value_at k entries ≡ None)
+
+-- with a subscription of the link of this key on a subject, in place of the one that it had; where both have
+-- the same ID nothing changes
+abbrev pub renewed : Subject → Option Subscription → Option Subscription → Key → Leads → Leads
+renewed subject was sub to leads =
+    if is_same_id was sub then leads
+    else with_leads subject (without_led (sub_key to.owner was) (with_led (sub_key to.owner sub) to (leads_at subject leads))) leads
+
+-- without the subscriptions of a link of this server
+abbrev pub forgotten : ℕ → Subscriptions → Leads → Leads
+forgotten server subs leads = record {
+  values = without_led (sub_key server subs.values) leads.values;
+  properties = without_led (sub_key server subs.properties) leads.properties;
+}
 
 -- what f leads to leads back by g
 abbrev pub LeadsBack : {A B : Type 0} → (A → Option B) → (B → Option A) → Type 0

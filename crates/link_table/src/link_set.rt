@@ -3,8 +3,7 @@ ghost use Rattle.std.specs.Prelude.{◌≡◌, [], ◌∷◌, ◌++◌, length, 
 ghost use Rattle.std.specs.List.{filter, find, list_any};
 ghost use Rattle.std.specs.Option.{option_copied};
 ghost use Rattle.rows.specs.Rows.{change_first};
-ghost use Rattle.link_table.specs.Links.{is_link, is_not_link, is_of, is_not_of, is_named, has_other_sub, has_subscription, is_same_id, new_link, with_state, with_subscription};
-ghost use Rattle.link_table.specs.LinkIndex.{sub_key};
+ghost use Rattle.link_table.specs.Links.{is_link, is_not_link, is_of, is_not_of, is_named, has_other_sub, has_subscription, new_link, with_state, with_subscription};
 
 use crate::links::{Link, LinkState, Subject, Subscription, Subscriptions};
 use crate::sub_leads::SubLeads;
@@ -176,9 +175,7 @@ impl LinkSet {
             return Ok(());
         };
         let was = link.subscriptions.at(subject);
-        if !is_same_id(was, sub) {
-            self.leads.move_at(subject, sub_key(server, was), sub_key(server, sub), key)?;
-        }
+        self.leads.renew(subject, was, sub, key)?;
         if let Some(row) = self.rows.get_mut(key) {
             row.subscriptions.put(subject, sub);
         }
@@ -196,11 +193,7 @@ impl LinkSet {
             return;
         };
         self.by_name.remove(&link.name, key);
-        self.leads.forget(Subject::Values, sub_key(server, link.subscriptions.values));
-        self.leads.forget(
-            Subject::Properties,
-            sub_key(server, link.subscriptions.properties),
-        );
+        self.leads.forget(server, link.subscriptions);
         self.rows.remove(key);
     }
 
@@ -226,30 +219,6 @@ impl LinkSet {
             Some(link) => Some(link.cid),
             None => None,
         }
-    }
-}
-
-// The key under which a subscription leads to its link. The subscription's ID is the owner, so that
-// no owner has many.
-fn sub_key(server: u32, subscription: Option<Subscription>) -> Option<Key>
-    ensures { result ≡ sub_key server subscription }
-{
-    match subscription {
-        Some(subscription) => Some(Key {
-            owner: subscription.id,
-            id: server,
-        }),
-        None => None,
-    }
-}
-
-// Whether the second subscription has the ID of the first.
-fn is_same_id(was: Option<Subscription>, sub: Option<Subscription>) -> bool
-    ensures { result ≡ is_same_id was sub }
-{
-    match (was, sub) {
-        (Some(was), Some(sub)) => was.id == sub.id,
-        _ => false,
     }
 }
 

@@ -2,9 +2,8 @@ use Rattle.std.proofs.Common.{◌≡◌, map, sym, ap, ◌∙◌}
 use Rattle.std.specs.List.{filter}
 use Rattle.std.specs.Option.{option_copied}
 use Rattle.row_index.specs.Rows.{row_of}
-use Rattle.link_table.specs.declared.links.Subject.TheVariants.{Values, Properties}
 use Rattle.link_table.specs.Links.{is_not_link}
-use Rattle.link_table.specs.LinkIndex.{key, key_of, sub_key, sub_of}
+use Rattle.link_table.specs.LinkIndex.{key, key_of, forgotten}
 use Rattle.link_table.proofs.KeyedLemmas.{rows_with_fewer, rows_without_none}
 use Rattle.link_table.proofs.LinkSetLemmas.{indexed_with_fewer, key_at}
 use Rattle.link_table.proofs.link_set.LinkSet.remove.Goals as goal
@@ -22,10 +21,9 @@ invariant_of-self c =
     let k = key c.args.server c.args.cid in
     let link = c.in-Some.link.now in
     let there = sym c.get.ensures ∙ ap option_copied c.in-Some.is in
-    let own = sym (ap (λ x. x.owner) (key_at s.rows c.self.invariant.keyed k link there)) in
-    let values : c.sub_key.result ≡ sub_of Values link = c.sub_key.ensures ∙ ap (λ x. sub_key x link.subscriptions.values) own in
-    let properties : c.sub_key-2.result ≡ sub_of Properties link = c.sub_key-2.ensures ∙ ap (λ x. sub_key x link.subscriptions.properties) own in
-    rw (c.remove-2.ensures, c.forget-2.ensures, c.forget.ensures, values, properties) (indexed_with_fewer s.rows s.by_name c.remove.new.self s.leads c.self.invariant k link there c.remove.ensures)
+    let own = ap (λ x. x.owner) (key_at s.rows c.self.invariant.keyed k link there) in
+    let leads = c.forget.ensures ∙ ap (λ server. forgotten server link.subscriptions s.leads) (sym own) in
+    rw (c.remove-2.ensures, leads) (indexed_with_fewer s.rows s.by_name c.remove.new.self s.leads c.self.invariant k link there c.remove.ensures)
 
 pub returns : goal.returns
 returns c =
