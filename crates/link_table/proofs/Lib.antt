@@ -2,6 +2,7 @@ pub mod LeadsBackLemmas
 pub mod ValueLemmas
 pub mod KeyedLemmas
 pub mod IndexLemmas
+pub mod SubLemmas
 pub mod LinkSetLemmas
 pub mod NameLemmas
 pub mod OwnerLemmas

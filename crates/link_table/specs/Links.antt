@@ -1,8 +1,12 @@
 -- The rows of links.
-use Rattle.std.specs.Prelude.{ℕ, List, Bool, false, not, ◌&&◌, ◌==◌, bytes_eq, Option, Some, None}
+use Rattle.std.specs.Prelude.{ℕ, List, Bool, false, not, ◌&&◌, ◌||◌, ◌==◌, bytes_eq, Option, Some, None, if◌then◌else◌}
 use Rattle.link_table.specs.declared.links.Link.{Link}
 use Rattle.link_table.specs.declared.links.LinkState.{LinkState}
+use Rattle.link_table.specs.declared.links.LinkState.TheVariants.{Creating}
+use Rattle.link_table.specs.declared.links.Subject.{Subject}
+use Rattle.link_table.specs.declared.links.Subject.TheVariants.{Values, Properties}
 use Rattle.link_table.specs.declared.links.Subscription.{Subscription}
+use Rattle.link_table.specs.declared.links.Subscriptions.{Subscriptions}
 
 -- a link of this server
 abbrev pub is_of : ℕ → Link → Bool
@@ -29,14 +33,53 @@ abbrev pub has_id : ℕ → Option Subscription → Bool
 has_id id (Some subscription) = subscription.id == id
 has_id id None = false
 
--- the link of this server whose present subscription has this ID
+-- the subscription on a subject
+abbrev pub sub_at : Subject → Subscriptions → Option Subscription
+sub_at Values subs = subs.values
+sub_at Properties subs = subs.properties
+
+-- with this subscription on a subject, or without one
+abbrev pub with_at : Subject → Option Subscription → Subscriptions → Subscriptions
+with_at Values sub subs = record subs { values = sub }
+with_at Properties sub subs = record subs { properties = sub }
+
+-- no subscription
+abbrev pub none_yet : Subscriptions
+none_yet = record { values = None; properties = None }
+
+-- the link of this server whose present subscription on this subject has this ID
+abbrev pub has_sub_to : Subject → ℕ → ℕ → Link → Bool
+has_sub_to subject server id row = is_of server row && has_id id (sub_at subject row.subscriptions)
+
+-- the link of this server of which a present subscription has this ID
 abbrev pub has_subscription : ℕ → ℕ → Link → Bool
-has_subscription server id row = is_of server row && has_id id row.subscription
+has_subscription server id row = has_sub_to Values server id row || has_sub_to Properties server id row
 
 -- with this state and these access rights
 abbrev pub with_state : LinkState → ℕ → Link → Link
 with_state state rights row = record row { state = state; rights = rights }
 
--- with this subscription, or without one
-abbrev pub with_subscription : Option Subscription → Link → Link
-with_subscription subscription row = record row { subscription = subscription }
+-- with this subscription on a subject, or without one
+abbrev pub with_subscription : Subject → Option Subscription → Link → Link
+with_subscription subject sub row = record row { subscriptions = with_at subject sub row.subscriptions }
+
+-- the link of this server has a subscription of this ID, beside the one on this subject of the link of this CID
+abbrev pub has_other_sub : ℕ → ℕ → Subject → ℕ → Link → Bool
+has_other_sub server cid subject id row =
+    has_subscription server id (if is_link server cid row then with_subscription subject None row else row)
+
+-- the second subscription has the ID of the first
+abbrev pub is_same_id : Option Subscription → Option Subscription → Bool
+is_same_id was (Some sub) = has_id sub.id was
+is_same_id was None = false
+
+-- a link of which the server is just asked for the channel
+abbrev pub new_link : ℕ → ℕ → List ℕ → Link
+new_link server cid name = record {
+  cid = cid;
+  server = server;
+  name = name;
+  state = Creating;
+  rights = 0;
+  subscriptions = none_yet;
+}

@@ -6,7 +6,8 @@
 //!   doesn't stand, and a row past its limit ([`TableFault`]).
 //! - `server`, `by_cid`, `by_name`, `by_sub` and `write` find a row, `link` and `links` give links in the
 //!   order of adding, `link_of` those of one server, `writes` says how many writes of a session wait.
-//! - `put_server`, `put_link` and `set_sub` change a row that stands; `remove_server` takes its links and
+//! - `put_server`, `put_link` and `set_sub` change a row that stands, the last of them one of the two
+//!   subscriptions of a link, by its [`Subject`]; `remove_server` takes its links and
 //!   the writes to it along, `remove_writes` those on a channel of a client.
 //! - `give_out` gives the next number of a [`Counter`], each one more than the one before.
 //!
@@ -21,15 +22,8 @@
 //! ```
 //! let mut links = Links::new(rt.alloc(), 1);
 //! let cid = links.give_out(Counter::Cid).ok_or("a number")?;
-//! let link = Link {
-//!     cid,
-//!     server: 1,
-//!     name: Name::read(rt.alloc(), b"T1")?,
-//!     state: LinkState::Creating,
-//!     rights: 0,
-//!     subscription: None,
-//! };
-//! assert_eq!(rt; links.add_link(link), Err(TableFault::Missing));
+//! let name = Name::read(rt.alloc(), b"T1")?;
+//! assert_eq!(rt; links.add_link(1, cid, name), Err(TableFault::Missing));
 //! ```
 #![tactic(auto)]
 
@@ -38,11 +32,12 @@ pub mod laws;
 mod link_set;
 mod links;
 mod servers;
+mod sub_leads;
 mod table;
 mod writes;
 
 pub use counter::{Counter, LAST_NUMBER};
-pub use links::{Link, LinkState, Subscription};
+pub use links::{Link, LinkState, Subject, Subscription, Subscriptions};
 pub use servers::Server;
 pub use table::{LINK_LIMIT, Links, SERVER_LIMIT, TableFault, WRITE_LIMIT};
 pub use writes::WaitingWrite;

@@ -1,27 +1,26 @@
 //! Links, found by their IDs, names and subscriptions.
-ghost use Rattle.std.specs.Prelude.{◌≡◌, [], ◌∷◌, ◌++◌, length, map, true, false, None, slice_get, OnOk, OnErr, IfOk, IfSome, IsNone};
+ghost use Rattle.std.specs.Prelude.{◌≡◌, [], ◌∷◌, ◌++◌, length, map, true, false, slice_get, OnOk, OnErr, IfOk, IfSome, IsNone};
 ghost use Rattle.std.specs.List.{filter, find, list_any};
 ghost use Rattle.std.specs.Option.{option_copied};
 ghost use Rattle.rows.specs.Rows.{change_first};
-ghost use Rattle.row_index.specs.Lists.{of, AddsTo, SameLists};
-ghost use Rattle.link_table.specs.Links.{is_link, is_not_link, is_of, is_not_of, is_named, has_subscription, with_state, with_subscription};
-ghost use Rattle.link_table.specs.LinkIndex.{key, key_of, sub_key, sub_of, with_led, without_led, IsFree};
+ghost use Rattle.link_table.specs.Links.{is_link, is_not_link, is_of, is_not_of, is_named, has_other_sub, has_subscription, new_link, with_state, with_subscription};
 
-use crate::links::{Link, LinkState, Subscription};
+use crate::links::{Link, LinkState, Subject, Subscription, Subscriptions};
+use crate::sub_leads::SubLeads;
 use pv_name::Name;
 use row_index::{Key, NameLists, RowMap};
 use std::alloc::{AllocError, Global};
 use std::marker::Model;
 
-/// Links in the order of adding. No two have the same key, name or subscription, so each of these
-/// leads to one link.
+/// Links in the order of adding. No two have the same key or name, and no two subscriptions of them
+/// the same ID, so each of these leads to one link.
 #[derive(Drop)]
 pub(crate) struct LinkSet {
     rows: RowMap<Link>,
     /// The key of the link for a name.
     by_name: NameLists,
     /// The key of the link that has a subscription.
-    by_sub: RowMap<Key>,
+    leads: SubLeads,
 }
 
 impl Model for LinkSet {
@@ -34,7 +33,7 @@ impl Model for LinkSet {
 
     ghost view = { λ s. map row_of s.rows };
 
-    ghost invariant = { λ s. AreIndexed s.rows s.by_name s.by_sub };
+    ghost invariant = { λ s. AreIndexed s.rows s.by_name s.leads };
 }
 
 impl LinkSet {
@@ -45,7 +44,7 @@ impl LinkSet {
         LinkSet {
             rows: RowMap::new(alloc),
             by_name: NameLists::new(alloc),
-            by_sub: RowMap::new(alloc),
+            leads: SubLeads::new(alloc),
         }
     }
 
@@ -85,11 +84,11 @@ impl LinkSet {
     pub(crate) fn by_sub(&self, server: u32, id: u32) -> Option<&Link>
         ensures { option_copied result ≡ find (has_subscription server id) self.now }
     {
-        match self.by_sub.get(Key {
+        match self.leads.get(Key {
             owner: id,
             id: server,
         }) {
-            Some(key) => self.rows.get(*key),
+            Some(key) => self.rows.get(key),
             None => None,
         }
     }
@@ -118,23 +117,22 @@ impl LinkSet {
         self.rows.of(server, n)
     }
 
-    /// Adds a link. At an error none is added.
-    pub(crate) fn add(&mut self, link: Link) -> Result<(), AllocError>
-        requires new_id { list_any (is_link link.server link.cid) self.old ≡ false }
-        requires new_name { list_any (is_named link.name) self.old ≡ false }
-        requires new_sub { IfSome link.subscription (λ s. list_any (has_subscription link.server s.id) self.old ≡ false) }
-        ensures ok { OnOk result (self.new ≡ self.old ++ link ∷ []) }
+    /// Adds a link of which the server is just asked for the channel. At an error none is added.
+    pub(crate) fn add(&mut self, server: u32, cid: u32, name: Name) -> Result<(), AllocError>
+        requires new_id { list_any (is_link server cid) self.old ≡ false }
+        requires new_name { list_any (is_named name) self.old ≡ false }
+        ensures ok { OnOk result (self.new ≡ self.old ++ new_link server cid name ∷ []) }
         ensures err { OnErr result (self.new ≡ self.old) }
     {
         let key = Key {
-            owner: link.server,
-            id: link.cid,
+            owner: server,
+            id: cid,
         };
-        self.rows.add(key, link)?;
+        self.rows.add(key, new_link(server, cid, name))?;
         let Some(link) = self.rows.get(key) else {
             return Ok(());
         };
-        match lead_to(link, key, &mut self.by_name, &mut self.by_sub) {
+        match self.by_name.add(&link.name, key) {
             Ok(()) => Ok(()),
             Err(refused) => {
                 self.rows.remove(key);
@@ -156,16 +154,17 @@ impl LinkSet {
         }
     }
 
-    /// Keeps the present subscription of a link, or that it has none. At an error it has the one
-    /// that it had.
+    /// Keeps the present subscription of a link on a subject, or that it has none. At an error it has
+    /// the one that it had.
     pub(crate) fn set_sub(
         &mut self,
         server: u32,
         cid: u32,
-        subscription: Option<Subscription>,
+        subject: Subject,
+        sub: Option<Subscription>,
     ) -> Result<(), AllocError>
-        requires { IfSome subscription (λ s. list_any (has_subscription server s.id) self.old ≡ false) }
-        ensures ok { OnOk result (self.new ≡ change_first (is_link server cid) (with_subscription subscription) self.old) }
+        requires { IfSome sub (λ s. list_any (has_other_sub server cid subject s.id) self.old ≡ false) }
+        ensures ok { OnOk result (self.new ≡ change_first (is_link server cid) (with_subscription subject sub) self.old) }
         ensures err { OnErr result (self.new ≡ self.old) }
     {
         let key = Key {
@@ -175,10 +174,10 @@ impl LinkSet {
         let Some(link) = self.rows.get(key) else {
             return Ok(());
         };
-        let was = sub_key(server, link.subscription);
-        move_sub(&mut self.by_sub, was, sub_key(server, subscription), key)?;
+        let was = link.subscriptions.at(subject);
+        self.leads.renew(subject, was, sub, key)?;
         if let Some(row) = self.rows.get_mut(key) {
-            row.subscription = subscription;
+            row.subscriptions.put(subject, sub);
         }
         Ok(())
     }
@@ -194,7 +193,7 @@ impl LinkSet {
             return;
         };
         self.by_name.remove(&link.name, key);
-        forget_sub(&mut self.by_sub, sub_key(server, link.subscription));
+        self.leads.forget(server, link.subscriptions);
         self.rows.remove(key);
     }
 
@@ -223,66 +222,16 @@ impl LinkSet {
     }
 }
 
-// The key under which a subscription leads to its link. The subscription's ID is the owner, so that
-// no owner has many.
-fn sub_key(server: u32, subscription: Option<Subscription>) -> Option<Key>
-    ensures { result ≡ sub_key server subscription }
+// A link of which the server is just asked for the channel.
+fn new_link(server: u32, cid: u32, name: Name) -> Link
+    ensures { result ≡ new_link server cid name }
 {
-    match subscription {
-        Some(subscription) => Some(Key {
-            owner: subscription.id,
-            id: server,
-        }),
-        None => None,
-    }
-}
-
-/// Lets the name and the subscription of a link lead to its key. At an error they lead nowhere,
-/// as before.
-fn lead_to(
-    link: &Link,
-    key: Key,
-    by_name: &mut NameLists,
-    by_sub: &mut RowMap<Key>,
-) -> Result<(), AllocError>
-    requires { IsFree (sub_of link.now) by_sub.old }
-    ensures names { OnOk result (AddsTo link.now.name key by_name.old by_name.new) }
-    ensures subs { OnOk result (by_sub.new ≡ with_led (sub_of link.now) key by_sub.old) }
-    ensures same_names { OnErr result (SameLists by_name.old by_name.new) }
-    ensures same_subs { OnErr result (by_sub.new ≡ by_sub.old) }
-{
-    let led = sub_key(link.server, link.subscription);
-    move_sub(by_sub, None, led, key)?;
-    if by_name.add(&link.name, key).is_err() {
-        forget_sub(by_sub, led);
-        return Err(AllocError);
-    }
-    Ok(())
-}
-
-/// Lets another subscription lead to a key, in place of the one that did. At an error that one
-/// still does.
-fn move_sub(
-    by_sub: &mut RowMap<Key>,
-    was: Option<Key>,
-    led: Option<Key>,
-    to: Key,
-) -> Result<(), AllocError>
-    requires { IsFree led by_sub.old }
-    ensures ok { OnOk result (by_sub.new ≡ without_led was (with_led led to by_sub.old)) }
-    ensures err { OnErr result (by_sub.new ≡ by_sub.old) }
-{
-    if let Some(led) = led {
-        by_sub.add(led, to)?;
-    }
-    forget_sub(by_sub, was);
-    Ok(())
-}
-
-fn forget_sub(by_sub: &mut RowMap<Key>, led: Option<Key>)
-    ensures { by_sub.new ≡ without_led led by_sub.old }
-{
-    if let Some(led) = led {
-        by_sub.remove(led);
+    Link {
+        cid,
+        server,
+        name,
+        state: LinkState::Creating,
+        rights: 0,
+        subscriptions: Subscriptions::none_yet(),
     }
 }

@@ -1,4 +1,7 @@
 //! Rows of links.
+ghost use Rattle.std.specs.Prelude.{◌≡◌};
+ghost use Rattle.link_table.specs.Links.{none_yet, sub_at, with_at};
+
 use pv_name::Name;
 
 /// The gateway's channel on one server, for one process variable.
@@ -13,8 +16,8 @@ pub struct Link {
     pub state: LinkState,
     /// The access rights that the server told: bit 0 to read, bit 1 to write.
     pub rights: u32,
-    /// The present data subscription.
-    pub subscription: Option<Subscription>,
+    /// The present subscriptions.
+    pub subscriptions: Subscriptions,
 }
 
 /// How far a link has come.
@@ -35,7 +38,21 @@ pub enum LinkState {
     Unusable,
 }
 
-/// The data subscription of a link.
+/// Of what a subscription upstream tells.
+#[derive(Clone, Copy, Debug, PartialEq, Eq)]
+pub enum Subject {
+    Values,
+    Properties,
+}
+
+/// A link's subscriptions upstream, one for each subject.
+#[derive(Clone, Copy, Debug, PartialEq, Eq)]
+pub struct Subscriptions {
+    pub values: Option<Subscription>,
+    pub properties: Option<Subscription>,
+}
+
+/// A subscription of a link.
 #[derive(Clone, Copy, Debug, PartialEq, Eq)]
 pub struct Subscription {
     /// The gateway's ID of it.
@@ -46,4 +63,36 @@ pub struct Subscription {
     pub count: u32,
     /// The count field as it was sent.
     pub sent: u32,
+}
+
+impl Subscriptions {
+    /// No subscription.
+    pub fn none_yet() -> Subscriptions
+        ensures { result ≡ none_yet }
+    {
+        Subscriptions {
+            values: None,
+            properties: None,
+        }
+    }
+
+    /// The subscription on a subject.
+    pub fn at(&self, subject: Subject) -> Option<Subscription>
+        ensures { result ≡ sub_at subject self.now }
+    {
+        match subject {
+            Subject::Values => self.values,
+            Subject::Properties => self.properties,
+        }
+    }
+
+    /// Puts a subscription on a subject, or none, in place of the one there.
+    pub fn put(&mut self, subject: Subject, sub: Option<Subscription>)
+        ensures { self.new ≡ with_at subject sub self.old }
+    {
+        match subject {
+            Subject::Values => self.values = sub,
+            Subject::Properties => self.properties = sub,
+        }
+    }
 }

@@ -6,13 +6,13 @@ ghost use Rattle.rows.specs.Rows.{change_first};
 ghost use Rattle.link_table.specs.declared.counter.TheConstants.{LAST_NUMBER};
 ghost use Rattle.link_table.specs.LinkRows.{has_server, has_link, write_count};
 ghost use Rattle.link_table.specs.Servers.{is_server, is_not_server, with_minor};
-ghost use Rattle.link_table.specs.Links.{is_link, is_not_link, is_of, is_not_of, is_named, has_subscription, with_state, with_subscription};
+ghost use Rattle.link_table.specs.Links.{is_link, is_not_link, is_of, is_not_of, is_named, has_other_sub, has_subscription, new_link, with_state, with_subscription};
 ghost use Rattle.link_table.specs.Writes.{is_write, is_not_write, is_not_write_of, is_not_write_on, is_not_write_to};
 ghost use Rattle.link_table.specs.Counters.{all_at, are_over, counter_of, raised};
 
 use crate::counter::{Counter, NextNumbers};
 use crate::link_set::LinkSet;
-use crate::links::{Link, LinkState, Subscription};
+use crate::links::{Link, LinkState, Subject, Subscription};
 use crate::servers::{self, Server};
 use crate::writes::{WaitingWrite, Writes};
 use pv_name::Name;
@@ -96,7 +96,7 @@ impl Links {
         self.links.by_name(name)
     }
 
-    /// The link of this server whose present subscription has this ID.
+    /// The link of this server of which a present subscription has this ID, on whichever subject.
     pub fn by_sub(&self, server: u32, id: u32) -> Option<&Link>
         ensures { option_copied result ≡ find (has_subscription server id) self.now.links }
     {
@@ -174,27 +174,26 @@ impl Links {
         }
     }
 
-    /// Adds a link. The caller sees to it that none of its CID and none for its name stands, and
-    /// that none has a subscription of the ID that it brings, if it brings one.
-    pub fn add_link(&mut self, link: Link) -> Result<(), TableFault>
-        requires new_id { has_link link.server link.cid self.old ≡ false }
-        requires new_name { list_any (is_named link.name) self.old.links ≡ false }
-        requires new_sub { IfSome link.subscription (λ s. list_any (has_subscription link.server s.id) self.old.links ≡ false) }
-        ensures ok { OnOk result (self.new ≡ record self.old { links = self.old.links ++ link ∷ [] }) }
-        ensures there { OnOk result (has_server link.server self.old ≡ true) }
+    /// Adds a link of which the server is just asked for the channel. The caller sees to it that none
+    /// of its CID and none for its name stands.
+    pub fn add_link(&mut self, server: u32, cid: u32, name: Name) -> Result<(), TableFault>
+        requires new_id { has_link server cid self.old ≡ false }
+        requires new_name { list_any (is_named name) self.old.links ≡ false }
+        ensures ok { OnOk result (self.new ≡ record self.old { links = self.old.links ++ new_link server cid name ∷ [] }) }
+        ensures there { OnOk result (has_server server self.old ≡ true) }
         ensures room { OnOk result (length self.old.links < LINK_LIMIT) }
-        ensures missing { IsErrOf result TableFault.Missing ↔ (has_server link.server self.old ≡ false) }
+        ensures missing { IsErrOf result TableFault.Missing ↔ (has_server server self.old ≡ false) }
         ensures full { IsErrOf result TableFault.Full ↔
-            ((has_server link.server self.old ≡ true) × (LINK_LIMIT ≤ length self.old.links)) }
+            ((has_server server self.old ≡ true) × (LINK_LIMIT ≤ length self.old.links)) }
         ensures err { OnErr result (self.new ≡ self.old) }
     {
-        if !servers::stands(&self.servers, link.server) {
+        if !servers::stands(&self.servers, server) {
             return Err(TableFault::Missing);
         }
         if self.links.len() >= LINK_LIMIT {
             return Err(TableFault::Full);
         }
-        match self.links.add(link) {
+        match self.links.add(server, cid, name) {
             Ok(()) => Ok(()),
             Err(_) => Err(TableFault::OutOfMemory),
         }
@@ -240,17 +239,18 @@ impl Links {
         self.links.put(server, cid, state, rights);
     }
 
-    /// Keeps the present subscription of a link, or that it has none. The caller sees to it that
-    /// no other link has one of its ID.
+    /// Keeps the present subscription of a link on a subject, or that it has none. The caller sees to
+    /// it that no other subscription to this server has its ID.
     pub fn set_sub(
         &mut self,
         server: u32,
         cid: u32,
-        subscription: Option<Subscription>,
+        subject: Subject,
+        sub: Option<Subscription>,
     ) -> Result<(), TableFault>
-        requires new_id { IfSome subscription (λ s. list_any (has_subscription server s.id) self.old.links ≡ false) }
+        requires new_id { IfSome sub (λ s. list_any (has_other_sub server cid subject s.id) self.old.links ≡ false) }
         ensures ok { OnOk result (self.new ≡
-            record self.old { links = change_first (is_link server cid) (with_subscription subscription) self.old.links }) }
+            record self.old { links = change_first (is_link server cid) (with_subscription subject sub) self.old.links }) }
         ensures there { OnOk result (has_link server cid self.old ≡ true) }
         ensures missing { IsErrOf result TableFault.Missing ↔ (has_link server cid self.old ≡ false) }
         ensures full { result ≢ Err TableFault.Full }
@@ -259,7 +259,7 @@ impl Links {
         if !self.links.contains(server, cid) {
             return Err(TableFault::Missing);
         }
-        match self.links.set_sub(server, cid, subscription) {
+        match self.links.set_sub(server, cid, subject, sub) {
             Ok(()) => Ok(()),
             Err(_) => Err(TableFault::OutOfMemory),
         }

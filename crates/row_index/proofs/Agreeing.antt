@@ -1,5 +1,5 @@
 -- Places that agree with slots, after each change.
-use Rattle.std.proofs.Common.{◌≡◌, ℕ, true, false, ◌+◌, ◌<◌, List, [], ◌∷◌, ◌++◌, length, get_or, set, take, cond, Some, None, refl, sym, ap, subst, ◌∙◌, arith, length-append}
+use Rattle.std.proofs.Common.{◌≡◌, ℕ, true, false, ◌+◌, ◌*◌, ◌/◌, ◌<◌, ◌≤◌, List, [], ◌∷◌, ◌++◌, length, get_or, set, take, cond, Some, None, refl, sym, ap, subst, ◌∙◌, arith, length-append, length-set}
 use Rattle.std.proofs.lemmas.List.{take_more, length-take-le, set-get_or}
 use Rattle.std.specs.List.{find}
 use Rattle.std.specs.Map.{lookup}
@@ -7,7 +7,7 @@ use Rattle.row_index.specs.declared.key.Key.{Key}
 use Rattle.row_index.specs.declared.slot.Slot.{Slot}
 use Rattle.row_index.specs.declared.slot.Slot.TheVariants.{Empty, Full}
 use Rattle.row_index.specs.Rows.{same_key, has_key, lacks_key, row_of, with_row, value_at, put_at, HasKeysApart}
-use Rattle.row_index.specs.Slots.{slot_has_key, with_value, filled, place_of, Agrees}
+use Rattle.row_index.specs.Slots.{slot_has_key, with_value, filled, place_of, Agrees, IsBounded}
 use Rattle.row_index.proofs.Keys.{unmapped, apart_with_more, apart_with_fewer, apart_with_put}
 use Rattle.row_index.proofs.Slotted.{found_nowhere, nowhere_found, filled_put, filled_out, fewer_out, places_out, place_past, place_more_empty, places_more, filled_more, filled_more_empty, new_there}
 
@@ -75,6 +75,36 @@ module _ {V : Type 0} (slots : List (Slot V)) (i : ℕ) (d : Slot V) (places : L
   agrees_past within here agrees = rw (take_more slots i d within, here) (agrees_empty (take i slots) places agrees)
 
 -- a slot that is written as it was
-pub agrees_same : {V : Type 0} (slots : List (Slot V)) (places : List (Key × ℕ)) (i : ℕ) (slot : Slot V) → slot ≡ get_or slots i slot → Agrees slots places → Agrees (set slots i slot) places
-agrees_same slots places i slot here agrees =
-    subst (λ s. Agrees s places) (sym (ap (set slots i) here ∙ set-get_or slots i slot)) agrees
+pub bounded_same : {V : Type 0} (slots : List (Slot V)) (places : List (Key × ℕ)) (i : ℕ) (slot : Slot V) → slot ≡ get_or slots i slot → IsBounded slots places → IsBounded (set slots i slot) places
+bounded_same slots places i slot here bounded =
+    subst (λ s. IsBounded s places) (sym (ap (set slots i) here ∙ set-get_or slots i slot)) bounded
+
+module _ {V : Type 0} (key : Key) (slots : List (Slot V)) (places : List (Key × ℕ)) (bounded : IsBounded slots places) where
+  -- with another value there are as many slots and rows
+  pub bounded_put : (i : ℕ) (d : Slot V) (w : V) → place_of key slots ≡ Some i → IsBounded (set slots i (with_value (get_or slots i d) w)) places
+  bounded_put i d w at =
+      let put = agrees_put key slots places bounded.agrees i d w at in
+      let long = length-set slots i (with_value (get_or slots i d) w) in
+      let was = bounded.agrees.count in
+      let is = put.count in
+      let few = bounded.few in
+      record { agrees = put; few = omega arith }
+
+  -- one slot more is one row more
+  pub bounded_more : (value : V) (new : List (Key × ℕ)) → value_at key (filled slots) ≡ None → ((q : Key) → lookup (same_key q) new ≡ cond (same_key key q) (Some (length slots)) (lookup (same_key q) places)) → length new ≡ length places + 1 → IsBounded (slots ++ Full key value ∷ []) new
+  bounded_more value new fresh updates more =
+      let agrees = agrees_more key slots places bounded.agrees value new fresh updates more in
+      let long = length-append slots (Full key value ∷ []) in
+      let was = bounded.agrees.count in
+      let is = agrees.count in
+      let few = bounded.few in
+      record { agrees = agrees; few = omega arith }
+
+module _ {V : Type 0} (slots : List (Slot V)) (places : List (Key × ℕ)) (agrees : Agrees slots places) where
+  -- no more than half of the slots are empty
+  pub bounded_half : (n : ℕ) → n ≡ length slots → n / 2 ≤ length places → IsBounded slots places
+  bounded_half n long half = let rows = agrees.count in record { agrees = agrees; few = omega arith }
+
+  -- no slot is empty
+  pub bounded_tight : length slots ≡ length (filled slots) → IsBounded slots places
+  bounded_tight tight = record { agrees = agrees; few = omega arith }

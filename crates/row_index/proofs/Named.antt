@@ -1,11 +1,11 @@
 -- Lists under names, as a map holds them.
-use Rattle.std.proofs.Common.{◌≡◌, ℕ, List, [], ◌∷◌, Bool, true, false, cond, Option, Some, None, map, refl, sym, ap, ◌∙◌, bytes_eq, length, arith}
+use Rattle.std.proofs.Common.{◌≡◌, ℕ, List, [], ◌∷◌, Bool, true, false, cond, Option, Some, None, map, refl, sym, ap, ◌∙◌, ◌++◌, ◌==◌, true≢false, bytes_eq, length, arith}
 use Rattle.std.specs.Cmp.Lexicographic.{bytes_decides}
 use Rattle.std.specs.Map.{lookup}
 use Rattle.std.specs.Option.{option_map, unwrap_or}
 use Rattle.std.specs.declared.vec.Vec.{Vec}
 use Rattle.std.specs.declared.alloc.Global.{Global}
-use Rattle.row_index.specs.Lists.{listed}
+use Rattle.row_index.specs.Lists.{listed, HasNoEmptyList}
 
 module _ {K X : Type 0} (eq : K → K → Bool) (same : (a b : K) → eq a b ≡ true → a ≡ b) where
   -- the lists of a map
@@ -73,6 +73,33 @@ module _ {K X : Type 0} (eq : K → K → Bool) (same : (a b : K) → eq a b ≡
         | true ↦ λ e. let here : [] ≡ listed eq (lists_of entries) n = of_nowhere name entries at ∙ ap (listed eq (lists_of entries)) (same name n e) in sym here ∙ sym none ∙ ap f here
         | false ↦ λ e. refl
       ] refl
+
+  -- a map that has another list under the name, and no empty one, has no empty list at all
+  pub no_empty_updated : (name : K) (old new : List (K × Vec X Global)) (w : Option (Vec X Global))
+      → ((n : K) → lookup (eq n) new ≡ cond (eq name n) w (lookup (eq n) old))
+      → (unwrap_or (option_map (λ keys. keys.items) w) [] ≡ [] → option_map (λ keys. keys.items) w ≡ None)
+      → HasNoEmptyList eq (lists_of old) → HasNoEmptyList eq (lists_of new)
+  no_empty_updated name old new w updates filled lean n =
+      let items : Vec X Global → List X = λ keys. keys.items in
+      let now = lookup_lists (eq n) new ∙ ap (option_map items) (updates n) in
+      let there = elim (eq name n) as (λ t. unwrap_or (option_map items (cond t w (lookup (eq n) old))) [] ≡ [] → option_map items (cond t w (lookup (eq n) old)) ≡ None)
+      [ true ↦ filled | false ↦ λ none. sym (lookup_lists (eq n) old) ∙ lean n (ap (λ found. unwrap_or found []) (lookup_lists (eq n) old) ∙ none) ] in
+      λ none. now ∙ there (sym (ap (λ found. unwrap_or found []) now) ∙ none)
+
+  -- the list that the map has under a name isn't empty
+  pub none_there : (name : K) (entries : List (K × Vec X Global)) (keys : Vec X Global) → Some keys ≡ lookup (eq name) entries → HasNoEmptyList eq (lists_of entries) → keys.items ≡ [] → Some keys.items ≡ None
+  none_there name entries keys at lean none =
+      let found = lookup_lists (eq name) entries ∙ ap (option_map (λ (k : Vec X Global). k.items)) (sym at) in
+      sym found ∙ lean name (sym (of_there name entries keys at) ∙ none)
+
+-- a list with a last one isn't empty
+pub last_there : {X : Type 0} (x : X) (xs ys : List X) → ys ≡ xs ++ x ∷ [] → ys ≡ [] → Some ys ≡ None
+last_there x [] ys is none = let clash : x ∷ [] ≡ [] = sym is ∙ none in cc
+last_there x (y ∷ xs) ys is none = let clash : y ∷ (xs ++ x ∷ []) ≡ [] = sym is ∙ none in cc
+
+pub some_items : {X : Type 0} (xs : List X) (n : ℕ) → n ≡ length xs → n == 0 ≡ false → xs ≡ [] → Some xs ≡ None
+some_items [] n is some none = absurd (true≢false (sym (ap (λ k. k == 0) is) ∙ some))
+some_items (x ∷ xs) n is some none = cc
 
 pub no_items : {A : Type 0} (xs : List A) → length xs ≡ 0 → xs ≡ []
 no_items [] e = refl

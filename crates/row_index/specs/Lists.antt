@@ -1,5 +1,5 @@
 -- Lists, each under a name or a number.
-use Rattle.std.specs.Prelude.{◌≡◌, ℕ, List, [], ◌∷◌, ◌++◌, Bool, not, bytes_eq, ◌==◌, nat_eq, if◌then◌else◌}
+use Rattle.std.specs.Prelude.{◌≡◌, ℕ, List, [], ◌∷◌, ◌++◌, Bool, not, bytes_eq, ◌==◌, nat_eq, None, if◌then◌else◌}
 use Rattle.std.specs.List.{filter}
 use Rattle.std.specs.Map.{lookup}
 use Rattle.std.specs.Option.{unwrap_or}
@@ -14,6 +14,10 @@ module _ {K X : Type 0} (eq : K → K → Bool) where
   -- the new lists are the old ones, but that the one under this name is changed by f
   abbrev pub Changes : K → (List X → List X) → List (K × List X) → List (K × List X) → Type 0
   Changes name f old new = (n : K) → listed new n ≡ (if eq name n then f (listed old n) else listed old n)
+
+  -- a name under which nothing is listed has no list
+  abbrev pub HasNoEmptyList : List (K × List X) → Type 0
+  HasNoEmptyList lists = (n : K) → listed lists n ≡ [] → lookup (eq n) lists ≡ None
 
 -- the list with one more, as its last
 abbrev pub with_last : {X : Type 0} → X → List X → List X

@@ -1,5 +1,5 @@
 -- Slots, each with a row or empty, and the places where rows stand.
-use Rattle.std.specs.Prelude.{◌≡◌, ℕ, suc, List, [], ◌∷◌, length, Bool, true, false, Option, Some, None, if◌then◌else◌}
+use Rattle.std.specs.Prelude.{◌≡◌, ◌+◌, ◌*◌, ◌≤◌, ℕ, suc, List, [], ◌∷◌, length, Bool, true, false, Option, Some, None, if◌then◌else◌}
 use Rattle.std.specs.Map.{lookup}
 use Rattle.std.specs.Option.{option_map}
 use Rattle.row_index.specs.declared.key.Key.{Key}
@@ -44,3 +44,8 @@ module _ {V : Type 0} where
     pub found : (key : Key) → lookup (same_key key) places ≡ place_of key slots
     pub count : length places ≡ length (filled slots)
     pub apart : HasKeysApart (filled slots)
+
+  -- the same, and slots are at most twice as many as rows, and one
+  pub record IsBounded (slots : List (Slot V)) (places : List (Key × ℕ)) : Type 0 where
+    pub agrees : Agrees slots places
+    pub few : length slots ≤ 2 * length (filled slots) + 1

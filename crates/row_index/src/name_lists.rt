@@ -19,11 +19,15 @@ pub struct NameLists {
 
 impl Model for NameLists {
     ghost use Rattle.std.specs.Prelude.{ℕ, List, map};
+    ghost use Rattle.std.specs.Prelude.{bytes_eq};
     ghost use Rattle.row_index.specs.declared.key.Key.{Key as RowKey};
+    ghost use Rattle.row_index.specs.Lists.{HasNoEmptyList};
 
     ghost Value = { List (List ℕ × List RowKey) };
 
     ghost view = { λ l. map (λ list. (list.0, list.1.items)) l.lists.entries };
+
+    ghost invariant = { λ l. HasNoEmptyList bytes_eq (map (λ list. (list.0, list.1.items)) l.lists.entries) };
 }
 
 impl NameLists {

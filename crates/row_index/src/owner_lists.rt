@@ -22,11 +22,14 @@ pub struct OwnerLists<X> {
 pub type OwnerKeys = OwnerLists<Key>;
 
 impl<X> Model for OwnerLists<X> {
-    ghost use Rattle.std.specs.Prelude.{ℕ, List, map};
+    ghost use Rattle.std.specs.Prelude.{ℕ, List, map, nat_eq};
+    ghost use Rattle.row_index.specs.Lists.{HasNoEmptyList};
 
     ghost Value = { List (ℕ × List X) };
 
     ghost view = { λ l. map (λ list. (list.0, list.1.items)) l.lists.entries };
+
+    ghost invariant = { λ l. HasNoEmptyList nat_eq (map (λ list. (list.0, list.1.items)) l.lists.entries) };
 }
 
 impl<X: Copy> OwnerLists<X> {

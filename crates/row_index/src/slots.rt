@@ -25,13 +25,13 @@ pub(crate) struct Slots<V> {
 impl<V> Model for Slots<V> {
     ghost use Rattle.std.specs.Prelude.{List};
     ghost use Rattle.row_index.specs.declared.key.Key.{Key as RowKey};
-    ghost use Rattle.row_index.specs.Slots.{filled, Agrees};
+    ghost use Rattle.row_index.specs.Slots.{filled, IsBounded};
 
     ghost Value = { List (RowKey × V) };
 
     ghost view = { λ s. filled s.slots.items };
 
-    ghost invariant = { λ s. Agrees s.slots.items s.places.entries };
+    ghost invariant = { λ s. IsBounded s.slots.items s.places.entries };
 }
 
 impl<V> Slots<V> {
@@ -159,6 +159,7 @@ fn put_place(places: &mut IndexMap<Key, usize>, key: Key, place: usize)
 fn squeeze<V: Drop>(slots: &mut Vec<Slot<V>>, places: &mut IndexMap<Key, usize>)
     requires agree { Agrees slots.old.items places.old.entries }
     ensures rows { filled slots.new.items ≡ filled slots.old.items }
+    ensures tight { length slots.new.items ≡ length (filled slots.new.items) }
     ensures agree { Agrees slots.new.items places.new.entries }
 {
     keep_full(slots);

@@ -13,11 +13,11 @@ use Rattle.link_table.proofs.link_set.LinkSet.put.Goals.{in-Some, in_default}
 pub invariant_of-self : goal.invariant_of-self
 invariant_of-self c =
     let s = c.self.inside in
-    let P : Inside → Type 0 = λ t. AreIndexed t.rows t.by_name t.by_sub in
+    let P : Inside → Type 0 = λ t. AreIndexed t.rows t.by_name t.leads in
     elim c.match-get_mut.branch [
       | in-Some w ↦
           let there = sym c.get_mut.ensures.value ∙ ap option_copied_mut w.in-Some.is in
-          subst P (sym w.self-inside-is) (indexed_with_kept s.rows s.by_name s.by_sub c.self.invariant (key c.args.server c.args.cid) (with_state c.args.state c.args.rights) (λ row. refl) w.in-Some.row.now refl refl there)
+          subst P (sym w.self-inside-is) (indexed_with_kept s.rows s.by_name s.leads c.self.invariant (key c.args.server c.args.cid) (with_state c.args.state c.args.rights) (λ row. refl) w.in-Some.row.now refl (λ subject. refl) there)
       | in_default w ↦ subst P (sym w.self-inside-is) c.self.invariant
     ]
 

@@ -2,7 +2,7 @@ use Rattle.std.proofs.Common.{bytes_eq, List, is_some, Some, ◌++◌, ◌∷◌
 use Rattle.std.proofs.lemmas.Result.{MatchResult-from_err}
 use Rattle.row_index.specs.Lists.{of}
 use Rattle.row_index.specs.declared.key.Key.{Key}
-use Rattle.row_index.proofs.Named.{of_there, of_nowhere, of_updated, of_kept, same_bytes}
+use Rattle.row_index.proofs.Named.{of_there, of_nowhere, of_updated, of_kept, no_empty_updated, none_there, last_there, same_bytes}
 use Rattle.row_index.proofs.name_lists.NameLists.add.Goals as goal
 
 pub add_first-requires : goal.add_first-requires
@@ -27,3 +27,21 @@ returns-in_err-push-in-Some-clause-err c =
     let written = c.get_mut.follows.holds c.push.new.self in
     let kept = of_kept bytes_eq same_bytes c.args.name.now old (c.get_mut.follows.lender c.push.new.self).entries (Some c.push.new.self) (written.3 (sym (ap is_some c.in-Some.ensures.value))).0 (c.in_err-push-in-Some.ensures.items ∙ there) in
     MatchResult-from_err c.from_residual.result _ _ c.from_residual.ensures.0 (λ _. λ n. kept n ∙ ap (λ lists. of lists n) c.self.view_is)
+
+-- one more is listed, so the list isn't empty
+pub invariant_of-self-in-Some : goal.invariant_of-self-in-Some
+invariant_of-self-in-Some c =
+    let old = c.self.inside.lists.entries in
+    let written = c.get_mut.follows.holds c.push.new.self in
+    no_empty_updated bytes_eq same_bytes c.args.name.now old (c.get_mut.follows.lender c.push.new.self).entries (Some c.push.new.self) (written.3 (sym (ap is_some c.in-Some.ensures.value))).0
+    (last_there c.args.key c.in-Some.keys.now.items c.push.new.self.items c.in_ok-push-in-Some.ensures.items) c.self.invariant
+
+-- or the list is as it was
+pub invariant_of-self : goal.invariant_of-self
+invariant_of-self c =
+    let old = c.self.inside.lists.entries in
+    let kept = c.in_err-push-in-Some.ensures.items in
+    let some = none_there bytes_eq same_bytes c.args.name.now old c.in-Some.keys.now c.in-Some.ensures.value c.self.invariant in
+    let written = c.get_mut.follows.holds c.push.new.self in
+    no_empty_updated bytes_eq same_bytes c.args.name.now old (c.get_mut.follows.lender c.push.new.self).entries (Some c.push.new.self) (written.3 (sym (ap is_some c.in-Some.ensures.value))).0
+    (λ none. ap Some kept ∙ some (sym kept ∙ none)) c.self.invariant

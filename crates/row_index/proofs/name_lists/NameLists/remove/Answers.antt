@@ -3,7 +3,7 @@ use Rattle.std.specs.List.{filter}
 use Rattle.std.proofs.lemmas.Bool.{eqb-true}
 use Rattle.row_index.specs.declared.key.Key.{Key}
 use Rattle.row_index.specs.Lists.{is_not_key}
-use Rattle.row_index.proofs.Named.{of_there, of_updated, of_without, taken_out, no_items, same_bytes}
+use Rattle.row_index.proofs.Named.{of_there, of_updated, of_without, taken_out, no_items, no_empty_updated, some_items, same_bytes}
 use Rattle.row_index.proofs.name_lists.NameLists.remove.Goals as goal
 
 pub returns-in_default : goal.returns-in_default
@@ -36,3 +36,20 @@ returns-then-is_empty c =
     (taken_out bytes_eq same_bytes c.args.name.now old mid c.forget.new.lists.entries (Some c.remove_key.new.keys) (written.3 (sym (ap is_some c.in-Some.ensures.value))).0 c.forget.ensures)
     (sym (no_items c.remove_key.new.keys.items empty) ∙ c.remove_key.ensures ∙ ap without there)
     )
+
+pub invariant_of-self-then-is_empty : goal.invariant_of-self-then-is_empty
+invariant_of-self-then-is_empty c =
+    let old = c.self.inside.lists.entries in
+    let mid = (c.get_mut.follows.lender c.remove_key.new.keys).entries in
+    let written = c.get_mut.follows.holds c.remove_key.new.keys in
+    no_empty_updated bytes_eq same_bytes c.args.name.now old c.forget.new.lists.entries None
+    (taken_out bytes_eq same_bytes c.args.name.now old mid c.forget.new.lists.entries (Some c.remove_key.new.keys) (written.3 (sym (ap is_some c.in-Some.ensures.value))).0 c.forget.ensures)
+    (λ none. refl) c.self.invariant
+
+pub invariant_of-self-else-is_empty : goal.invariant_of-self-else-is_empty
+invariant_of-self-else-is_empty c =
+    let old = c.self.inside.lists.entries in
+    let written = c.get_mut.follows.holds c.remove_key.new.keys in
+    let len = c.remove_key.new.keys.ok in
+    no_empty_updated bytes_eq same_bytes c.args.name.now old (c.get_mut.follows.lender c.remove_key.new.keys).entries (Some c.remove_key.new.keys) (written.3 (sym (ap is_some c.in-Some.ensures.value))).0
+    (some_items c.remove_key.new.keys.items (vec_len c.remove_key.new.keys) len.0 (sym c.if-is_empty.ensures)) c.self.invariant

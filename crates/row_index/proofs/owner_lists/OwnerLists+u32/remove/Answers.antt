@@ -2,7 +2,7 @@ use Rattle.std.proofs.Common.{ℕ, nat_eq, ◌≡◌, List, is_some, refl, lengt
 use Rattle.std.specs.List.{filter}
 use Rattle.std.proofs.lemmas.Bool.{eqb-true}
 use Rattle.row_index.specs.Lists.{is_not_id}
-use Rattle.row_index.proofs.Named.{of_there, of_updated, of_without, taken_out, no_items}
+use Rattle.row_index.proofs.Named.{of_there, of_updated, of_without, taken_out, no_items, no_empty_updated, some_items}
 use Rattle.row_index.proofs.owner_lists.OwnerLists+u32.remove.Goals as goal
 
 pub returns-in_default : goal.returns-in_default
@@ -40,3 +40,20 @@ pub remove_id-requires : goal.remove_id-requires
 remove_id-requires c =
     let there = of_there nat_eq eqb-true c.args.owner c.self.inside.lists.entries c.in-Some.ids.now c.in-Some.ensures.value in
     rw there (rw (← c.self.view_is) at c.requires)
+
+pub invariant_of-self-then-is_empty : goal.invariant_of-self-then-is_empty
+invariant_of-self-then-is_empty c =
+    let old = c.self.inside.lists.entries in
+    let mid = (c.get_mut.follows.lender c.remove_id.new.ids).entries in
+    let written = c.get_mut.follows.holds c.remove_id.new.ids in
+    no_empty_updated nat_eq eqb-true c.args.owner old c.forget.new.lists.entries None
+    (taken_out nat_eq eqb-true c.args.owner old mid c.forget.new.lists.entries (Some c.remove_id.new.ids) (written.3 (sym (ap is_some c.in-Some.ensures.value))).0 c.forget.ensures)
+    (λ none. refl) c.self.invariant
+
+pub invariant_of-self-else-is_empty : goal.invariant_of-self-else-is_empty
+invariant_of-self-else-is_empty c =
+    let old = c.self.inside.lists.entries in
+    let written = c.get_mut.follows.holds c.remove_id.new.ids in
+    let len = c.remove_id.new.ids.ok in
+    no_empty_updated nat_eq eqb-true c.args.owner old (c.get_mut.follows.lender c.remove_id.new.ids).entries (Some c.remove_id.new.ids) (written.3 (sym (ap is_some c.in-Some.ensures.value))).0
+    (some_items c.remove_id.new.ids.items (vec_len c.remove_id.new.ids) len.0 (sym c.if-is_empty.ensures)) c.self.invariant

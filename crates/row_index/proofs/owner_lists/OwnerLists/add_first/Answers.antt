@@ -2,7 +2,7 @@ use Rattle.std.proofs.lemmas.Bool.{eqb-true}
 use Rattle.std.proofs.Common.{◌≡◌, ℕ, Some, cond, ap, sym, ◌∙◌, nat_eq}
 use Rattle.std.specs.Map.{lookup}
 use Rattle.row_index.specs.Lists.{with_last}
-use Rattle.row_index.proofs.Named.{of_updated}
+use Rattle.row_index.proofs.Named.{of_updated, no_empty_updated, last_there}
 use Rattle.row_index.proofs.owner_lists.OwnerLists.add_first.Goals as goal
 
 pub returns-in-Ok-clause-ok : goal.returns-in-Ok-clause-ok
@@ -12,3 +12,9 @@ returns-in-Ok-clause-ok g c =
     of_updated nat_eq eqb-true (with_last c.args.one) c.args.owner c.self.inside.lists.entries c.insert.new.self.entries (Some c.push.new.self) updates
     (c.in_ok-push.ensures.items ∙ ap (with_last c.args.one) (c.new-listed.ensures.items ∙ sym (rw (← c.self.view_is) at c.requires)))
     )
+
+pub invariant_of-self : goal.invariant_of-self
+invariant_of-self g c =
+    let updates : (n : ℕ) → lookup (nat_eq n) c.insert.new.self.entries ≡ cond (nat_eq c.args.owner n) (Some c.push.new.self) (lookup (nat_eq n) c.self.inside.lists.entries) = c.in-Ok.ensures.updates.0 in
+    no_empty_updated nat_eq eqb-true c.args.owner c.self.inside.lists.entries c.insert.new.self.entries (Some c.push.new.self) updates
+    (last_there c.args.one c.new-listed.result.items c.push.new.self.items c.in_ok-push.ensures.items) c.self.invariant
