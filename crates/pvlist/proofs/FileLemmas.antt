@@ -12,6 +12,7 @@ use Rattle.pvlist.specs.declared.fault.RuleCause.{RuleCause}
 use Rattle.pvlist.specs.declared.groups.GroupLine.{GroupLine}
 use Rattle.pvlist.specs.declared.line.Item.{Item}
 use Rattle.pvlist.specs.declared.line.Item.TheVariants as item
+use Rattle.pvlist.specs.declared.line.TheConstants.{ROW_LIMIT}
 use Rattle.pvlist.specs.declared.rules.Order.TheVariants.{AllowDeny}
 use Rattle.pvlist.specs.Fault.{fault_at}
 use Rattle.pvlist.specs.File.{IsFileFault}
@@ -113,7 +114,7 @@ order-more items (item.Order order) old h =
 order-more items (item.Row row) old h =
     ap (last_or (Some AllowDeny)) (filter_map-append order_in items (item.Row row ∷ []) ∙ append-nil (filter_map order_in items)) ∙ h
 
-few-more : (said : Item) (old : Ruling) → HasRoom (is_full old) said → length old.rows ≤ 4096 → length (with_item old said).rows ≤ 4096
+few-more : (said : Item) (old : Ruling) → HasRoom (is_full old) said → length old.rows ≤ ROW_LIMIT → length (with_item old said).rows ≤ ROW_LIMIT
 few-more item.Nothing old room h = h
 few-more (item.Order order) old room h = h
 few-more (item.Row row) old room h = let more = length-more old.rows row in grind (arith, nat_tests)
@@ -146,7 +147,7 @@ group_lines-more : (entries : List (Option GroupLine)) (said : Option GroupLine)
 group_lines-more entries None old h = h ∙ sym (filter_map-append group.itself entries (None ∷ []) ∙ append-nil (filter_map group.itself entries))
 group_lines-more entries (Some line) old h = ap (λ lines. lines ++ line ∷ []) h ∙ sym (filter_map-append group.itself entries (Some line ∷ []))
 
-group_few-more : (said : Option GroupLine) (old : List GroupLine) → group.HasRoom (group.is_full old) said → length old ≤ 4096 → length (group.with_line old said) ≤ 4096
+group_few-more : (said : Option GroupLine) (old : List GroupLine) → group.HasRoom (group.is_full old) said → length old ≤ ROW_LIMIT → length (group.with_line old said) ≤ ROW_LIMIT
 group_few-more None old room h = h
 group_few-more (Some line) old room h = let more = length-more old line in grind (arith, nat_tests)
 

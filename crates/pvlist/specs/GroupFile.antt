@@ -9,6 +9,7 @@ use Rattle.pvlist.specs.declared.fault.RuleCause.TheVariants.{LineTooLong, TooMa
 use Rattle.pvlist.specs.declared.fault.RuleFault.{RuleFault}
 use Rattle.pvlist.specs.declared.groups.GroupLine.{GroupLine}
 use Rattle.pvlist.specs.declared.groups.GroupRight.{GroupRight}
+use Rattle.pvlist.specs.declared.line.TheConstants.{LINE_LIMIT, ROW_LIMIT}
 use Rattle.pvlist.specs.File.{IsFileFault}
 use Rattle.pvlist.specs.Keywords.{right_of}
 use Rattle.pvlist.specs.RuleLine.{group_word}
@@ -31,10 +32,10 @@ group_words_entry full (group ∷ rest) =
 
 -- what a line says, if it isn't blank, or the first cause that it is faulty; a file that is full takes no further line
 abbrev pub group_entry : Bool → List ℕ → Result (Option GroupLine) RuleCause
-group_entry full line = if nat_lt 1024 (length line) then Err LineTooLong else group_words_entry full (words line)
+group_entry full line = if nat_lt LINE_LIMIT (length line) then Err LineTooLong else group_words_entry full (words line)
 
 abbrev pub is_full : List GroupLine → Bool
-is_full groups = nat_le 4096 (length groups)
+is_full groups = nat_le ROW_LIMIT (length groups)
 
 abbrev pub itself : Option GroupLine → Option GroupLine
 itself said = said
@@ -48,7 +49,7 @@ pub record AreGroupsOf (all : List (List ℕ)) (groups : List GroupLine) : Type 
   pub entries : List (Option GroupLine)
   pub read : AllZip Says all entries
   pub lines : groups ≡ filter_map itself entries
-  pub few : length groups ≤ 4096
+  pub few : length groups ≤ ROW_LIMIT
 
 -- after lines that say this, the line is faulty
 abbrev pub RefusesLine : List GroupLine → List ℕ → RuleCause → Type 0

@@ -7,6 +7,7 @@ use Rattle.pvlist.specs.declared.fault.RuleCause.{RuleCause}
 use Rattle.pvlist.specs.declared.fault.RuleFault.{RuleFault}
 use Rattle.pvlist.specs.declared.line.Item.{Item}
 use Rattle.pvlist.specs.declared.line.Item.TheVariants as item
+use Rattle.pvlist.specs.declared.line.TheConstants.{ROW_LIMIT}
 use Rattle.pvlist.specs.declared.row.Row.{Row}
 use Rattle.pvlist.specs.declared.rules.Order.{Order}
 use Rattle.pvlist.specs.declared.rules.Order.TheVariants.{AllowDeny}
@@ -25,7 +26,7 @@ order_in _ = None
 
 -- no further row may stand in the file
 abbrev pub is_full : Ruling → Bool
-is_full ruling = nat_le 4096 (length ruling.rows)
+is_full ruling = nat_le ROW_LIMIT (length ruling.rows)
 
 -- each of the lines is without fault; their rows are those of the rules, and the last order is theirs
 pub record IsRulingOf (all : List (List ℕ)) (ruling : Ruling) : Type 0 where
@@ -33,7 +34,7 @@ pub record IsRulingOf (all : List (List ℕ)) (ruling : Ruling) : Type 0 where
   pub read : AllZip IsItem all items
   pub rows : ruling.rows ≡ filter_map row_in items
   pub order : last_or (Some AllowDeny) (filter_map order_in items) ≡ Some ruling.order
-  pub few : length ruling.rows ≤ 4096
+  pub few : length ruling.rows ≤ ROW_LIMIT
   pub closed : ruling.is_open ≡ false
 
 -- after lines that say this, the line is faulty

@@ -12,6 +12,7 @@ use Rattle.pvlist.specs.declared.keyword.Keyword.{Keyword}
 use Rattle.pvlist.specs.declared.keyword.Keyword.TheVariants as keyword
 use Rattle.pvlist.specs.declared.line.Item.{Item}
 use Rattle.pvlist.specs.declared.line.Item.TheVariants as item
+use Rattle.pvlist.specs.declared.line.TheConstants.{LINE_LIMIT}
 use Rattle.pvlist.specs.declared.row.Row.{Row}
 use Rattle.pvlist.specs.declared.row.Verb.{Verb}
 use Rattle.pvlist.specs.declared.row.Verb.TheVariants as verb
@@ -103,7 +104,7 @@ words_entry full (first ∷ second ∷ rest) =
 -- what a line says, or the first cause that it is faulty, but for its pattern and for the real name of an alias; where the
 -- file is full, it takes no further row
 abbrev pub entry : Bool → List ℕ → Result Entry RuleCause
-entry full line = if nat_lt 1024 (length line) then Err LineTooLong else words_entry full (words line)
+entry full line = if nat_lt LINE_LIMIT (length line) then Err LineTooLong else words_entry full (words line)
 
 -- the row that a draft becomes, with this pattern
 pub record IsRow (pattern : List ℕ) (drawn : Result Entry RuleCause) (row : Row) : Type 0 where

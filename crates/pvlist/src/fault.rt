@@ -17,6 +17,11 @@ pub enum TranslateFault {
 }
 
 impl fmt::Display for TranslateFault {
+    ghost use Rattle.std.specs.Prelude.{Some};
+    ghost use Rattle.pvlist.specs.Cause.{pattern_fault_text};
+
+    ghost output = { λ fault. Some (pattern_fault_text fault) };
+
     fn fmt<W: fmt::Write>(&self, f: &mut fmt::Formatter<W>) -> fmt::Result {
         match self {
             TranslateFault::BadPattern => f.write_str("bad pattern"),
@@ -48,9 +53,14 @@ pub enum RuleFault {
 }
 
 impl fmt::Display for RuleFault {
+    ghost use Rattle.std.specs.Prelude.{Some};
+    ghost use Rattle.pvlist.specs.Cause.{fault_text};
+
+    ghost output = { λ fault. Some (fault_text fault) };
+
     fn fmt<W: fmt::Write>(&self, f: &mut fmt::Formatter<W>) -> fmt::Result {
         match self {
-            RuleFault::At(line, cause) => write!(f, "line {line} {cause}"),
+            RuleFault::At(line, cause) => write!(f, "line {line}: {cause}"),
             RuleFault::OutOfMemory => f.write_str("out of memory"),
         }
     }

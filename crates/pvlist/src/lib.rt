@@ -14,7 +14,7 @@
 //! The pattern of a row is read as a regular expression after a translation, and matches whole
 //! names. A fault names the first line that has one and the first cause that applies to it. What
 //! lines say is in `specs/RuleLine.antt` and `specs/GroupFile.antt`, what files say in
-//! `specs/RuleFile.antt`.
+//! `specs/RuleFile.antt`, and how faults are told in `specs/Cause.antt`.
 #![tactic(auto)]
 
 mod bracket;
@@ -26,6 +26,7 @@ mod groups;
 mod host_words;
 mod hosts;
 mod keyword;
+pub mod laws;
 mod line;
 mod real_text;
 mod row;
@@ -37,6 +38,7 @@ mod writing;
 pub use fault::{RuleCause, RuleFault, TranslateFault};
 pub use groups::{GroupRight, Groups};
 pub use hosts::Hosts;
+pub use line::{LINE_LIMIT, ROW_LIMIT};
 pub use real_text::RealText;
 pub use row::{Row, Verb};
 pub use rules::{Order, Rules};

@@ -11,10 +11,10 @@ use crate::words::Words;
 use std::alloc::Global;
 
 /// How many bytes a line has at most, without its end.
-pub(crate) const LINE_LIMIT: usize = 1_024;
+pub const LINE_LIMIT: usize = 1_024;
 
 /// How many rows a rule file has at most, and how many lines that aren't blank a group file.
-pub(crate) const ROW_LIMIT: usize = 4_096;
+pub const ROW_LIMIT: usize = 4_096;
 
 /// What a line of a rule file says.
 #[derive(Drop)]

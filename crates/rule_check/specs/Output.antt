@@ -1,13 +1,11 @@
 -- The lines that a check writes. A blank is 32, and a line's end 10.
 use Rattle.std.specs.Prelude.{ℕ, List, [], ◌∷◌, ◌++◌, ◌==◌, if◌then◌else◌, length, codes, Option, Some, None}
 use Rattle.std.specs.Fmt.{decimal}
-use Rattle.pvlist.specs.Cause.{cause_text}
 use Rattle.pvlist.specs.Order.{order_text}
 use Rattle.pvlist.specs.Ruling.{Ruling}
-use Rattle.pvlist.specs.declared.fault.RuleCause.{RuleCause}
 use Rattle.pv_alias.specs.declared.lead.Lead.{Lead}
+use Rattle.rule_desk.specs.Fault.{fault_text}
 use Rattle.rule_desk.specs.declared.fault.DeskFault.{DeskFault}
-use Rattle.rule_desk.specs.declared.fault.DeskFault.TheVariants.{Rules, Groups, OutOfMemory}
 use Rattle.rule_check.specs.declared.answer.Answer.{Answer}
 use Rattle.rule_check.specs.declared.answer.Answer.TheVariants.{Admitted, Refused}
 
@@ -38,16 +36,6 @@ answer_line None = []
 abbrev pub good_lines : Ruling → Option Answer → List ℕ
 good_lines rules answer = ok_line rules ++ answer_line answer
 
--- the line of a faulty line: its number, counted from 1, and what is wrong with it
-abbrev pub cause_line : ℕ → RuleCause → List ℕ
-cause_line line cause = codes "line " ++ decimal line ++ codes ": " ++ cause_text cause ++ 10 ∷ []
-
--- the same of the group file
-abbrev pub groups_line : ℕ → RuleCause → List ℕ
-groups_line line cause = codes "groups " ++ cause_line line cause
-
 -- the line of a fault
 abbrev pub fault_line : DeskFault → List ℕ
-fault_line (Rules line cause) = cause_line line cause
-fault_line (Groups line cause) = groups_line line cause
-fault_line OutOfMemory = []
+fault_line fault = fault_text fault ++ 10 ∷ []

@@ -1,12 +1,12 @@
 //! What is written.
 ghost use Rattle.std.specs.Prelude.{◌≡◌, ◌++◌, OnOk};
 ghost use Rattle.std.specs.Io.KnownBytes.{Appends};
-ghost use Rattle.rule_check.specs.Output.{ok_line, group_text, rights_text, admitted_line, answer_line, good_lines, cause_line, groups_line, fault_line};
+ghost use Rattle.rule_check.specs.Output.{ok_line, group_text, rights_text, admitted_line, answer_line, good_lines, fault_line};
 
 use crate::answer::Answer;
 use pv_alias::Lead;
 use pv_name::Group;
-use pvlist::{RuleCause, Rules};
+use pvlist::Rules;
 use rule_desk::DeskFault;
 use std::io;
 use std::io::Write;
@@ -24,11 +24,11 @@ pub(crate) fn print_good<W: Write>(
     out.flush()
 }
 
-/// Writes the first faulty line of files, nothing where memory was refused.
+/// Writes the first fault of files.
 pub(crate) fn print_fault<W: Write>(out: &mut W, fault: DeskFault) -> io::Result<()>
     ensures ok { OnOk result (Appends (W.contents out.old) (W.contents out.new) (fault_line fault)) }
 {
-    write_fault(out, fault)?;
+    writeln!(out, "{fault}")?;
     out.flush()
 }
 
@@ -76,27 +76,4 @@ fn rights_text(rights: u32) -> &'static str
         1 => "read",
         _ => "write",
     }
-}
-
-fn write_fault<W: Write>(out: &mut W, fault: DeskFault) -> io::Result<()>
-    ensures ok { OnOk result (Appends (W.contents out.old) (W.contents out.new) (fault_line fault)) }
-{
-    match fault {
-        DeskFault::Rules(line, cause) => write_cause(out, line, cause),
-        DeskFault::Groups(line, cause) => write_groups_cause(out, line, cause),
-        DeskFault::OutOfMemory => Ok(()),
-    }
-}
-
-fn write_cause<W: Write>(out: &mut W, line: usize, cause: RuleCause) -> io::Result<()>
-    ensures ok { OnOk result (Appends (W.contents out.old) (W.contents out.new) (cause_line line cause)) }
-{
-    writeln!(out, "line {line}: {cause}")
-}
-
-fn write_groups_cause<W: Write>(out: &mut W, line: usize, cause: RuleCause) -> io::Result<()>
-    ensures ok { OnOk result (Appends (W.contents out.old) (W.contents out.new) (groups_line line cause)) }
-{
-    out.write_all(b"groups ")?;
-    write_cause(out, line, cause)
 }

@@ -1,6 +1,6 @@
 //! Why an edit is refused.
 
-use pvlist::RuleCause;
+use pvlist::{RuleCause, RuleFault};
 use std::error::Error;
 use std::fmt;
 
@@ -23,9 +23,9 @@ impl fmt::Display for DeskFault {
 
     fn fmt<W: fmt::Write>(&self, f: &mut fmt::Formatter<W>) -> fmt::Result {
         match self {
-            DeskFault::Rules(line, cause) => write!(f, "line {line}: {cause}"),
-            DeskFault::Groups(line, cause) => write!(f, "groups line {line}: {cause}"),
-            DeskFault::OutOfMemory => f.write_str("out of memory"),
+            DeskFault::Rules(line, cause) => write!(f, "{}", RuleFault::At(*line, *cause)),
+            DeskFault::Groups(line, cause) => write!(f, "groups {}", RuleFault::At(*line, *cause)),
+            DeskFault::OutOfMemory => write!(f, "{}", RuleFault::OutOfMemory),
         }
     }
 }

@@ -19,7 +19,7 @@ groups-read ops READ
 rights ops
 > 1 1
 read T1 PERMIT
-> line 1 NoVerb
+> line 1: NoVerb
 # A file with all that there is.
 | # who may see what«0d»
 | EVALUATION ORDER DENY, ALLOW
@@ -128,78 +128,78 @@ fn the_first_faulty_line_is_told(rt: HostRuntime) {
         &rt,
         rt.alloc(),
         r"read EVALUATION ORDER
-> line 1 BadOrder
+> line 1: BadOrder
 read EVALUATION ORDER ALLOW
-> line 1 BadOrder
+> line 1: BadOrder
 read EVALUATION ORDER ALLOW ALLOW
-> line 1 BadOrder
+> line 1: BadOrder
 read EVALUATION ORDER DENY ALLOW DENY
-> line 1 BadOrder
+> line 1: BadOrder
 read EVALUATION ORDER, ALLOW DENY
-> line 1 NoVerb
+> line 1: NoVerb
 read EVALUATION,ORDER ALLOW,DENY
-> line 1 NoVerb
+> line 1: NoVerb
 read EVALUATION
-> line 1 NoVerb
+> line 1: NoVerb
 read [A
-> line 1 NoVerb
+> line 1: NoVerb
 read [a#b] ALLOW
-> line 1 NoVerb
+> line 1: NoVerb
 read X DENY,lab7
-> line 1 NoVerb
+> line 1: NoVerb
 read A ALLOW«0d»
-> line 1 NoVerb
+> line 1: NoVerb
 | A ALLOW«0d»
 |
 | B
 read C
-> line 3 NoVerb
+> line 3: NoVerb
 read [A DENY FROM
-> line 1 BadFrom
+> line 1: BadFrom
 read X DENY FROM ,
-> line 1 BadFrom
+> line 1: BadFrom
 read X DENY lab7 é
-> line 1 BadFrom
+> line 1: BadFrom
 read X DENY é
-> line 1 BadFrom
+> line 1: BadFrom
 read X DENY lab7«0d»
-> line 1 BadFrom
+> line 1: BadFrom
 read [A ALLOW é
-> line 1 BadGroup
+> line 1: BadGroup
 read A ALLOW g 2
-> line 1 BadGroup
+> line 1: BadGroup
 read A ALLOW g 0 more
-> line 1 BadGroup
+> line 1: BadGroup
 read A ALIAS é g 00
-> line 1 BadGroup
+> line 1: BadGroup
 read [A ALIAS
-> line 1 BadPattern
+> line 1: BadPattern
 read \w ALLOW
-> line 1 BadPattern
+> line 1: BadPattern
 read A\ ALLOW
-> line 1 BadPattern
+> line 1: BadPattern
 read é DENY
-> line 1 BadPattern
+> line 1: BadPattern
 read \(A ALLOW
-> line 1 BadPattern
+> line 1: BadPattern
 read *A ALLOW
-> line 1 BadPattern
+> line 1: BadPattern
 read [b-a] ALLOW
-> line 1 BadPattern
+> line 1: BadPattern
 read A ALIAS
-> line 1 BadReference
+> line 1: BadReference
 read A ALIAS [é«20»
-> line 1 BadReference
+> line 1: BadReference
 read A ALIAS B\
-> line 1 BadReference
+> line 1: BadReference
 read \(A\) ALIAS B\0
-> line 1 BadReference
+> line 1: BadReference
 read \(A\) ALIAS B\2
-> line 1 BadReference
+> line 1: BadReference
 read [\(] ALIAS B\1
-> line 1 BadReference
+> line 1: BadReference
 read \\(A ALIAS B\1
-> line 1 BadReference
+> line 1: BadReference
 ",
     );
 }
@@ -215,22 +215,22 @@ read
 > 1 rows, ALLOW, DENY
 | A ALLOW «1015*#»xx«0d»
 read
-> line 1 LineTooLong
+> line 1: LineTooLong
 read A ALLOW «1015*#»x«0d»
-> line 1 LineTooLong
+> line 1: LineTooLong
 | #«1022*#»x«0d»
 read
 > 0 rows, ALLOW, DENY
 | #«1022*#»xx«0d»
 read
-> line 1 LineTooLong
+> line 1: LineTooLong
 read #«1022*#»x«0d»
-> line 1 LineTooLong
+> line 1: LineTooLong
 # Patterns nest at most 248 deep.
 read «248*\(»a«248*\)» DENY
 > 1 rows, ALLOW, DENY
 read «249*\(»a«249*\)» DENY
-> line 1 BadPattern
+> line 1: BadPattern
 # A file has at most 4096 rows.
 |
 | «4096*A DENY¶»EVALUATION ORDER DENY,ALLOW
@@ -238,7 +238,7 @@ read #
 > 4096 rows, DENY, ALLOW
 |
 read «4096*A DENY¶»[ DENY FROM
-> line 4098 TooManyLines
+> line 4098: TooManyLines
 ",
     );
 }
@@ -274,28 +274,28 @@ bits
 > 0 1 3
 # Every bad line is told.
 groups-read a
-> line 1 BadGroup
+> line 1: BadGroup
 | a READ
 groups-read a MAYBE
-> line 2 BadGroup
+> line 2: BadGroup
 groups-read a READ more
-> line 1 BadGroup
+> line 1: BadGroup
 groups-read é READ
-> line 1 BadGroup
+> line 1: BadGroup
 groups-read a,READ
-> line 1 BadGroup
+> line 1: BadGroup
 groups-read a READ«0d»
-> line 1 BadGroup
+> line 1: BadGroup
 |
 | «0d»
 groups-read a READ,
-> line 3 BadGroup
+> line 3: BadGroup
 # A file has at most 4096 lines, of 1024 bytes each.
 groups-read «4096*a READ¶#¶»
 groups-read «4096*a READ¶#¶»é
-> line 8193 TooManyLines
+> line 8193: TooManyLines
 groups-read «4096*a READ¶#¶»é«1023*#»
-> line 8193 LineTooLong
+> line 8193: LineTooLong
 ",
     );
 }
