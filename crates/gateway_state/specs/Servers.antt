@@ -22,7 +22,7 @@ use Rattle.link_table.specs.declared.links.Subject.{Subject}
 use Rattle.link_table.specs.declared.links.Subject.TheVariants.{Values, Properties}
 use Rattle.link_table.specs.declared.links.Subscription.{Subscription}
 use Rattle.link_table.specs.declared.table.TheConstants.{LINK_LIMIT}
-use Rattle.link_table.specs.Links.{is_link, is_not_link, has_id, has_subscription, none_yet, with_state}
+use Rattle.link_table.specs.Links.{is_link, is_not_link, has_id, has_subscription, new_link, with_state}
 use Rattle.link_table.specs.Servers.{is_server, with_minor}
 use Rattle.gateway_state.specs.declared.cached.LastMessage.{LastMessage}
 use Rattle.gateway_state.specs.declared.event.Dest.TheVariants as dests
@@ -45,14 +45,7 @@ linked w server name =
     asked server (requests.CreateChannel w.upstream.counters.cid name)
     (record w {
       upstream = record w.upstream {
-        links = w.upstream.links ++ record {
-          cid = w.upstream.counters.cid;
-          server = server;
-          name = name;
-          state = Creating;
-          rights = 0;
-          subscriptions = none_yet;
-        } ∷ [];
+        links = w.upstream.links ++ new_link server w.upstream.counters.cid name ∷ [];
         counters = record w.upstream.counters { cid = w.upstream.counters.cid + 1 };
       };
     })

@@ -208,11 +208,11 @@ abbrev pub IsSubscribedExactly : Gateway → Type 0
 IsSubscribedExactly w = (name : List ℕ)
     → option_map want_of (subscription_of w name) ≡ interest_of w name (native_count_of w name)
 
--- a link is wanted, and where it is connected it has a subscription for a subject exactly for what is
+-- a link is wanted, and where it is connected it has a subscription for each subject exactly for what is
 -- wanted of it
-pub record IsInUse (subject : Subject) (w : Gateway) (link : Link) : Type 0 where
+pub record IsInUse (w : Gateway) (link : Link) : Type 0 where
   pub wanted : is_wanted w link.name ≡ true
-  pub subscribed : is_connected link.state ≡ true
+  pub subscribed : is_connected link.state ≡ true → (subject : Subject)
       → option_map want_in (sub_at subject link.subscriptions)
       ≡ wanted_for subject w link.name (native_type_in link.state) (native_count_in link.state)
 
