@@ -8,11 +8,11 @@ use Rattle.gateway_state.specs.Variables.{is_on}
 
 -- a channel on the variable that had a read accepted, and whose client was told that it may read
 abbrev pub is_told_reader : List ℕ → Channel → Bool
-is_told_reader name c = is_on name c && nat_lt 0 c.reach && may_read c.rights
+is_told_reader name c = is_on name c && nat_lt 0 c.reach.count && may_read c.rights_told
 
 abbrev pub is_told_through : List ℕ → Option Channel → Bool
 is_told_through name None = false
-is_told_through name (Some c) = is_on name c && may_read c.rights
+is_told_through name (Some c) = is_on name c && may_read c.rights_told
 
 -- a subscription to the variable over such a channel
 abbrev pub is_told_subscriber : Gateway → List ℕ → ClientSub → Bool

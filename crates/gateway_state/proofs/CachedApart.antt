@@ -76,8 +76,8 @@ cached_apart_kept = record {
     write_added = λ write w on next apart. apart;
     write_removed = λ server id w apart. apart;
     link_changed = λ server cid state rights w apart. apart;
-    subscription_made = λ server cid mask count sent w apart. apart;
-    subscription_ended = λ server cid w apart. apart;
+    subscription_made = λ subject server cid mask count sent w apart. apart;
+    subscription_ended = λ subject server cid w apart. apart;
     link_removed = λ server cid w apart. apart_filtered (is_cached_elsewhere cid) w.cache apart;
   };
   connection_drained = λ dest count w apart. apart;

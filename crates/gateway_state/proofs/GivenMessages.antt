@@ -139,8 +139,8 @@ module _ (x : Gateway) (dest : Dest) where
     write_added = λ write w there next grown. grown;
     write_removed = λ server id w grown. grown;
     link_changed = λ server cid state rights w grown. grown;
-    subscription_made = λ server cid mask count sent w grown. grown;
-    subscription_ended = λ server cid w grown. grown;
+    subscription_made = λ subject server cid mask count sent w grown. grown;
+    subscription_ended = λ subject server cid w grown. grown;
     link_removed = λ server cid w grown. grown;
   }
 

@@ -90,8 +90,8 @@ hosts_fixed_kept = record {
     write_added = λ write w there next fixed. fixed;
     write_removed = λ server id w fixed. fixed;
     link_changed = λ server cid state rights w fixed. fixed;
-    subscription_made = λ server cid mask count sent w fixed. fixed;
-    subscription_ended = λ server cid w fixed. fixed;
+    subscription_made = λ subject server cid mask count sent w fixed. fixed;
+    subscription_ended = λ subject server cid w fixed. fixed;
     link_removed = λ server cid w fixed. fixed;
   };
   connection_drained = λ dest count w fixed. fixed;

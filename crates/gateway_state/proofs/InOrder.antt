@@ -2,10 +2,10 @@
 use Rattle.std.proofs.Common.{[], ◌∷◌, ◌∙◌, Some, None, refl, arith}
 use Rattle.std.proofs.lemmas.List.Folds.{list_all-append}
 use Rattle.channel_table.specs.Channels.{is_channel, is_not_channel, is_not_channel_of, with_reach_and_rights}
-use Rattle.link_table.specs.declared.links.LinkState.TheVariants.{Creating}
-use Rattle.link_table.specs.Links.{is_link, is_not_link, is_not_of, with_state, with_subscription}
+use Rattle.link_table.specs.Links.{is_link, is_not_link, is_not_of, new_link, with_state, with_subscription}
 use Rattle.gateway_state.specs.declared.config.Config.{Config}
 use Rattle.rule_desk.specs.declared.policy.Policy.{Policy}
+use Rattle.gateway_state.specs.Clients.{no_reach}
 use Rattle.gateway_state.specs.Gateway.{initial}
 use Rattle.gateway_state.specs.Settled.{AreInOrder, cid_of, has_id_below, sid_of}
 use Rattle.gateway_state.proofs.Kept.{IsKept, KeepsLinks, messages_kept}
@@ -27,7 +27,7 @@ in_order_kept = record {
     policy = λ policy w order. record { channels = order.channels; links = order.links; ids = order.ids };
     channel_added = λ session cid name real rights w fixed order. record {
       channels = rising_pushed sid_of 0 w.upstream.counters.sid w.clients.channels
-          (record { session = session; sid = w.upstream.counters.sid; cid = cid; asked = name; real = real; reach = 0; rights = rights })
+          (record { session = session; sid = w.upstream.counters.sid; cid = cid; asked = name; real = real; reach = no_reach; rights_told = rights })
           refl order.channels;
       links = order.links;
       ids = order.ids;
@@ -54,15 +54,15 @@ in_order_kept = record {
       links = rising_changed cid_of (is_link server cid) (with_state state rights) 0 w.upstream.counters.cid w.upstream.links (λ link. refl) order.links;
       ids = all_changed (has_id_below w.upstream.counters.subscription) (is_link server cid) (with_state state rights) w.upstream.links (λ link. refl) ∙ order.ids;
     };
-    subscription_made = λ server cid mask count sent w order. record {
+    subscription_made = λ subject server cid mask count sent w order. record {
       channels = order.channels;
-      links = rising_changed cid_of (is_link server cid) (with_subscription (Some (record { id = w.upstream.counters.subscription; mask = mask; count = count; sent = sent }))) 0 w.upstream.counters.cid w.upstream.links (λ link. refl) order.links;
-      ids = ids_of_new w.upstream.links (is_link server cid) w.upstream.counters.subscription (record { id = w.upstream.counters.subscription; mask = mask; count = count; sent = sent }) refl order.ids;
+      links = rising_changed cid_of (is_link server cid) (with_subscription subject (Some (record { id = w.upstream.counters.subscription; mask = mask; count = count; sent = sent }))) 0 w.upstream.counters.cid w.upstream.links (λ link. refl) order.links;
+      ids = ids_of_new subject w.upstream.links (is_link server cid) w.upstream.counters.subscription (record { id = w.upstream.counters.subscription; mask = mask; count = count; sent = sent }) refl order.ids;
     };
-    subscription_ended = λ server cid w order. record {
+    subscription_ended = λ subject server cid w order. record {
       channels = order.channels;
-      links = rising_changed cid_of (is_link server cid) (with_subscription None) 0 w.upstream.counters.cid w.upstream.links (λ link. refl) order.links;
-      ids = ids_of_fewer w.upstream.links (is_link server cid) w.upstream.counters.subscription order.ids;
+      links = rising_changed cid_of (is_link server cid) (with_subscription subject None) 0 w.upstream.counters.cid w.upstream.links (λ link. refl) order.links;
+      ids = ids_of_fewer subject w.upstream.links (is_link server cid) w.upstream.counters.subscription order.ids;
     };
     link_removed = λ server cid w order. record {
       channels = order.channels;
@@ -87,10 +87,10 @@ pub in_order_with_links : KeepsLinks AreInOrder
 in_order_with_links = λ server name w missing standing order. record {
   channels = order.channels;
   links = rising_pushed cid_of 0 w.upstream.counters.cid w.upstream.links
-      (record { cid = w.upstream.counters.cid; server = server; name = name; state = Creating; rights = 0; subscription = None })
+      (new_link server w.upstream.counters.cid name)
       refl order.links;
   ids = list_all-append (has_id_below w.upstream.counters.subscription) w.upstream.links
-      (record { cid = w.upstream.counters.cid; server = server; name = name; state = Creating; rights = 0; subscription = None } ∷ []) ∙ rw order.ids refl;
+      (new_link server w.upstream.counters.cid name ∷ []) ∙ rw order.ids refl;
 }
 
 pub initial_in_order : (config : Config) (policy : Policy) → AreInOrder (initial config policy)

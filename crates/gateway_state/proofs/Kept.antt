@@ -6,13 +6,14 @@ use Rattle.rows.specs.Rows.{change_first}
 use Rattle.ca_message.specs.declared.to_client.ToClient.{ToClient}
 use Rattle.ca_message.specs.declared.to_server.ToServer.{ToServer}
 use Rattle.channel_table.specs.declared.channels.Channel.{Channel}
+use Rattle.channel_table.specs.declared.channels.Reach.{Reach}
 use Rattle.channel_table.specs.declared.reads.WaitingRead.{WaitingRead}
 use Rattle.channel_table.specs.declared.sessions.Session.{Session}
 use Rattle.channel_table.specs.declared.subs.ClientSub.{ClientSub}
 use Rattle.channel_table.specs.Channels.{is_channel}
 use Rattle.channel_table.specs.Sessions.{is_numbered}
 use Rattle.link_table.specs.declared.links.LinkState.{LinkState}
-use Rattle.link_table.specs.declared.links.LinkState.TheVariants.{Creating}
+use Rattle.link_table.specs.declared.links.Subject.{Subject}
 use Rattle.link_table.specs.declared.servers.Server.{Server}
 use Rattle.link_table.specs.declared.writes.WaitingWrite.{WaitingWrite}
 use Rattle.gateway_state.specs.declared.cached.LastMessage.{LastMessage}
@@ -23,7 +24,8 @@ use Rattle.gateway_state.specs.declared.connections.Connection.{Connection}
 use Rattle.fanout.specs.Outbox.{appended}
 use Rattle.fanout.specs.Waiting.{Waiting}
 use Rattle.gateway_state.specs.declared.search.Search.{Search}
-use Rattle.gateway_state.specs.Clients.{with_channel, without_channel}
+use Rattle.link_table.specs.Links.{new_link}
+use Rattle.gateway_state.specs.Clients.{no_reach, with_channel, without_channel}
 use Rattle.gateway_state.specs.Asked.{stands}
 use Rattle.gateway_state.specs.CachedRows.{with_row}
 use Rattle.gateway_state.specs.Connections.{fresh, is_to}
@@ -66,11 +68,11 @@ with_policy policy w = record w { policy = policy }
 abbrev pub with_next_subscription : ℕ → Gateway → Gateway
 with_next_subscription next w = record w { upstream = record w.upstream { counters = record w.upstream.counters { subscription = next } } }
 
--- a link gets the subscription of the next number
-abbrev pub with_new_subscription : ℕ → ℕ → ℕ → ℕ → ℕ → Gateway → Gateway
-with_new_subscription server cid mask count sent w =
+-- a link gets the subscription of the next number for a subject
+abbrev pub with_new_subscription : Subject → ℕ → ℕ → ℕ → ℕ → ℕ → Gateway → Gateway
+with_new_subscription subject server cid mask count sent w =
     let id = w.upstream.counters.subscription in
-    with_subscription_of server cid (Some (record { id = id; mask = mask; count = count; sent = sent })) (with_next_subscription (id + 1) w)
+    with_subscription_of subject server cid (Some (record { id = id; mask = mask; count = count; sent = sent })) (with_next_subscription (id + 1) w)
 
 -- rows that are added and removed
 abbrev pub with_read : WaitingRead → Gateway → Gateway
@@ -79,14 +81,7 @@ with_read read w = record w { clients = record w.clients { reads = w.clients.rea
 abbrev pub with_link : ℕ → List ℕ → Gateway → Gateway
 with_link server name w = record w {
   upstream = record w.upstream {
-    links = w.upstream.links ++ record {
-      cid = w.upstream.counters.cid;
-      server = server;
-      name = name;
-      state = Creating;
-      rights = 0;
-      subscription = None;
-    } ∷ [];
+    links = w.upstream.links ++ new_link server w.upstream.counters.cid name ∷ [];
     counters = record w.upstream.counters { cid = w.upstream.counters.cid + 1 };
   };
 }
@@ -99,8 +94,8 @@ new_channel session cid name real rights w = record {
   cid = cid;
   asked = name;
   real = real;
-  reach = 0;
-  rights = rights;
+  reach = no_reach;
+  rights_told = rights;
 }
 
 -- a change of a session leaves it the same session, and its host fixed where it is
@@ -129,7 +124,7 @@ pub record KeepsRows (P : Gateway → Type 0) : Type 0 where
   pub policy : (policy : Policy) (w : Gateway) → P w → P (with_policy policy w)
   pub channel_added : (session cid : ℕ) (name real : List ℕ) (rights : ℕ) (w : Gateway) → is_host_fixed (find (is_numbered session) w.clients.sessions) ≡ true → P w
       → P (with_channel session cid name real rights w)
-  pub channel_changed : (session sid reach rights : ℕ) (w : Gateway) → P w → P (with_reach session sid reach rights w)
+  pub channel_changed : (session sid : ℕ) (reach : Reach) (rights : ℕ) (w : Gateway) → P w → P (with_reach session sid reach rights w)
   pub channel_removed : (session sid : ℕ) (w : Gateway) → P w → P (without_channel session sid w)
   pub sub_added : (sub : ClientSub) (w : Gateway) → is_some (sub_of w sub.session sub.id) ≡ false
       → list_any (is_channel sub.session sub.sid) w.clients.channels ≡ true → P w → P (with_sub sub w)
@@ -140,8 +135,8 @@ pub record KeepsRows (P : Gateway → Type 0) : Type 0 where
   pub write_added : (write : WaitingWrite) (w : Gateway) → is_write_on_link w write ≡ true → write.id ≡ w.upstream.counters.write → P w → P (with_write write w)
   pub write_removed : (server id : ℕ) (w : Gateway) → P w → P (without_write server id w)
   pub link_changed : (server cid : ℕ) (state : LinkState) (rights : ℕ) (w : Gateway) → P w → P (with_link_state server cid state rights w)
-  pub subscription_made : (server cid mask count sent : ℕ) (w : Gateway) → P w → P (with_new_subscription server cid mask count sent w)
-  pub subscription_ended : (server cid : ℕ) (w : Gateway) → P w → P (with_subscription_of server cid None w)
+  pub subscription_made : (subject : Subject) (server cid mask count sent : ℕ) (w : Gateway) → P w → P (with_new_subscription subject server cid mask count sent w)
+  pub subscription_ended : (subject : Subject) (server cid : ℕ) (w : Gateway) → P w → P (with_subscription_of subject server cid None w)
   pub link_removed : (server cid : ℕ) (w : Gateway) → P w → P (without_link server cid w)
 
 -- and what is drained and what goes with a connection keep it

@@ -17,6 +17,7 @@ use Rattle.ca_message.specs.declared.written.WriteFault.{WriteFault}
 use Rattle.ca_message.specs.Written.{Written, written}
 use Rattle.ca_message.specs.ClientRequest.{request_of}
 use Rattle.channel_table.specs.declared.channels.Channel.{Channel}
+use Rattle.channel_table.specs.declared.channels.Reach.{Reach}
 use Rattle.channel_table.specs.declared.reads.WaitingRead.{WaitingRead}
 use Rattle.channel_table.specs.declared.sessions.Session.{Session}
 use Rattle.channel_table.specs.declared.subs.ClientSub.{ClientSub}
@@ -70,7 +71,7 @@ found_there test (first ∷ rows) row e =
     [ true ↦ λ h. refl | false ↦ λ h. found_there test rows row h ] e
 
 -- a read is accepted on a channel that stands
-accepted_on : (w : Gateway) (number sid dtype count reach rights : ℕ) → read_verdict w number sid dtype count ≡ Accepted reach rights → list_any (is_channel number sid) w.clients.channels ≡ true
+accepted_on : (w : Gateway) (number sid dtype count : ℕ) (reach : Reach) (rights : ℕ) → read_verdict w number sid dtype count ≡ Accepted reach rights → list_any (is_channel number sid) w.clients.channels ≡ true
 accepted_on w number sid dtype count reach rights e = by (channel_of w number sid) refl e
   where
     by : (found : Option Channel) → channel_of w number sid ≡ found → verdict_on w dtype count found ≡ Accepted reach rights → list_any (is_channel number sid) w.clients.channels ≡ true
@@ -244,7 +245,7 @@ module _ (P : Gateway → Type 0) (kept : KeepsRows P) where
       kept.messages.telling number (replies.ClearChannel sid cid) (without_channel number sid w) (kept.channel_removed number sid w holds)
 
   kept_judged : (number sid ioid dtype count : ℕ) (head : Header) (verdict : ReadVerdict) (w : Gateway)
-      → ((reach rights : ℕ) → verdict ≡ Accepted reach rights → list_any (is_channel number sid) w.clients.channels ≡ true)
+      → ((reach : Reach) (rights : ℕ) → verdict ≡ Accepted reach rights → list_any (is_channel number sid) w.clients.channels ≡ true)
       → P w → P (judged number sid ioid dtype count head verdict w)
   kept_judged number sid ioid dtype count head NoChannel w on holds = kept.messages.telling number (replies.Error NO_CHANNEL ECA_BADCHID head) w holds
   kept_judged number sid ioid dtype count head Ignored w on holds = holds

@@ -5,6 +5,7 @@ use Rattle.std.specs.List.{fold}
 use Rattle.ca_message.specs.declared.to_client.ToClient.TheVariants as replies
 use Rattle.ca_message.specs.declared.to_server.ToServer.TheVariants as requests
 use Rattle.link_table.specs.declared.links.LinkState.TheVariants.{Creating, Connected, Unusable}
+use Rattle.link_table.specs.declared.links.Subject.TheVariants.{Values, Properties}
 use Rattle.gateway_state.specs.declared.event.Dest.TheVariants as dests
 use Rattle.gateway_state.specs.declared.event.Event.{Event}
 use Rattle.gateway_state.specs.declared.event.Event.TheVariants.{Opened, Lost, Client, UpOpened, UpLost, Server, Found, Search, Sweep, Edit, Drain}
@@ -67,13 +68,14 @@ module _ (P : Gateway → Type 0) (kept : KeepsRows P) where
   kept_channels_told w holds = kept_channels (channel_notices w) w holds
 
   pub kept_link_told : (w : Gateway) (notice : LinkNotice) → P w → P (link_told w notice)
-  kept_link_told w (Cancelled server cid sid dtype sub) holds =
-      kept.messages.asking server (requests.EventCancel sid sub.id dtype sub.sent) (with_subscription_of server cid None w) (kept.subscription_ended server cid w holds)
-  kept_link_told w (Unread cid) holds = kept.cache_left (is_cached_elsewhere cid) w holds
-  kept_link_told w (Subscribed server cid sid dtype want sent) holds =
+  kept_link_told w (Cancelled subject server cid sid dtype sub) holds =
+      kept.messages.asking server (requests.EventCancel sid sub.id dtype sub.sent) (with_subscription_of subject server cid None w) (kept.subscription_ended subject server cid w holds)
+  kept_link_told w (Unread Values cid) holds = kept.cache_left (is_cached_elsewhere cid) w holds
+  kept_link_told w (Unread Properties cid) holds = holds
+  kept_link_told w (Subscribed subject server cid sid dtype want sent) holds =
       let id : ℕ = w.upstream.counters.subscription in
-      kept.messages.asking server (requests.EventAdd sid id dtype sent want.mask) (with_new_subscription server cid want.mask want.count sent w)
-      (kept.subscription_made server cid want.mask want.count sent w holds)
+      kept.messages.asking server (requests.EventAdd sid id dtype sent want.mask) (with_new_subscription subject server cid want.mask want.count sent w)
+      (kept.subscription_made subject server cid want.mask want.count sent w holds)
   kept_link_told w (Dropped server cid Creating) holds = kept.link_removed server cid w holds
   kept_link_told w (Dropped server cid Unusable) holds = kept.link_removed server cid w holds
   kept_link_told w (Dropped server cid (Connected sid dtype native)) holds =

@@ -15,6 +15,8 @@ use Rattle.channel_table.specs.declared.reads.WaitingRead.{WaitingRead}
 use Rattle.link_table.specs.declared.links.Link.{Link}
 use Rattle.link_table.specs.declared.links.LinkState.{LinkState}
 use Rattle.link_table.specs.declared.links.LinkState.TheVariants.{Creating, Connected, Unusable}
+use Rattle.link_table.specs.declared.links.Subject.{Subject}
+use Rattle.link_table.specs.declared.links.Subject.TheVariants.{Values, Properties}
 use Rattle.link_table.specs.declared.links.Subscription.{Subscription}
 use Rattle.link_table.specs.declared.table.TheConstants.{LINK_LIMIT, SERVER_LIMIT}
 use Rattle.link_table.specs.Links.{has_subscription, is_link}
@@ -23,7 +25,7 @@ use Rattle.gateway_state.specs.declared.cached.LastMessage.{LastMessage}
 use Rattle.gateway_state.specs.declared.event.Dest.TheVariants.{Upstream}
 use Rattle.gateway_state.specs.Asked.{acts, ends, stands}
 use Rattle.gateway_state.specs.Gateway.{Gateway}
-use Rattle.gateway_state.specs.Servers.{answered_creating, concerned_owed, created_for, failed_for, found, gone_for, has_other_alarm, is_usable, is_value, linked, read_failed, reads_failed, replied, rights_given, server_said, updated_by, updated_link, waits_for, with_cached, with_link_state, without_link}
+use Rattle.gateway_state.specs.Servers.{answered_creating, concerned_owed, created_for, failed_for, found, gone_for, has_other_alarm, is_usable, is_value, linked, read_failed, reads_failed, replied, rights_given, server_said, subject_of, updated_by, updated_link, updated_under, waits_for, with_cached, with_link_state, without_link}
 use Rattle.gateway_state.specs.Sessions.{introduced, up_opened, with_server}
 use Rattle.gateway_state.specs.Connections.{fresh}
 use Rattle.gateway_state.specs.Notices.{without_read}
@@ -120,12 +122,16 @@ module _ (P : Gateway → Type 0) (kept : KeepsRows P) where
   kept_updated_link link Creating sub dtype count payload w holds = holds
   kept_updated_link link Unusable sub dtype count payload w holds = holds
 
-  kept_updated_by : (status dtype count : ℕ) (payload : List ℕ) (link : Option Link) (w : Gateway) → P w → P (updated_by status dtype count payload link w)
-  kept_updated_by status dtype count payload None w holds = holds
-  kept_updated_by status dtype count payload (Some link) w holds =
-      kept_either P (eqb status ECA_NORMAL) (updated_link link link.state link.subscription dtype count payload w) (reads_failed w link.name)
-      (λ _. kept_updated_link link link.state link.subscription dtype count payload w holds)
+  kept_updated_under : (subject : Subject) (status dtype count : ℕ) (payload : List ℕ) (link : Link) (w : Gateway) → P w → P (updated_under subject status dtype count payload link w)
+  kept_updated_under Values status dtype count payload link w holds =
+      kept_either P (eqb status ECA_NORMAL) (updated_link link link.state link.subscriptions.values dtype count payload w) (reads_failed w link.name)
+      (λ _. kept_updated_link link link.state link.subscriptions.values dtype count payload w holds)
       (kept_all_failed (filter (waits_for w link.name) w.clients.reads) w holds)
+  kept_updated_under Properties status dtype count payload link w holds = holds
+
+  kept_updated_by : (id status dtype count : ℕ) (payload : List ℕ) (link : Option Link) (w : Gateway) → P w → P (updated_by id status dtype count payload link w)
+  kept_updated_by id status dtype count payload None w holds = holds
+  kept_updated_by id status dtype count payload (Some link) w holds = kept_updated_under (subject_of id link) status dtype count payload link w holds
 
   -- writes
 
@@ -139,7 +145,7 @@ module _ (P : Gateway → Type 0) (kept : KeepsRows P) where
   kept_replied : (w : Gateway) (server : ℕ) (reply : Result ServerReply ReplyFault) → P w → P (replied w server reply)
   kept_replied w server (Ok (says.Version minor)) holds = kept.servers (change_first (is_server server) (with_minor minor) w.upstream.servers) w holds
   kept_replied w server (Ok (says.EventAdd id status dtype count value)) holds =
-      kept_updated_by status dtype count value (find (has_subscription server id) w.upstream.links) w holds
+      kept_updated_by id status dtype count value (find (has_subscription server id) w.upstream.links) w holds
   kept_replied w server (Ok (says.CreateChannel cid sid dtype count)) holds =
       kept_created_for server cid sid dtype count (find (is_link server cid) w.upstream.links) w holds
   kept_replied w server (Ok (says.WriteNotify ioid status)) holds = kept_write_ended_for server ioid status (find (is_write server ioid) w.upstream.writes) w holds

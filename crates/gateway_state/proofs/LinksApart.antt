@@ -5,8 +5,7 @@ use Rattle.std.specs.List.{find}
 use Rattle.std.proofs.lemmas.Slice.Eq.{bytes_eq-Decides}
 use Rattle.rows.specs.Rows.{change_first}
 use Rattle.link_table.specs.declared.links.Link.{Link}
-use Rattle.link_table.specs.declared.links.LinkState.TheVariants.{Creating}
-use Rattle.link_table.specs.Links.{is_link, is_named, is_not_link, is_not_of, with_state, with_subscription}
+use Rattle.link_table.specs.Links.{is_link, is_named, is_not_link, is_not_of, new_link, with_state, with_subscription}
 use Rattle.gateway_state.specs.declared.config.Config.{Config}
 use Rattle.rule_desk.specs.declared.policy.Policy.{Policy}
 use Rattle.gateway_state.specs.declared.event.Event.{Event}
@@ -112,9 +111,9 @@ links_apart_kept = record {
     write_added = λ write w on next apart. apart;
     write_removed = λ server id w apart. apart;
     link_changed = λ server cid state rights w apart. apart_changed w.upstream.links (is_link server cid) (with_state state rights) (λ name link. refl) apart;
-    subscription_made = λ server cid mask count sent w apart.
-        apart_changed w.upstream.links (is_link server cid) (with_subscription (Some (record { id = w.upstream.counters.subscription; mask = mask; count = count; sent = sent }))) (λ name link. refl) apart;
-    subscription_ended = λ server cid w apart. apart_changed w.upstream.links (is_link server cid) (with_subscription None) (λ name link. refl) apart;
+    subscription_made = λ subject server cid mask count sent w apart.
+        apart_changed w.upstream.links (is_link server cid) (with_subscription subject (Some (record { id = w.upstream.counters.subscription; mask = mask; count = count; sent = sent }))) (λ name link. refl) apart;
+    subscription_ended = λ subject server cid w apart. apart_changed w.upstream.links (is_link server cid) (with_subscription subject None) (λ name link. refl) apart;
     link_removed = λ server cid w apart. apart_filtered w.upstream.links (is_not_link server cid) apart;
   };
   connection_drained = λ dest count w apart. apart;
@@ -124,7 +123,7 @@ links_apart_kept = record {
 
 pub links_apart_with_links : KeepsLinks HasLinksApart
 links_apart_with_links = λ server name w missing standing apart.
-    apart_pushed w.upstream.links (record { cid = w.upstream.counters.cid; server = server; name = name; state = Creating; rights = 0; subscription = None }) missing apart
+    apart_pushed w.upstream.links (new_link server w.upstream.counters.cid name) missing apart
 
 pub run_links_apart : (config : Config) (policy : Policy) (events : List Event) → HasLinksApart (run (initial config policy) events)
 run_links_apart config policy events = kept_run HasLinksApart links_apart_kept links_apart_with_links (initial config policy) events (λ name. omega arith)

@@ -85,9 +85,9 @@ links_on_servers_kept = record {
     write_added = λ write w there next on. on;
     write_removed = λ server id w on. on;
     link_changed = λ server cid state rights w on. all_changed (is_on_server w) (is_link server cid) (with_state state rights) w.upstream.links (λ link. refl) ∙ on;
-    subscription_made = λ server cid mask count sent w on.
-        all_changed (is_on_server w) (is_link server cid) (with_subscription (Some (record { id = w.upstream.counters.subscription; mask = mask; count = count; sent = sent }))) w.upstream.links (λ link. refl) ∙ on;
-    subscription_ended = λ server cid w on. all_changed (is_on_server w) (is_link server cid) (with_subscription None) w.upstream.links (λ link. refl) ∙ on;
+    subscription_made = λ subject server cid mask count sent w on.
+        all_changed (is_on_server w) (is_link server cid) (with_subscription subject (Some (record { id = w.upstream.counters.subscription; mask = mask; count = count; sent = sent }))) w.upstream.links (λ link. refl) ∙ on;
+    subscription_ended = λ subject server cid w on. all_changed (is_on_server w) (is_link server cid) (with_subscription subject None) w.upstream.links (λ link. refl) ∙ on;
     link_removed = λ server cid w on. all_filtered (is_on_server w) (is_not_link server cid) w.upstream.links on;
   };
   connection_drained = λ dest count w on. outboxes_changed dest (without_first count) w on;

@@ -7,11 +7,14 @@ use Rattle.rows.specs.Rows.{change_first}
 use Rattle.channel_table.specs.Channels.{is_channel}
 use Rattle.channel_table.specs.ClientRows.{has_channel}
 use Rattle.link_table.specs.declared.links.Link.{Link}
+use Rattle.link_table.specs.declared.links.Subject.{Subject}
+use Rattle.link_table.specs.declared.links.Subject.TheVariants.{Values, Properties}
 use Rattle.link_table.specs.declared.links.Subscription.{Subscription}
+use Rattle.link_table.specs.declared.links.Subscriptions.{Subscriptions}
 use Rattle.link_table.specs.LinkRows.{has_link}
-use Rattle.link_table.specs.Links.{has_id, has_subscription, is_link, is_named, is_of, with_subscription}
+use Rattle.link_table.specs.Links.{has_id, has_subscription, is_link, is_named, is_of, with_at, with_subscription}
 use Rattle.gateway_state.specs.Gateway.{Gateway}
-use Rattle.gateway_state.specs.Settled.{AreInOrder, AreRising, HasCidsInOrder, HasSidsInOrder, cid_of, has_id_below, is_below, sid_of}
+use Rattle.gateway_state.specs.Settled.{AreInOrder, AreRising, HasCidsInOrder, HasSidsInOrder, are_below, cid_of, has_id_below, is_below, sid_of}
 use Rattle.gateway_state.specs.Variables.{is_linked}
 use Rattle.gateway_state.proofs.RowTests.{all_weaker, none_found}
 
@@ -21,34 +24,43 @@ below_more : (next : ℕ) (sub : Option Subscription) → is_below next sub ≡ 
 below_more next None below = refl
 below_more next (Some sub) below = let less : sub.id < next = ltb-true sub.id next below in lt-ltb sub.id (next + 1) (omega (arith, less))
 
+both_below_more : (next : ℕ) (subs : Subscriptions) → are_below next subs ≡ true → are_below (next + 1) subs ≡ true
+both_below_more next subs below =
+    let parts = and_parts (is_below next subs.values) (is_below next subs.properties) below in
+    and_from (is_below (next + 1) subs.values) (is_below (next + 1) subs.properties) (below_more next subs.values parts.0) (below_more next subs.properties parts.1)
+
 all_below_more : (next : ℕ) (links : List Link) → list_all (has_id_below next) links ≡ true → list_all (has_id_below (next + 1)) links ≡ true
-all_below_more next links below = all_weaker (has_id_below next) (has_id_below (next + 1)) links (λ link. below_more next link.subscription) below
+all_below_more next links below = all_weaker (has_id_below next) (has_id_below (next + 1)) links (λ link. both_below_more next link.subscriptions) below
+
+-- with one of them replaced by one below, both are below
+put_below : (subject : Subject) (next : ℕ) (sub : Option Subscription) (subs : Subscriptions) → is_below next sub ≡ true → are_below next subs ≡ true → are_below next (with_at subject sub subs) ≡ true
+put_below Values next sub subs new below = and_from (is_below next sub) (is_below next subs.properties) new (and_parts (is_below next subs.values) (is_below next subs.properties) below).1
+put_below Properties next sub subs new below = and_from (is_below next subs.values) (is_below next sub) (and_parts (is_below next subs.values) (is_below next subs.properties) below).0 new
+
+-- a link gets a subscription below, or loses it
+ids_of_put : (subject : Subject) (links : List Link) (test : Link → Bool) (next : ℕ) (sub : Option Subscription) → is_below next sub ≡ true → list_all (has_id_below next) links ≡ true
+    → list_all (has_id_below next) (change_first test (with_subscription subject sub) links) ≡ true
+ids_of_put subject [] test next sub new below = refl
+ids_of_put subject (link ∷ links) test next sub new below =
+    let parts = and_parts (has_id_below next link) (list_all (has_id_below next) links) below in
+    elim (test link) as (λ t. list_all (has_id_below next) (cond t (with_subscription subject sub link ∷ links) (link ∷ change_first test (with_subscription subject sub) links)) ≡ true) [
+      | true ↦
+          and_from (are_below next (with_at subject sub link.subscriptions)) (list_all (has_id_below next) links) (put_below subject next sub link.subscriptions new parts.0) parts.1
+      | false ↦
+          and_from (has_id_below next link) (list_all (has_id_below next) (change_first test (with_subscription subject sub) links)) parts.0
+          (ids_of_put subject links test next sub new parts.1)
+    ]
 
 -- a link gets the subscription of the next ID
-pub ids_of_new : (links : List Link) (test : Link → Bool) (next : ℕ) (new : Subscription) → new.id ≡ next → list_all (has_id_below next) links ≡ true
-    → list_all (has_id_below (next + 1)) (change_first test (with_subscription (Some new)) links) ≡ true
-ids_of_new [] test next new is below = refl
-ids_of_new (link ∷ links) test next new is below =
-    let parts = and_parts (has_id_below next link) (list_all (has_id_below next) links) below in
-    elim (test link) as (λ t. list_all (has_id_below (next + 1)) (cond t (with_subscription (Some new) link ∷ links) (link ∷ change_first test (with_subscription (Some new)) links)) ≡ true) [
-      | true ↦
-          and_from (is_below (next + 1) (Some new)) (list_all (has_id_below (next + 1)) links) (lt-ltb new.id (next + 1) (omega (arith, is))) (all_below_more next links parts.1)
-      | false ↦
-          and_from (has_id_below (next + 1) link) (list_all (has_id_below (next + 1)) (change_first test (with_subscription (Some new)) links))
-          (below_more next link.subscription parts.0) (ids_of_new links test next new is parts.1)
-    ]
+pub ids_of_new : (subject : Subject) (links : List Link) (test : Link → Bool) (next : ℕ) (new : Subscription) → new.id ≡ next → list_all (has_id_below next) links ≡ true
+    → list_all (has_id_below (next + 1)) (change_first test (with_subscription subject (Some new)) links) ≡ true
+ids_of_new subject links test next new is below =
+    ids_of_put subject links test (next + 1) (Some new) (lt-ltb new.id (next + 1) (omega (arith, is))) (all_below_more next links below)
 
 -- a link loses its subscription
-pub ids_of_fewer : (links : List Link) (test : Link → Bool) (next : ℕ) → list_all (has_id_below next) links ≡ true
-    → list_all (has_id_below next) (change_first test (with_subscription None) links) ≡ true
-ids_of_fewer [] test next below = refl
-ids_of_fewer (link ∷ links) test next below =
-    let parts = and_parts (has_id_below next link) (list_all (has_id_below next) links) below in
-    elim (test link) as (λ t. list_all (has_id_below next) (cond t (with_subscription None link ∷ links) (link ∷ change_first test (with_subscription None) links)) ≡ true) [
-      | true ↦ parts.1
-      | false ↦
-          and_from (has_id_below next link) (list_all (has_id_below next) (change_first test (with_subscription None) links)) parts.0 (ids_of_fewer links test next parts.1)
-    ]
+pub ids_of_fewer : (subject : Subject) (links : List Link) (test : Link → Bool) (next : ℕ) → list_all (has_id_below next) links ≡ true
+    → list_all (has_id_below next) (change_first test (with_subscription subject None) links) ≡ true
+ids_of_fewer subject links test next below = ids_of_put subject links test next None refl below
 
 no_id_above : (next : ℕ) (sub : Option Subscription) → is_below next sub ≡ true → has_id next sub ≡ false
 no_id_above next None below = refl
@@ -58,8 +70,9 @@ new_id_among : (server next : ℕ) (links : List Link) → list_all (has_id_belo
 new_id_among server next [] below = refl
 new_id_among server next (link ∷ links) below =
     let parts = and_parts (has_id_below next link) (list_all (has_id_below next) links) below in
-    rw (no_id_above next link.subscription parts.0, new_id_among server next links parts.1)
-    (elim (is_of server link) as (λ t. ((t && false) || false) ≡ false) [ true ↦ refl | false ↦ refl ])
+    let both = and_parts (is_below next link.subscriptions.values) (is_below next link.subscriptions.properties) parts.0 in
+    rw (no_id_above next link.subscriptions.values both.0, no_id_above next link.subscriptions.properties both.1, new_id_among server next links parts.1)
+    (elim (is_of server link) as (λ t. ((t && false || t && false) || false) ≡ false) [ true ↦ refl | false ↦ refl ])
 
 -- no link has a subscription of the next ID
 pub new_id : (w : Gateway) (server : ℕ) → AreInOrder w → list_any (has_subscription server w.upstream.counters.subscription) w.upstream.links ≡ false

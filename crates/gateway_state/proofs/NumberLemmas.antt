@@ -30,9 +30,9 @@ subscription_rises counters e = Prim.grind arith
 -- no notice on a link takes a number back
 link_told_past : (w : Gateway) (notice : LinkNotice) → is_past_numbers w ≡ true → is_past_numbers (link_told w notice) ≡ true
 unfolding sent is_past_numbers
-link_told_past w (links.Cancelled server cid sid dtype sub) e = e
-link_told_past w (links.Unread cid) e = e
-link_told_past w (links.Subscribed server cid sid dtype want sent_count) e = subscription_rises w.upstream.counters e
+link_told_past w (links.Cancelled subject server cid sid dtype sub) e = e
+link_told_past w (links.Unread subject cid) e = e
+link_told_past w (links.Subscribed subject server cid sid dtype want sent_count) e = subscription_rises w.upstream.counters e
 link_told_past w (links.Dropped server cid Creating) e = e
 link_told_past w (links.Dropped server cid Unusable) e = e
 link_told_past w (links.Dropped server cid (Connected sid dtype count)) e = e

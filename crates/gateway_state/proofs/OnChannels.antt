@@ -6,6 +6,7 @@ use Rattle.std.proofs.lemmas.Bool.{and_parts, eqb-true}
 use Rattle.std.proofs.lemmas.List.Folds.{list_any-append}
 use Rattle.rows.specs.Rows.{change_first}
 use Rattle.channel_table.specs.declared.channels.Channel.{Channel}
+use Rattle.channel_table.specs.declared.channels.Reach.{Reach}
 use Rattle.channel_table.specs.Channels.{is_channel, is_channel_of, with_reach_and_rights}
 use Rattle.gateway_state.proofs.RowTests.{all_left, all_weaker, any_changed, any_filtered}
 
@@ -41,7 +42,7 @@ module _ {A : Type 0} (session_in sid_in : A → ℕ) where
       all_weaker (stands channels) (stands (channels ++ new ∷ [])) rows
       (λ row there. list_any-append (is_channel (session_in row) (sid_in row)) channels (new ∷ []) ∙ rw there refl) on
 
-  pub on_changed : (channels : List Channel) (session sid reach rights : ℕ) (rows : List A) → list_all (stands channels) rows ≡ true
+  pub on_changed : (channels : List Channel) (session sid : ℕ) (reach : Reach) (rights : ℕ) (rows : List A) → list_all (stands channels) rows ≡ true
       → list_all (stands (change_first (is_channel session sid) (with_reach_and_rights reach rights) channels)) rows ≡ true
   on_changed channels session sid reach rights rows on =
       all_weaker (stands channels) (stands (change_first (is_channel session sid) (with_reach_and_rights reach rights) channels)) rows

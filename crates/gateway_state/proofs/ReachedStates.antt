@@ -50,6 +50,6 @@ told_rights_hold w session sid reached = by (channel_of w session sid) refl
     up_to_date : All (IsUpToDate w) w.clients.channels
     up_to_date = subst (λ (v : Gateway). All (IsUpToDate v) v.clients.channels) (sym reached.by_run) (run_up_to_date reached.config reached.policy reached.events)
 
-    by : (found : Option Channel) → channel_of w session sid ≡ found → option_map (λ (c : Channel). c.rights) found ≡ rights_in w found
+    by : (found : Option Channel) → channel_of w session sid ≡ found → option_map (λ (c : Channel). c.rights_told) found ≡ rights_in w found
     by None is = refl
     by (Some c) is = ap Some (found_passes (IsUpToDate w) (is_channel session sid) w.clients.channels c up_to_date is).rights

@@ -76,8 +76,8 @@ rows_on_channels_kept = record {
     write_added = λ write w there next on. record { reads = on.reads; subs = on.subs };
     write_removed = λ server id w on. record { reads = on.reads; subs = on.subs };
     link_changed = λ server cid state rights w on. record { reads = on.reads; subs = on.subs };
-    subscription_made = λ server cid mask count sent w on. record { reads = on.reads; subs = on.subs };
-    subscription_ended = λ server cid w on. record { reads = on.reads; subs = on.subs };
+    subscription_made = λ subject server cid mask count sent w on. record { reads = on.reads; subs = on.subs };
+    subscription_ended = λ subject server cid w on. record { reads = on.reads; subs = on.subs };
     link_removed = λ server cid w on. record { reads = on.reads; subs = on.subs };
   };
   connection_drained = λ dest count w on. record { reads = on.reads; subs = on.subs };

@@ -87,8 +87,8 @@ sessions_connected_kept = record {
     write_added = λ write w there next connected. connected;
     write_removed = λ server id w connected. connected;
     link_changed = λ server cid state rights w connected. connected;
-    subscription_made = λ server cid mask count sent w connected. connected;
-    subscription_ended = λ server cid w connected. connected;
+    subscription_made = λ subject server cid mask count sent w connected. connected;
+    subscription_ended = λ subject server cid w connected. connected;
     link_removed = λ server cid w connected. connected;
   };
   connection_drained = λ dest count w connected. outboxes_changed dest (without_first count) w connected;

@@ -55,7 +55,7 @@ kept_by_later : (w : Gateway) (low high : ℕ) (rows : List Channel) (c : Channe
     → fold left_by (c ∷ others) (filter_map (channel_notice w) rows) ≡ c ∷ fold left_by others (filter_map (channel_notice w) rows)
 kept_by_later w low high [] c others below rising = refl
 kept_by_later w low high (row ∷ rows) c others below rising =
-    by (is_served w row) (eqb row.rights (rights_of w row)) (λ left. kept_by_later w (row.sid + 1) high rows c left (omega (arith, rising.0)) rising.1)
+    by (is_served w row) (eqb row.rights_told (rights_of w row)) (λ left. kept_by_later w (row.sid + 1) high rows c left (omega (arith, rising.0)) rising.1)
   where
     other : is_channel row.session row.sid c ≡ false
     other = other_number c row.session row.sid (λ same. omega (arith, rising.0))
@@ -78,7 +78,7 @@ quiet_channels : (w : Gateway) (low high : ℕ) (rows : List Channel) → AreRis
     → filter_map (channel_notice w) (fold left_by rows (filter_map (channel_notice w) rows)) ≡ []
 quiet_channels w low high [] rising = refl
 quiet_channels w low high (row ∷ rows) rising =
-    by (is_served w row) (eqb row.rights (rights_of w row)) refl refl (quiet_channels w (row.sid + 1) high rows rising.1)
+    by (is_served w row) (eqb row.rights_told (rights_of w row)) refl refl (quiet_channels w (row.sid + 1) high rows rising.1)
   where
     gone : filter (is_not_channel row.session row.sid) rows ≡ rows
     gone =
@@ -89,7 +89,7 @@ quiet_channels w low high (row ∷ rows) rising =
         → fold left_by (c ∷ rows) (filter_map (channel_notice w) rows) ≡ c ∷ fold left_by rows (filter_map (channel_notice w) rows)
     kept c same = kept_by_later w (row.sid + 1) high rows c rows (omega arith) rising.1
 
-    by : (served same : Bool) → is_served w row ≡ served → eqb row.rights (rights_of w row) ≡ same
+    by : (served same : Bool) → is_served w row ≡ served → eqb row.rights_told (rights_of w row) ≡ same
         → filter_map (channel_notice w) (fold left_by rows (filter_map (channel_notice w) rows)) ≡ []
         → filter_map (channel_notice w) (fold left_by (row ∷ rows) (cons_option (notice_by served same (rights_of w row) row) (filter_map (channel_notice w) rows))) ≡ []
     by false same is_so is_same rest =

@@ -10,17 +10,20 @@ use Rattle.rows.specs.Rows.{change_first}
 use Rattle.link_table.specs.declared.links.Link.{Link}
 use Rattle.link_table.specs.declared.links.LinkState.{LinkState}
 use Rattle.link_table.specs.declared.links.LinkState.TheVariants.{Creating, Connected, Unusable}
+use Rattle.link_table.specs.declared.links.Subject.{Subject}
+use Rattle.link_table.specs.declared.links.Subject.TheVariants.{Values, Properties}
 use Rattle.link_table.specs.declared.links.Subscription.{Subscription}
+use Rattle.link_table.specs.declared.links.Subscriptions.{Subscriptions}
 use Rattle.link_table.specs.LinkRows.{LinkRows}
 use Rattle.mask_merge.specs.declared.want.Want.{Want}
-use Rattle.link_table.specs.Links.{is_link, is_named, is_not_link, with_subscription}
+use Rattle.link_table.specs.Links.{is_link, is_named, is_not_link, sub_at, with_at, with_subscription}
 use Rattle.gateway_state.specs.declared.cached.LastMessage.{LastMessage}
 use Rattle.gateway_state.specs.declared.connections.Connection.{Connection}
 use Rattle.gateway_state.specs.declared.notice.LinkNotice.{LinkNotice}
 use Rattle.gateway_state.specs.declared.notice.LinkNotice.TheVariants.{Cancelled, Unread, Subscribed, Dropped}
 use Rattle.gateway_state.specs.Gateway.{Gateway}
-use Rattle.gateway_state.specs.Interest.{interest_of, is_for, minor_of, sent_count}
-use Rattle.gateway_state.specs.Notices.{cancelled, subscribed, interest_notices, link_notices_of, link_notices, link_told, links_told}
+use Rattle.gateway_state.specs.Interest.{is_for, minor_of, sent_for, wanted_for}
+use Rattle.gateway_state.specs.Notices.{cancelled, subscribed, interest_notices, notices_between, subject_notices, link_notices_of, link_notices, link_told, links_told}
 use Rattle.gateway_state.specs.Rights.{link_rights, link_connected}
 use Rattle.gateway_state.specs.Settled.{AreRising, cid_of}
 use Rattle.gateway_state.specs.Telling.{sent}
@@ -29,11 +32,11 @@ use Rattle.gateway_state.proofs.RisingRows.{none_rising, filter_absent}
 
 -- what a notice leaves of the rows of links
 abbrev left_by : LinkRows → LinkNotice → LinkRows
-left_by rows (Cancelled server cid sid dtype sub) =
-    record rows { links = change_first (is_link server cid) (with_subscription None) rows.links }
-left_by rows (Unread cid) = rows
-left_by rows (Subscribed server cid sid dtype want sent) = record rows {
-  links = change_first (is_link server cid) (with_subscription (Some (record { id = rows.counters.subscription; mask = want.mask; count = want.count; sent = sent }))) rows.links;
+left_by rows (Cancelled subject server cid sid dtype sub) =
+    record rows { links = change_first (is_link server cid) (with_subscription subject None) rows.links }
+left_by rows (Unread subject cid) = rows
+left_by rows (Subscribed subject server cid sid dtype want sent) = record rows {
+  links = change_first (is_link server cid) (with_subscription subject (Some (record { id = rows.counters.subscription; mask = want.mask; count = want.count; sent = sent }))) rows.links;
   counters = record rows.counters { subscription = rows.counters.subscription + 1 };
 }
 left_by rows (Dropped server cid state) = record rows { links = filter (is_not_link server cid) rows.links }
@@ -49,10 +52,10 @@ after_notices w notices = with_upstream w (fold link_told w notices).connections
 links_changed : (notices : List LinkNotice) (w : Gateway) → fold link_told w notices ≡ after_notices w notices
 unfolding sent
 links_changed [] w = refl
-links_changed (Cancelled server cid sid dtype sub ∷ notices) w = links_changed notices (link_told w (Cancelled server cid sid dtype sub))
-links_changed (Unread cid ∷ notices) w = links_changed notices (link_told w (Unread cid))
-links_changed (Subscribed server cid sid dtype want sent ∷ notices) w =
-    links_changed notices (link_told w (Subscribed server cid sid dtype want sent))
+links_changed (Cancelled subject server cid sid dtype sub ∷ notices) w = links_changed notices (link_told w (Cancelled subject server cid sid dtype sub))
+links_changed (Unread subject cid ∷ notices) w = links_changed notices (link_told w (Unread subject cid))
+links_changed (Subscribed subject server cid sid dtype want sent ∷ notices) w =
+    links_changed notices (link_told w (Subscribed subject server cid sid dtype want sent))
 links_changed (Dropped server cid Creating ∷ notices) w = links_changed notices (link_told w (Dropped server cid Creating))
 links_changed (Dropped server cid Unusable ∷ notices) w = links_changed notices (link_told w (Dropped server cid Unusable))
 links_changed (Dropped server cid (Connected sid dtype native) ∷ notices) w =
@@ -65,15 +68,15 @@ in_front link rows = record rows { links = link ∷ rows.links }
 
 -- the notice changes this link
 abbrev concerns : Link → LinkNotice → Bool
-concerns link (Cancelled server cid sid dtype sub) = is_link server cid link
-concerns link (Unread cid) = false
-concerns link (Subscribed server cid sid dtype want sent) = is_link server cid link
+concerns link (Cancelled subject server cid sid dtype sub) = is_link server cid link
+concerns link (Unread subject cid) = false
+concerns link (Subscribed subject server cid sid dtype want sent) = is_link server cid link
 concerns link (Dropped server cid state) = is_link server cid link
 
 passed_by : (link : Link) (rows : LinkRows) (notice : LinkNotice) → concerns link notice ≡ false → left_by (in_front link rows) notice ≡ in_front link (left_by rows notice)
-passed_by link rows (Cancelled server cid sid dtype sub) other = rw other refl
-passed_by link rows (Unread cid) other = refl
-passed_by link rows (Subscribed server cid sid dtype want sent) other = rw other refl
+passed_by link rows (Cancelled subject server cid sid dtype sub) other = rw other refl
+passed_by link rows (Unread subject cid) other = refl
+passed_by link rows (Subscribed subject server cid sid dtype want sent) other = rw other refl
 passed_by link rows (Dropped server cid state) other = rw other refl
 
 -- notices that don't concern the first link leave it as it is
@@ -95,23 +98,33 @@ other_number link server cid differ = and_right (eqb link.server server) (eqb li
 itself : (link : Link) → is_link link.server link.cid link ≡ true
 itself link = and_from (eqb link.server link.server) (eqb link.cid link.cid) (eq-eqb link.server link.server refl) (eq-eqb link.cid link.cid refl)
 
-cancelled-other : (link row : Link) (sid dtype : ℕ) (sub : Option Subscription) → is_link row.server row.cid link ≡ false → list_any (concerns link) (cancelled row sid dtype sub) ≡ false
-cancelled-other link row sid dtype None other = refl
-cancelled-other link row sid dtype (Some sub) other = rw other refl
+cancelled-other : (subject : Subject) (link row : Link) (sid dtype : ℕ) (sub : Option Subscription) → is_link row.server row.cid link ≡ false → list_any (concerns link) (cancelled subject row sid dtype sub) ≡ false
+cancelled-other subject link row sid dtype None other = refl
+cancelled-other subject link row sid dtype (Some sub) other = rw other refl
 
-subscribed-other : (link row : Link) (minor sid dtype native : ℕ) (want : Option Want) → is_link row.server row.cid link ≡ false → list_any (concerns link) (subscribed minor row sid dtype native want) ≡ false
-subscribed-other link row minor sid dtype native None other = refl
-subscribed-other link row minor sid dtype native (Some want) other = rw other refl
+subscribed-other : (subject : Subject) (link row : Link) (minor sid dtype native : ℕ) (want : Option Want) → is_link row.server row.cid link ≡ false
+    → list_any (concerns link) (subscribed subject minor row sid dtype native want) ≡ false
+subscribed-other subject link row minor sid dtype native None other = refl
+subscribed-other subject link row minor sid dtype native (Some want) other = rw other refl
+
+notices_between-other : (subject : Subject) (link row : Link) (minor sid dtype native : ℕ) (want : Option Want) (sub : Option Subscription) → is_link row.server row.cid link ≡ false
+    → list_any (concerns link) (notices_between subject minor row sid dtype native want sub) ≡ false
+notices_between-other subject link row minor sid dtype native want sub other = by (is_for want sub)
+  where
+    by : (met : Bool) → list_any (concerns link) (cond met [] (cancelled subject row sid dtype sub ++ subscribed subject minor row sid dtype native want)) ≡ false
+    by true = refl
+    by false = rw (list_any-append, cancelled-other subject link row sid dtype sub other) (subscribed-other subject link row minor sid dtype native want other)
+
+subject_notices-other : (subject : Subject) (w : Gateway) (link row : Link) (sid dtype native : ℕ) → is_link row.server row.cid link ≡ false
+    → list_any (concerns link) (subject_notices subject w row sid dtype native) ≡ false
+subject_notices-other subject w link row sid dtype native other =
+    notices_between-other subject link row (minor_of w row.server) sid dtype native (wanted_for subject w row.name dtype native) (sub_at subject row.subscriptions) other
 
 interest_notices-other : (w : Gateway) (link row : Link) (state : LinkState) → is_link row.server row.cid link ≡ false → list_any (concerns link) (interest_notices w row state) ≡ false
 interest_notices-other w link row Creating other = refl
 interest_notices-other w link row Unusable other = refl
-interest_notices-other w link row (Connected sid dtype native) other = by (is_for (interest_of w row.name native) row.subscription)
-  where
-    by : (met : Bool) → list_any (concerns link) (cond met [] (cancelled row sid dtype row.subscription ++ subscribed (minor_of w row.server) row sid dtype native (interest_of w row.name native))) ≡ false
-    by true = refl
-    by false =
-        rw (list_any-append, cancelled-other link row sid dtype row.subscription other) (subscribed-other link row (minor_of w row.server) sid dtype native (interest_of w row.name native) other)
+interest_notices-other w link row (Connected sid dtype native) other =
+    rw (list_any-append, subject_notices-other Values w link row sid dtype native other) (subject_notices-other Properties w link row sid dtype native other)
 
 link_notices_of-other : (w : Gateway) (link row : Link) → is_link row.server row.cid link ≡ false → list_any (concerns link) (link_notices_of w row) ≡ false
 link_notices_of-other w link row other = by (is_wanted w row.name)
@@ -132,41 +145,87 @@ later_notices-other w link low high (row ∷ rows) below rising =
 abbrev with_next : ℕ → LinkRows → LinkRows
 with_next id rows = record rows { counters = record rows.counters { subscription = id } }
 
--- the notices leave the link with a subscription that is for what is wanted
-record IsMet (w : Gateway) (link : Link) (state : LinkState) (rows : LinkRows) (notices : List LinkNotice) : Type 0 where
+abbrev with_subs : Subscriptions → Link → Link
+with_subs subs link = record link { subscriptions = subs }
+
+same_at : (subject : Subject) (subs : Subscriptions) → with_at subject (sub_at subject subs) subs ≡ subs
+same_at Values subs = refl
+same_at Properties subs = refl
+
+put_again : (subject : Subject) (first second : Option Subscription) (subs : Subscriptions) → with_at subject second (with_at subject first subs) ≡ with_at subject second subs
+put_again Values first second subs = refl
+put_again Properties first second subs = refl
+
+-- the notices about a subject leave the link with a subscription that is for what is wanted of it
+record IsMetFor (subject : Subject) (want : Option Want) (link : Link) (rows : LinkRows) (notices : List LinkNotice) : Type 0 where
   sub : Option Subscription
   next : ℕ
-  gives : fold left_by (in_front link rows) notices ≡ in_front (with_subscription sub link) (with_next next rows)
-  quiet : interest_notices w (with_subscription sub link) state ≡ []
+  gives : fold left_by (in_front link rows) notices ≡ in_front (with_subscription subject sub link) (with_next next rows)
+  met : is_for want sub ≡ true
 
-interest_met : (w : Gateway) (link : Link) (rows : LinkRows) (state : LinkState) → IsMet w link state rows (interest_notices w link state)
-interest_met w link rows Creating = record { sub = link.subscription; next = rows.counters.subscription; gives = refl; quiet = refl }
-interest_met w link rows Unusable = record { sub = link.subscription; next = rows.counters.subscription; gives = refl; quiet = refl }
-interest_met w link rows (Connected sid dtype native) = by (is_for (interest_of w link.name native) link.subscription) refl
+met_for : (subject : Subject) (want : Option Want) (link : Link) (rows : LinkRows) (minor sid dtype native : ℕ)
+    → IsMetFor subject want link rows (notices_between subject minor link sid dtype native want (sub_at subject link.subscriptions))
+met_for subject want link rows minor sid dtype native = by (is_for want (sub_at subject link.subscriptions)) refl
   where
-    anew : (sub : Option Subscription) (want : Option Want) → link.subscription ≡ sub → interest_of w link.name native ≡ want → is_for want sub ≡ false
-        → IsMet w link (Connected sid dtype native) rows (cancelled link sid dtype sub ++ subscribed (minor_of w link.server) link sid dtype native want)
-    anew None None is_sub is_want differs = absurd (true≢false differs)
-    anew (Some sub) None is_sub is_want differs =
-        record { sub = None; next = rows.counters.subscription; gives = rw (itself link) refl; quiet = rw is_want refl }
-    anew None (Some want) is_sub is_want differs = record {
-      sub = Some (record { id = rows.counters.subscription; mask = want.mask; count = want.count; sent = sent_count (minor_of w link.server) native want.count });
+    new : Want → Subscription
+    new asked = record { id = rows.counters.subscription; mask = asked.mask; count = asked.count; sent = sent_for subject minor native asked.count }
+
+    anew : (sub : Option Subscription) (want : Option Want) → is_for want sub ≡ false
+        → IsMetFor subject want link rows (cancelled subject link sid dtype sub ++ subscribed subject minor link sid dtype native want)
+    anew None None differs = absurd (true≢false differs)
+    anew (Some sub) None differs = record { sub = None; next = rows.counters.subscription; gives = rw (itself link) refl; met = refl }
+    anew None (Some asked) differs = record {
+      sub = Some (new asked);
       next = rows.counters.subscription + 1;
       gives = rw (itself link) refl;
-      quiet = rw (is_want, eq-eqb want.mask want.mask refl, eq-eqb want.count want.count refl) refl;
+      met = rw (eq-eqb asked.mask asked.mask refl, eq-eqb asked.count asked.count refl) refl;
     }
-    anew (Some sub) (Some want) is_sub is_want differs = record {
-      sub = Some (record { id = rows.counters.subscription; mask = want.mask; count = want.count; sent = sent_count (minor_of w link.server) native want.count });
+    anew (Some sub) (Some asked) differs = record {
+      sub = Some (new asked);
       next = rows.counters.subscription + 1;
-      gives = rw (itself link, itself link) refl;
-      quiet = rw (is_want, eq-eqb want.mask want.mask refl, eq-eqb want.count want.count refl) refl;
+      gives = rw (itself link, itself link)
+          (ap (λ (subs : Subscriptions). in_front (with_subs subs link) (with_next (rows.counters.subscription + 1) rows)) (put_again subject None (Some (new asked)) link.subscriptions));
+      met = rw (eq-eqb asked.mask asked.mask refl, eq-eqb asked.count asked.count refl) refl;
     }
 
-    by : (met : Bool) → is_for (interest_of w link.name native) link.subscription ≡ met
-        → IsMet w link (Connected sid dtype native) rows
-        (cond met [] (cancelled link sid dtype link.subscription ++ subscribed (minor_of w link.server) link sid dtype native (interest_of w link.name native)))
-    by true met = record { sub = link.subscription; next = rows.counters.subscription; gives = refl; quiet = rw met refl }
-    by false met = anew link.subscription (interest_of w link.name native) refl refl met
+    by : (met : Bool) → is_for want (sub_at subject link.subscriptions) ≡ met
+        → IsMetFor subject want link rows (cond met [] (cancelled subject link sid dtype (sub_at subject link.subscriptions) ++ subscribed subject minor link sid dtype native want))
+    by true met = record {
+      sub = sub_at subject link.subscriptions;
+      next = rows.counters.subscription;
+      gives = ap (λ (subs : Subscriptions). in_front (with_subs subs link) rows) (sym (same_at subject link.subscriptions));
+      met = met;
+    }
+    by false met = anew (sub_at subject link.subscriptions) want met
+
+-- the notices leave the link with subscriptions that are for what is wanted
+record IsMet (w : Gateway) (link : Link) (state : LinkState) (rows : LinkRows) (notices : List LinkNotice) : Type 0 where
+  subs : Subscriptions
+  next : ℕ
+  gives : fold left_by (in_front link rows) notices ≡ in_front (with_subs subs link) (with_next next rows)
+  quiet : interest_notices w (with_subs subs link) state ≡ []
+
+interest_met : (w : Gateway) (link : Link) (rows : LinkRows) (state : LinkState) → IsMet w link state rows (interest_notices w link state)
+interest_met w link rows Creating = record { subs = link.subscriptions; next = rows.counters.subscription; gives = refl; quiet = refl }
+interest_met w link rows Unusable = record { subs = link.subscriptions; next = rows.counters.subscription; gives = refl; quiet = refl }
+interest_met w link rows (Connected sid dtype native) = record {
+  subs = record { values = first.sub; properties = second.sub };
+  next = second.next;
+  gives =
+      fold-append left_by (in_front link rows) (subject_notices Values w link sid dtype native) (subject_notices Properties w link sid dtype native)
+      ∙ ap (λ (left : LinkRows). fold left_by left (subject_notices Properties w link sid dtype native)) first.gives ∙ second.gives;
+  quiet = rw (first.met, second.met) refl;
+}
+  where
+    minor : ℕ
+    minor = minor_of w link.server
+
+    first : IsMetFor Values (wanted_for Values w link.name dtype native) link rows (subject_notices Values w link sid dtype native)
+    first = met_for Values (wanted_for Values w link.name dtype native) link rows minor sid dtype native
+
+    -- on the link that the first leaves
+    second : IsMetFor Properties (wanted_for Properties w link.name dtype native) (with_subscription Values first.sub link) (with_next first.next rows) (subject_notices Properties w link sid dtype native)
+    second = met_for Properties (wanted_for Properties w link.name dtype native) (with_subscription Values first.sub link) (with_next first.next rows) minor sid dtype native
 
 -- ---- all links
 
@@ -191,24 +250,24 @@ left_without w link links left refused rest = record {
   connected = λ name wanted. rw (unwanted w link name refused wanted) (rest.connected name wanted);
 }
 
-left_with : (w : Gateway) (link : Link) (sub : Option Subscription) (links left : List Link) → link_notices_of w (with_subscription sub link) ≡ [] → IsLeft w links left
-    → IsLeft w (link ∷ links) (with_subscription sub link ∷ left)
-left_with w link sub links left quiet rest = record {
+left_with : (w : Gateway) (link : Link) (subs : Subscriptions) (links left : List Link) → link_notices_of w (with_subs subs link) ≡ [] → IsLeft w links left
+    → IsLeft w (link ∷ links) (with_subs subs link ∷ left)
+left_with w link subs links left quiet rest = record {
   quiet = ap (λ (notices : List LinkNotice). notices ++ flat_map (link_notices_of w) left) quiet ∙ rest.quiet;
   rights = λ name wanted. same name (λ (found : Option Link). link_rights found) refl (rest.rights name wanted);
   connected = λ name wanted. same_connected name (rest.connected name wanted);
 }
   where
-    same : (name : List ℕ) (of : Option Link → ℕ) → of (Some (with_subscription sub link)) ≡ of (Some link) → of (find (is_named name) left) ≡ of (find (is_named name) links)
-        → of (find (is_named name) (with_subscription sub link ∷ left)) ≡ of (find (is_named name) (link ∷ links))
+    same : (name : List ℕ) (of : Option Link → ℕ) → of (Some (with_subs subs link)) ≡ of (Some link) → of (find (is_named name) left) ≡ of (find (is_named name) links)
+        → of (find (is_named name) (with_subs subs link ∷ left)) ≡ of (find (is_named name) (link ∷ links))
     same name of here rest =
-        elim (is_named name link) as (λ t. of (cond t (Some (with_subscription sub link)) (find (is_named name) left)) ≡ of (cond t (Some link) (find (is_named name) links)))
+        elim (is_named name link) as (λ t. of (cond t (Some (with_subs subs link)) (find (is_named name) left)) ≡ of (cond t (Some link) (find (is_named name) links)))
         [ true ↦ here | false ↦ rest ]
 
     same_connected : (name : List ℕ) → link_connected (find (is_named name) left) ≡ link_connected (find (is_named name) links)
-        → link_connected (find (is_named name) (with_subscription sub link ∷ left)) ≡ link_connected (find (is_named name) (link ∷ links))
+        → link_connected (find (is_named name) (with_subs subs link ∷ left)) ≡ link_connected (find (is_named name) (link ∷ links))
     same_connected name rest =
-        elim (is_named name link) as (λ t. link_connected (cond t (Some (with_subscription sub link)) (find (is_named name) left)) ≡ link_connected (cond t (Some link) (find (is_named name) links)))
+        elim (is_named name link) as (λ t. link_connected (cond t (Some (with_subs subs link)) (find (is_named name) left)) ≡ link_connected (cond t (Some link) (find (is_named name) links)))
         [ true ↦ refl | false ↦ rest ]
 
 abbrev with_links : List Link → LinkRows → LinkRows
@@ -224,7 +283,7 @@ links_left w low high rows (link ∷ links) rising =
     met = interest_met w link (with_links links rows) link.state
 
     left : Link
-    left = with_subscription met.sub link
+    left = with_subs met.subs link
 
     own : fold left_by (with_links (link ∷ links) rows) (interest_notices w link link.state) ≡ in_front left (with_links links (with_next met.next rows))
     own = met.gives
@@ -254,7 +313,7 @@ links_left w low high rows (link ∷ links) rising =
         ∙ all_passed_by left (with_links links (with_next met.next rows)) (flat_map (link_notices_of w) links) others in
         let quiet : link_notices_of w left ≡ [] = rw (met.quiet, is) refl in
         subst (λ (r : LinkRows). IsLeft w (link ∷ links) r.links) (sym all)
-        (left_with w link met.sub links (fold left_by (with_links links (with_next met.next rows)) (flat_map (link_notices_of w) links)).links quiet (on met.next))
+        (left_with w link met.subs links (fold left_by (with_links links (with_next met.next rows)) (flat_map (link_notices_of w) links)).links quiet (on met.next))
     by false is on =
         let step : left_by (in_front left (with_links links (with_next met.next rows))) (Dropped link.server link.cid link.state) ≡ with_links links (with_next met.next rows) =
         rw (itself link, gone) refl in
@@ -275,9 +334,9 @@ with_links_left w connections cache links next = record w {
 rows_changed : (notices : List LinkNotice) (rows : LinkRows)
     → fold left_by rows notices ≡ with_next (fold left_by rows notices).counters.subscription (with_links (fold left_by rows notices).links rows)
 rows_changed [] rows = refl
-rows_changed (Cancelled server cid sid dtype sub ∷ notices) rows = rows_changed notices (left_by rows (Cancelled server cid sid dtype sub))
-rows_changed (Unread cid ∷ notices) rows = rows_changed notices rows
-rows_changed (Subscribed server cid sid dtype want sent ∷ notices) rows = rows_changed notices (left_by rows (Subscribed server cid sid dtype want sent))
+rows_changed (Cancelled subject server cid sid dtype sub ∷ notices) rows = rows_changed notices (left_by rows (Cancelled subject server cid sid dtype sub))
+rows_changed (Unread subject cid ∷ notices) rows = rows_changed notices rows
+rows_changed (Subscribed subject server cid sid dtype want sent ∷ notices) rows = rows_changed notices (left_by rows (Subscribed subject server cid sid dtype want sent))
 rows_changed (Dropped server cid state ∷ notices) rows = rows_changed notices (left_by rows (Dropped server cid state))
 
 -- the pass gives such a state, whose links are those left

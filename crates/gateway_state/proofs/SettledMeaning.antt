@@ -11,7 +11,10 @@ use Rattle.channel_table.specs.Channels.{is_channel}
 use Rattle.link_table.specs.declared.links.Link.{Link}
 use Rattle.link_table.specs.declared.links.LinkState.{LinkState}
 use Rattle.link_table.specs.declared.links.LinkState.TheVariants.{Creating, Connected, Unusable}
+use Rattle.link_table.specs.declared.links.Subject.{Subject}
+use Rattle.link_table.specs.declared.links.Subject.TheVariants.{Values, Properties}
 use Rattle.link_table.specs.declared.links.Subscription.{Subscription}
+use Rattle.link_table.specs.Links.{sub_at}
 use Rattle.mask_merge.specs.declared.want.Want.{Want}
 use Rattle.gateway_state.specs.declared.notice.LinkNotice.{LinkNotice}
 use Rattle.gateway_state.specs.declared.notice.LinkNotice.TheVariants.{Dropped}
@@ -20,10 +23,10 @@ use Rattle.gateway_state.specs.declared.reading.Given.{Given}
 use Rattle.gateway_state.specs.declared.reading.Native.{Native}
 use Rattle.gateway_state.specs.Answer.{cached_value, native_in}
 use Rattle.gateway_state.specs.Gateway.{Gateway}
-use Rattle.gateway_state.specs.Interest.{interest_of, is_for, minor_of}
-use Rattle.gateway_state.specs.Notices.{answered_by, answered_natively, answered_over, cancelled, channel_notice, channel_notices, interest_notices, link_notices_of, notice_on, read_notice, subscribed}
+use Rattle.gateway_state.specs.Interest.{is_for, minor_of, wanted_for}
+use Rattle.gateway_state.specs.Notices.{answered_by, answered_natively, answered_over, cancelled, channel_notice, channel_notices, interest_notices, link_notices_of, notice_on, notices_between, read_notice, subject_notices, subscribed}
 use Rattle.gateway_state.specs.Rights.{channel_of, is_served, link_connected, may_read, rights_of}
-use Rattle.gateway_state.specs.Settled.{HasReadsOnChannels, IsInUse, IsSettled, IsUpToDate, IsWaiting, want_in, is_on_channel, native_count_in}
+use Rattle.gateway_state.specs.Settled.{HasReadsOnChannels, IsInUse, IsSettled, IsUpToDate, IsWaiting, want_in, is_on_channel, native_count_in, native_type_in}
 use Rattle.gateway_state.specs.Variables.{is_connected, is_wanted, link_of}
 use Rattle.gateway_state.proofs.SettledChannels.{notice_by}
 
@@ -50,12 +53,12 @@ nothing_told {A = A} {B = B} notices (row ∷ rows) none = by (notices row) refl
 -- ---- channels
 
 up_to_date : (w : Gateway) (c : Channel) → channel_notice w c ≡ None → IsUpToDate w c
-up_to_date w c none = by (is_served w c) (eqb c.rights (rights_of w c)) refl refl none
+up_to_date w c none = by (is_served w c) (eqb c.rights_told (rights_of w c)) refl refl none
   where
-    by : (served same : Bool) → is_served w c ≡ served → eqb c.rights (rights_of w c) ≡ same → notice_by served same (rights_of w c) c ≡ None → IsUpToDate w c
+    by : (served same : Bool) → is_served w c ≡ served → eqb c.rights_told (rights_of w c) ≡ same → notice_by served same (rights_of w c) c ≡ None → IsUpToDate w c
     by false same is_so is_same none = absurd cc
     by true false is_so is_same none = absurd cc
-    by true true is_so is_same none = record { served = is_so; rights = eqb-true c.rights (rights_of w c) is_same }
+    by true true is_so is_same none = record { served = is_so; rights = eqb-true c.rights_told (rights_of w c) is_same }
 
 pub quiet_up_to_date : (w : Gateway) → channel_notices w ≡ [] → All (IsUpToDate w) w.clients.channels
 quiet_up_to_date w none =
@@ -77,29 +80,45 @@ is_for-same (Some want) (Some sub) is =
     λ i. Some (record { mask = masks i; count = counts i })
 
 -- where the subscription isn't for what is wanted, something is told
-pub told_anew : (link : Link) (minor sid dtype native : ℕ) (sub : Option Subscription) (want : Option Want)
-    → cancelled link sid dtype sub ++ subscribed minor link sid dtype native want ≡ [] → ⊥
-told_anew link minor sid dtype native None None none = cc
-told_anew link minor sid dtype native None (Some want) none = cc
-told_anew link minor sid dtype native (Some sub) want none = cc
+pub told_anew : (subject : Subject) (link : Link) (minor sid dtype native : ℕ) (sub : Option Subscription) (want : Option Want)
+    → cancelled subject link sid dtype sub ++ subscribed subject minor link sid dtype native want ≡ [] → ⊥
+told_anew subject link minor sid dtype native None None none = cc
+told_anew subject link minor sid dtype native None (Some want) none = cc
+told_anew subject link minor sid dtype native (Some sub) want none = cc
 
-subscribed_for : (w : Gateway) (link : Link) (state : LinkState) → interest_notices w link state ≡ [] → is_connected state ≡ true → option_map want_in link.subscription ≡ interest_of w link.name (native_count_in state)
-subscribed_for w link Creating none connected = absurd (true≢false (sym connected))
-subscribed_for w link Unusable none connected = absurd (true≢false (sym connected))
-subscribed_for w link (Connected sid dtype native) none connected = by (is_for (interest_of w link.name native) link.subscription) refl none
+-- two lists that make none together are none
+pub both_empty : {A : Type 0} (first second : List A) → first ++ second ≡ [] → (first ≡ []) × (second ≡ [])
+both_empty [] second none = (refl, none)
+both_empty (row ∷ rows) second none = absurd cc
+
+pub subscribed_for : (subject : Subject) (link : Link) (minor sid dtype native : ℕ) (want : Option Want) (sub : Option Subscription)
+    → notices_between subject minor link sid dtype native want sub ≡ [] → option_map want_in sub ≡ want
+subscribed_for subject link minor sid dtype native want sub none = by (is_for want sub) refl none
   where
-    by : (met : Bool) → is_for (interest_of w link.name native) link.subscription ≡ met
-        → cond met [] (cancelled link sid dtype link.subscription ++ subscribed (minor_of w link.server) link sid dtype native (interest_of w link.name native)) ≡ []
-        → option_map want_in link.subscription ≡ interest_of w link.name native
-    by true met none = is_for-same (interest_of w link.name native) link.subscription met
-    by false met none = absurd (told_anew link (minor_of w link.server) sid dtype native link.subscription (interest_of w link.name native) none)
+    by : (met : Bool) → is_for want sub ≡ met → cond met [] (cancelled subject link sid dtype sub ++ subscribed subject minor link sid dtype native want) ≡ []
+        → option_map want_in sub ≡ want
+    by true met none = is_for-same want sub met
+    by false met none = absurd (told_anew subject link minor sid dtype native sub want none)
+
+-- nothing is told about a connected link, so nothing about either subject
+subject_quiet : (w : Gateway) (link : Link) (sid dtype native : ℕ) → interest_notices w link (Connected sid dtype native) ≡ [] → (subject : Subject) → subject_notices subject w link sid dtype native ≡ []
+subject_quiet w link sid dtype native none Values = (both_empty (subject_notices Values w link sid dtype native) (subject_notices Properties w link sid dtype native) none).0
+subject_quiet w link sid dtype native none Properties = (both_empty (subject_notices Values w link sid dtype native) (subject_notices Properties w link sid dtype native) none).1
+
+all_subscribed : (w : Gateway) (link : Link) (state : LinkState) → interest_notices w link state ≡ [] → is_connected state ≡ true → (subject : Subject)
+    → option_map want_in (sub_at subject link.subscriptions) ≡ wanted_for subject w link.name (native_type_in state) (native_count_in state)
+all_subscribed w link Creating none connected subject = absurd (true≢false (sym connected))
+all_subscribed w link Unusable none connected subject = absurd (true≢false (sym connected))
+all_subscribed w link (Connected sid dtype native) none connected subject =
+    subscribed_for subject link (minor_of w link.server) sid dtype native (wanted_for subject w link.name dtype native) (sub_at subject link.subscriptions)
+    (subject_quiet w link sid dtype native none subject)
 
 in_use : (w : Gateway) (link : Link) → link_notices_of w link ≡ [] → IsInUse w link
 in_use w link none = by (interest_notices w link link.state) (is_wanted w link.name) refl refl none
   where
     by : (first : List LinkNotice) (wanted : Bool) → interest_notices w link link.state ≡ first → is_wanted w link.name ≡ wanted
         → first ++ cond wanted [] (Dropped link.server link.cid link.state ∷ []) ≡ [] → IsInUse w link
-    by [] true is is_so none = record { wanted = is_so; subscribed = subscribed_for w link link.state is }
+    by [] true is is_so none = record { wanted = is_so; subscribed = all_subscribed w link link.state is }
     by [] false is is_so none = absurd cc
     by (notice ∷ more) wanted is is_so none = absurd cc
 

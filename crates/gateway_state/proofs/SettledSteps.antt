@@ -6,16 +6,16 @@ use Rattle.std.proofs.lemmas.Slice.Eq.{bytes_eq-Decides}
 use Rattle.channel_table.specs.declared.channels.Channel.{Channel}
 use Rattle.channel_table.specs.declared.subs.ClientSub.{ClientSub}
 use Rattle.channel_table.specs.Channels.{is_channel}
+use Rattle.channel_table.specs.Demand.{own_ask}
 use Rattle.link_table.specs.declared.links.Link.{Link}
 use Rattle.gateway_state.specs.declared.cached.LastMessage.{LastMessage}
 use Rattle.gateway_state.specs.declared.connections.Connection.{Connection}
-use Rattle.mask_merge.specs.Merged.{merged}
 use Rattle.gateway_state.specs.declared.notice.ChannelNotice.{ChannelNotice}
 use Rattle.gateway_state.specs.declared.notice.LinkNotice.{LinkNotice}
 use Rattle.gateway_state.specs.declared.notice.ReadNotice.{ReadNotice}
 use Rattle.gateway_state.specs.declared.notice.UpdateNotice.{UpdateNotice}
 use Rattle.gateway_state.specs.Gateway.{Gateway}
-use Rattle.gateway_state.specs.Interest.{channel_want, interest_of, is_read_through, is_reader, is_subscriber, sub_want}
+use Rattle.gateway_state.specs.Interest.{is_read_through, is_reader, is_subscriber, reader_ask, readers}
 use Rattle.gateway_state.specs.Notices.{channel_notice, channel_notices, channels_told, link_notices, links_told, reads_told, channel_told, link_told, read_notices, read_told}
 use Rattle.gateway_state.specs.Resolution.{is_real, rights_left}
 use Rattle.gateway_state.specs.Rights.{channel_of, is_served, lead_in, may_read, rights_of}
@@ -73,7 +73,7 @@ module _ (w : Gateway) (connections : List Connection) (cache : List LastMessage
   readers_same name (c ∷ channels) wanted =
       let rights = rights_same c (first_wanted c channels wanted) in
       let rest = readers_same name channels (others_wanted c channels wanted) in
-      λ i. cond (is_on name c && ltb 0 c.reach && may_read (rights i)) (c ∷ rest i) (rest i)
+      λ i. cond (is_on name c && ltb 0 c.reach.count && may_read (rights i)) (c ∷ rest i) (rest i)
 
   channel_notices_same : (channels : List Channel) → AreWanted channels → filter_map (channel_notice v) channels ≡ filter_map (channel_notice w) channels
   channel_notices_same [] wanted = refl
@@ -81,7 +81,7 @@ module _ (w : Gateway) (connections : List Connection) (cache : List LastMessage
       let rights = rights_same c (first_wanted c channels wanted) in
       let served = served_same c (first_wanted c channels wanted) in
       let rest = channel_notices_same channels (others_wanted c channels wanted) in
-      λ i. cons_option (notice_by (served i) (eqb c.rights (rights i)) (rights i) c) (rest i)
+      λ i. cons_option (notice_by (served i) (eqb c.rights_told (rights i)) (rights i) c) (rest i)
 
   all_wanted : AreWanted w.clients.channels
   all_wanted name there = ap (λ (t : Bool). t || list_any (leads_to w.policy name) w.searches) there
@@ -121,14 +121,14 @@ module _ (w : Gateway) (connections : List Connection) (cache : List LastMessage
   pub left_withheld_same : withheld v ≡ withheld w
   left_withheld_same = all_withheld_same w.clients.subs
 
-  interest_same : (name : List ℕ) (native : ℕ) → interest_of v name native ≡ interest_of w name native
-  interest_same name native =
+  asks_same : (name : List ℕ) → readers v name ≡ readers w name
+  asks_same name =
       let subs = subscribers_same name w.clients.subs in
       let channels = readers_same name w.clients.channels all_wanted in
-      λ i. merged (map (sub_want native) (subs i) ++ map channel_want (channels i))
+      λ i. map own_ask (subs i) ++ map reader_ask (channels i)
 
   pub left_links_settled : link_notices v ≡ []
-  left_links_settled = (λ i. flat_map (λ link. link_notices_alike v w interest_same (λ server. refl) (λ name. refl) link i) links) ∙ left.quiet
+  left_links_settled = (λ i. flat_map (λ link. link_notices_alike v w asks_same (λ server. refl) (λ name. refl) link i) links) ∙ left.quiet
 
   pub left_channels_same : channel_notices v ≡ channel_notices w
   left_channels_same = channel_notices_same w.clients.channels all_wanted

@@ -8,16 +8,18 @@ use Rattle.std.proofs.lemmas.Slice.Eq.{bytes_eq-Decides}
 use Rattle.channel_table.specs.declared.channels.Channel.{Channel}
 use Rattle.channel_table.specs.declared.subs.ClientSub.{ClientSub}
 use Rattle.channel_table.specs.Channels.{is_channel}
+use Rattle.channel_table.specs.Demand.{own_ask}
 use Rattle.link_table.specs.declared.links.Link.{Link}
 use Rattle.link_table.specs.declared.links.LinkState.{LinkState}
 use Rattle.link_table.specs.declared.links.LinkState.TheVariants.{Creating, Connected, Unusable}
+use Rattle.link_table.specs.declared.links.Subject.{Subject}
+use Rattle.link_table.specs.declared.links.Subject.TheVariants.{Values, Properties}
 use Rattle.link_table.specs.declared.links.Subscription.{Subscription}
-use Rattle.link_table.specs.Links.{is_named}
-use Rattle.mask_merge.specs.Merged.{merged}
+use Rattle.link_table.specs.Links.{is_named, sub_at}
 use Rattle.gateway_state.specs.Gateway.{Gateway}
-use Rattle.gateway_state.specs.Interest.{channel_want, interest_of, is_read_through, is_reader, is_subscriber, present, sub_in, sub_want, subscription_in}
+use Rattle.gateway_state.specs.Interest.{is_read_through, is_reader, is_subscriber, present, reader_ask, readers, sub_in, subscription_in, wanted_by, wanted_for}
 use Rattle.gateway_state.specs.Rights.{channel_of, link_connected}
-use Rattle.gateway_state.specs.Settled.{IsInUse, IsKeptPosted, IsSettled, IsSubscribedExactly, IsUpToDate, native_count_over, want_in, want_of}
+use Rattle.gateway_state.specs.Settled.{IsInUse, IsKeptPosted, IsSettled, IsSubscribedExactly, IsSubscribedTo, IsUpToDate, native_count_over, native_type_over, want_in, want_of}
 use Rattle.gateway_state.specs.Updates.{is_open_to, is_unreadable, is_withheld, update_notice, update_on}
 use Rattle.gateway_state.specs.Variables.{is_on, link_of}
 use Rattle.gateway_state.proofs.SettledMeaning.{all_in_use, all_up_to_date, none_told}
@@ -66,11 +68,21 @@ no_subscribers w name (sub ∷ subs) unconnected all = by (channel_of w sub.sess
         let found = found_row (IsUpToDate w) (is_channel sub.session sub.sid) w.clients.channels c all is in
         rw (not_on w name c unconnected found.holds) rest
 
-nothing_wanted : (w : Gateway) (name : List ℕ) (native : ℕ) → IsSettled w → link_connected (link_of w name) ≡ false → interest_of w name native ≡ None
-nothing_wanted w name native settled unconnected =
+nobody_reads : (w : Gateway) (name : List ℕ) → IsSettled w → link_connected (link_of w name) ≡ false → readers w name ≡ []
+nobody_reads w name settled unconnected =
     let subs = no_subscribers w name w.clients.subs unconnected (all_up_to_date w settled) in
     let channels = no_readers w name w.clients.channels unconnected (all_up_to_date w settled) in
-    λ i. merged (map (sub_want native) (subs i) ++ map channel_want (channels i))
+    λ i. map own_ask (subs i) ++ map reader_ask (channels i)
+
+-- who isn't there wants nothing
+none_wanted : (subject : Subject) (dtype native : ℕ) → wanted_by subject dtype native [] ≡ None
+none_wanted Values dtype native = refl
+none_wanted Properties dtype native = refl
+
+nothing_wanted : (subject : Subject) (w : Gateway) (name : List ℕ) (dtype native : ℕ) → IsSettled w → link_connected (link_of w name) ≡ false
+    → wanted_for subject w name dtype native ≡ None
+nothing_wanted subject w name dtype native settled unconnected =
+    ap (wanted_by subject dtype native) (nobody_reads w name settled unconnected) ∙ none_wanted subject dtype native
 
 -- ---- subscriptions upstream
 
@@ -78,23 +90,28 @@ same_want : (sub : Option Subscription) → option_map want_of (sub_in sub) ≡ 
 same_want None = refl
 same_want (Some sub) = refl
 
-pub subscribed_exactly : (w : Gateway) → IsSettled w → IsSubscribedExactly w
-subscribed_exactly w settled name = by (link_of w name) refl
+pub subscribed_to_each : (subject : Subject) (w : Gateway) → IsSettled w → IsSubscribedTo subject w
+subscribed_to_each subject w settled name = by (link_of w name) refl
   where
     over : (link : Link) (state : LinkState) → link_of w name ≡ Some link → link.state ≡ state
-        → option_map want_of (sub_in (present link state)) ≡ interest_of w name (native_count_over (Some link))
+        → option_map want_of (sub_in (present subject link state)) ≡ wanted_for subject w name (native_type_over (Some link)) (native_count_over (Some link))
     over link Creating is is_state =
-        sym (nothing_wanted w name (native_count_over (Some link)) settled (ap link_connected is ∙ rw is_state refl))
+        sym (nothing_wanted subject w name (native_type_over (Some link)) (native_count_over (Some link)) settled (ap link_connected is ∙ rw is_state refl))
     over link Unusable is is_state =
-        sym (nothing_wanted w name (native_count_over (Some link)) settled (ap link_connected is ∙ rw is_state refl))
+        sym (nothing_wanted subject w name (native_type_over (Some link)) (native_count_over (Some link)) settled (ap link_connected is ∙ rw is_state refl))
     over link (Connected sid dtype native) is is_state =
         let found = found_row (IsInUse w) (is_named name) w.upstream.links link (all_in_use w settled) is in
         let named : link.name ≡ name = (bytes_eq-Decides link.name name).0 found.passes in
-        same_want link.subscription ∙ found.holds.subscribed (rw is_state refl) ∙ ap (λ (n : List ℕ). interest_of w n (native_count_over (Some link))) named
+        same_want (sub_at subject link.subscriptions) ∙ found.holds.subscribed (rw is_state refl) subject
+        ∙ ap (λ (n : List ℕ). wanted_for subject w n (native_type_over (Some link)) (native_count_over (Some link))) named
 
-    by : (link : Option Link) → link_of w name ≡ link → option_map want_of (sub_in (subscription_in link)) ≡ interest_of w name (native_count_over link)
-    by None is = sym (nothing_wanted w name 0 settled (ap link_connected is))
+    by : (link : Option Link) → link_of w name ≡ link
+        → option_map want_of (sub_in (subscription_in subject link)) ≡ wanted_for subject w name (native_type_over link) (native_count_over link)
+    by None is = sym (nothing_wanted subject w name 0 0 settled (ap link_connected is))
     by (Some link) is = over link link.state is refl
+
+pub subscribed_exactly : (w : Gateway) → IsSettled w → IsSubscribedExactly w
+subscribed_exactly w settled = subscribed_to_each Values w settled
 
 -- ---- subscriptions of clients
 

@@ -8,10 +8,10 @@ use Rattle.rows.specs.Rows.{change_first}
 use Rattle.ca_message.specs.declared.to_client.ToClient.TheVariants as replies
 use Rattle.channel_table.specs.declared.channels.Channel.{Channel}
 use Rattle.channel_table.specs.declared.subs.ClientSub.{ClientSub}
+use Rattle.channel_table.specs.Demand.{own_ask}
 use Rattle.channel_table.specs.Subs.{is_sub, with_owed}
 use Rattle.link_table.specs.declared.links.Link.{Link}
-use Rattle.mask_merge.specs.declared.want.Want.{Want}
-use Rattle.mask_merge.specs.Merged.{merged}
+use Rattle.mask_merge.specs.declared.want.Ask.{Ask}
 use Rattle.gateway_state.specs.declared.event.Dest.{Dest}
 use Rattle.gateway_state.specs.declared.event.Dest.TheVariants.{Session as ToSession}
 use Rattle.gateway_state.specs.declared.connections.Connection.{Connection}
@@ -23,7 +23,7 @@ use Rattle.gateway_state.specs.declared.reading.Native.{Native}
 use Rattle.gateway_state.specs.Answer.{cached_value, native_in}
 use Rattle.gateway_state.specs.Connections.{given, is_to, outbox_in, outbox_of}
 use Rattle.gateway_state.specs.Gateway.{Gateway}
-use Rattle.gateway_state.specs.Interest.{channel_want, interest_of, is_reader, is_subscriber, sub_want}
+use Rattle.gateway_state.specs.Interest.{is_reader, is_subscriber, reader_ask, readers}
 use Rattle.gateway_state.specs.Notices.{channel_notices, link_notices, read_notices}
 use Rattle.fanout.specs.Outbox.{appended, refuses}
 use Rattle.gateway_state.specs.Rights.{channel_of, may_read, rights_of}
@@ -333,14 +333,14 @@ updates_keep_reads w = ap read_notices (updates_changed w)
 
 -- ---- what servers are owed doesn't depend on what subscriptions are owed
 
-pub wants_whatever_owed : (w : Gateway) (name : List ℕ) (native : ℕ) (rows : List ClientSub)
-    → map (sub_want native) (filter (is_subscriber w name) rows) ≡ map (sub_want native) (filter (is_subscriber w name) (map (with_owed true) rows))
-wants_whatever_owed w name native [] = refl
-wants_whatever_owed w name native (row ∷ rows) =
-    let rest = wants_whatever_owed w name native rows in
-    elim (is_subscriber w name row) as (λ t. map (sub_want native) (cond t (row ∷ filter (is_subscriber w name) rows) (filter (is_subscriber w name) rows))
-    ≡ map (sub_want native) (cond t (with_owed true row ∷ filter (is_subscriber w name) (map (with_owed true) rows)) (filter (is_subscriber w name) (map (with_owed true) rows))))
-    [ true ↦ ap (λ (wants : List Want). sub_want native row ∷ wants) rest | false ↦ rest ]
+pub asks_whatever_owed : (w : Gateway) (name : List ℕ) (rows : List ClientSub)
+    → map own_ask (filter (is_subscriber w name) rows) ≡ map own_ask (filter (is_subscriber w name) (map (with_owed true) rows))
+asks_whatever_owed w name [] = refl
+asks_whatever_owed w name (row ∷ rows) =
+    let rest = asks_whatever_owed w name rows in
+    elim (is_subscriber w name row) as (λ t. map own_ask (cond t (row ∷ filter (is_subscriber w name) rows) (filter (is_subscriber w name) rows))
+    ≡ map own_ask (cond t (with_owed true row ∷ filter (is_subscriber w name) (map (with_owed true) rows)) (filter (is_subscriber w name) (map (with_owed true) rows))))
+    [ true ↦ ap (λ (asks : List Ask). own_ask row ∷ asks) rest | false ↦ rest ]
 
 alike_but_owed : (session id : ℕ) (owed : Bool) (rows : List ClientSub) → map (with_owed true) (change_first (is_sub session id) (with_owed owed) rows) ≡ map (with_owed true) rows
 alike_but_owed session id owed [] = refl
@@ -359,14 +359,14 @@ all_alike (notice ∷ notices) served = all_alike notices (left_by served notice
     by true = alike_but_owed notice.session notice.id false served.subs
     by false = refl
 
-interest_kept : (w : Gateway) (name : List ℕ) (native : ℕ) → interest_of (with_served w (end_of w)) name native ≡ interest_of w name native
-interest_kept w name native =
+readers_kept : (w : Gateway) (name : List ℕ) → readers (with_served w (end_of w)) name ≡ readers w name
+readers_kept w name =
     let subs : List ClientSub = (end_of w).subs in
     let same : map (with_owed true) subs ≡ map (with_owed true) w.clients.subs = all_alike (update_notices w) (served_in w) in
-    let wants : map (sub_want native) (filter (is_subscriber w name) subs) ≡ map (sub_want native) (filter (is_subscriber w name) w.clients.subs) =
-    wants_whatever_owed w name native subs ∙ ap (λ (rows : List ClientSub). map (sub_want native) (filter (is_subscriber w name) rows)) same ∙ sym (wants_whatever_owed w name native w.clients.subs) in
-    ap (λ (first : List Want). merged (first ++ map channel_want (filter (is_reader w name) w.clients.channels))) wants
+    let asks : map own_ask (filter (is_subscriber w name) subs) ≡ map own_ask (filter (is_subscriber w name) w.clients.subs) =
+    asks_whatever_owed w name subs ∙ ap (λ (rows : List ClientSub). map own_ask (filter (is_subscriber w name) rows)) same ∙ sym (asks_whatever_owed w name w.clients.subs) in
+    ap (λ (first : List Ask). first ++ map reader_ask (filter (is_reader w name) w.clients.channels)) asks
 
 pub updates_keep_links : (w : Gateway) → link_notices (updates_told w) ≡ link_notices w
 updates_keep_links w =
-    ap link_notices (updates_changed w) ∙ (λ i. flat_map (λ link. link_notices_alike (with_served w (end_of w)) w (interest_kept w) (λ server. refl) (λ name. refl) link i) w.upstream.links)
+    ap link_notices (updates_changed w) ∙ (λ i. flat_map (λ link. link_notices_alike (with_served w (end_of w)) w (readers_kept w) (λ server. refl) (λ name. refl) link i) w.upstream.links)

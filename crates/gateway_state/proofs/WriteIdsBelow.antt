@@ -50,8 +50,8 @@ write_ids_kept = record {
     write_added = λ write w there next below. ids_with_one w.upstream.counters.write w.upstream.writes write next below;
     write_removed = λ server id w below. all_filtered (has_write_id_below w.upstream.counters.write) (is_not_write server id) w.upstream.writes below;
     link_changed = λ server cid state rights w below. below;
-    subscription_made = λ server cid mask count sent w below. below;
-    subscription_ended = λ server cid w below. below;
+    subscription_made = λ subject server cid mask count sent w below. below;
+    subscription_ended = λ subject server cid w below. below;
     link_removed = λ server cid w below. below;
   };
   connection_drained = λ dest count w below. below;

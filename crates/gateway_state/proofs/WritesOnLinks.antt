@@ -8,12 +8,13 @@ use Rattle.std.proofs.lemmas.List.Folds.{list_all-append}
 use Rattle.std.proofs.lemmas.Slice.Eq.{bytes_eq-Decides}
 use Rattle.rows.specs.Rows.{change_first}
 use Rattle.channel_table.specs.declared.channels.Channel.{Channel}
+use Rattle.channel_table.specs.declared.channels.Reach.{Reach}
 use Rattle.channel_table.specs.Channels.{is_channel, is_not_channel, is_not_channel_of, with_reach_and_rights}
 use Rattle.link_table.specs.declared.links.Link.{Link}
+use Rattle.link_table.specs.declared.links.Subject.{Subject}
 use Rattle.link_table.specs.declared.links.Subscription.{Subscription}
-use Rattle.link_table.specs.declared.links.LinkState.TheVariants.{Creating}
 use Rattle.link_table.specs.declared.writes.WaitingWrite.{WaitingWrite}
-use Rattle.link_table.specs.Links.{is_link, is_named, is_not_link, is_not_of, with_state, with_subscription}
+use Rattle.link_table.specs.Links.{is_link, is_named, is_not_link, is_not_of, new_link, with_state, with_subscription}
 use Rattle.link_table.specs.Writes.{is_not_write, is_not_write_of, is_not_write_on, is_not_write_to}
 use Rattle.gateway_state.specs.declared.config.Config.{Config}
 use Rattle.rule_desk.specs.declared.policy.Policy.{Policy}
@@ -54,7 +55,7 @@ name_more session sid (c ∷ channels) others name is = by (is_channel session s
     by false e rest = rest e
 
 -- so does another reach of a channel
-name_changed : (session sid s t reach rights : ℕ) (channels : List Channel)
+name_changed : (session sid s t : ℕ) (reach : Reach) (rights : ℕ) (channels : List Channel)
     → name_of (change_first (is_channel s t) (with_reach_and_rights reach rights) channels) session sid ≡ name_of channels session sid
 name_changed session sid s t reach rights [] = refl
 name_changed session sid s t reach rights (c ∷ channels) =
@@ -164,7 +165,7 @@ module _ (w : Gateway) where
       fits_name_kept links write.server (name_of channels write.session write.sid) (name_of (channels ++ new ∷ []) write.session write.sid)
       (λ name is. name_more write.session write.sid channels (new ∷ []) name is) there) fit
 
-  fit_changed : (session sid reach rights : ℕ) → list_all (fits channels links) writes ≡ true
+  fit_changed : (session sid : ℕ) (reach : Reach) (rights : ℕ) → list_all (fits channels links) writes ≡ true
       → list_all (fits (change_first (is_channel session sid) (with_reach_and_rights reach rights) channels) links) writes ≡ true
   fit_changed session sid reach rights fit =
       all_weaker (fits channels links) (fits (change_first (is_channel session sid) (with_reach_and_rights reach rights) channels) links) writes
@@ -183,11 +184,11 @@ module _ (w : Gateway) where
       all_weaker (fits channels links) (fits channels others) writes
       (λ write there. fits_links_kept links others write.server (name_of channels write.session write.sid) (same write.server) there) fit
 
-  fit_subscribed : (server cid : ℕ) (sub : Option Subscription) → list_all (fits channels links) writes ≡ true
-      → list_all (fits channels (change_first (is_link server cid) (with_subscription sub) links)) writes ≡ true
-  fit_subscribed server cid sub fit =
-      fit_over (change_first (is_link server cid) (with_subscription sub) links)
-      (λ of name right. all_changed (is_right of name) (is_link server cid) (with_subscription sub) links (λ link. refl) ∙ right) fit
+  fit_subscribed : (subject : Subject) (server cid : ℕ) (sub : Option Subscription) → list_all (fits channels links) writes ≡ true
+      → list_all (fits channels (change_first (is_link server cid) (with_subscription subject sub) links)) writes ≡ true
+  fit_subscribed subject server cid sub fit =
+      fit_over (change_first (is_link server cid) (with_subscription subject sub) links)
+      (λ of name right. all_changed (is_right of name) (is_link server cid) (with_subscription subject sub) links (λ link. refl) ∙ right) fit
 
   -- a write that is accepted fits
   fits_new : (write : WaitingWrite) → HasLinksApart w → is_write_on_link w write ≡ true → fits channels links write ≡ true
@@ -246,13 +247,13 @@ writes_fit_kept = record {
       fit = fit_over w (change_first (is_link server cid) (with_state state rights) w.upstream.links)
           (λ of name right. all_changed (is_right of name) (is_link server cid) (with_state state rights) w.upstream.links (λ link. refl) ∙ right) on.fit;
     };
-    subscription_made = λ server cid mask count sent w on. record {
-      apart = links_apart_kept.rows.subscription_made server cid mask count sent w on.apart;
-      fit = fit_subscribed w server cid (Some (record { id = w.upstream.counters.subscription; mask = mask; count = count; sent = sent })) on.fit;
+    subscription_made = λ subject server cid mask count sent w on. record {
+      apart = links_apart_kept.rows.subscription_made subject server cid mask count sent w on.apart;
+      fit = fit_subscribed w subject server cid (Some (record { id = w.upstream.counters.subscription; mask = mask; count = count; sent = sent })) on.fit;
     };
-    subscription_ended = λ server cid w on. record {
-      apart = links_apart_kept.rows.subscription_ended server cid w on.apart;
-      fit = fit_subscribed w server cid None on.fit;
+    subscription_ended = λ subject server cid w on. record {
+      apart = links_apart_kept.rows.subscription_ended subject server cid w on.apart;
+      fit = fit_subscribed w subject server cid None on.fit;
     };
     link_removed = λ server cid w on. record {
       apart = links_apart_kept.rows.link_removed server cid w on.apart;
@@ -304,7 +305,7 @@ fits_found w write new settled missing there = by (channel_of w write.session wr
 fit_found : (w : Gateway) (server : ℕ) (name : List ℕ) → IsSettled w → is_linked w name ≡ false → list_all (fits w.clients.channels w.upstream.links) w.upstream.writes ≡ true
     → list_all (fits w.clients.channels (with_link server name w).upstream.links) w.upstream.writes ≡ true
 fit_found w server name settled missing fit =
-    let new : Link = record { cid = w.upstream.counters.cid; server = server; name = name; state = Creating; rights = 0; subscription = None } in
+    let new : Link = new_link server w.upstream.counters.cid name in
     all_weaker (fits w.clients.channels w.upstream.links) (fits w.clients.channels (w.upstream.links ++ new ∷ [])) w.upstream.writes
     (λ write there. fits_found w write new settled missing there) fit
 

@@ -1,5 +1,5 @@
 -- What reads are answered.
-use Rattle.std.specs.Prelude.{ℕ, List, Bool, false, not, ◌==◌, nat_lt, nat_le, is_some, if◌then◌else◌, Option, Some, None}
+use Rattle.std.specs.Prelude.{ℕ, List, Bool, false, not, ◌&&◌, ◌||◌, ◌==◌, nat_lt, nat_le, is_some, if◌then◌else◌, Option, Some, None}
 use Rattle.std.specs.List.{find}
 use Rattle.ca_message.specs.declared.codes.TheConstants.{ECA_BADTYPE, ECA_BADCOUNT, ECA_TOLARGE, ECA_NORDACCESS}
 use Rattle.channel_table.specs.declared.channels.Channel.{Channel}
@@ -7,6 +7,7 @@ use Rattle.dbr_layout.specs.declared.dbr.Dbr.{Dbr}
 use Rattle.dbr_layout.specs.declared.dbr.TheConstants.{MAX_PAYLOAD}
 use Rattle.dbr_layout.specs.Conversion.{conversion_between}
 use Rattle.dbr_layout.specs.Dbr.{dbr_of, payload_size}
+use Rattle.dbr_layout.specs.Needs.{has_properties_by, is_state_by, is_text_by}
 use Rattle.link_table.specs.declared.links.Link.{Link}
 use Rattle.link_table.specs.declared.links.LinkState.{LinkState}
 use Rattle.link_table.specs.declared.links.LinkState.TheVariants.{Creating, Connected, Unusable}
@@ -42,6 +43,11 @@ is_type_served native dtype = converts_to (dbr_of native.dtype) (dbr_of dtype)
 abbrev pub fits_payload : Option Dbr → ℕ → Bool
 fits_payload None count = false
 fits_payload (Some dbr) count = nat_le (payload_size dbr count) MAX_PAYLOAD
+
+-- what is asked for of a variable with this native type can't be told without its properties: units and
+-- limits, or the texts of states
+abbrev pub needs_by_number : ℕ → ℕ → Bool
+needs_by_number native dtype = has_properties_by dtype || is_state_by native && is_text_by dtype
 
 -- why a value of the variable can't be had in this type and count, the first reason that applies
 abbrev pub value_refusal : Native → ℕ → ℕ → Option ℕ

@@ -1,5 +1,5 @@
 -- What clients' messages do.
-use Rattle.std.specs.Prelude.{ℕ, ◌+◌, List, [], ◌∷◌, ◌++◌, length, filter, max, bit_and, Bool, true, not, ◌||◌, ◌&&◌, nat_lt, nat_le, is_some, if◌then◌else◌, Option, Some, None}
+use Rattle.std.specs.Prelude.{ℕ, ◌+◌, List, [], ◌∷◌, ◌++◌, length, filter, max, bit_and, Bool, true, false, not, ◌||◌, ◌&&◌, nat_lt, nat_le, is_some, if◌then◌else◌, Option, Some, None}
 use Rattle.std.specs.List.{find, list_any}
 use Rattle.rows.specs.Rows.{change_first}
 use Rattle.ca_header.specs.declared.header.Header.{Header}
@@ -7,6 +7,7 @@ use Rattle.ca_message.specs.declared.codes.TheConstants.{ECA_INTERNAL, ECA_BADCH
 use Rattle.ca_message.specs.declared.commands.TheConstants.{NO_CHANNEL}
 use Rattle.ca_message.specs.declared.to_client.ToClient.TheVariants as replies
 use Rattle.channel_table.specs.declared.channels.Channel.{Channel}
+use Rattle.channel_table.specs.declared.channels.Reach.{Reach}
 use Rattle.channel_table.specs.declared.sessions.Session.{Session}
 use Rattle.channel_table.specs.declared.table.TheConstants.{CHANNEL_LIMIT, READ_LIMIT}
 use Rattle.channel_table.specs.Channels.{is_channel, is_not_channel, with_reach_and_rights}
@@ -20,7 +21,7 @@ use Rattle.pv_alias.specs.declared.lead.Lead.{Lead}
 use Rattle.pv_alias.specs.Rights.{group_rights}
 use Rattle.gateway_state.specs.declared.event.Dest.TheVariants as dests
 use Rattle.gateway_state.specs.declared.limits.TheConstants.{LOWEST_MINOR, SEARCH_LIMIT}
-use Rattle.gateway_state.specs.Answer.{native_in, refusal, meant_count, cached_value}
+use Rattle.gateway_state.specs.Answer.{native_in, needs_by_number, refusal, meant_count, cached_value}
 use Rattle.gateway_state.specs.declared.notice.ReadVerdict.{ReadVerdict}
 use Rattle.gateway_state.specs.declared.notice.ReadVerdict.TheVariants.{NoChannel, Ignored, Refused, Accepted}
 use Rattle.gateway_state.specs.declared.reading.Given.{Given}
@@ -59,7 +60,11 @@ remembered host name w =
     if list_any (same_search host name) w.searches || nat_le SEARCH_LIMIT (length w.searches) then w
     else record w { searches = w.searches ++ record { host = host; name = name } ∷ [] }
 
--- with a new channel, which nothing was read on yet
+-- nothing was read on a channel yet
+abbrev pub no_reach : Reach
+no_reach = record { count = 0; props = false }
+
+-- with a new channel
 abbrev pub with_channel : ℕ → ℕ → List ℕ → List ℕ → ℕ → Gateway → Gateway
 with_channel number cid name real rights w = record w {
   clients = record w.clients {
@@ -69,8 +74,8 @@ with_channel number cid name real rights w = record w {
       cid = cid;
       asked = name;
       real = real;
-      reach = 0;
-      rights = rights;
+      reach = no_reach;
+      rights_told = rights;
     } ∷ [];
   };
   upstream = record w.upstream { counters = record w.upstream.counters { sid = w.upstream.counters.sid + 1 } };
@@ -146,8 +151,15 @@ channel_cleared number sid cid head w = cleared number sid cid head (channel_of 
 abbrev pub read_refused : ℕ → ℕ → ℕ → ℕ → ℕ → Gateway → Gateway
 read_refused number ioid dtype count code w = told number (replies.ReadNotifyRefused ioid dtype count code) w
 
+-- how far the reads on a channel reach, with one more of this type and count
+abbrev pub reach_with : Reach → Native → ℕ → ℕ → Reach
+reach_with reach native dtype count = record {
+  count = max reach.count (meant_count native.count count);
+  props = reach.props || needs_by_number native.dtype dtype;
+}
+
 -- a read that is accepted raises the channel's reach, and is answered later in the step or waits
-abbrev pub accepted : ℕ → ℕ → ℕ → ℕ → ℕ → ℕ → ℕ → Gateway → Gateway
+abbrev pub accepted : ℕ → ℕ → ℕ → ℕ → ℕ → Reach → ℕ → Gateway → Gateway
 accepted number sid ioid dtype count reach rights w = record w {
   clients = record w.clients {
     channels = change_first (is_channel number sid) (with_reach_and_rights reach rights) w.clients.channels;
@@ -163,7 +175,7 @@ abbrev pub verdict_unless : Gateway → Channel → Link → Native → ℕ → 
 verdict_unless w c link native dtype count (Some code) = Refused code
 verdict_unless w c link native dtype count None =
     if is_one_too_many w c.session (cached_value w link.cid native.count dtype count) then Refused ECA_GETFAIL
-    else Accepted (max c.reach (meant_count native.count count)) c.rights
+    else Accepted (reach_with c.reach native dtype count) c.rights_told
 
 abbrev pub verdict_natively : Gateway → Channel → Link → ℕ → ℕ → Option Native → ReadVerdict
 verdict_natively w c link dtype count None = Ignored

@@ -2,30 +2,34 @@
 use Rattle.std.specs.Prelude.{ℕ, List, ◌++◌, Bool, true, false, ◌==◌, ◌&&◌, nat_lt, nat_le, map, filter, if◌then◌else◌, Option, Some, None}
 use Rattle.channel_table.specs.declared.channels.Channel.{Channel}
 use Rattle.channel_table.specs.declared.subs.ClientSub.{ClientSub}
+use Rattle.channel_table.specs.Demand.{own_ask, reach_ask}
 use Rattle.link_table.specs.declared.links.Link.{Link}
 use Rattle.link_table.specs.declared.links.LinkState.{LinkState}
 use Rattle.link_table.specs.declared.links.LinkState.TheVariants.{Creating, Connected, Unusable}
 use Rattle.link_table.specs.declared.servers.Server.{Server}
+use Rattle.link_table.specs.declared.links.Subject.{Subject}
+use Rattle.link_table.specs.declared.links.Subject.TheVariants.{Values, Properties}
 use Rattle.link_table.specs.declared.links.Subscription.{Subscription}
+use Rattle.link_table.specs.Links.{sub_at}
 use Rattle.link_table.specs.Servers.{is_server}
 use Rattle.std.specs.List.{find}
+use Rattle.mask_merge.specs.declared.want.Ask.{Ask}
 use Rattle.mask_merge.specs.declared.want.Want.{Want}
+use Rattle.mask_merge.specs.Counts.{as_native, want_asked}
 use Rattle.mask_merge.specs.Merged.{merged}
-use Rattle.gateway_state.specs.declared.interest.TheConstants.{READ_EVENTS}
 use Rattle.gateway_state.specs.declared.interest.Sub.{Sub}
 use Rattle.gateway_state.specs.declared.limits.TheConstants.{UPDATE_MINOR}
-use Rattle.gateway_state.specs.Answer.{meant_count}
 use Rattle.gateway_state.specs.Gateway.{Gateway}
 use Rattle.gateway_state.specs.Rights.{channel_of, rights_of, may_read}
 use Rattle.gateway_state.specs.Variables.{is_on, link_of}
 
 -- a channel on the variable that had a read accepted, and that may still read, is a reader of it
 abbrev pub is_reader : Gateway → List ℕ → Channel → Bool
-is_reader w name c = is_on name c && nat_lt 0 c.reach && may_read (rights_of w c)
+is_reader w name c = is_on name c && nat_lt 0 c.reach.count && may_read (rights_of w c)
 
--- what a channel wants
-abbrev pub channel_want : Channel → Want
-channel_want c = record { mask = READ_EVENTS; count = c.reach }
+-- what the accepted reads on a channel ask for
+abbrev pub reader_ask : Channel → Ask
+reader_ask c = reach_ask c.reach
 
 abbrev pub is_read_through : Gateway → List ℕ → Option Channel → Bool
 is_read_through w name None = false
@@ -35,19 +39,25 @@ is_read_through w name (Some c) = is_on name c && may_read (rights_of w c)
 abbrev pub is_subscriber : Gateway → List ℕ → ClientSub → Bool
 is_subscriber w name sub = is_read_through w name (channel_of w sub.session sub.sid)
 
--- what a subscription wants of a variable with this native count
-abbrev pub sub_want : ℕ → ClientSub → Want
-sub_want native sub = record { mask = sub.mask; count = meant_count native sub.count }
+-- what each reader of a variable asks for, a count of 0 left as it is
+abbrev pub readers : Gateway → List ℕ → List Ask
+readers w name =
+    map own_ask (filter (is_subscriber w name) w.clients.subs)
+    ++ map reader_ask (filter (is_reader w name) w.clients.channels)
 
--- what each reader of a variable with this native count wants
-abbrev pub readers : Gateway → List ℕ → ℕ → List Want
-readers w name native =
-    map (sub_want native) (filter (is_subscriber w name) w.clients.subs)
-    ++ map channel_want (filter (is_reader w name) w.clients.channels)
+-- what those who ask this of a variable of a native type and count want a server to tell of a subject: of
+-- values what they want together, where a count of 0 stands for the native one; properties nobody wants
+abbrev pub wanted_by : Subject → ℕ → ℕ → List Ask → Option Want
+wanted_by Values dtype native asks = merged (map (as_native native) (map want_asked asks))
+wanted_by Properties dtype native asks = None
 
--- what the readers of a variable want together
+-- what the readers of a variable of this native type and count want of a subject
+abbrev pub wanted_for : Subject → Gateway → List ℕ → ℕ → ℕ → Option Want
+wanted_for subject w name dtype native = wanted_by subject dtype native (readers w name)
+
+-- what the readers of a variable with this native count want of its values together; no native type counts
 abbrev pub interest_of : Gateway → List ℕ → ℕ → Option Want
-interest_of w name native = merged (readers w name native)
+interest_of w name native = wanted_by Values 0 native (readers w name)
 
 -- the subscription is for this
 abbrev pub is_for : Option Want → Option Subscription → Bool
@@ -68,21 +78,30 @@ minor_of w number = minor_in (find (is_server number) w.upstream.servers)
 abbrev pub sent_count : ℕ → ℕ → ℕ → ℕ
 sent_count minor native count = if count == native && nat_le UPDATE_MINOR minor then 0 else count
 
--- a link's subscription, while it is connected
-abbrev pub present : Link → LinkState → Option Subscription
-present link Creating = None
-present link (Connected sid dtype count) = link.subscription
-present link Unusable = None
+-- the count as it is sent for a subject: of properties always the one that is wanted
+abbrev pub sent_for : Subject → ℕ → ℕ → ℕ → ℕ
+sent_for Values minor native count = sent_count minor native count
+sent_for Properties minor native count = count
 
-abbrev pub subscription_in : Option Link → Option Subscription
-subscription_in None = None
-subscription_in (Some link) = present link link.state
+-- a link's subscription for a subject, while it is connected
+abbrev pub present : Subject → Link → LinkState → Option Subscription
+present subject link Creating = None
+present subject link (Connected sid dtype count) = sub_at subject link.subscriptions
+present subject link Unusable = None
+
+abbrev pub subscription_in : Subject → Option Link → Option Subscription
+subscription_in subject None = None
+subscription_in subject (Some link) = present subject link link.state
 
 abbrev pub sub_in : Option Subscription → Option Sub
 sub_in None = None
 sub_in (Some subscription) =
     Some (record { id = subscription.id; mask = subscription.mask; count = subscription.count })
 
--- the present subscription of a variable
+-- the present subscription of a variable for a subject
+abbrev pub subscription_to : Subject → Gateway → List ℕ → Option Sub
+subscription_to subject w name = sub_in (subscription_in subject (link_of w name))
+
+-- the present subscription to a variable's values
 abbrev pub subscription_of : Gateway → List ℕ → Option Sub
-subscription_of w name = sub_in (subscription_in (link_of w name))
+subscription_of w name = subscription_to Values w name

@@ -1,21 +1,25 @@
 -- What others are owed after an event about channels, links and waiting reads. Each pass makes its list
 -- of notices from the rows as the pass begins, and then gives them one by one.
-use Rattle.std.specs.Prelude.{ℕ, ◌+◌, List, [], ◌∷◌, ◌++◌, filter_map, flat_map, not, ◌==◌, if◌then◌else◌, Option, Some, None}
+use Rattle.std.specs.Prelude.{ℕ, ◌+◌, List, [], ◌∷◌, ◌++◌, filter, filter_map, flat_map, not, ◌==◌, if◌then◌else◌, Option, Some, None}
 use Rattle.std.specs.List.{fold}
 use Rattle.rows.specs.Rows.{change_first, remove_first}
 use Rattle.ca_message.specs.declared.codes.TheConstants.{ECA_NORDACCESS}
 use Rattle.ca_message.specs.declared.to_client.ToClient.TheVariants as replies
 use Rattle.ca_message.specs.declared.to_server.ToServer.TheVariants as requests
 use Rattle.channel_table.specs.declared.channels.Channel.{Channel}
+use Rattle.channel_table.specs.declared.channels.Reach.{Reach}
 use Rattle.channel_table.specs.declared.reads.WaitingRead.{WaitingRead}
 use Rattle.channel_table.specs.Channels.{is_channel, with_reach_and_rights}
 use Rattle.channel_table.specs.Reads.{same_read}
 use Rattle.link_table.specs.declared.links.Link.{Link}
 use Rattle.link_table.specs.declared.links.LinkState.{LinkState}
 use Rattle.link_table.specs.declared.links.LinkState.TheVariants.{Creating, Connected, Unusable}
+use Rattle.link_table.specs.declared.links.Subject.{Subject}
+use Rattle.link_table.specs.declared.links.Subject.TheVariants.{Values, Properties}
 use Rattle.link_table.specs.declared.links.Subscription.{Subscription}
-use Rattle.link_table.specs.Links.{is_link, with_subscription}
+use Rattle.link_table.specs.Links.{is_link, sub_at, with_subscription}
 use Rattle.mask_merge.specs.declared.want.Want.{Want}
+use Rattle.gateway_state.specs.declared.cached.LastMessage.{LastMessage}
 use Rattle.gateway_state.specs.declared.notice.ChannelNotice.{ChannelNotice}
 use Rattle.gateway_state.specs.declared.notice.ChannelNotice.TheVariants.{Disconnected, RightsChanged}
 use Rattle.gateway_state.specs.declared.notice.LinkNotice.{LinkNotice}
@@ -23,15 +27,16 @@ use Rattle.gateway_state.specs.declared.notice.LinkNotice.TheVariants.{Cancelled
 use Rattle.gateway_state.specs.declared.notice.ReadNotice.{ReadNotice}
 use Rattle.gateway_state.specs.declared.notice.ReadNotice.TheVariants.{Refused, Answered}
 use Rattle.gateway_state.specs.Answer.{native_in, cached_value}
+use Rattle.gateway_state.specs.CachedRows.{is_cached_elsewhere}
 use Rattle.gateway_state.specs.Clients.{without_channel}
 use Rattle.gateway_state.specs.declared.reading.Given.{Given}
 use Rattle.gateway_state.specs.declared.reading.Native.{Native}
 use Rattle.gateway_state.specs.Gateway.{Gateway}
-use Rattle.gateway_state.specs.Interest.{interest_of, is_for, minor_of, sent_count}
+use Rattle.gateway_state.specs.Interest.{is_for, minor_of, sent_for, wanted_for}
 use Rattle.gateway_state.specs.Rights.{rights_of, may_read, is_served, channel_of}
-use Rattle.gateway_state.specs.Servers.{time_of, without_link}
+use Rattle.gateway_state.specs.Servers.{ctrl_of, time_of, without_link}
 use Rattle.gateway_state.specs.Telling.{told, asked}
-use Rattle.gateway_state.specs.Variables.{link_of, is_wanted, without_cached}
+use Rattle.gateway_state.specs.Variables.{link_of, is_wanted}
 
 -- CHANNELS, in the order of adding, which is that of the SIDs of a session
 
@@ -39,13 +44,13 @@ use Rattle.gateway_state.specs.Variables.{link_of, is_wanted, without_cached}
 abbrev pub channel_notice : Gateway → Channel → Option ChannelNotice
 channel_notice w c =
     if not (is_served w c) then Some (Disconnected c.session c.sid c.cid)
-    else if c.rights == rights_of w c then None
+    else if c.rights_told == rights_of w c then None
     else Some (RightsChanged c.session c.sid c.cid c.reach (rights_of w c))
 
 abbrev pub channel_notices : Gateway → List ChannelNotice
 channel_notices w = filter_map (channel_notice w) w.clients.channels
 
-abbrev pub with_reach : ℕ → ℕ → ℕ → ℕ → Gateway → Gateway
+abbrev pub with_reach : ℕ → ℕ → Reach → ℕ → Gateway → Gateway
 with_reach session sid reach rights w = record w {
   clients = record w.clients {
     channels = change_first (is_channel session sid) (with_reach_and_rights reach rights) w.clients.channels;
@@ -63,24 +68,40 @@ channels_told w = fold channel_told w (channel_notices w)
 
 -- LINKS, in the order of adding, which is that of their CIDs
 
--- the present subscription is given up
-abbrev pub cancelled : Link → ℕ → ℕ → Option Subscription → List LinkNotice
-cancelled link sid dtype None = []
-cancelled link sid dtype (Some sub) = Cancelled link.server link.cid sid (time_of dtype) sub ∷ []
+-- the type that a server is asked to tell a subject in, of a native type
+abbrev pub type_for : Subject → ℕ → ℕ
+type_for Values dtype = time_of dtype
+type_for Properties dtype = ctrl_of dtype
 
--- what is wanted is asked for; with nothing wanted the last message goes
-abbrev pub subscribed : ℕ → Link → ℕ → ℕ → ℕ → Option Want → List LinkNotice
-subscribed minor link sid dtype native None = Unread link.cid ∷ []
-subscribed minor link sid dtype native (Some want) =
-    Subscribed link.server link.cid sid (time_of dtype) want (sent_count minor native want.count) ∷ []
+-- the present subscription for a subject is given up
+abbrev pub cancelled : Subject → Link → ℕ → ℕ → Option Subscription → List LinkNotice
+cancelled subject link sid dtype None = []
+cancelled subject link sid dtype (Some sub) = Cancelled subject link.server link.cid sid (type_for subject dtype) sub ∷ []
 
+-- what is wanted of a subject is asked for; with nothing wanted what it told last goes
+abbrev pub subscribed : Subject → ℕ → Link → ℕ → ℕ → ℕ → Option Want → List LinkNotice
+subscribed subject minor link sid dtype native None = Unread subject link.cid ∷ []
+subscribed subject minor link sid dtype native (Some want) =
+    Subscribed subject link.server link.cid sid (type_for subject dtype) want (sent_for subject minor native want.count) ∷ []
+
+-- what a server is owed where this is wanted of a subject, and that is its subscription
+abbrev pub notices_between : Subject → ℕ → Link → ℕ → ℕ → ℕ → Option Want → Option Subscription → List LinkNotice
+notices_between subject minor link sid dtype native want sub =
+    if is_for want sub then []
+    else cancelled subject link sid dtype sub ++ subscribed subject minor link sid dtype native want
+
+-- what the server of a connected link is owed about a subject
+abbrev pub subject_notices : Subject → Gateway → Link → ℕ → ℕ → ℕ → List LinkNotice
+subject_notices subject w link sid dtype native =
+    notices_between subject (minor_of w link.server) link sid dtype native
+    (wanted_for subject w link.name dtype native) (sub_at subject link.subscriptions)
+
+-- about both, values first
 abbrev pub interest_notices : Gateway → Link → LinkState → List LinkNotice
 interest_notices w link Creating = []
 interest_notices w link Unusable = []
 interest_notices w link (Connected sid dtype native) =
-    if is_for (interest_of w link.name native) link.subscription then []
-    else cancelled link sid dtype link.subscription
-    ++ subscribed (minor_of w link.server) link sid dtype native (interest_of w link.name native)
+    subject_notices Values w link sid dtype native ++ subject_notices Properties w link sid dtype native
 
 abbrev pub link_notices_of : Gateway → Link → List LinkNotice
 link_notices_of w link =
@@ -90,16 +111,25 @@ link_notices_of w link =
 abbrev pub link_notices : Gateway → List LinkNotice
 link_notices w = flat_map (link_notices_of w) w.upstream.links
 
-abbrev pub with_subscription_of : ℕ → ℕ → Option Subscription → Gateway → Gateway
-with_subscription_of server cid sub w =
-    record w { upstream = record w.upstream { links = change_first (is_link server cid) (with_subscription sub) w.upstream.links } }
+-- the link has this subscription for a subject, or none
+abbrev pub with_subscription_of : Subject → ℕ → ℕ → Option Subscription → Gateway → Gateway
+with_subscription_of subject server cid sub w =
+    record w { upstream = record w.upstream { links = change_first (is_link server cid) (with_subscription subject sub) w.upstream.links } }
 
--- a new subscription, under the next ID
-abbrev pub subscribed_to : ℕ → ℕ → ℕ → ℕ → Want → ℕ → Gateway → Gateway
-subscribed_to server cid sid dtype want sent w =
+-- the last messages without what a link was told of a subject: its value is all that is held
+abbrev pub forgotten_rows : Subject → ℕ → List LastMessage → List LastMessage
+forgotten_rows Values cid rows = filter (is_cached_elsewhere cid) rows
+forgotten_rows Properties cid rows = rows
+
+abbrev pub forgotten : Subject → ℕ → Gateway → Gateway
+forgotten subject cid w = record w { cache = forgotten_rows subject cid w.cache }
+
+-- a new subscription for a subject, under the next ID
+abbrev pub subscribed_to : Subject → ℕ → ℕ → ℕ → ℕ → Want → ℕ → Gateway → Gateway
+subscribed_to subject server cid sid dtype want sent w =
     let id = w.upstream.counters.subscription in
     asked server (requests.EventAdd sid id dtype sent want.mask)
-    (with_subscription_of server cid (Some (record { id = id; mask = want.mask; count = want.count; sent = sent }))
+    (with_subscription_of subject server cid (Some (record { id = id; mask = want.mask; count = want.count; sent = sent }))
     (record w { upstream = record w.upstream { counters = record w.upstream.counters { subscription = id + 1 } } }))
 
 -- a link goes; where it was connected, the server is told
@@ -110,10 +140,10 @@ dropped server cid (Connected sid dtype native) w =
     asked server (requests.ClearChannel sid cid) (without_link server cid w)
 
 abbrev pub link_told : Gateway → LinkNotice → Gateway
-link_told w (Cancelled server cid sid dtype sub) =
-    asked server (requests.EventCancel sid sub.id dtype sub.sent) (with_subscription_of server cid None w)
-link_told w (Unread cid) = without_cached cid w
-link_told w (Subscribed server cid sid dtype want sent) = subscribed_to server cid sid dtype want sent w
+link_told w (Cancelled subject server cid sid dtype sub) =
+    asked server (requests.EventCancel sid sub.id dtype sub.sent) (with_subscription_of subject server cid None w)
+link_told w (Unread subject cid) = forgotten subject cid w
+link_told w (Subscribed subject server cid sid dtype want sent) = subscribed_to subject server cid sid dtype want sent w
 link_told w (Dropped server cid state) = dropped server cid state w
 
 abbrev pub links_told : Gateway → Gateway

@@ -18,4 +18,4 @@ pub record IsReached (w : Gateway) : Type 0 where
 
 -- what the client was last told that it may do with a channel, nothing where it has no such channel
 abbrev pub rights_told : Gateway → ℕ → ℕ → Option ℕ
-rights_told w session sid = option_map (λ (c : Channel). c.rights) (channel_of w session sid)
+rights_told w session sid = option_map (λ (c : Channel). c.rights_told) (channel_of w session sid)

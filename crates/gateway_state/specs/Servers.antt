@@ -18,13 +18,15 @@ use Rattle.value_cache.specs.Held.{held_after}
 use Rattle.link_table.specs.declared.links.Link.{Link}
 use Rattle.link_table.specs.declared.links.LinkState.{LinkState}
 use Rattle.link_table.specs.declared.links.LinkState.TheVariants.{Creating, Connected, Unusable}
+use Rattle.link_table.specs.declared.links.Subject.{Subject}
+use Rattle.link_table.specs.declared.links.Subject.TheVariants.{Values, Properties}
 use Rattle.link_table.specs.declared.links.Subscription.{Subscription}
 use Rattle.link_table.specs.declared.table.TheConstants.{LINK_LIMIT}
-use Rattle.link_table.specs.Links.{is_link, is_not_link, has_subscription, with_state}
+use Rattle.link_table.specs.Links.{is_link, is_not_link, has_id, has_subscription, new_link, with_state}
 use Rattle.link_table.specs.Servers.{is_server, with_minor}
 use Rattle.gateway_state.specs.declared.cached.LastMessage.{LastMessage}
 use Rattle.gateway_state.specs.declared.event.Dest.TheVariants as dests
-use Rattle.gateway_state.specs.declared.interest.TheConstants.{PLAIN_TYPES, TIME_FORM}
+use Rattle.gateway_state.specs.declared.interest.TheConstants.{CTRL_FORM, PLAIN_TYPES, TIME_FORM}
 use Rattle.gateway_state.specs.Answer.{fits_payload}
 use Rattle.gateway_state.specs.Asked.{acts}
 use Rattle.gateway_state.specs.CachedRows.{with_row}
@@ -43,14 +45,7 @@ linked w server name =
     asked server (requests.CreateChannel w.upstream.counters.cid name)
     (record w {
       upstream = record w.upstream {
-        links = w.upstream.links ++ record {
-          cid = w.upstream.counters.cid;
-          server = server;
-          name = name;
-          state = Creating;
-          rights = 0;
-          subscription = None;
-        } ∷ [];
+        links = w.upstream.links ++ new_link server w.upstream.counters.cid name ∷ [];
         counters = record w.upstream.counters { cid = w.upstream.counters.cid + 1 };
       };
     })
@@ -77,6 +72,10 @@ with_link_state server cid state rights w =
 -- the number of a plain type's TIME form; any other number stays
 abbrev pub time_of : ℕ → ℕ
 time_of dtype = if nat_lt dtype PLAIN_TYPES then dtype + TIME_FORM else dtype
+
+-- the number of a plain type's CTRL form; any other number stays
+abbrev pub ctrl_of : ℕ → ℕ
+ctrl_of dtype = if nat_lt dtype PLAIN_TYPES then dtype + CTRL_FORM else dtype
 
 -- updates of such a channel can be taken: a plain type that is served, at least one element, and a
 -- TIME payload that may come
@@ -180,16 +179,26 @@ updated_link link (Connected sid native native_count) None dtype count payload w
 updated_link link Creating sub dtype count payload w = w
 updated_link link Unusable sub dtype count payload w = w
 
-abbrev pub updated_by : ℕ → ℕ → ℕ → List ℕ → Option Link → Gateway → Gateway
-updated_by status dtype count payload None w = w
-updated_by status dtype count payload (Some link) w =
-    if status == ECA_NORMAL then updated_link link link.state link.subscription dtype count payload w
+-- what a server tells of a subject on a link; of properties nothing is taken
+abbrev pub updated_under : Subject → ℕ → ℕ → ℕ → List ℕ → Link → Gateway → Gateway
+updated_under Values status dtype count payload link w =
+    if status == ECA_NORMAL then updated_link link link.state link.subscriptions.values dtype count payload w
     else reads_failed w link.name
+updated_under Properties status dtype count payload link w = w
+
+-- the subject of a link's subscription that has this ID
+abbrev pub subject_of : ℕ → Link → Subject
+subject_of id link = if has_id id link.subscriptions.values then Values else Properties
+
+abbrev pub updated_by : ℕ → ℕ → ℕ → ℕ → List ℕ → Option Link → Gateway → Gateway
+updated_by id status dtype count payload None w = w
+updated_by id status dtype count payload (Some link) w =
+    updated_under (subject_of id link) status dtype count payload link w
 
 -- an update under a present subscription's ID; under any other it is ignored
 abbrev pub updated : Gateway → ℕ → ℕ → ℕ → ℕ → ℕ → List ℕ → Gateway
 updated w server id status dtype count payload =
-    updated_by status dtype count payload (find (has_subscription server id) w.upstream.links) w
+    updated_by id status dtype count payload (find (has_subscription server id) w.upstream.links) w
 
 -- what a server's message does, by what it means
 abbrev pub replied : Gateway → ℕ → Result ServerReply ReplyFault → Gateway

@@ -1,5 +1,5 @@
 -- What every state that a run reaches has: nobody is owed anything.
-use Rattle.std.specs.Prelude.{◌≡◌, ℕ, ◌+◌, ◌≤◌, List, [], ◌∷◌, length, filter, Bool, true, false, ◌==◌, nat_lt, Option, Some, None, option_map}
+use Rattle.std.specs.Prelude.{◌≡◌, ℕ, ◌+◌, ◌≤◌, List, [], ◌∷◌, length, filter, Bool, true, false, ◌&&◌, ◌==◌, nat_lt, Option, Some, None, option_map}
 use Rattle.std.specs.List.{find, list_all, list_any}
 use Rattle.channel_table.specs.declared.channels.Channel.{Channel}
 use Rattle.channel_table.specs.declared.reads.WaitingRead.{WaitingRead}
@@ -11,9 +11,11 @@ use Rattle.channel_table.specs.Subs.{is_sub}
 use Rattle.link_table.specs.declared.links.Link.{Link}
 use Rattle.link_table.specs.declared.links.LinkState.{LinkState}
 use Rattle.link_table.specs.declared.links.LinkState.TheVariants.{Creating, Connected, Unusable}
+use Rattle.link_table.specs.declared.links.Subject.{Subject}
 use Rattle.link_table.specs.declared.links.Subscription.{Subscription}
+use Rattle.link_table.specs.declared.links.Subscriptions.{Subscriptions}
 use Rattle.link_table.specs.declared.writes.WaitingWrite.{WaitingWrite}
-use Rattle.link_table.specs.Links.{is_named}
+use Rattle.link_table.specs.Links.{is_named, sub_at}
 use Rattle.mask_merge.specs.declared.want.Want.{Want}
 use Rattle.gateway_state.specs.declared.event.Dest.TheVariants as dests
 use Rattle.gateway_state.specs.declared.interest.Sub.{Sub}
@@ -21,7 +23,7 @@ use Rattle.gateway_state.specs.declared.reading.Native.{Native}
 use Rattle.gateway_state.specs.Answer.{cached_value, native_in}
 use Rattle.gateway_state.specs.Asked.{stands}
 use Rattle.gateway_state.specs.Gateway.{Gateway}
-use Rattle.gateway_state.specs.Interest.{interest_of, subscription_of}
+use Rattle.gateway_state.specs.Interest.{interest_of, subscription_of, subscription_to, wanted_for}
 use Rattle.gateway_state.specs.Notices.{channel_notices, link_notices, read_notices}
 use Rattle.gateway_state.specs.Rights.{channel_of, is_served, may_read, rights_of}
 use Rattle.gateway_state.specs.Updates.{is_open_to, is_unreadable, update_notices, update_on, withheld}
@@ -51,9 +53,12 @@ abbrev pub is_below : ℕ → Option Subscription → Bool
 is_below next None = true
 is_below next (Some sub) = nat_lt sub.id next
 
--- the link's subscription has an ID below this one
+abbrev pub are_below : ℕ → Subscriptions → Bool
+are_below next subs = is_below next subs.values && is_below next subs.properties
+
+-- the link's subscriptions have IDs below this one
 abbrev pub has_id_below : ℕ → Link → Bool
-has_id_below next link = is_below next link.subscription
+has_id_below next link = are_below next link.subscriptions
 
 -- channels stand in the order of their numbers, each number once and below the counter
 abbrev pub HasSidsInOrder : Gateway → Type 0
@@ -155,7 +160,7 @@ HasWriteIdsBelow w = list_all (has_write_id_below w.upstream.counters.write) w.u
 -- a channel is served, and has the rights that its client was last told
 pub record IsUpToDate (w : Gateway) (c : Channel) : Type 0 where
   pub served : is_served w c ≡ true
-  pub rights : c.rights ≡ rights_of w c
+  pub rights : c.rights_told ≡ rights_of w c
 
 -- what a subscription is for
 abbrev pub want_in : Subscription → Want
@@ -165,6 +170,11 @@ abbrev pub native_count_in : LinkState → ℕ
 native_count_in Creating = 0
 native_count_in (Connected sid dtype count) = count
 native_count_in Unusable = 0
+
+abbrev pub native_type_in : LinkState → ℕ
+native_type_in Creating = 0
+native_type_in (Connected sid dtype count) = dtype
+native_type_in Unusable = 0
 
 -- what a variable's subscription is for
 abbrev pub want_of : Sub → Want
@@ -178,17 +188,33 @@ native_count_over (Some link) = native_count_in link.state
 abbrev pub native_count_of : Gateway → List ℕ → ℕ
 native_count_of w name = native_count_over (link_of w name)
 
+abbrev pub native_type_over : Option Link → ℕ
+native_type_over None = 0
+native_type_over (Some link) = native_type_in link.state
+
+-- a variable's native type, 0 where it isn't connected
+abbrev pub native_type_of : Gateway → List ℕ → ℕ
+native_type_of w name = native_type_over (link_of w name)
+
+-- each variable has a subscription upstream for a subject exactly for what its readers want of it
+abbrev pub IsSubscribedTo : Subject → Gateway → Type 0
+IsSubscribedTo subject w = (name : List ℕ)
+    → option_map want_of (subscription_to subject w name)
+    ≡ wanted_for subject w name (native_type_of w name) (native_count_of w name)
+
 -- each variable has a subscription upstream exactly for what its readers want together, and none where
 -- nobody reads it
 abbrev pub IsSubscribedExactly : Gateway → Type 0
 IsSubscribedExactly w = (name : List ℕ)
     → option_map want_of (subscription_of w name) ≡ interest_of w name (native_count_of w name)
 
--- a link is wanted, and where it is connected it has a subscription exactly for what is read
+-- a link is wanted, and where it is connected it has a subscription for each subject exactly for what is
+-- wanted of it
 pub record IsInUse (w : Gateway) (link : Link) : Type 0 where
   pub wanted : is_wanted w link.name ≡ true
-  pub subscribed : is_connected link.state ≡ true
-      → option_map want_in link.subscription ≡ interest_of w link.name (native_count_in link.state)
+  pub subscribed : is_connected link.state ≡ true → (subject : Subject)
+      → option_map want_in (sub_at subject link.subscriptions)
+      ≡ wanted_for subject w link.name (native_type_in link.state) (native_count_in link.state)
 
 -- a subscription is owed an update as long as its channel may not be read; and where one is owed, its
 -- session takes none now, its channel may not be read, or the last message doesn't cover it

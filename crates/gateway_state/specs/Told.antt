@@ -7,7 +7,7 @@ use Rattle.gateway_state.specs.Rights.{rights_of}
 
 -- a channel has the rights that its client was last told
 abbrev pub KnowsRights : Gateway → Channel → Type 0
-KnowsRights w c = c.rights ≡ rights_of w c
+KnowsRights w c = c.rights_told ≡ rights_of w c
 
 -- so has each channel
 abbrev pub KnowRights : Gateway → Type 0

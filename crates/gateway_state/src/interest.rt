@@ -6,14 +6,14 @@ pub const VALUE_EVENTS: u16 = 3;
 /// The event that a new alarm is.
 pub const ALARM_EVENTS: u16 = 4;
 
-/// The events that a channel wants whose reads are answered from the cache, VALUE and ALARM.
-pub const READ_EVENTS: u16 = 5;
-
 /// How many plain types there are; their numbers are below this.
 pub const PLAIN_TYPES: u16 = 7;
 
 /// What is added to a plain type's number for its TIME form.
 pub const TIME_FORM: u16 = 14;
+
+/// What is added to a plain type's number for its CTRL form.
+pub const CTRL_FORM: u16 = 28;
 
 /// A variable's subscription upstream.
 #[derive(Clone, Copy, Debug, PartialEq, Eq)]

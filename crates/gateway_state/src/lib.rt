@@ -26,7 +26,7 @@ pub use cached::{Cache, LastMessage};
 pub use config::{Config, LAST_FIRST};
 pub use connections::{Connection, Connections};
 pub use event::{Dest, Event};
-pub use interest::{ALARM_EVENTS, PLAIN_TYPES, READ_EVENTS, Sub, TIME_FORM, VALUE_EVENTS};
+pub use interest::{ALARM_EVENTS, CTRL_FORM, PLAIN_TYPES, Sub, TIME_FORM, VALUE_EVENTS};
 pub use last_value::LastValue;
 pub use leads::LEADS_LIMIT;
 pub use limits::{LOWEST_MINOR, SEARCH_LIMIT, UPDATE_LIMIT, UPDATE_MINOR};

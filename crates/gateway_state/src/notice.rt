@@ -1,8 +1,8 @@
 //! What others are owed after an event.
 use bytes::Bytes;
 use ca_message::WrittenValue;
-use channel_table::WaitingRead;
-use link_table::{LinkState, Subscription};
+use channel_table::{Reach, WaitingRead};
+use link_table::{LinkState, Subject, Subscription};
 use mask_merge::Want;
 
 /// What becomes of a READ_NOTIFY.
@@ -15,7 +15,7 @@ pub enum ReadVerdict {
     /// It is refused with this code.
     Refused(u32),
     /// It is accepted: the channel's reach and rights from now on.
-    Accepted { reach: u32, rights: u32 },
+    Accepted { reach: Reach, rights: u32 },
 }
 
 /// What becomes of an EVENT_ADD.
@@ -65,7 +65,7 @@ pub enum ChannelNotice {
         session: u32,
         sid: u32,
         cid: u32,
-        reach: u32,
+        reach: Reach,
         rights: u32,
     },
 }
@@ -73,20 +73,23 @@ pub enum ChannelNotice {
 /// What a server is owed about one of its links.
 #[derive(Clone, Copy)]
 pub enum LinkNotice {
-    /// The present subscription is given up.
+    /// The present subscription for a subject is given up.
     Cancelled {
+        subject: Subject,
         server: u32,
         cid: u32,
         sid: u32,
         dtype: u16,
         subscription: Subscription,
     },
-    /// Nobody reads the variable any more, so its last message goes.
+    /// Nobody wants to be told of the subject any more, so what was told of it last goes.
     Unread {
+        subject: Subject,
         cid: u32,
     },
-    /// A new subscription is wanted.
+    /// A new subscription for a subject is wanted.
     Subscribed {
+        subject: Subject,
         server: u32,
         cid: u32,
         sid: u32,

@@ -9,18 +9,19 @@ use Rattle.std.proofs.lemmas.List.Elements.{All-filter, All-map, All-weaker}
 use Rattle.std.proofs.lemmas.Slice.Eq.{bytes_eq-Decides}
 use Rattle.rows.specs.Rows.{change_first}
 use Rattle.ca_message.specs.declared.to_client.ToClient.TheVariants as replies
+use Rattle.channel_table.specs.declared.channels.Reach.{Reach}
 use Rattle.channel_table.specs.declared.channels.Channel.{Channel}
 use Rattle.channel_table.specs.declared.reads.WaitingRead.{WaitingRead}
 use Rattle.channel_table.specs.declared.subs.ClientSub.{ClientSub}
 use Rattle.channel_table.specs.Channels.{is_channel, is_not_channel, with_reach_and_rights}
 use Rattle.channel_table.specs.Reads.{is_not_read_on}
 use Rattle.channel_table.specs.Subs.{is_not_sub_on, with_owed}
+use Rattle.channel_table.specs.Demand.{own_ask}
 use Rattle.fanout.specs.declared.outbox.Out.{Out}
 use Rattle.link_table.specs.declared.links.Link.{Link}
 use Rattle.link_table.specs.declared.servers.Server.{Server}
 use Rattle.link_table.specs.Links.{is_named}
 use Rattle.link_table.specs.Servers.{is_server}
-use Rattle.mask_merge.specs.Merged.{merged}
 use Rattle.gateway_state.specs.declared.connections.Connection.{Connection}
 use Rattle.gateway_state.specs.declared.event.Dest.TheVariants.{Session as ToSession}
 use Rattle.gateway_state.specs.declared.notice.ChannelNotice.{ChannelNotice}
@@ -29,7 +30,7 @@ use Rattle.gateway_state.specs.Answer.{cached_value}
 use Rattle.gateway_state.specs.Clients.{without_channel}
 use Rattle.gateway_state.specs.Connections.{given, is_to}
 use Rattle.gateway_state.specs.Gateway.{Gateway}
-use Rattle.gateway_state.specs.Interest.{channel_want, interest_of, is_read_through, is_reader, is_subscriber, minor_in, sub_want}
+use Rattle.gateway_state.specs.Interest.{is_read_through, is_reader, is_subscriber, minor_in, reader_ask, readers}
 use Rattle.gateway_state.specs.Notices.{channel_told, link_notices_of, notice_on, read_notice, with_reach}
 use Rattle.gateway_state.specs.Rights.{channel_of, may_read, rights_of}
 use Rattle.gateway_state.specs.Searches.{leads_to}
@@ -44,7 +45,7 @@ use Rattle.touched_rows.proofs.Cleared.{found_without, left_have, not_so}
 use Rattle.touched_rows.proofs.Connections.{HasNoMoreRoom, no_more_room_given}
 use Rattle.touched_rows.proofs.LessGiven.{bare, is_open, plain, read_on-stays, update_if_open, update_on-stays}
 use Rattle.touched_rows.proofs.OneLink.{link_alike}
-use Rattle.touched_rows.proofs.Owing.{owed_where, wants_alike}
+use Rattle.touched_rows.proofs.Owing.{owed_where, asks_alike}
 use Rattle.touched_rows.proofs.ReadersOf.{any_left, not_not, other_name, passing_left, passing_of_left}
 use Rattle.touched_rows.proofs.Tellings.{less_connections}
 use Rattle.touched_rows.proofs.TouchedAlone.{all_with_changed, found_holds, found_passes}
@@ -69,8 +70,8 @@ pub record IsBeside (w y : Gateway) (links : List Link) (name : List ℕ) : Type
   pub reads : All (λ (read : WaitingRead). waits_for y name read ≡ false → read_notice w read ≡ None) y.clients.reads
   pub names : (other : List ℕ) → bytes_eq other name ≡ false → list_any (is_on other) y.clients.channels ≡ list_any (is_on other) w.clients.channels
   pub readers : (other : List ℕ) → bytes_eq other name ≡ false → filter (is_reader y other) y.clients.channels ≡ filter (is_reader w other) w.clients.channels
-  pub wants : (other : List ℕ) → bytes_eq other name ≡ false → (native : ℕ)
-      → map (sub_want native) (filter (is_subscriber y other) y.clients.subs) ≡ map (sub_want native) (filter (is_subscriber w other) w.clients.subs)
+  pub asks : (other : List ℕ) → bytes_eq other name ≡ false
+      → map own_ask (filter (is_subscriber y other) y.clients.subs) ≡ map own_ask (filter (is_subscriber w other) w.clients.subs)
 
 -- a channel on the variable is on no other
 pub not_on : (name other : List ℕ) → bytes_eq other name ≡ false → (c : Channel) → is_on name c ≡ true → is_on other c ≡ false
@@ -123,11 +124,11 @@ module _ (w y : Gateway) (links : List Link) (name : List ℕ) (beside : IsBesid
           update_on-stays w y beside.values c (beside.rights c off) (beside.over c off) sub
           (sym (ap (update_on w sub) (found_there sub.session sub.sid c is off)) ∙ none)
 
-  interest_beside : (other : List ℕ) → bytes_eq other name ≡ false → (native : ℕ) → interest_of y other native ≡ interest_of w other native
-  interest_beside other differ native =
-      let wants = beside.wants other differ native in
-      let readers = beside.readers other differ in
-      λ i. merged (wants i ++ map channel_want (readers i))
+  asks_beside : (other : List ℕ) → bytes_eq other name ≡ false → readers y other ≡ readers w other
+  asks_beside other differ =
+      let subs = beside.asks other differ in
+      let channels = beside.readers other differ in
+      λ i. subs i ++ map reader_ask (channels i)
 
   wanted_beside : (other : List ℕ) → bytes_eq other name ≡ false → is_wanted y other ≡ is_wanted w other
   wanted_beside other differ =
@@ -142,7 +143,7 @@ module _ (w y : Gateway) (links : List Link) (name : List ℕ) (beside : IsBesid
       subst (All (λ (link : Link). is_named name link ≡ false → link_notices_of y link ≡ [])) (sym beside.upstream)
       (All-weaker (λ (link : Link). is_named name link ≡ false → link_notices_of w link ≡ []) (λ (link : Link). is_named name link ≡ false → link_notices_of y link ≡ [])
       (λ link none off.
-      link_alike w y link (interest_beside link.name off) (λ server. ap (λ (rows : List Server). minor_in (find (is_server server) rows)) beside.servers)
+      link_alike w y link (asks_beside link.name off) (λ server. ap (λ (rows : List Server). minor_in (find (is_server server) rows)) beside.servers)
       (wanted_beside link.name off)
       ∙ none off) links quiet)
 
@@ -220,17 +221,17 @@ module _ (w y : Gateway) (links : List Link) (name : List ℕ) (beside : IsBesid
         (λ (row : Channel). is_not_channel session sid row ≡ false → is_reader y other row ≡ false)
         (λ row fails gone. rw (fails gone) refl) y.clients.channels (none_on other differ))
         ∙ beside.readers other differ;
-    wants = λ other differ native.
-        ap (map (sub_want native))
+    asks = λ other differ.
+        ap (map own_ask)
         (passing_of_left (is_subscriber fewer other) (is_subscriber y other) (is_not_sub_on session sid)
         (λ sub stays.
         ap (is_read_through y other) (found_without session sid y.clients.channels sub.session sub.sid (not_so (eqb sub.session session && eqb sub.sid sid) stays)))
         (no_subscriber other differ) y.clients.subs)
-        ∙ beside.wants other differ native;
+        ∙ beside.asks other differ;
   }
 
   -- that it has other rights
-  module _ (reach rights : ℕ) where
+  module _ (reach : Reach) (rights : ℕ) where
     abbrev change : Channel → Channel
     change = with_reach_and_rights reach rights
 
@@ -279,8 +280,8 @@ module _ (w y : Gateway) (links : List Link) (name : List ℕ) (beside : IsBesid
           passing_changed (is_reader y other) (is_channel session sid) change y.clients.channels
           (λ row found. let fails = not_on name other differ row (found_on row found) in (rw fails refl, rw fails refl))
           ∙ beside.readers other differ;
-      wants = λ other differ native.
-          ap (map (sub_want native)) (λ i. filter (λ (sub : ClientSub). through_same other sub.session sub.sid i) y.clients.subs) ∙ beside.wants other differ native;
+      asks = λ other differ.
+          ap (map own_ask) (λ i. filter (λ (sub : ClientSub). through_same other sub.session sub.sid i) y.clients.subs) ∙ beside.asks other differ;
     }
 
 -- ---- once all of them are
@@ -324,7 +325,7 @@ beside_owed w y links name beside = record {
   reads = beside.reads;
   names = beside.names;
   readers = beside.readers;
-  wants = λ other differ native. wants_alike y other native (is_withheld y) y.clients.subs ∙ beside.wants other differ native;
+  asks = λ other differ. asks_alike y other (is_withheld y) y.clients.subs ∙ beside.asks other differ;
 }
   where
     one : (sub : ClientSub) (held : Bool) → is_withheld y sub ≡ held → (is_sub_to y name sub ≡ false → IsQuiet w sub) → (is_sub_to y name sub ≡ false → is_withheld y sub ≡ false)

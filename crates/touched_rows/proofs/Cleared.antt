@@ -13,15 +13,15 @@ use Rattle.channel_table.specs.declared.subs.ClientSub.{ClientSub}
 use Rattle.channel_table.specs.Channels.{is_channel, is_not_channel}
 use Rattle.channel_table.specs.Reads.{is_not_read_on}
 use Rattle.channel_table.specs.Subs.{is_not_sub_on}
+use Rattle.channel_table.specs.Demand.{own_ask}
 use Rattle.fanout.specs.declared.outbox.Out.{Out}
-use Rattle.mask_merge.specs.Merged.{merged}
 use Rattle.gateway_state.specs.declared.connections.Connection.{Connection}
 use Rattle.gateway_state.specs.declared.event.Dest.{Dest}
 use Rattle.gateway_state.specs.declared.notice.LinkNotice.{LinkNotice}
 use Rattle.gateway_state.specs.Clients.{without_channel}
 use Rattle.gateway_state.specs.Connections.{given, is_to}
 use Rattle.gateway_state.specs.Gateway.{Gateway}
-use Rattle.gateway_state.specs.Interest.{channel_want, is_read_through, is_reader, is_subscriber, sub_want}
+use Rattle.gateway_state.specs.Interest.{is_read_through, is_reader, is_subscriber, reader_ask, readers}
 use Rattle.gateway_state.specs.Notices.{channel_notice, channel_notices, notice_on, read_notice, read_notices, reads_told}
 use Rattle.gateway_state.specs.Rights.{channel_of, may_read, rights_of}
 use Rattle.gateway_state.specs.Searches.{leads_to}
@@ -131,14 +131,14 @@ module _ (w : Gateway) (settled : IsSettled w) (order : AreInOrder w) (links_apa
   beside = record {
     links = refl;
     minors = λ server. refl;
-    interest = λ other native differ.
+    asks = λ other differ.
         let subs = passing_of_left (is_subscriber fewer other) (is_subscriber w other) (is_not_sub_on session sid)
         (λ sub stays. ap (is_read_through w other) (sub_found sub stays)) (subs_elsewhere other differ) w.clients.subs in
         let readers = passing_left (is_reader w other) (is_not_channel session sid) w.clients.channels
         (All-weaker (λ (row : Channel). is_not_channel session sid row ≡ false → is_on other row ≡ false)
         (λ (row : Channel). is_not_channel session sid row ≡ false → is_reader w other row ≡ false)
         (λ row fails gone. rw (fails gone) refl) w.clients.channels (channels_elsewhere other differ)) in
-        λ i. merged (map (sub_want native) (subs i) ++ map channel_want (readers i));
+        λ i. map own_ask (subs i) ++ map reader_ask (readers i);
     wanted = λ other differ.
         ap (λ (t : Bool). t || list_any (leads_to w.policy other) w.searches) (any_left (is_on other) (is_not_channel session sid) w.clients.channels (channels_elsewhere other differ));
   }

@@ -33,7 +33,7 @@ use Rattle.touched_rows.proofs.Passes.{from_links, no_reads, no_updates}
 use Rattle.touched_rows.proofs.TouchedAlone.{all_with_changed, found_holds}
 use Rattle.touched_rows.proofs.Tellings.{less_connections}
 use Rattle.touched_rows.proofs.Unconnected.{no_channel, the_link}
-use Rattle.touched_rows.proofs.UnseenRows.{IsUnseen, changed, channels_unseen, interest_unseen, reads_unseen, updates_unseen, withheld_unseen}
+use Rattle.touched_rows.proofs.UnseenRows.{IsUnseen, changed, channels_unseen, asks_unseen, reads_unseen, updates_unseen, withheld_unseen}
 
 pub creating_unconnected : (state : LinkState) → is_creating state ≡ true → is_connected state ≡ false
 creating_unconnected Creating creating = refl
@@ -67,7 +67,7 @@ module _ (w : Gateway) (settled : IsSettled w) (order : AreInOrder w) (links_apa
   others_quiet =
       all_with_changed (λ (row : Link). is_named link.name row ≡ false → link_notices_of x row ≡ []) (is_link server cid) (with_state state rights) w.upstream.links
       (All-weaker (λ (row : Link). link_notices_of x row ≡ []) (λ (row : Link). is_named link.name row ≡ false → link_notices_of x row ≡ []) (λ row none other. none) w.upstream.links
-      (each_quiet w x (interest_unseen w settled connections w.clients.sessions links w.upstream.counters unseen) (λ name there. there) w.upstream.links (all_in_use w settled)
+      (each_quiet w x (asks_unseen w settled connections w.clients.sessions links w.upstream.counters unseen) (λ name there. there) w.upstream.links (all_in_use w settled)
       (nothing_told (link_notices_of w) w.upstream.links settled.links)))
       (λ row is none other.
       let same : link ≡ row = cc in

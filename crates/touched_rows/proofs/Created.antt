@@ -7,6 +7,7 @@ use Rattle.std.proofs.lemmas.List.Elements.{All-cons, All-nil, All-weaker}
 use Rattle.std.proofs.lemmas.List.Folds.{list_any-append}
 use Rattle.std.proofs.lemmas.Slice.Eq.{bytes_eq-Decides}
 use Rattle.ca_message.specs.declared.to_client.ToClient.TheVariants as replies
+use Rattle.channel_table.specs.declared.channels.Reach.{Reach}
 use Rattle.channel_table.specs.declared.channels.Channel.{Channel}
 use Rattle.channel_table.specs.declared.reads.WaitingRead.{WaitingRead}
 use Rattle.channel_table.specs.declared.sessions.Session.{Session}
@@ -15,19 +16,19 @@ use Rattle.channel_table.specs.declared.table.TheConstants.{CHANNEL_LIMIT}
 use Rattle.channel_table.specs.Channels.{is_channel}
 use Rattle.channel_table.specs.ClientRows.{channel_count}
 use Rattle.channel_table.specs.Sessions.{is_numbered}
+use Rattle.channel_table.specs.Demand.{own_ask}
 use Rattle.link_table.specs.declared.links.Link.{Link}
 use Rattle.link_table.specs.declared.links.LinkState.{LinkState}
 use Rattle.link_table.specs.declared.links.LinkState.TheVariants.{Creating, Connected, Unusable}
 use Rattle.link_table.specs.LinkRows.{Counters}
-use Rattle.mask_merge.specs.Merged.{merged}
 use Rattle.pv_alias.specs.declared.lead.Lead.{Lead}
 use Rattle.gateway_state.specs.declared.event.Dest.TheVariants.{Session as ToSession}
 use Rattle.gateway_state.specs.declared.notice.ChannelNotice.{ChannelNotice}
 use Rattle.gateway_state.specs.declared.reading.Native.{Native}
 use Rattle.gateway_state.specs.Answer.{native_in}
-use Rattle.gateway_state.specs.Clients.{channel_asked, created_as, created_on, created_on_native, creation_failed, not_connected, remembered_by, rights_on, with_channel, with_host_fixed}
+use Rattle.gateway_state.specs.Clients.{channel_asked, created_as, created_on, created_on_native, creation_failed, no_reach, not_connected, remembered_by, rights_on, with_channel, with_host_fixed}
 use Rattle.gateway_state.specs.Gateway.{Gateway}
-use Rattle.gateway_state.specs.Interest.{channel_want, interest_of, is_read_through, is_reader, is_subscriber, sub_want}
+use Rattle.gateway_state.specs.Interest.{is_read_through, is_reader, is_subscriber, reader_ask, readers}
 use Rattle.gateway_state.specs.Notices.{channel_notice, channel_notices, notice_on, read_notice, read_notices}
 use Rattle.gateway_state.specs.Resolution.{is_real, rights_left}
 use Rattle.gateway_state.specs.Rights.{channel_of, is_served, lead_in, link_connected, link_rights, may_read, rights_of}
@@ -76,7 +77,7 @@ or_first false false other more there = there
 -- ---- a channel more
 
 module _ (w : Gateway) (settled : IsSettled w) (subs_on : HasSubsOnChannels w) (reads_on : HasReadsOnChannels w) (new : Channel) (counters : Counters)
-    (unread : new.reach ≡ 0) (quiet : channel_notice w new ≡ None) where
+    (unread : new.reach ≡ no_reach) (quiet : channel_notice w new ≡ None) where
   abbrev x : Gateway
   x = record w { clients = record w.clients { channels = w.clients.channels ++ new ∷ [] }; upstream = record w.upstream { counters = counters } }
 
@@ -122,16 +123,16 @@ module _ (w : Gateway) (settled : IsSettled w) (subs_on : HasSubsOnChannels w) (
       (All-weaker (λ (sub : ClientSub). IsFoundBefore sub.session sub.sid) (λ (sub : ClientSub). update_notice x sub ≡ update_notice w sub) due_as_before w.clients.subs subs_found)
       ∙ settled.updates
 
-  interest_same : (name : List ℕ) (native : ℕ) → interest_of x name native ≡ interest_of w name native
-  interest_same name native =
+  asks_same : (name : List ℕ) → readers x name ≡ readers w name
+  asks_same name =
       let subs : filter (is_subscriber x name) w.clients.subs ≡ filter (is_subscriber w name) w.clients.subs =
       filtered_alike (is_subscriber x name) (is_subscriber w name) w.clients.subs
       (All-weaker (λ (sub : ClientSub). IsFoundBefore sub.session sub.sid) (λ (sub : ClientSub). is_subscriber x name sub ≡ is_subscriber w name sub)
       (λ sub same. ap (is_read_through w name) same) w.clients.subs subs_found) in
       let fails : is_reader w name new ≡ false =
-      ap (λ (reach : ℕ). is_on name new && ltb 0 reach && may_read (rights_of w new)) unread ∙ not_read (is_on name new) (may_read (rights_of w new)) in
-      let readers = passing_pushed (is_reader w name) w.clients.channels new fails in
-      λ i. merged (map (sub_want native) (subs i) ++ map channel_want (readers i))
+      ap (λ (reach : Reach). is_on name new && ltb 0 reach.count && may_read (rights_of w new)) unread ∙ not_read (is_on name new) (may_read (rights_of w new)) in
+      let channels = passing_pushed (is_reader w name) w.clients.channels new fails in
+      λ i. map own_ask (subs i) ++ map reader_ask (channels i)
 
   still_wanted : (name : List ℕ) → is_wanted w name ≡ true → is_wanted x name ≡ true
   still_wanted name there =
@@ -142,7 +143,7 @@ module _ (w : Gateway) (settled : IsSettled w) (subs_on : HasSubsOnChannels w) (
   settled_channel_added = record {
     channels = channels_quiet;
     held_back = not_withheld;
-    links = links_quiet w x interest_same still_wanted settled;
+    links = links_quiet w x asks_same still_wanted settled;
     reads = reads_quiet;
     updates = updates_quiet;
   }
@@ -178,7 +179,7 @@ module _ (w : Gateway) (settled : IsSettled w) (subs_on : HasSubsOnChannels w) (
       (settled_channel_added w settled subs_on reads_on new (record w.upstream.counters { sid = w.upstream.counters.sid + 1 }) refl quiet))
     where
       new : Channel
-      new = record { session = number; sid = w.upstream.counters.sid; cid = cid; asked = name; real = lead.real; reach = 0; rights = rights_on w lead link }
+      new = record { session = number; sid = w.upstream.counters.sid; cid = cid; asked = name; real = lead.real; reach = no_reach; rights_told = rights_on w lead link }
 
       served : is_served w new ≡ true
       served =

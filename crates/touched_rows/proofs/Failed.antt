@@ -21,7 +21,7 @@ use Rattle.touched_rows.proofs.ReadersOf.{found_left, not_not}
 use Rattle.touched_rows.proofs.Tellings.{less_without_cached}
 use Rattle.touched_rows.proofs.TouchedAlone.{none_planned_flat}
 use Rattle.touched_rows.proofs.Unconnected.{no_channel, the_link}
-use Rattle.touched_rows.proofs.UnseenRows.{IsUnseen, changed, interest_unseen, settled_unseen}
+use Rattle.touched_rows.proofs.UnseenRows.{IsUnseen, changed, asks_unseen, settled_unseen}
 
 -- without a link's last message nothing more is owed
 settled_uncached : (cid : ℕ) (w : Gateway) → IsSettled w → IsSettled (without_cached cid w)
@@ -62,7 +62,7 @@ module _ (w : Gateway) (settled : IsSettled w) (order : AreInOrder w) (links_apa
     quiet =
         none_planned_flat (link_notices_of x) kept
         (All-filter (is_not_link server cid) (λ (row : Link). link_notices_of x row ≡ []) w.upstream.links
-        (each_quiet v x (interest_unseen v settled_v w.connections w.clients.sessions kept w.upstream.counters unseen) (λ name there. there) w.upstream.links (all_in_use v settled_v)
+        (each_quiet v x (asks_unseen v settled_v w.connections w.clients.sessions kept w.upstream.counters unseen) (λ name there. there) w.upstream.links (all_in_use v settled_v)
         (nothing_told (link_notices_of v) w.upstream.links settled_v.links)))
 
     pub settled_without : IsSettled (without_link server cid w)

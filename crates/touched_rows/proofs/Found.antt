@@ -13,7 +13,7 @@ use Rattle.link_table.specs.declared.links.Link.{Link}
 use Rattle.link_table.specs.declared.links.LinkState.TheVariants.{Creating}
 use Rattle.link_table.specs.declared.table.TheConstants.{LINK_LIMIT}
 use Rattle.link_table.specs.LinkRows.{Counters}
-use Rattle.link_table.specs.Links.{is_named}
+use Rattle.link_table.specs.Links.{is_named, new_link}
 use Rattle.gateway_state.specs.declared.connections.Connection.{Connection}
 use Rattle.gateway_state.specs.declared.event.Dest.TheVariants.{Upstream}
 use Rattle.gateway_state.specs.Asked.{acts}
@@ -32,7 +32,7 @@ use Rattle.gateway_state.proofs.SettledSteps.{settled_stays}
 use Rattle.touched_rows.proofs.Connections.{HasNoMoreRoom, no_more_room_given}
 use Rattle.touched_rows.proofs.LinksQuiet.{links_quiet}
 use Rattle.touched_rows.proofs.Tellings.{less_connections}
-use Rattle.touched_rows.proofs.UnseenRows.{IsUnseen, changed, interest_unseen, settled_unseen}
+use Rattle.touched_rows.proofs.UnseenRows.{IsUnseen, changed, asks_unseen, settled_unseen}
 
 -- the link of a channel is found before a new one
 found_first : (over other : Option Link) → link_connected over ≡ true → option_or over other ≡ over
@@ -62,12 +62,12 @@ module _ (w : Gateway) (settled : IsSettled w) (new : Link) (state : new.state �
   settled_link_added =
       settled_unseen w settled connections w.clients.sessions links counters unseen (less_connections w connections room).sessions
       (flat_map-append (link_notices_of x) w.upstream.links (new ∷ [])
-      ∙ (λ i. links_quiet w x (interest_unseen w settled connections w.clients.sessions links counters unseen) (λ name there. there) settled i ++ (new_quiet i ++ [])))
+      ∙ (λ i. links_quiet w x (asks_unseen w settled connections w.clients.sessions links counters unseen) (λ name there. there) settled i ++ (new_quiet i ++ [])))
 
 settled_linked : (w : Gateway) → IsSettled w → (server : ℕ) (name : List ℕ) → is_wanted w name ≡ true → IsSettled (linked w server name)
 unfolding sent
 settled_linked w settled server name wanted =
-    let new : Link = record { cid = w.upstream.counters.cid; server = server; name = name; state = Creating; rights = 0; subscription = None } in
+    let new : Link = new_link server w.upstream.counters.cid name in
     settled_link_added w settled new refl wanted
     (change_first (is_to (Upstream server)) (given (outgoing_upstream (requests.CreateChannel w.upstream.counters.cid name))) w.connections)
     (no_more_room_given (Upstream server) (outgoing_upstream (requests.CreateChannel w.upstream.counters.cid name)) w.connections)

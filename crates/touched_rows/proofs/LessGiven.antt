@@ -9,23 +9,24 @@ use Rattle.channel_table.specs.declared.reads.WaitingRead.{WaitingRead}
 use Rattle.channel_table.specs.declared.subs.ClientSub.{ClientSub}
 use Rattle.channel_table.specs.Channels.{with_reach_and_rights}
 use Rattle.link_table.specs.declared.links.Link.{Link}
-use Rattle.link_table.specs.Links.{with_subscription}
+use Rattle.link_table.specs.Links.{none_yet}
 use Rattle.gateway_state.specs.declared.reading.Given.{Given}
 use Rattle.gateway_state.specs.declared.reading.Native.{Native}
 use Rattle.gateway_state.specs.declared.notice.ReadNotice.TheVariants.{Refused}
 use Rattle.gateway_state.specs.Answer.{cached_value, native_in}
+use Rattle.gateway_state.specs.Clients.{no_reach}
 use Rattle.gateway_state.specs.Gateway.{Gateway}
 use Rattle.gateway_state.specs.Notices.{answered_by, answered_natively, answered_over, notice_on, read_notice}
 use Rattle.gateway_state.specs.Rights.{channel_of, may_read, rights_of}
 use Rattle.gateway_state.specs.Updates.{is_open_to, is_paused, is_taking, update_by, update_natively, update_notice, update_on, update_over}
 use Rattle.gateway_state.specs.Variables.{link_of}
 
--- a link but for its subscription, and a channel but for what was read and told
+-- a link but for its subscriptions, and a channel but for what was read and told
 abbrev pub bare : Link → Link
-bare link = with_subscription None link
+bare link = record link { subscriptions = none_yet }
 
 abbrev pub plain : Channel → Channel
-plain c = with_reach_and_rights 0 0 c
+plain c = with_reach_and_rights no_reach 0 c
 
 -- a session takes updates now
 abbrev pub is_open : Gateway → ℕ → Bool

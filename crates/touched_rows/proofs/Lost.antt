@@ -14,7 +14,7 @@ use Rattle.channel_table.specs.Channels.{is_channel, is_channel_of, is_not_chann
 use Rattle.channel_table.specs.Reads.{is_not_read_of, is_read_of}
 use Rattle.channel_table.specs.Sessions.{is_not_numbered, is_numbered}
 use Rattle.channel_table.specs.Subs.{is_not_sub_of, is_sub_of}
-use Rattle.mask_merge.specs.Merged.{merged}
+use Rattle.channel_table.specs.Demand.{own_ask}
 use Rattle.pv_alias.specs.declared.lead.Lead.{Lead}
 use Rattle.gateway_state.specs.declared.connections.Connection.{Connection}
 use Rattle.gateway_state.specs.declared.event.Dest.TheVariants.{Session as ToSession}
@@ -22,7 +22,7 @@ use Rattle.gateway_state.specs.declared.notice.LinkNotice.{LinkNotice}
 use Rattle.gateway_state.specs.declared.notice.ReadNotice.TheVariants.{Refused}
 use Rattle.gateway_state.specs.Connections.{is_not_to, is_to, outbox_in}
 use Rattle.gateway_state.specs.Gateway.{Gateway}
-use Rattle.gateway_state.specs.Interest.{channel_want, is_read_through, is_reader, is_subscriber, sub_want}
+use Rattle.gateway_state.specs.Interest.{is_read_through, is_reader, is_subscriber, reader_ask, readers}
 use Rattle.gateway_state.specs.Notices.{answered_over, channel_notice, channel_notices, link_told, notice_on, read_notice, read_notices, reads_told}
 use Rattle.gateway_state.specs.Resolution.{is_real, rights_left}
 use Rattle.gateway_state.specs.Rights.{channel_of, is_served, lead_for, lead_in, link_connected, link_rights, may_read, rights_of}
@@ -111,7 +111,7 @@ module _ (w : Gateway) (settled : IsSettled w) (order : AreInOrder w) (number : 
   notice_same c differ =
       let served = served_same c differ in
       let rights = rights_same c differ in
-      λ i. notice_by (served i) (eqb c.rights (rights i)) (rights i) c
+      λ i. notice_by (served i) (eqb c.rights_told (rights i)) (rights i) c
 
   channels_quiet : channel_notices x ≡ []
   channels_quiet =
@@ -166,7 +166,7 @@ module _ (w : Gateway) (settled : IsSettled w) (order : AreInOrder w) (number : 
   readers_same name none =
       filtered_alike (is_reader x name) (is_reader w name) (filter (is_not_channel_of number) w.clients.channels)
       (All-weaker (λ (c : Channel). is_not_channel_of number c ≡ true) (λ (c : Channel). is_reader x name c ≡ is_reader w name c)
-      (λ c stays. ap (λ (rights : ℕ). is_on name c && ltb 0 c.reach && may_read rights) (rights_same c (not_so (is_channel_of number c) stays)))
+      (λ c stays. ap (λ (rights : ℕ). is_on name c && ltb 0 c.reach.count && may_read rights) (rights_same c (not_so (is_channel_of number c) stays)))
       (filter (is_not_channel_of number) w.clients.channels) (filter_passes (is_not_channel_of number) w.clients.channels))
       ∙ passing_left (is_reader w name) (is_not_channel_of number) w.clients.channels
       (All-weaker (λ (c : Channel). is_not_channel_of number c ≡ false → is_on name c ≡ false) (λ (c : Channel). is_not_channel_of number c ≡ false → is_reader w name c ≡ false)
@@ -176,10 +176,10 @@ module _ (w : Gateway) (settled : IsSettled w) (order : AreInOrder w) (number : 
   beside = record {
     links = refl;
     minors = λ server. refl;
-    interest = λ name native none.
+    asks = λ name none.
         let subs = passing_of_left (is_subscriber x name) (is_subscriber w name) (is_not_sub_of number) (subscriber_same name) (no_subscriber name none) w.clients.subs in
         let readers = readers_same name none in
-        λ i. merged (map (sub_want native) (subs i) ++ map channel_want (readers i));
+        λ i. map own_ask (subs i) ++ map reader_ask (readers i);
     wanted = λ name none.
         ap (λ (t : Bool). t || list_any (leads_to w.policy name) w.searches) (any_left (is_on name) (is_not_channel_of number) w.clients.channels (gone_elsewhere name none));
   }

@@ -8,12 +8,14 @@ use Rattle.std.proofs.lemmas.Slice.Eq.{bytes_eq-Decides}
 use Rattle.link_table.specs.declared.links.Link.{Link}
 use Rattle.link_table.specs.declared.links.LinkState.{LinkState}
 use Rattle.link_table.specs.declared.links.LinkState.TheVariants.{Creating, Connected, Unusable}
-use Rattle.link_table.specs.Links.{is_named}
+use Rattle.link_table.specs.declared.links.Subject.{Subject}
+use Rattle.link_table.specs.declared.links.Subject.TheVariants.{Values, Properties}
+use Rattle.link_table.specs.Links.{is_named, sub_at}
 use Rattle.gateway_state.specs.declared.notice.LinkNotice.{LinkNotice}
 use Rattle.gateway_state.specs.declared.notice.LinkNotice.TheVariants.{Dropped}
 use Rattle.gateway_state.specs.Gateway.{Gateway}
-use Rattle.gateway_state.specs.Interest.{interest_of, is_for, minor_of}
-use Rattle.gateway_state.specs.Notices.{cancelled, interest_notices, link_notices, link_notices_of, link_told, links_told, subscribed}
+use Rattle.gateway_state.specs.Interest.{minor_of, readers, wanted_by}
+use Rattle.gateway_state.specs.Notices.{interest_notices, link_notices, link_notices_of, link_told, links_told, notices_between, subject_notices}
 use Rattle.gateway_state.specs.Settled.{HasLinksApart, IsInUse, IsSettled}
 use Rattle.gateway_state.specs.Variables.{is_wanted, link_of}
 use Rattle.gateway_state.proofs.SettledMeaning.{all_in_use, nothing_told}
@@ -59,31 +61,36 @@ over_is x (Some link) = refl
 abbrev pub is_name : List ℕ → List ℕ → Bool
 is_name name other = bytes_eq other name
 
--- the readers of variables that weren't touched want what they wanted, and those are wanted as before
+-- the readers of variables that weren't touched ask for what they asked for, and those are wanted as before
 pub record IsBesideOthers (w x : Gateway) (touched : List ℕ → Bool) : Type 0 where
   pub links : x.upstream.links ≡ w.upstream.links
   pub minors : (server : ℕ) → minor_of x server ≡ minor_of w server
-  pub interest : (other : List ℕ) (native : ℕ) → touched other ≡ false → interest_of x other native ≡ interest_of w other native
+  pub asks : (other : List ℕ) → touched other ≡ false → readers x other ≡ readers w other
   pub wanted : (other : List ℕ) → touched other ≡ false → is_wanted x other ≡ is_wanted w other
 
--- a link whose variable is wanted as before, and whose readers want what they wanted
-pub link_alike : (w x : Gateway) (link : Link) → ((native : ℕ) → interest_of x link.name native ≡ interest_of w link.name native) → ((server : ℕ) → minor_of x server ≡ minor_of w server)
+-- a link whose variable is wanted as before, and whose readers ask for what they asked for
+pub link_alike : (w x : Gateway) (link : Link) → readers x link.name ≡ readers w link.name → ((server : ℕ) → minor_of x server ≡ minor_of w server)
     → is_wanted x link.name ≡ is_wanted w link.name → link_notices_of x link ≡ link_notices_of w link
-link_alike w x link interest minors wanted =
+link_alike w x link asks minors wanted =
     let first = by link.state in
     λ i. first i ++ cond (wanted i) [] (Dropped link.server link.cid link.state ∷ [])
   where
+    on : (subject : Subject) (sid dtype native : ℕ) → subject_notices subject x link sid dtype native ≡ subject_notices subject w link sid dtype native
+    on subject sid dtype native =
+        let minor = minors link.server in
+        λ i. notices_between subject (minor i) link sid dtype native (wanted_by subject dtype native (asks i)) (sub_at subject link.subscriptions)
+
     by : (state : LinkState) → interest_notices x link state ≡ interest_notices w link state
     by Creating = refl
     by Unusable = refl
     by (Connected sid dtype native) =
-        let want = interest native in
-        let minor = minors link.server in
-        λ i. cond (is_for (want i) link.subscription) [] (cancelled link sid dtype link.subscription ++ subscribed (minor i) link sid dtype native (want i))
+        let values = on Values sid dtype native in
+        let properties = on Properties sid dtype native in
+        λ i. values i ++ properties i
 
 module _ (w x : Gateway) (touched : List ℕ → Bool) (beside : IsBesideOthers w x touched) where
   link_beside : (link : Link) → touched link.name ≡ false → link_notices_of x link ≡ link_notices_of w link
-  link_beside link other = link_alike w x link (λ native. beside.interest link.name native other) beside.minors (beside.wanted link.name other)
+  link_beside link other = link_alike w x link (beside.asks link.name other) beside.minors (beside.wanted link.name other)
 
   -- links of variables that weren't touched have no notice
   pub others_quiet : IsSettled w → All (λ (link : Link). touched link.name ≡ false → link_notices_of x link ≡ []) w.upstream.links

@@ -10,6 +10,7 @@ use Rattle.channel_table.specs.declared.channels.Channel.{Channel}
 use Rattle.channel_table.specs.declared.reads.WaitingRead.{WaitingRead}
 use Rattle.channel_table.specs.declared.subs.ClientSub.{ClientSub}
 use Rattle.channel_table.specs.Channels.{is_channel}
+use Rattle.channel_table.specs.Demand.{own_ask}
 use Rattle.link_table.specs.declared.links.Link.{Link}
 use Rattle.link_table.specs.Links.{is_named}
 use Rattle.gateway_state.specs.declared.cached.LastMessage.{LastMessage}
@@ -20,7 +21,7 @@ use Rattle.gateway_state.specs.declared.notice.UpdateNotice.{UpdateNotice}
 use Rattle.gateway_state.specs.Answer.{cached_as, cached_value}
 use Rattle.gateway_state.specs.CachedRows.{is_cached_of}
 use Rattle.gateway_state.specs.Gateway.{Gateway}
-use Rattle.gateway_state.specs.Interest.{is_read_through, is_reader, sub_want}
+use Rattle.gateway_state.specs.Interest.{is_read_through, is_reader}
 use Rattle.gateway_state.specs.Notices.{channel_notice, channel_told, channels_told, link_notices_of, link_told, links_told, notice_on, read_notice, read_told, reads_told}
 use Rattle.gateway_state.specs.Resolution.{is_real, rights_left}
 use Rattle.gateway_state.specs.Rights.{channel_of, is_served, lead_in, link_connected, link_rights, may_read, rights_of}
@@ -92,7 +93,7 @@ all_on w x name (c ∷ rows) there =
         → list_all (is_notice_on w name) (filter_map (channel_notice x) (cond on (c ∷ filter (is_on name) rows) (filter (is_on name) rows))) ≡ true
     by false is rest = rest
     by true is rest =
-        here (ap (is_channel_on name) (All-head (λ (row : Channel). channel_of w row.session row.sid ≡ Some row) c rows there) ∙ is) (is_served x c) (eqb c.rights (rights_of x c)) rest
+        here (ap (is_channel_on name) (All-head (λ (row : Channel). channel_of w row.session row.sid ≡ Some row) c rows there) ∙ is) (is_served x c) (eqb c.rights_told (rights_of x c)) rest
 
 -- ---- the passes after that over channels
 
@@ -216,7 +217,7 @@ module _ (w : Gateway) (tidy : IsTidy w) (links : List Link) (cache : List LastM
   reader_same other differ c = by (is_on name c) refl
     where
       by : (on : Bool) → is_on name c ≡ on → is_reader x other c ≡ is_reader w other c
-      by false is = ap (λ (rights : ℕ). is_on other c && ltb 0 c.reach && may_read rights) (rights_same c is)
+      by false is = ap (λ (rights : ℕ). is_on other c && ltb 0 c.reach.count && may_read rights) (rights_same c is)
       by true is = rw (not_on name other differ c is) refl
 
   subscriber_same : (other : List ℕ) → bytes_eq other name ≡ false → (found : Option Channel) → is_read_through x other found ≡ is_read_through w other found
@@ -252,8 +253,8 @@ module _ (w : Gateway) (tidy : IsTidy w) (links : List Link) (cache : List LastM
         (λ read none off. none) w.clients.reads (none_told (read_notice w) w.clients.reads tidy.settled.reads);
     names = λ other differ. refl;
     readers = λ other differ. λ i. filter (λ (c : Channel). reader_same other differ c i) w.clients.channels;
-    wants = λ other differ native.
-        λ i. map (sub_want native) (filter (λ (sub : ClientSub). subscriber_same other differ (channel_of w sub.session sub.sid) i) w.clients.subs);
+    asks = λ other differ.
+        λ i. map own_ask (filter (λ (sub : ClientSub). subscriber_same other differ (channel_of w sub.session sub.sid) i) w.clients.subs);
   }
 
   channels_alone : channels_told x ≡ channels_told_on name x
@@ -264,7 +265,7 @@ module _ (w : Gateway) (tidy : IsTidy w) (links : List Link) (cache : List LastM
       (λ c none off.
       let served : is_served x c ≡ is_served w c = ap (λ (over : Option Link). is_real (lead_in w c.session c.asked) c.real && link_connected over) (others c.real off) in
       let rights = rights_same c off in
-      (λ i. notice_by (served i) (eqb c.rights (rights i)) (rights i) c) ∙ none)
+      (λ i. notice_by (served i) (eqb c.rights_told (rights i)) (rights i) c) ∙ none)
       w.clients.channels (none_told (channel_notice w) w.clients.channels tidy.settled.channels)))
 
   abbrev told : Gateway

@@ -5,11 +5,12 @@ use Rattle.std.specs.Prelude.{filter, map}
 use Rattle.std.specs.List.{fold}
 use Rattle.channel_table.specs.declared.subs.ClientSub.{ClientSub}
 use Rattle.channel_table.specs.Subs.{with_owed}
+use Rattle.channel_table.specs.Demand.{own_ask}
 use Rattle.gateway_state.specs.Gateway.{Gateway}
-use Rattle.gateway_state.specs.Interest.{is_subscriber, sub_want}
+use Rattle.gateway_state.specs.Interest.{is_subscriber}
 use Rattle.gateway_state.specs.Settled.{AreApart}
 use Rattle.gateway_state.specs.Updates.{is_withheld}
-use Rattle.gateway_state.proofs.SettledUpdates.{wants_whatever_owed}
+use Rattle.gateway_state.proofs.SettledUpdates.{asks_whatever_owed}
 use Rattle.gateway_state.proofs.SettledWithheld.{kept_by_others, owing}
 use Rattle.gateway_state.proofs.SubsApart.{itself}
 
@@ -42,7 +43,7 @@ none_withheld w test (row ∷ rows) none = by (is_withheld w row) (test row) ref
     by false true is none rest = rest none
     by false false is none rest = rw is (rest none)
 
--- what readers want
+-- what readers ask for
 alike_but_owed : (test : ClientSub → Bool) (rows : List ClientSub) → map (with_owed true) (map (owed_where test) rows) ≡ map (with_owed true) rows
 alike_but_owed test [] = refl
 alike_but_owed test (row ∷ rows) =
@@ -50,9 +51,9 @@ alike_but_owed test (row ∷ rows) =
     elim (test row) as (λ t. with_owed true (cond t (with_owed true row) row) ∷ map (with_owed true) (map (owed_where test) rows) ≡ with_owed true row ∷ map (with_owed true) rows)
     [ true ↦ ap (λ (more : List ClientSub). with_owed true row ∷ more) rest | false ↦ ap (λ (more : List ClientSub). with_owed true row ∷ more) rest ]
 
-pub wants_alike : (w : Gateway) (name : List ℕ) (native : ℕ) (test : ClientSub → Bool) (rows : List ClientSub)
-    → map (sub_want native) (filter (is_subscriber w name) (map (owed_where test) rows)) ≡ map (sub_want native) (filter (is_subscriber w name) rows)
-wants_alike w name native test rows =
-    wants_whatever_owed w name native (map (owed_where test) rows)
-    ∙ ap (λ (all : List ClientSub). map (sub_want native) (filter (is_subscriber w name) all)) (alike_but_owed test rows)
-    ∙ sym (wants_whatever_owed w name native rows)
+pub asks_alike : (w : Gateway) (name : List ℕ) (test : ClientSub → Bool) (rows : List ClientSub)
+    → map own_ask (filter (is_subscriber w name) (map (owed_where test) rows)) ≡ map own_ask (filter (is_subscriber w name) rows)
+asks_alike w name test rows =
+    asks_whatever_owed w name (map (owed_where test) rows)
+    ∙ ap (λ (all : List ClientSub). map own_ask (filter (is_subscriber w name) all)) (alike_but_owed test rows)
+    ∙ sym (asks_whatever_owed w name rows)

@@ -4,17 +4,18 @@ use Rattle.std.proofs.Common.{◌≡◌, ℕ, List, [], ◌++◌, Bool, true, fa
 use Rattle.std.specs.Prelude.{bytes_eq, filter, filter_map, map, option_map}
 use Rattle.std.specs.List.{cons_option, find, fold, list_any}
 use Rattle.rows.specs.Rows.{change_first}
+use Rattle.channel_table.specs.declared.channels.Reach.{Reach}
 use Rattle.channel_table.specs.ClientRows.{ClientRows}
 use Rattle.channel_table.specs.declared.channels.Channel.{Channel}
 use Rattle.channel_table.specs.declared.reads.WaitingRead.{WaitingRead}
 use Rattle.channel_table.specs.declared.subs.ClientSub.{ClientSub}
 use Rattle.channel_table.specs.Channels.{is_channel, with_reach_and_rights}
-use Rattle.mask_merge.specs.Merged.{merged}
+use Rattle.channel_table.specs.Demand.{own_ask}
 use Rattle.gateway_state.specs.declared.notice.ReadNotice.{ReadNotice}
 use Rattle.gateway_state.specs.declared.notice.ReadNotice.TheVariants.{Answered, Refused}
 use Rattle.gateway_state.specs.Clients.{accepted}
 use Rattle.gateway_state.specs.Gateway.{Gateway}
-use Rattle.gateway_state.specs.Interest.{channel_want, is_read_through, is_reader, is_subscriber, sub_want}
+use Rattle.gateway_state.specs.Interest.{is_read_through, is_reader, is_subscriber, reader_ask}
 use Rattle.gateway_state.specs.Notices.{channel_notice, channel_notices, read_notice, read_notices, read_told, reads_told}
 use Rattle.gateway_state.specs.Rights.{channel_of, is_served, rights_of}
 use Rattle.gateway_state.specs.Searches.{leads_to}
@@ -62,7 +63,7 @@ read_through-plain w name (Some c) = refl
 
 -- ---- a channel that more is read of
 
-module _ (w : Gateway) (session sid reach rights : ℕ) where
+module _ (w : Gateway) (session sid : ℕ) (reach : Reach) (rights : ℕ) where
   abbrev change : Channel → Channel
   change = with_reach_and_rights reach rights
 
@@ -84,37 +85,37 @@ module _ (w : Gateway) (session sid reach rights : ℕ) where
 
 -- ---- the read
 
-module _ (w : Gateway) (settled : IsSettled w) (links_apart : HasLinksApart w) (session sid ioid dtype count reach : ℕ) (c : Channel)
+module _ (w : Gateway) (settled : IsSettled w) (links_apart : HasLinksApart w) (session sid ioid dtype count : ℕ) (reach : Reach) (c : Channel)
     (on : channel_of w session sid ≡ Some c) where
   abbrev x : Gateway
-  x = accepted session sid ioid dtype count reach c.rights w
+  x = accepted session sid ioid dtype count reach c.rights_told w
 
   abbrev read : WaitingRead
   read = record { session = session; sid = sid; dtype = dtype; count = count; ioid = ioid }
 
-  raised_quiet : (row : Channel) → find (is_channel session sid) w.clients.channels ≡ Some row → channel_notice w row ≡ None → channel_notice w (change w session sid reach c.rights row) ≡ None
+  raised_quiet : (row : Channel) → find (is_channel session sid) w.clients.channels ≡ Some row → channel_notice w row ≡ None → channel_notice w (change w session sid reach c.rights_told row) ≡ None
   raised_quiet row is none =
       let same : c ≡ row = cc in
-      ap (λ (old : ℕ). notice_by (is_served w row) (eqb old (rights_of w row)) (rights_of w row) (change w session sid reach c.rights row)) (ap (λ (k : Channel). k.rights) same)
-      ∙ by (is_served w row) (eqb row.rights (rights_of w row)) none
+      ap (λ (old : ℕ). notice_by (is_served w row) (eqb old (rights_of w row)) (rights_of w row) (change w session sid reach c.rights_told row)) (ap (λ (k : Channel). k.rights_told) same)
+      ∙ by (is_served w row) (eqb row.rights_told (rights_of w row)) none
     where
-      by : (served told : Bool) → notice_by served told (rights_of w row) row ≡ None → notice_by served told (rights_of w row) (change w session sid reach c.rights row) ≡ None
+      by : (served told : Bool) → notice_by served told (rights_of w row) row ≡ None → notice_by served told (rights_of w row) (change w session sid reach c.rights_told row) ≡ None
       by false told none = absurd cc
       by true true none = refl
       by true false none = absurd cc
 
   channels_quiet : channel_notices x ≡ []
   channels_quiet =
-      none_planned (channel_notice w) (channels w session sid reach c.rights)
-      (all_with_changed (λ (row : Channel). channel_notice w row ≡ None) (is_channel session sid) (change w session sid reach c.rights) w.clients.channels
+      none_planned (channel_notice w) (channels w session sid reach c.rights_told)
+      (all_with_changed (λ (row : Channel). channel_notice w row ≡ None) (is_channel session sid) (change w session sid reach c.rights_told) w.clients.channels
       (none_told (channel_notice w) w.clients.channels settled.channels) raised_quiet)
 
   not_withheld : withheld x ≡ []
   not_withheld =
-      (λ i. filter (λ (sub : ClientSub). not sub.owed && unreadable_same w session sid reach c.rights sub i) w.clients.subs) ∙ settled.held_back
+      (λ i. filter (λ (sub : ClientSub). not sub.owed && unreadable_same w session sid reach c.rights_told sub i) w.clients.subs) ∙ settled.held_back
 
   fails_elsewhere : (other : List ℕ) → bytes_eq other c.real ≡ false → (row : Channel) → find (is_channel session sid) w.clients.channels ≡ Some row
-      → (is_reader w other row ≡ false) × (is_reader w other (change w session sid reach c.rights row) ≡ false)
+      → (is_reader w other row ≡ false) × (is_reader w other (change w session sid reach c.rights_told row) ≡ false)
   fails_elsewhere other differ row is =
       let same : c ≡ row = cc in
       let fails : is_on other row ≡ false = ap (is_on other) (sym same) ∙ other_name other c.real differ in
@@ -123,15 +124,15 @@ module _ (w : Gateway) (settled : IsSettled w) (links_apart : HasLinksApart w) (
   wanted_same : (name : List ℕ) → is_wanted x name ≡ is_wanted w name
   wanted_same name =
       ap (λ (t : Bool). t || list_any (leads_to w.policy name) w.searches)
-      (any_changed (is_on name) (is_channel session sid) (change w session sid reach c.rights) w.clients.channels (λ row. refl))
+      (any_changed (is_on name) (is_channel session sid) (change w session sid reach c.rights_told) w.clients.channels (λ row. refl))
 
   beside : IsBesideOthers w x (is_name c.real)
   beside = record {
     links = refl;
     minors = λ server. refl;
-    interest = λ other native differ.
-        let readers = passing_changed (is_reader w other) (is_channel session sid) (change w session sid reach c.rights) w.clients.channels (fails_elsewhere other differ) in
-        λ i. merged (map (sub_want native) (filter (λ (sub : ClientSub). subscriber_same w session sid reach c.rights other sub i) w.clients.subs) ++ map channel_want (readers i));
+    asks = λ other differ.
+        let channels = passing_changed (is_reader w other) (is_channel session sid) (change w session sid reach c.rights_told) w.clients.channels (fails_elsewhere other differ) in
+        λ i. map own_ask (filter (λ (sub : ClientSub). subscriber_same w session sid reach c.rights_told other sub i) w.clients.subs) ++ map reader_ask (channels i);
     wanted = λ other differ. wanted_same other;
   }
 
@@ -140,7 +141,7 @@ module _ (w : Gateway) (settled : IsSettled w) (links_apart : HasLinksApart w) (
 
   less_before : GivesNoMore w x
   less_before = record {
-    channels = found_plain w session sid reach c.rights;
+    channels = found_plain w session sid reach c.rights_told;
     rights = λ k. refl;
     links = λ name. refl;
     values = λ cid native of many none. none;
@@ -166,8 +167,8 @@ module _ (w : Gateway) (settled : IsSettled w) (links_apart : HasLinksApart w) (
       ap (filter_map (update_notice z)) (subs_if_told y (read_notice y read) ∙ ap (λ (rows : ClientRows). rows.subs) clients_same)
       ∙ no_updates w z (gives_no_more w y z less (less_if_told y (read_notice y read))) w.clients.subs settled.updates
 
-  pub told_after_read : consequences (accepted session sid ioid dtype count reach c.rights w)
-      ≡ one_read_told (record { session = session; sid = sid; dtype = dtype; count = count; ioid = ioid }) (interest_told c.real (accepted session sid ioid dtype count reach c.rights w))
+  pub told_after_read : consequences (accepted session sid ioid dtype count reach c.rights_told w)
+      ≡ one_read_told (record { session = session; sid = sid; dtype = dtype; count = count; ioid = ioid }) (interest_told c.real (accepted session sid ioid dtype count reach c.rights_told w))
   told_after_read =
       from_links x channels_quiet not_withheld
       ∙ ap (λ (v : Gateway). updates_told (reads_told v)) (interest_alone w x c.real beside settled links_apart (λ wanted. wanted_same c.real ∙ wanted))

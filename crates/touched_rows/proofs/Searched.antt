@@ -36,7 +36,7 @@ unfolding update_notice
 one_search_more new w settled = record {
   channels = settled.channels;
   held_back = settled.held_back;
-  links = links_quiet w (record w { searches = w.searches ++ new ∷ [] }) (λ name native. refl) wanted settled;
+  links = links_quiet w (record w { searches = w.searches ++ new ∷ [] }) (λ name. refl) wanted settled;
   reads = settled.reads;
   updates = settled.updates;
 }
@@ -68,7 +68,7 @@ unfolding update_notice
 settled_servers servers w settled = record {
   channels = settled.channels;
   held_back = settled.held_back;
-  links = links_quiet w (record w { upstream = record w.upstream { servers = servers } }) (λ name native. refl) (λ name there. there) settled;
+  links = links_quiet w (record w { upstream = record w.upstream { servers = servers } }) (λ name. refl) (λ name there. there) settled;
   reads = settled.reads;
   updates = settled.updates;
 }

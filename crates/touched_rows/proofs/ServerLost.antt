@@ -10,10 +10,10 @@ use Rattle.channel_table.specs.declared.channels.Channel.{Channel}
 use Rattle.channel_table.specs.declared.reads.WaitingRead.{WaitingRead}
 use Rattle.channel_table.specs.declared.subs.ClientSub.{ClientSub}
 use Rattle.channel_table.specs.Channels.{is_channel}
+use Rattle.channel_table.specs.Demand.{own_ask}
 use Rattle.link_table.specs.declared.links.Link.{Link}
 use Rattle.link_table.specs.declared.writes.WaitingWrite.{WaitingWrite}
 use Rattle.link_table.specs.Links.{is_named, is_not_of, is_of}
-use Rattle.mask_merge.specs.Merged.{merged}
 use Rattle.gateway_state.specs.declared.cached.LastMessage.{LastMessage}
 use Rattle.gateway_state.specs.declared.connections.Connection.{Connection}
 use Rattle.gateway_state.specs.declared.event.Dest.{Dest}
@@ -23,7 +23,7 @@ use Rattle.gateway_state.specs.Answer.{cached_as, cached_value}
 use Rattle.gateway_state.specs.CachedRows.{is_cached_by_another, is_cached_of}
 use Rattle.gateway_state.specs.Connections.{is_not_to, is_to, outbox_in, same_dest}
 use Rattle.gateway_state.specs.Gateway.{Gateway}
-use Rattle.gateway_state.specs.Interest.{channel_want, interest_of, is_read_through, is_reader, is_subscriber, sub_want}
+use Rattle.gateway_state.specs.Interest.{is_read_through, is_reader, is_subscriber, reader_ask, readers}
 use Rattle.gateway_state.specs.Notices.{channel_notice, channel_notices, channel_told, channels_told, link_notices, link_notices_of, links_told, notice_on, read_notice, read_notices, reads_told}
 use Rattle.gateway_state.specs.Resolution.{is_real, rights_left}
 use Rattle.gateway_state.specs.Rights.{channel_of, is_served, lead_in, link_connected, link_rights, may_read, rights_of}
@@ -209,7 +209,7 @@ module _ (w : Gateway) (tidy : IsTidy w) (number : ℕ) where
       let served : is_served x c ≡ false =
       ap (λ (over : Option Link). is_real (lead_in w c.session c.asked) c.real && link_connected over) (gone c.real among)
       ∙ and_right (is_real (lead_in w c.session c.asked) c.real) false refl in
-      ap (λ (t : Bool). notice_by t (eqb c.rights (rights_of x c)) (rights_of x c) c) served
+      ap (λ (t : Bool). notice_by t (eqb c.rights_told (rights_of x c)) (rights_of x c) c) served
 
   others_quiet : All (λ (c : Channel). is_channel_among names c ≡ false → channel_notice x c ≡ None) w.clients.channels
   others_quiet =
@@ -217,7 +217,7 @@ module _ (w : Gateway) (tidy : IsTidy w) (number : ℕ) where
       (λ c none off.
       let served : is_served x c ≡ is_served w c = ap (λ (over : Option Link). is_real (lead_in w c.session c.asked) c.real && link_connected over) (others_left c.real off) in
       let rights = rights_same c off in
-      (λ i. notice_by (served i) (eqb c.rights (rights i)) (rights i) c) ∙ none)
+      (λ i. notice_by (served i) (eqb c.rights_told (rights i)) (rights i) c) ∙ none)
       w.clients.channels (none_told (channel_notice w) w.clients.channels tidy.settled.channels)
 
   same_pass : channels_told x ≡ channels_gone_on names x
@@ -310,14 +310,14 @@ module _ (w : Gateway) (tidy : IsTidy w) (number : ℕ) where
       readers_same other =
           filtered_alike (is_reader v other) (is_reader w other) channels
           (All-weaker (λ (c : Channel). is_channel_among names c ≡ false) (λ (c : Channel). is_reader v other c ≡ is_reader w other c)
-          (λ c off. ap (λ (rights : ℕ). is_on other c && ltb 0 c.reach && may_read rights) (rights_same c off)) channels none_among)
+          (λ c off. ap (λ (rights : ℕ). is_on other c && ltb 0 c.reach.count && may_read rights) (rights_same c off)) channels none_among)
 
-      interest_same : (other : List ℕ) → is_among names other ≡ false → (native : ℕ) → interest_of v other native ≡ interest_of w other native
-      interest_same other none native =
+      asks_same : (other : List ℕ) → is_among names other ≡ false → readers v other ≡ readers w other
+      asks_same other none =
           let wanting : filter (is_subscriber v other) subs ≡ filter (is_subscriber w other) w.clients.subs =
           (λ i. filter (λ (sub : ClientSub). subscriber_same other sub i) subs) ∙ left.subscribers other none in
           let reading : filter (is_reader v other) channels ≡ filter (is_reader w other) w.clients.channels = readers_same other ∙ left.readers other none in
-          λ i. merged (map (sub_want native) (wanting i) ++ map channel_want (reading i))
+          λ i. map own_ask (wanting i) ++ map reader_ask (reading i)
 
       wanted_still : (other : List ℕ) → is_among names other ≡ false → is_wanted w other ≡ true → is_wanted v other ≡ true
       wanted_still other none there = ap (λ (t : Bool). t || list_any (leads_to w.policy other) w.searches) (left.wanted other none) ∙ there
@@ -336,7 +336,7 @@ module _ (w : Gateway) (tidy : IsTidy w) (number : ℕ) where
       each_link_quiet k d within =
           let link : Link = get_or x.upstream.links k d in
           let off : is_among names link.name ≡ false = links_off k d within in
-          link_quiet w v link (interest_same link.name off) (wanted_still link.name off)
+          link_quiet w v link (asks_same link.name off) (wanted_still link.name off)
           (All-filter (is_not_of number) (IsInUse w) w.upstream.links (all_in_use w tidy.settled) k d within)
           (All-filter (is_not_of number) (λ (row : Link). link_notices_of w row ≡ []) w.upstream.links (nothing_told (link_notices_of w) w.upstream.links tidy.settled.links) k d within)
 

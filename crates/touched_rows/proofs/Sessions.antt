@@ -29,7 +29,7 @@ use Rattle.touched_rows.proofs.LessGiven.{is_open}
 use Rattle.touched_rows.proofs.LinksQuiet.{links_quiet}
 use Rattle.touched_rows.proofs.Passes.{from_updates}
 use Rattle.touched_rows.proofs.TouchedAlone.{touched_alone}
-use Rattle.touched_rows.proofs.UnseenRows.{IsUnseen, changed, channels_unseen, interest_unseen, reads_unseen, said_unseen, settled_unseen, withheld_unseen}
+use Rattle.touched_rows.proofs.UnseenRows.{IsUnseen, changed, channels_unseen, asks_unseen, reads_unseen, said_unseen, settled_unseen, withheld_unseen}
 
 -- a session but for whether its host stays and whether it is paused
 abbrev hosted : Session → Session
@@ -61,7 +61,7 @@ module _ (w : Gateway) (settled : IsSettled w) (sessions : List Session)
   x = changed w settled w.connections sessions w.upstream.links w.upstream.counters leads_unseen
 
   pub links_unseen : link_notices x ≡ []
-  links_unseen = links_quiet w x (interest_unseen w settled w.connections sessions w.upstream.links w.upstream.counters leads_unseen) (λ name there. there) settled
+  links_unseen = links_quiet w x (asks_unseen w settled w.connections sessions w.upstream.links w.upstream.counters leads_unseen) (λ name there. there) settled
 
   pub settled_sessions : ((number : ℕ) → is_open x number ≡ true → is_open w number ≡ true) → IsSettled x
   settled_sessions open_before = settled_unseen w settled w.connections sessions w.upstream.links w.upstream.counters leads_unseen open_before links_unseen

@@ -55,10 +55,10 @@ pub links_told_shape : (notices : List LinkNotice) (w : Gateway)
     → fold link_told w notices ≡ with_links w (fold link_told w notices).connections (fold link_told w notices).cache (fold link_told w notices).upstream
 unfolding sent
 links_told_shape [] w = refl
-links_told_shape (Cancelled server cid sid dtype sub ∷ notices) w = links_told_shape notices (link_told w (Cancelled server cid sid dtype sub))
-links_told_shape (Unread cid ∷ notices) w = links_told_shape notices (link_told w (Unread cid))
-links_told_shape (Subscribed server cid sid dtype want asked ∷ notices) w =
-    links_told_shape notices (link_told w (Subscribed server cid sid dtype want asked))
+links_told_shape (Cancelled subject server cid sid dtype sub ∷ notices) w = links_told_shape notices (link_told w (Cancelled subject server cid sid dtype sub))
+links_told_shape (Unread subject cid ∷ notices) w = links_told_shape notices (link_told w (Unread subject cid))
+links_told_shape (Subscribed subject server cid sid dtype want asked ∷ notices) w =
+    links_told_shape notices (link_told w (Subscribed subject server cid sid dtype want asked))
 links_told_shape (Dropped server cid Creating ∷ notices) w = links_told_shape notices (link_told w (Dropped server cid Creating))
 links_told_shape (Dropped server cid Unusable ∷ notices) w = links_told_shape notices (link_told w (Dropped server cid Unusable))
 links_told_shape (Dropped server cid (Connected sid dtype native) ∷ notices) w =

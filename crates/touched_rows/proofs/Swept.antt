@@ -40,7 +40,7 @@ module _ (w : Gateway) (settled : IsSettled w) (order : AreInOrder w) where
   beside = record {
     links = refl;
     minors = λ server. refl;
-    interest = λ name native none. refl;
+    asks = λ name none. refl;
     wanted = λ name none. ap (λ (t : Bool). list_any (is_on name) w.clients.channels || t) (sym (searched_is_among w.policy name w.searches ∙ none));
   }
 

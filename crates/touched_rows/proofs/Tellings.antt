@@ -11,13 +11,15 @@ use Rattle.channel_table.specs.declared.reads.WaitingRead.{WaitingRead}
 use Rattle.channel_table.specs.declared.subs.ClientSub.{ClientSub}
 use Rattle.channel_table.specs.Reads.{same_read}
 use Rattle.channel_table.specs.Subs.{is_sub, with_owed}
+use Rattle.link_table.specs.declared.links.Subject.TheVariants.{Properties, Values}
+use Rattle.link_table.specs.declared.links.Subject.{Subject}
 use Rattle.link_table.specs.LinkRows.{Counters}
 use Rattle.fanout.specs.declared.outbox.Out.{Out}
 use Rattle.link_table.specs.declared.links.Link.{Link}
 use Rattle.link_table.specs.declared.links.LinkState.{LinkState}
 use Rattle.link_table.specs.declared.links.LinkState.TheVariants.{Creating, Connected, Unusable}
 use Rattle.link_table.specs.declared.links.Subscription.{Subscription}
-use Rattle.link_table.specs.Links.{is_link, is_named, with_subscription}
+use Rattle.link_table.specs.Links.{is_link, is_named, sub_at, with_subscription}
 use Rattle.mask_merge.specs.declared.want.Want.{Want}
 use Rattle.gateway_state.specs.declared.cached.LastMessage.{LastMessage}
 use Rattle.gateway_state.specs.declared.connections.Connection.{Connection}
@@ -32,8 +34,8 @@ use Rattle.gateway_state.specs.Answer.{cached_as}
 use Rattle.gateway_state.specs.CachedRows.{is_cached_elsewhere, is_cached_of}
 use Rattle.gateway_state.specs.Connections.{given, is_to, marked_now}
 use Rattle.gateway_state.specs.Gateway.{Gateway}
-use Rattle.gateway_state.specs.Interest.{interest_of, is_for, minor_of}
-use Rattle.gateway_state.specs.Notices.{cancelled, interest_notices, link_told, read_told, subscribed, with_subscription_of, without_read}
+use Rattle.gateway_state.specs.Interest.{interest_of, is_for, minor_of, wanted_for}
+use Rattle.gateway_state.specs.Notices.{cancelled, forgotten, interest_notices, link_told, notices_between, read_told, subject_notices, subscribed, with_subscription_of, without_read}
 use Rattle.gateway_state.specs.Resolution.{rights_left}
 use Rattle.gateway_state.specs.Rights.{lead_in, link_rights}
 use Rattle.gateway_state.specs.Telling.{marked, outgoing, outgoing_upstream, sent}
@@ -106,24 +108,24 @@ less_update_told w notice =
 
 -- ---- links
 
--- the link that is found is the same but for its subscription
-found_bare : (name : List ℕ) (test : Link → Bool) (sub : Option Subscription) (links : List Link)
-    → option_map bare (find (is_named name) (change_first test (with_subscription sub) links)) ≡ option_map bare (find (is_named name) links)
-found_bare name test sub links = found_blanked bare (with_subscription sub) (λ link. refl) test (is_named name) (λ link. refl) links
+-- the link that is found is the same but for its subscriptions
+found_bare : (subject : Subject) (name : List ℕ) (test : Link → Bool) (sub : Option Subscription) (links : List Link)
+    → option_map bare (find (is_named name) (change_first test (with_subscription subject sub) links)) ≡ option_map bare (find (is_named name) links)
+found_bare subject name test sub links = found_blanked bare (with_subscription subject sub) (λ link. refl) test (is_named name) (λ link. refl) links
 
 pub rights_bare : (found : Option Link) → link_rights found ≡ link_rights (option_map bare found)
 rights_bare None = refl
 rights_bare (Some link) = refl
 
-pub less_subscription : (server cid : ℕ) (sub : Option Subscription) (w : Gateway) → GivesNoMore w (with_subscription_of server cid sub w)
-less_subscription server cid sub w = record {
+pub less_subscription : (subject : Subject) (server cid : ℕ) (sub : Option Subscription) (w : Gateway) → GivesNoMore w (with_subscription_of subject server cid sub w)
+less_subscription subject server cid sub w = record {
   channels = λ session sid. refl;
   rights = λ c.
-      let links : List Link = change_first (is_link server cid) (with_subscription sub) w.upstream.links in
+      let links : List Link = change_first (is_link server cid) (with_subscription subject sub) w.upstream.links in
       let same : link_rights (find (is_named c.real) links) ≡ link_rights (link_of w c.real) =
-      rights_bare (find (is_named c.real) links) ∙ ap link_rights (found_bare c.real (is_link server cid) sub w.upstream.links) ∙ sym (rights_bare (link_of w c.real)) in
+      rights_bare (find (is_named c.real) links) ∙ ap link_rights (found_bare subject c.real (is_link server cid) sub w.upstream.links) ∙ sym (rights_bare (link_of w c.real)) in
       ap (λ (rights : ℕ). bit_and rights (rights_left w.policy (lead_in w c.session c.asked))) same;
-  links = λ name. found_bare name (is_link server cid) sub w.upstream.links;
+  links = λ name. found_bare subject name (is_link server cid) sub w.upstream.links;
   values = λ cid native dtype count none. none;
   sessions = λ number open_to. open_to;
 }
@@ -166,24 +168,29 @@ less_without_cached cid w = record {
   sessions = λ number open_to. open_to;
 }
 
+-- without what a link was told of a subject
+pub less_forgotten : (subject : Subject) (cid : ℕ) (w : Gateway) → GivesNoMore w (forgotten subject cid w)
+less_forgotten Values cid w = less_without_cached cid w
+less_forgotten Properties cid w = gives_the_same w
+
 -- the notice drops no link
 abbrev pub keeps_links : LinkNotice → Bool
-keeps_links (Cancelled server cid sid dtype sub) = true
-keeps_links (Unread cid) = true
-keeps_links (Subscribed server cid sid dtype want asked) = true
+keeps_links (Cancelled subject server cid sid dtype sub) = true
+keeps_links (Unread subject cid) = true
+keeps_links (Subscribed subject server cid sid dtype want asked) = true
 keeps_links (Dropped server cid state) = false
 
 pub less_link_told : (w : Gateway) (notice : LinkNotice) → keeps_links notice ≡ true → GivesNoMore w (link_told w notice)
-less_link_told w (Cancelled server cid sid dtype sub) keeps =
-    less_then_sent w (with_subscription_of server cid None w) (Upstream server) (outgoing_upstream (requests.EventCancel sid sub.id dtype sub.sent)) (less_subscription server cid None w)
-less_link_told w (Unread cid) keeps = less_without_cached cid w
-less_link_told w (Subscribed server cid sid dtype want asked) keeps =
+less_link_told w (Cancelled subject server cid sid dtype sub) keeps =
+    less_then_sent w (with_subscription_of subject server cid None w) (Upstream server) (outgoing_upstream (requests.EventCancel sid sub.id dtype sub.sent)) (less_subscription subject server cid None w)
+less_link_told w (Unread subject cid) keeps = less_forgotten subject cid w
+less_link_told w (Subscribed subject server cid sid dtype want asked) keeps =
     let id : ℕ = w.upstream.counters.subscription in
     let sub : Option Subscription = Some (record { id = id; mask = want.mask; count = want.count; sent = asked }) in
     let counted : Gateway = record w { upstream = record w.upstream { counters = record w.upstream.counters { subscription = id + 1 } } } in
-    less_then_sent w (with_subscription_of server cid sub counted) (Upstream server) (outgoing_upstream (requests.EventAdd sid id dtype asked want.mask))
-    (gives_no_more w counted (with_subscription_of server cid sub counted)
-    (less_beside w w.clients.subs w.clients.reads (record w.upstream.counters { subscription = id + 1 })) (less_subscription server cid sub counted))
+    less_then_sent w (with_subscription_of subject server cid sub counted) (Upstream server) (outgoing_upstream (requests.EventAdd sid id dtype asked want.mask))
+    (gives_no_more w counted (with_subscription_of subject server cid sub counted)
+    (less_beside w w.clients.subs w.clients.reads (record w.upstream.counters { subscription = id + 1 })) (less_subscription subject server cid sub counted))
 less_link_told w (Dropped server cid state) keeps = absurd (true≢false (sym keeps))
 
 pub less_links_told : (notices : List LinkNotice) (w : Gateway) → list_all keeps_links notices ≡ true → GivesNoMore w (fold link_told w notices)
@@ -192,23 +199,31 @@ less_links_told (notice ∷ notices) w keep =
     let parts = and_parts (keeps_links notice) (list_all keeps_links notices) keep in
     gives_no_more w (link_told w notice) (fold link_told (link_told w notice) notices) (less_link_told w notice parts.0) (less_links_told notices (link_told w notice) parts.1)
 
-cancelled_keeps : (link : Link) (sid dtype : ℕ) (sub : Option Subscription) → list_all keeps_links (cancelled link sid dtype sub) ≡ true
-cancelled_keeps link sid dtype None = refl
-cancelled_keeps link sid dtype (Some sub) = refl
+cancelled_keeps : (subject : Subject) (link : Link) (sid dtype : ℕ) (sub : Option Subscription) → list_all keeps_links (cancelled subject link sid dtype sub) ≡ true
+cancelled_keeps subject link sid dtype None = refl
+cancelled_keeps subject link sid dtype (Some sub) = refl
 
-subscribed_keeps : (minor : ℕ) (link : Link) (sid dtype native : ℕ) (want : Option Want) → list_all keeps_links (subscribed minor link sid dtype native want) ≡ true
-subscribed_keeps minor link sid dtype native None = refl
-subscribed_keeps minor link sid dtype native (Some want) = refl
+subscribed_keeps : (subject : Subject) (minor : ℕ) (link : Link) (sid dtype native : ℕ) (want : Option Want) → list_all keeps_links (subscribed subject minor link sid dtype native want) ≡ true
+subscribed_keeps subject minor link sid dtype native None = refl
+subscribed_keeps subject minor link sid dtype native (Some want) = refl
+
+notices_keep : (subject : Subject) (minor : ℕ) (link : Link) (sid dtype native : ℕ) (want : Option Want) (sub : Option Subscription)
+    → list_all keeps_links (notices_between subject minor link sid dtype native want sub) ≡ true
+notices_keep subject minor link sid dtype native want sub =
+    let both : list_all keeps_links (cancelled subject link sid dtype sub ++ subscribed subject minor link sid dtype native want) ≡ true =
+    list_all-append keeps_links (cancelled subject link sid dtype sub) (subscribed subject minor link sid dtype native want)
+    ∙ rw (cancelled_keeps subject link sid dtype sub, subscribed_keeps subject minor link sid dtype native want) refl in
+    elim (is_for want sub) as (λ t. list_all keeps_links (cond t [] (cancelled subject link sid dtype sub ++ subscribed subject minor link sid dtype native want)) ≡ true)
+    [ true ↦ refl | false ↦ both ]
+
+subject_keeps : (subject : Subject) (w : Gateway) (link : Link) (sid dtype native : ℕ) → list_all keeps_links (subject_notices subject w link sid dtype native) ≡ true
+subject_keeps subject w link sid dtype native =
+    notices_keep subject (minor_of w link.server) link sid dtype native (wanted_for subject w link.name dtype native) (sub_at subject link.subscriptions)
 
 -- what a link is told because of what its readers want drops none
 pub interest_keeps : (w : Gateway) (link : Link) (state : LinkState) → list_all keeps_links (interest_notices w link state) ≡ true
 interest_keeps w link Creating = refl
 interest_keeps w link Unusable = refl
 interest_keeps w link (Connected sid dtype native) =
-    let want : Option Want = interest_of w link.name native in
-    let both : list_all keeps_links (cancelled link sid dtype link.subscription ++ subscribed (minor_of w link.server) link sid dtype native want) ≡ true =
-    list_all-append keeps_links (cancelled link sid dtype link.subscription) (subscribed (minor_of w link.server) link sid dtype native want)
-    ∙ rw (cancelled_keeps link sid dtype link.subscription, subscribed_keeps (minor_of w link.server) link sid dtype native want) refl in
-    elim (is_for want link.subscription)
-    as (λ t. list_all keeps_links (cond t [] (cancelled link sid dtype link.subscription ++ subscribed (minor_of w link.server) link sid dtype native want)) ≡ true)
-    [ true ↦ refl | false ↦ both ]
+    list_all-append keeps_links (subject_notices Values w link sid dtype native) (subject_notices Properties w link sid dtype native)
+    ∙ rw (subject_keeps Values w link sid dtype native, subject_keeps Properties w link sid dtype native) refl

@@ -11,6 +11,7 @@ use Rattle.ca_message.specs.declared.request.ClientRequest.TheVariants as reques
 use Rattle.ca_message.specs.declared.request.RequestFault.{RequestFault}
 use Rattle.ca_message.specs.declared.to_client.ToClient.{ToClient}
 use Rattle.ca_message.specs.declared.to_client.ToClient.TheVariants as replies
+use Rattle.channel_table.specs.declared.channels.Reach.{Reach}
 use Rattle.channel_table.specs.declared.channels.Channel.{Channel}
 use Rattle.channel_table.specs.declared.reads.WaitingRead.{WaitingRead}
 use Rattle.channel_table.specs.declared.subs.ClientSub.{ClientSub}
@@ -51,19 +52,19 @@ use Rattle.touched_rows.proofs.Unsubscribed.{told_after_unsubscribing}
 use Rattle.touched_rows.proofs.Written.{settled_notified, settled_written}
 
 -- a read that is accepted leaves the rights last told
-accepted_rights : (w : Gateway) (c : Channel) (dtype count : ℕ) (over : Option Link) (reach rights : ℕ) → verdict_over w c dtype count over ≡ reads.Accepted reach rights → c.rights ≡ rights
+accepted_rights : (w : Gateway) (c : Channel) (dtype count : ℕ) (over : Option Link) (reach : Reach) (rights : ℕ) → verdict_over w c dtype count over ≡ reads.Accepted reach rights → c.rights_told ≡ rights
 accepted_rights w c dtype count None reach rights is = absurd cc
 accepted_rights w c dtype count (Some link) reach rights is = natively (native_in link.state) is
   where
-    roomy : (reach_now : ℕ) (full : Bool) (code : ℕ) → cond full (reads.Refused code) (reads.Accepted reach_now c.rights) ≡ reads.Accepted reach rights → c.rights ≡ rights
+    roomy : (reach_now : Reach) (full : Bool) (code : ℕ) → cond full (reads.Refused code) (reads.Accepted reach_now c.rights_told) ≡ reads.Accepted reach rights → c.rights_told ≡ rights
     roomy reach_now true code is = absurd cc
     roomy reach_now false code is = cc
 
-    unless : (native : Native) (refused : Option ℕ) → verdict_unless w c link native dtype count refused ≡ reads.Accepted reach rights → c.rights ≡ rights
+    unless : (native : Native) (refused : Option ℕ) → verdict_unless w c link native dtype count refused ≡ reads.Accepted reach rights → c.rights_told ≡ rights
     unless native (Some code) is = absurd cc
     unless native None is = roomy _ (is_one_too_many w c.session (cached_value w link.cid native.count dtype count)) _ is
 
-    natively : (native : Option Native) → verdict_natively w c link dtype count native ≡ reads.Accepted reach rights → c.rights ≡ rights
+    natively : (native : Option Native) → verdict_natively w c link dtype count native ≡ reads.Accepted reach rights → c.rights_told ≡ rights
     natively None is = absurd cc
     natively (Some native) is = unless native (refusal native (rights_of w c) dtype count) is
 

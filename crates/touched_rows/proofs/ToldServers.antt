@@ -6,6 +6,8 @@ use Rattle.ca_message.specs.declared.codes.TheConstants.{ECA_NORMAL}
 use Rattle.ca_message.specs.declared.reply.ReplyFault.{ReplyFault}
 use Rattle.ca_message.specs.declared.reply.ServerReply.{ServerReply}
 use Rattle.ca_message.specs.declared.reply.ServerReply.TheVariants as says
+use Rattle.link_table.specs.declared.links.Subject.{Subject}
+use Rattle.link_table.specs.declared.links.Subject.TheVariants.{Values, Properties}
 use Rattle.link_table.specs.declared.links.Link.{Link}
 use Rattle.link_table.specs.declared.links.LinkState.{LinkState}
 use Rattle.link_table.specs.declared.links.LinkState.TheVariants.{Creating, Connected, Unusable}
@@ -16,7 +18,7 @@ use Rattle.value_cache.specs.Held.{held_after}
 use Rattle.gateway_state.specs.declared.cached.LastMessage.{LastMessage}
 use Rattle.gateway_state.specs.Gateway.{Gateway}
 use Rattle.gateway_state.specs.Connections.{given, is_to}
-use Rattle.gateway_state.specs.Servers.{answered_creating, channel_made, channel_returned, concerned_owed, created_for, has_other_alarm, is_usable, is_value, reads_failed, replied, rights_given, rights_said, updated, updated_by, updated_link, with_cached, with_link_state}
+use Rattle.gateway_state.specs.Servers.{answered_creating, channel_made, channel_returned, concerned_owed, created_for, has_other_alarm, is_usable, is_value, reads_failed, replied, rights_given, rights_said, subject_of, updated, updated_by, updated_link, updated_under, with_cached, with_link_state}
 use Rattle.gateway_state.specs.Step.{consequences}
 use Rattle.gateway_state.specs.Telling.{outgoing_upstream, sent}
 use Rattle.gateway_state.specs.Variables.{is_creating}
@@ -26,7 +28,7 @@ use Rattle.rows.specs.Rows.{change_first}
 use Rattle.ca_message.specs.declared.to_server.ToServer.TheVariants as requests
 use Rattle.gateway_state.proofs.SettledSteps.{settled_stays}
 use Rattle.touched_rows.specs.declared.touched.Touched.TheVariants.{Nothing, Variable, Value, Interest}
-use Rattle.touched_rows.specs.Touches.{created_touches, created_touches_over, follows, reply_touches, rights_touches, rights_touches_over, update_touches, update_touches_over, value_touches}
+use Rattle.touched_rows.specs.Touches.{created_touches, created_touches_over, follows, reply_touches, rights_touches, rights_touches_over, update_touches, update_touches_over, update_touches_under, value_touches}
 use Rattle.touched_rows.specs.Touched.{interest_told}
 use Rattle.touched_rows.proofs.Connecting.{told_after_connecting}
 use Rattle.touched_rows.proofs.Connections.{no_more_room_given}
@@ -57,15 +59,21 @@ module _ (w : Gateway) (tidy : IsTidy w) where
       value link is Creating sub = settled_stays w tidy.settled
       value link is Unusable sub = settled_stays w tidy.settled
 
-      by : (found : Option Link) → find (has_subscription server id) w.upstream.links ≡ found
-          → consequences (updated_by status dtype count payload found w) ≡ follows (update_touches_over status dtype count payload found) (updated_by status dtype count payload found w)
-      by None is = settled_stays w tidy.settled
-      by (Some link) is =
-          let after : Gateway = updated_link link link.state link.subscription dtype count payload w in
+      under : (link : Link) → find (has_subscription server id) w.upstream.links ≡ Some link → (subject : Subject)
+          → consequences (updated_under subject status dtype count payload link w) ≡ follows (update_touches_under subject status dtype count payload link) (updated_under subject status dtype count payload link w)
+      under link is Values =
+          let sub : Option Subscription = link.subscriptions.values in
+          let after : Gateway = updated_link link link.state sub dtype count payload w in
           elim (eqb status ECA_NORMAL)
           as (λ t. consequences (cond t after (reads_failed w link.name))
-          ≡ follows (cond t (value_touches link link.state link.subscription dtype count payload) Nothing) (cond t after (reads_failed w link.name)))
-          [ true ↦ value link is link.state link.subscription | false ↦ nothing_after_failure w link.name tidy.settled ]
+          ≡ follows (cond t (value_touches link link.state sub dtype count payload) Nothing) (cond t after (reads_failed w link.name)))
+          [ true ↦ value link is link.state sub | false ↦ nothing_after_failure w link.name tidy.settled ]
+      under link is Properties = settled_stays w tidy.settled
+
+      by : (found : Option Link) → find (has_subscription server id) w.upstream.links ≡ found
+          → consequences (updated_by id status dtype count payload found w) ≡ follows (update_touches_over id status dtype count payload found) (updated_by id status dtype count payload found w)
+      by None is = settled_stays w tidy.settled
+      by (Some link) is = under link is (subject_of id link)
 
   -- ---- channels that were asked for
 

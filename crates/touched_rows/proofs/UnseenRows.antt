@@ -10,14 +10,14 @@ use Rattle.channel_table.specs.declared.sessions.Session.{Session}
 use Rattle.channel_table.specs.declared.subs.ClientSub.{ClientSub}
 use Rattle.channel_table.specs.Channels.{is_channel}
 use Rattle.channel_table.specs.Sessions.{is_numbered}
+use Rattle.channel_table.specs.Demand.{own_ask}
 use Rattle.link_table.specs.declared.links.Link.{Link}
 use Rattle.link_table.specs.LinkRows.{Counters}
 use Rattle.link_table.specs.Links.{is_named}
-use Rattle.mask_merge.specs.Merged.{merged}
 use Rattle.gateway_state.specs.declared.connections.Connection.{Connection}
 use Rattle.gateway_state.specs.declared.notice.ReadNotice.TheVariants.{Refused}
 use Rattle.gateway_state.specs.Gateway.{Gateway}
-use Rattle.gateway_state.specs.Interest.{channel_want, interest_of, is_read_through, is_reader, is_subscriber, sub_want}
+use Rattle.gateway_state.specs.Interest.{is_read_through, is_reader, is_subscriber, reader_ask, readers}
 use Rattle.gateway_state.specs.Notices.{answered_over, channel_notice, channel_notices, link_notices, notice_on, read_notice, read_notices}
 use Rattle.gateway_state.specs.Resolution.{is_real, rights_left}
 use Rattle.gateway_state.specs.Rights.{channel_of, is_served, lead_for, lead_in, link_connected, link_rights, may_read, rights_of}
@@ -60,7 +60,7 @@ module _ (w : Gateway) (settled : IsSettled w) (connections : List Connection) (
       (All-weaker (IsUnseen w sessions links) (λ (c : Channel). channel_notice changed c ≡ channel_notice w c)
       (λ c same. let served = served_same c same in
       let rights = rights_same c same in
-      λ i. notice_by (served i) (eqb c.rights (rights i)) (rights i) c)
+      λ i. notice_by (served i) (eqb c.rights_told (rights i)) (rights i) c)
       w.clients.channels unseen)
       ∙ settled.channels
 
@@ -81,12 +81,12 @@ module _ (w : Gateway) (settled : IsSettled w) (connections : List Connection) (
       by None is = refl
       by (Some c) is = ap (λ (rights : ℕ). is_on name c && may_read rights) (rights_same c (there sub.session sub.sid c is))
 
-  pub interest_unseen : (name : List ℕ) (native : ℕ) → interest_of changed name native ≡ interest_of w name native
-  interest_unseen name native =
-      let readers = filtered_alike (is_reader changed name) (is_reader w name) w.clients.channels
+  pub asks_unseen : (name : List ℕ) → readers changed name ≡ readers w name
+  asks_unseen name =
+      let channels = filtered_alike (is_reader changed name) (is_reader w name) w.clients.channels
       (All-weaker (IsUnseen w sessions links) (λ (c : Channel). is_reader changed name c ≡ is_reader w name c)
-      (λ c same. ap (λ (rights : ℕ). is_on name c && ltb 0 c.reach && may_read rights) (rights_same c same)) w.clients.channels unseen) in
-      λ i. merged (map (sub_want native) (filter (λ (sub : ClientSub). subscriber_same name sub i) w.clients.subs) ++ map channel_want (readers i))
+      (λ c same. ap (λ (rights : ℕ). is_on name c && ltb 0 c.reach.count && may_read rights) (rights_same c same)) w.clients.channels unseen) in
+      λ i. map own_ask (filter (λ (sub : ClientSub). subscriber_same name sub i) w.clients.subs) ++ map reader_ask (channels i)
 
   read_same : (read : WaitingRead) → read_notice changed read ≡ read_notice w read
   read_same read = by (channel_of w read.session read.sid) refl

@@ -9,13 +9,13 @@ use Rattle.channel_table.specs.ClientRows.{ClientRows}
 use Rattle.channel_table.specs.declared.channels.Channel.{Channel}
 use Rattle.channel_table.specs.declared.subs.ClientSub.{ClientSub}
 use Rattle.channel_table.specs.Subs.{is_not_sub, is_sub}
+use Rattle.channel_table.specs.Demand.{own_ask}
 use Rattle.fanout.specs.declared.outbox.Out.{Out}
-use Rattle.mask_merge.specs.Merged.{merged}
 use Rattle.gateway_state.specs.declared.connections.Connection.{Connection}
 use Rattle.gateway_state.specs.declared.event.Dest.{Dest}
 use Rattle.gateway_state.specs.Connections.{given, is_to}
 use Rattle.gateway_state.specs.Gateway.{Gateway}
-use Rattle.gateway_state.specs.Interest.{channel_want, is_read_through, is_reader, is_subscriber, sub_want}
+use Rattle.gateway_state.specs.Interest.{is_read_through, is_reader, is_subscriber, reader_ask}
 use Rattle.gateway_state.specs.Notices.{read_notice, read_notices, reads_told}
 use Rattle.gateway_state.specs.Rights.{channel_of, may_read, rights_of}
 use Rattle.gateway_state.specs.Settled.{AreApart, HasLinksApart, HasSubsApart, IsSettled}
@@ -89,8 +89,8 @@ module _ (w : Gateway) (settled : IsSettled w) (links_apart : HasLinksApart w) (
   beside = record {
     links = refl;
     minors = λ server. refl;
-    interest = λ other native differ.
-        ap (λ (subs : List ClientSub). merged (map (sub_want native) subs ++ map channel_want (filter (is_reader w other) w.clients.channels)))
+    asks = λ other differ.
+        ap (λ (subs : List ClientSub). map own_ask subs ++ map reader_ask (filter (is_reader w other) w.clients.channels))
         (passing_left (is_subscriber w other) (is_not_sub session id) w.clients.subs (gone_elsewhere other differ));
     wanted = λ other differ. refl;
   }

@@ -14,8 +14,8 @@ use Rattle.channel_table.specs.declared.subs.ClientSub.{ClientSub}
 use Rattle.channel_table.specs.Subs.{with_owed}
 use Rattle.link_table.specs.declared.links.Link.{Link}
 use Rattle.link_table.specs.Links.{has_subscription, is_named}
+use Rattle.mask_merge.specs.declared.want.Ask.{Ask}
 use Rattle.mask_merge.specs.declared.want.Want.{Want}
-use Rattle.mask_merge.specs.Merged.{merged}
 use Rattle.value_cache.specs.Held.{Held}
 use Rattle.gateway_state.specs.declared.cached.LastMessage.{LastMessage}
 use Rattle.gateway_state.specs.declared.connections.Connection.{Connection}
@@ -26,7 +26,7 @@ use Rattle.gateway_state.specs.declared.reading.Native.{Native}
 use Rattle.gateway_state.specs.Answer.{cached_as, native_in}
 use Rattle.gateway_state.specs.CachedRows.{is_cached_elsewhere, is_cached_of, with_row}
 use Rattle.gateway_state.specs.Gateway.{Gateway}
-use Rattle.gateway_state.specs.Interest.{channel_want, interest_of, is_reader}
+use Rattle.gateway_state.specs.Interest.{is_reader, reader_ask, readers}
 use Rattle.gateway_state.specs.Notices.{answered_by, answered_natively, answered_over, link_notices, notice_on, read_notice, read_told, reads_told}
 use Rattle.gateway_state.specs.Rights.{channel_of, may_read, rights_of}
 use Rattle.gateway_state.specs.Servers.{concerned_owed, waits_for, with_cached}
@@ -40,7 +40,7 @@ use Rattle.gateway_state.proofs.SettledWithheld.{owing_changed, with_subs}
 use Rattle.touched_rows.specs.Touched.{reads_told_on, update_notices_on, updates_told_on}
 use Rattle.touched_rows.proofs.LessGiven.{GivesNoMore, update_stays}
 use Rattle.touched_rows.proofs.Numbered.{same_number}
-use Rattle.touched_rows.proofs.Owing.{none_withheld, owed_where, owing_each, wants_alike}
+use Rattle.touched_rows.proofs.Owing.{none_withheld, owed_where, owing_each, asks_alike}
 use Rattle.touched_rows.proofs.Passes.{from_reads}
 use Rattle.touched_rows.proofs.Shapes.{reads_told_shape, with_reads}
 use Rattle.touched_rows.proofs.Tellings.{found_elsewhere, less_reads_told}
@@ -72,12 +72,12 @@ module _ (w : Gateway) (test : ClientSub → Bool) (row : LastMessage) where
   abbrev x : Gateway
   x = record w { cache = with_row row w.cache; clients = record w.clients { subs = map (owed_where test) w.clients.subs } }
 
-  interest_same : (name : List ℕ) (native : ℕ) → interest_of x name native ≡ interest_of w name native
-  interest_same name native =
-      ap (λ (wants : List Want). merged (wants ++ map channel_want (filter (is_reader w name) w.clients.channels))) (wants_alike w name native test w.clients.subs)
+  asks_same : (name : List ℕ) → readers x name ≡ readers w name
+  asks_same name =
+      ap (λ (asks : List Ask). asks ++ map reader_ask (filter (is_reader w name) w.clients.channels)) (asks_alike w name test w.clients.subs)
 
   links_same : link_notices x ≡ link_notices w
-  links_same = λ i. flat_map (λ link. link_notices_alike x w interest_same (λ server. refl) (λ name. refl) link i) w.upstream.links
+  links_same = λ i. flat_map (λ link. link_notices_alike x w asks_same (λ server. refl) (λ name. refl) link i) w.upstream.links
 
   -- what is read over a link that isn't this row's
   abbrev IsBeside : Option Link → Type 0

@@ -64,18 +64,18 @@ dropped_open server cid Unusable v number open_to = open_to
 -- ---- no value is had after, and no session takes updates, that wasn't or didn't before
 
 value_after : (v : Gateway) (notice : LinkNotice) (cid native dtype count : ℕ) → cached_value v cid native dtype count ≡ None → cached_value (link_told v notice) cid native dtype count ≡ None
-value_after v (Cancelled server of sid as_type sub) cid native dtype count none = (less_link_told v (Cancelled server of sid as_type sub) refl).values cid native dtype count none
-value_after v (Unread of) cid native dtype count none = (less_link_told v (Unread of) refl).values cid native dtype count none
-value_after v (Subscribed server of sid as_type want asked) cid native dtype count none =
-    (less_link_told v (Subscribed server of sid as_type want asked) refl).values cid native dtype count none
+value_after v (Cancelled subject server of sid as_type sub) cid native dtype count none = (less_link_told v (Cancelled subject server of sid as_type sub) refl).values cid native dtype count none
+value_after v (Unread subject of) cid native dtype count none = (less_link_told v (Unread subject of) refl).values cid native dtype count none
+value_after v (Subscribed subject server of sid as_type want asked) cid native dtype count none =
+    (less_link_told v (Subscribed subject server of sid as_type want asked) refl).values cid native dtype count none
 value_after v (Dropped server of state) cid native dtype count none =
     ap (λ (rows : List LastMessage). cached_as native dtype count (find (is_cached_of cid) rows)) (dropped_cache server of state v)
     ∙ (less_without_cached of v).values cid native dtype count none
 
 open_after : (v : Gateway) (notice : LinkNotice) (number : ℕ) → is_open (link_told v notice) number ≡ true → is_open v number ≡ true
-open_after v (Cancelled server cid sid dtype sub) number open_to = (less_link_told v (Cancelled server cid sid dtype sub) refl).sessions number open_to
-open_after v (Unread cid) number open_to = (less_link_told v (Unread cid) refl).sessions number open_to
-open_after v (Subscribed server cid sid dtype want asked) number open_to = (less_link_told v (Subscribed server cid sid dtype want asked) refl).sessions number open_to
+open_after v (Cancelled subject server cid sid dtype sub) number open_to = (less_link_told v (Cancelled subject server cid sid dtype sub) refl).sessions number open_to
+open_after v (Unread subject cid) number open_to = (less_link_told v (Unread subject cid) refl).sessions number open_to
+open_after v (Subscribed subject server cid sid dtype want asked) number open_to = (less_link_told v (Subscribed subject server cid sid dtype want asked) refl).sessions number open_to
 open_after v (Dropped server cid state) number open_to = dropped_open server cid state v number open_to
 
 pub values_no_more : (notices : List LinkNotice) (v : Gateway) (cid native dtype count : ℕ) → cached_value v cid native dtype count ≡ None
@@ -91,9 +91,9 @@ open_no_more (notice ∷ notices) v number open_to = open_after v notice number 
 
 -- the notice drops the link of these numbers
 abbrev pub drops : ℕ → ℕ → LinkNotice → Bool
-drops server cid (Cancelled of_server of_cid sid dtype sub) = false
-drops server cid (Unread of_cid) = false
-drops server cid (Subscribed of_server of_cid sid dtype want asked) = false
+drops server cid (Cancelled subject of_server of_cid sid dtype sub) = false
+drops server cid (Unread subject of_cid) = false
+drops server cid (Subscribed subject of_server of_cid sid dtype want asked) = false
 drops server cid (Dropped of_server of_cid state) = eqb server of_server && eqb cid of_cid
 
 -- where the link is the variable's, no notice drops it
@@ -108,14 +108,14 @@ module _ (name : List ℕ) (notices : List LinkNotice) where
 
   spared_after : (v : Gateway) (notice : LinkNotice) → All (IsSpared name (notice ∷ notices)) v.upstream.links → All (IsSpared name notices) (link_told v notice).upstream.links
   unfolding sent
-  spared_after v (Cancelled server cid sid dtype sub) all =
-      all_with_changed (IsSpared name notices) (is_link server cid) (with_subscription None) v.upstream.links
-      (later (Cancelled server cid sid dtype sub) v.upstream.links all) (λ row found holds. holds)
-  spared_after v (Unread cid) all = later (Unread cid) v.upstream.links all
-  spared_after v (Subscribed server cid sid dtype want asked) all =
+  spared_after v (Cancelled subject server cid sid dtype sub) all =
+      all_with_changed (IsSpared name notices) (is_link server cid) (with_subscription subject None) v.upstream.links
+      (later (Cancelled subject server cid sid dtype sub) v.upstream.links all) (λ row found holds. holds)
+  spared_after v (Unread subject cid) all = later (Unread subject cid) v.upstream.links all
+  spared_after v (Subscribed subject server cid sid dtype want asked) all =
       let sub : Option Subscription = Some (record { id = v.upstream.counters.subscription; mask = want.mask; count = want.count; sent = asked }) in
-      all_with_changed (IsSpared name notices) (is_link server cid) (with_subscription sub) v.upstream.links
-      (later (Subscribed server cid sid dtype want asked) v.upstream.links all) (λ row found holds. holds)
+      all_with_changed (IsSpared name notices) (is_link server cid) (with_subscription subject sub) v.upstream.links
+      (later (Subscribed subject server cid sid dtype want asked) v.upstream.links all) (λ row found holds. holds)
   spared_after v (Dropped server cid state) all =
       subst (All (IsSpared name notices)) (sym (dropped_links server cid state v))
       (All-filter (is_not_link server cid) (IsSpared name notices) v.upstream.links (later (Dropped server cid state) v.upstream.links all))
@@ -130,9 +130,9 @@ module _ (name : List ℕ) (notices : List LinkNotice) where
 
   link_after : (v : Gateway) (notice : LinkNotice) → All (IsSpared name (notice ∷ notices)) v.upstream.links
       → option_map bare (link_of (link_told v notice) name) ≡ option_map bare (link_of v name)
-  link_after v (Cancelled server cid sid dtype sub) all = (less_link_told v (Cancelled server cid sid dtype sub) refl).links name
-  link_after v (Unread cid) all = (less_link_told v (Unread cid) refl).links name
-  link_after v (Subscribed server cid sid dtype want asked) all = (less_link_told v (Subscribed server cid sid dtype want asked) refl).links name
+  link_after v (Cancelled subject server cid sid dtype sub) all = (less_link_told v (Cancelled subject server cid sid dtype sub) refl).links name
+  link_after v (Unread subject cid) all = (less_link_told v (Unread subject cid) refl).links name
+  link_after v (Subscribed subject server cid sid dtype want asked) all = (less_link_told v (Subscribed subject server cid sid dtype want asked) refl).links name
   link_after v (Dropped server cid state) all =
       ap (λ (links : List Link). option_map bare (find (is_named name) links)) (dropped_links server cid state v)
       ∙ ap (option_map bare)
@@ -171,9 +171,9 @@ module _ (x : Gateway) (notices : List LinkNotice) (spares : SparesWanted x noti
 
 kept_spares : (server cid : ℕ) (notices : List LinkNotice) → list_all keeps_links notices ≡ true → list_any (drops server cid) notices ≡ false
 kept_spares server cid [] keep = refl
-kept_spares server cid (Cancelled of_server of_cid sid dtype sub ∷ notices) keep = kept_spares server cid notices keep
-kept_spares server cid (Unread of_cid ∷ notices) keep = kept_spares server cid notices keep
-kept_spares server cid (Subscribed of_server of_cid sid dtype want asked ∷ notices) keep = kept_spares server cid notices keep
+kept_spares server cid (Cancelled subject of_server of_cid sid dtype sub ∷ notices) keep = kept_spares server cid notices keep
+kept_spares server cid (Unread subject of_cid ∷ notices) keep = kept_spares server cid notices keep
+kept_spares server cid (Subscribed subject of_server of_cid sid dtype want asked ∷ notices) keep = kept_spares server cid notices keep
 kept_spares server cid (Dropped of_server of_cid state ∷ notices) keep = absurd (true≢false (sym keep))
 
 -- no other row has the numbers of this link

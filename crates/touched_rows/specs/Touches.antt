@@ -17,6 +17,8 @@ use Rattle.channel_table.specs.Channels.{is_channel_of}
 use Rattle.link_table.specs.declared.links.Link.{Link}
 use Rattle.link_table.specs.declared.links.LinkState.{LinkState}
 use Rattle.link_table.specs.declared.links.LinkState.TheVariants.{Creating, Connected, Unusable}
+use Rattle.link_table.specs.declared.links.Subject.{Subject}
+use Rattle.link_table.specs.declared.links.Subject.TheVariants.{Values, Properties}
 use Rattle.link_table.specs.declared.links.Subscription.{Subscription}
 use Rattle.link_table.specs.Links.{has_subscription, is_link, is_of}
 use Rattle.gateway_state.specs.declared.event.Dest.{Dest}
@@ -31,7 +33,7 @@ use Rattle.gateway_state.specs.Asked.{acts}
 use Rattle.gateway_state.specs.Clients.{read_verdict}
 use Rattle.gateway_state.specs.Gateway.{Gateway}
 use Rattle.gateway_state.specs.Rights.{channel_of}
-use Rattle.gateway_state.specs.Servers.{is_value}
+use Rattle.gateway_state.specs.Servers.{is_value, subject_of}
 use Rattle.gateway_state.specs.Settled.{HasLinksApart}
 use Rattle.gateway_state.specs.Step.{consequences}
 use Rattle.gateway_state.specs.Subscribing.{is_on_sid, new_sub, sub_of, sub_verdict}
@@ -153,15 +155,20 @@ value_touches link (Connected sid native native_count) None dtype count payload 
 value_touches link Creating sub dtype count payload = Nothing
 value_touches link Unusable sub dtype count payload = Nothing
 
-abbrev pub update_touches_over : ℕ → ℕ → ℕ → List ℕ → Option Link → Touched
-update_touches_over status dtype count payload None = Nothing
-update_touches_over status dtype count payload (Some link) =
-    if status == ECA_NORMAL then value_touches link link.state link.subscription dtype count payload else Nothing
+abbrev pub update_touches_under : Subject → ℕ → ℕ → ℕ → List ℕ → Link → Touched
+update_touches_under Values status dtype count payload link =
+    if status == ECA_NORMAL then value_touches link link.state link.subscriptions.values dtype count payload else Nothing
+update_touches_under Properties status dtype count payload link = Nothing
+
+abbrev pub update_touches_over : ℕ → ℕ → ℕ → ℕ → List ℕ → Option Link → Touched
+update_touches_over id status dtype count payload None = Nothing
+update_touches_over id status dtype count payload (Some link) =
+    update_touches_under (subject_of id link) status dtype count payload link
 
 -- an update that is accepted
 abbrev pub update_touches : Gateway → ℕ → ℕ → ℕ → ℕ → ℕ → List ℕ → Touched
 update_touches w server id status dtype count payload =
-    update_touches_over status dtype count payload (find (has_subscription server id) w.upstream.links)
+    update_touches_over id status dtype count payload (find (has_subscription server id) w.upstream.links)
 
 abbrev pub created_touches_over : Option Link → Touched
 created_touches_over None = Nothing
