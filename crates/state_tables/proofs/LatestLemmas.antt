@@ -4,16 +4,15 @@ use Rattle.std.specs.Cmp.{nat_eq_equiv}
 use Rattle.std.specs.Prelude.{slice_get}
 use Rattle.std.specs.List.{find, filter, list_any}
 use Rattle.std.specs.Option.{option_map}
-use Rattle.std.proofs.lemmas.Bool.{false≢true, or_parts, eqb-true, eqb-false, eq-eqb, ne_eqb}
+use Rattle.std.proofs.lemmas.Bool.{false≢true, or_parts, eqb-true, eqb-false, eq-eqb}
 use Rattle.std.proofs.lemmas.List.{map-append}
 use Rattle.std.proofs.lemmas.List.Elements.{filter-append}
-use Rattle.link_table.proofs.ValueLemmas.{none_left_out}
 use Rattle.row_index.specs.declared.key.Key.{Key}
 use Rattle.row_index.specs.Rows.{has_key, lacks_key, is_owned_by, put_at, row_of, value_at}
 use Rattle.gateway_state.specs.declared.cached.LastMessage.{LastMessage}
 use Rattle.gateway_state.specs.CachedRows.{is_cached_of, is_cached_elsewhere, with_row}
 use Rattle.link_table.specs.LinkIndex.{key}
-use Rattle.state_tables.specs.LatestRows.{AreLatest, is_not_cached_from}
+use Rattle.state_tables.specs.LatestRows.{AreApart, AreLatest}
 
 -- an entry of a CID has the row of that CID
 is_its_row : (cid : ℕ) (entry : Key × LastMessage) → entry.0.owner ≡ entry.1.cid → is_owned_by cid entry ≡ is_cached_of cid entry.1
@@ -128,57 +127,18 @@ put_entries old new row entries two latest free =
       ap (map row_of) split ∙ map-append row_of (filter q entries) ((key row.cid new, row) ∷ []) ∙ ap (λ xs. xs ++ row ∷ []) left.0,
     )
 
-sides : (first : LastMessage) (b : Bool) (xs ys : List LastMessage) → first ∷ cond b xs ys ≡ cond b (first ∷ xs) (first ∷ ys)
-sides first true xs ys = refl
-sides first false xs ys = refl
-
-unowned_rows : (cid : ℕ) (entries : List (Key × LastMessage)) → AreLatest entries → list_any (is_owned_by cid) entries ≡ false → find (is_cached_of cid) (map row_of entries) ≡ None
+unowned_rows : (cid : ℕ) (entries : List (Key × LastMessage)) → AreLatest entries → list_any (is_owned_by cid) entries ≡ false → list_any (is_cached_of cid) (map row_of entries) ≡ false
 unowned_rows cid [] latest none = refl
 unowned_rows cid (entry ∷ later) latest none =
     let parts = or_parts (is_owned_by cid entry) (list_any (is_owned_by cid) later) none in
     rw (sym (is_its_row cid entry latest.0) ∙ parts.0) (unowned_rows cid later latest.3 parts.1)
 
--- where a CID has no row, none of a server has it
-pub from_none : (server cid : ℕ) (rows : List LastMessage) → find (is_cached_of cid) rows ≡ None → filter (is_not_cached_from server cid) rows ≡ rows
-from_none server cid [] none = refl
-from_none server cid (row ∷ rows) none =
-    elim (is_cached_of cid row) as (λ t. cond t (Some row) (find (is_cached_of cid) rows) ≡ None → cond (not (row.server == server && t)) (row ∷ filter (is_not_cached_from server cid) rows) (filter (is_not_cached_from server cid) rows) ≡ row ∷ rows) [
-      | true ↦ λ h. cc
-      | false ↦ λ h.
-          let rest = from_none server cid rows h in
-          elim (row.server == server) as (λ s. cond (not (s && false)) (row ∷ filter (is_not_cached_from server cid) rows) (filter (is_not_cached_from server cid) rows) ≡ row ∷ rows) [ true ↦ ap (λ xs. row ∷ xs) rest | false ↦ ap (λ xs. row ∷ xs) rest ]
-    ] none
-
--- the row of a CID, where it is of this server, and none else
-from_alone : (server cid : ℕ) (row : LastMessage) (entries : List (Key × LastMessage)) → AreLatest entries → find (is_cached_of cid) (map row_of entries) ≡ Some row → filter (is_not_cached_from server cid) (map row_of entries) ≡ cond (row.server == server) (filter (is_cached_elsewhere cid) (map row_of entries)) (map row_of entries)
-from_alone server cid row [] latest e = cc
-from_alone server cid row (entry ∷ later) latest e =
-    let first = entry.1 in
-    let rows = map row_of later in
-    let same = is_its_row cid entry latest.0 in
-    elim (is_cached_of cid first) as (λ t. is_cached_of cid first ≡ t → cond t (Some first) (find (is_cached_of cid) rows) ≡ Some row → cond (not (first.server == server && t)) (first ∷ filter (is_not_cached_from server cid) rows) (filter (is_not_cached_from server cid) rows) ≡ cond (row.server == server) (cond (not t) (first ∷ filter (is_cached_elsewhere cid) rows) (filter (is_cached_elsewhere cid) rows)) (first ∷ rows)) [
-      | true ↦ λ h found.
-          let is : first ≡ row = cc in
-          let own : entry.0.owner ≡ cid = eqb-true entry.0.owner cid (same ∙ h) in
-          let none = unowned_rows cid later latest.3 (ap (λ o. list_any (is_owned_by o) later) (sym own) ∙ latest.2) in
-          let rest = from_none server cid rows none in
-          let elsewhere = none_left_out (is_cached_of cid) rows none in
-          rw (rest, elsewhere, is) (elim (row.server == server) as (λ s. cond (not (s && true)) (row ∷ rows) rows ≡ cond s rows (row ∷ rows)) [ true ↦ refl | false ↦ refl ])
-      | false ↦ λ h found.
-          let behind = from_alone server cid row later latest.3 found in
-          elim (first.server == server) as (λ s. cond (not (s && false)) (first ∷ filter (is_not_cached_from server cid) rows) (filter (is_not_cached_from server cid) rows) ≡ cond (row.server == server) (first ∷ filter (is_cached_elsewhere cid) rows) (first ∷ rows))
-          [ true ↦ ap (λ xs. first ∷ xs) behind ∙ sides first (row.server == server) _ _ | false ↦ ap (λ xs. first ∷ xs) behind ∙ sides first (row.server == server) _ _ ]
-    ] refl e
-
--- where it is of this server, it goes alone
-pub from_here : (server cid : ℕ) (row : LastMessage) (entries : List (Key × LastMessage)) → AreLatest entries → find (is_cached_of cid) (map row_of entries) ≡ Some row → row.server ≡ server → filter (is_not_cached_from server cid) (map row_of entries) ≡ filter (is_cached_elsewhere cid) (map row_of entries)
-from_here server cid row entries latest found here =
-    from_alone server cid row entries latest found ∙ ap (λ t. cond t (filter (is_cached_elsewhere cid) (map row_of entries)) (map row_of entries)) (eq-eqb row.server server here)
-
--- where it is of another, none goes
-pub from_another : (server cid : ℕ) (row : LastMessage) (entries : List (Key × LastMessage)) → AreLatest entries → find (is_cached_of cid) (map row_of entries) ≡ Some row → (row.server ≡ server → ⊥) → filter (is_not_cached_from server cid) (map row_of entries) ≡ map row_of entries
-from_another server cid row entries latest found other =
-    from_alone server cid row entries latest found ∙ ap (λ t. cond t (filter (is_cached_elsewhere cid) (map row_of entries)) (map row_of entries)) (ne_eqb row.server server other)
+-- rows of entries that stand alone under their CIDs are of different links
+pub latest_apart : (entries : List (Key × LastMessage)) → AreLatest entries → AreApart (map row_of entries)
+latest_apart [] latest = tt
+latest_apart (entry ∷ later) latest =
+    let none : list_any (is_owned_by entry.1.cid) later ≡ false = ap (λ o. list_any (is_owned_by o) later) (sym latest.0) ∙ latest.2 in
+    (unowned_rows entry.1.cid later latest.3 none, latest_apart later latest.3)
 
 -- a row that is put where it is changes nothing
 pub put_again : (k : Key) (entries : List (Key × LastMessage)) (row : LastMessage) → value_at k entries ≡ Some row → put_at k entries row ≡ entries

@@ -3,3 +3,4 @@ pub mod LatestLemmas
 pub mod LeadRows
 pub mod ListedLemmas
 pub mod PlacesOf
+pub mod ServerLemmas

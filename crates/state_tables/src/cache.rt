@@ -1,11 +1,10 @@
 //! The last messages of variables.
-ghost use Rattle.std.specs.Prelude.{◌≡◌, true, false, is_some, [], OnOk, OnErr, IfSome, IsNone};
+ghost use Rattle.std.specs.Prelude.{◌≡◌, ◌<◌, [], true, false, length, OnOk, OnErr, IfSome, IsNone, IsTrue, IsFalse};
 ghost use Rattle.std.specs.List.{find, filter, list_any};
 ghost use Rattle.std.specs.Option.{option_copied};
-ghost use Rattle.row_index.specs.Rows.{is_owned_by, value_at};
+ghost use Rattle.row_index.specs.Rows.{is_owned_by};
 ghost use Rattle.gateway_state.specs.CachedRows.{is_cached_of, is_cached_elsewhere, is_cached_by_another, with_row};
-ghost use Rattle.link_table.specs.LinkIndex.{key};
-ghost use Rattle.state_tables.specs.LatestRows.{HoldIds, StillListed};
+ghost use Rattle.state_tables.specs.LatestRows.{HoldIds, is_listed};
 
 use crate::latest::Latest;
 use gateway_state::LastMessage;
@@ -17,7 +16,7 @@ use std::marker::Model;
 #[derive(Drop)]
 pub struct Cache {
     latest: Latest,
-    /// The CIDs of the messages under their servers.
+    /// The CIDs of the messages under their servers, and no others.
     listed: RowMap<u32>,
 }
 
@@ -56,8 +55,28 @@ impl Cache {
         ensures ok { OnOk result (self.new ≡ with_row row self.old) }
         ensures err { OnErr result (self.new ≡ self.old) }
     {
-        list(&mut self.listed, row.server, row.cid)?;
-        self.latest.put(row)
+        let key = Key {
+            owner: row.server,
+            id: row.cid,
+        };
+        if self.listed.contains(key) {
+            return self.latest.put(row);
+        }
+        let before = self.latest.server_of(key.id);
+        self.listed.add(key, key.id)?;
+        match self.latest.put(row) {
+            Ok(()) => {
+                // It was of a link of another server.
+                if let Some(owner) = before {
+                    self.listed.remove(Key { owner, id: key.id });
+                }
+                Ok(())
+            }
+            Err(e) => {
+                self.listed.remove(key);
+                Err(e)
+            }
+        }
     }
 
     /// Keeps what is answered from a link's last message under a type and a count, so that answers
@@ -78,11 +97,8 @@ impl Cache {
     pub fn remove(&mut self, cid: u32)
         ensures { self.new ≡ filter (is_cached_elsewhere cid) self.old }
     {
-        if let Some(row) = self.latest.get(cid) {
-            self.listed.remove(Key {
-                owner: row.server,
-                id: cid,
-            });
+        if let Some(owner) = self.latest.server_of(cid) {
+            self.listed.remove(Key { owner, id: cid });
             self.latest.remove(cid);
         }
     }
@@ -91,37 +107,30 @@ impl Cache {
     pub fn remove_by(&mut self, server: u32)
         ensures { self.new ≡ filter (is_cached_by_another server) self.old }
     {
-        while let Some(cid) = last_listed(&self.listed, server) {
-            self.listed.remove(Key {
-                owner: server,
-                id: cid,
-            });
-            self.latest.remove_from(server, cid);
+        while self.remove_one(server) {}
+    }
+
+    // Forgets one of the messages of a server's links, if there is any.
+    fn remove_one(&mut self, server: u32) -> bool
+        ensures others { filter (is_cached_by_another server) self.new ≡ filter (is_cached_by_another server) self.old }
+        ensures one { IsTrue result → length self.new < length self.old }
+        ensures none { IsFalse result → filter (is_cached_by_another server) self.new ≡ self.new }
+    {
+        self.latest.has_cids_apart();
+        match last_listed(&self.listed, server) {
+            Some(cid) => {
+                self.remove(cid);
+                true
+            }
+            None => false,
         }
     }
-}
-
-// Lists a CID under its server, if it isn't yet.
-fn list(listed: &mut RowMap<u32>, server: u32, cid: u32) -> Result<(), AllocError>
-    requires { HoldIds listed.old }
-    ensures ids { HoldIds listed.new }
-    ensures still { StillListed listed.old listed.new }
-    ensures there { OnOk result (is_some (value_at (key server cid) listed.new) ≡ true) }
-{
-    let key = Key {
-        owner: server,
-        id: cid,
-    };
-    if !listed.contains(key) {
-        listed.add(key, cid)?;
-    }
-    Ok(())
 }
 
 // The CID that was listed last under a server.
 fn last_listed(listed: &RowMap<u32>, server: u32) -> Option<u32>
     requires { HoldIds listed.now }
-    ensures found { IfSome result (λ cid. is_some (value_at (key server cid) listed.now) ≡ true) }
+    ensures found { IfSome result (λ cid. is_listed server cid listed.now ≡ true) }
     ensures none { IsNone result → list_any (is_owned_by server) listed.now ≡ false }
 {
     let count = listed.count_of(server);

@@ -5,7 +5,7 @@ ghost use Rattle.std.specs.Option.{option_copied};
 ghost use Rattle.row_index.specs.Rows.{value_at};
 ghost use Rattle.gateway_state.specs.CachedRows.{is_cached_of, is_cached_elsewhere, with_row};
 ghost use Rattle.link_table.specs.LinkIndex.{key};
-ghost use Rattle.state_tables.specs.LatestRows.{is_not_cached_from, AreLatest};
+ghost use Rattle.state_tables.specs.LatestRows.{server_of, AreApart, AreLatest};
 
 use gateway_state::LastMessage;
 use row_index::{Key, RowMap};
@@ -46,6 +46,16 @@ impl Latest {
         ensures { option_copied result ≡ find (is_cached_of cid) self.now }
     {
         self.rows.of(cid, 0)
+    }
+
+    /// The server of a link's message.
+    pub(crate) fn server_of(&self, cid: u32) -> Option<u32>
+        ensures { result ≡ server_of cid self.now }
+    {
+        match self.get(cid) {
+            Some(row) => Some(row.server),
+            None => None,
+        }
     }
 
     /// Keeps a message in place of the one that its link had. At an error that one is kept.
@@ -96,16 +106,11 @@ impl Latest {
         });
     }
 
-    /// Removes a link's message if it is of this server.
-    pub(crate) fn remove_from(&mut self, server: u32, cid: u32)
-        ensures { self.new ≡ filter (is_not_cached_from server cid) self.old }
+    /// Does nothing. Its contract is a law: no two messages have the same CID.
+    pub(crate) fn has_cids_apart(&self)
+        ensures { AreApart self.now }
     {
-        let Some(row) = self.rows.of(cid, 0) else {
-            return;
-        };
-        if row.server == server {
-            self.remove(cid);
-        }
+        let _ = &self.rows;
     }
 }
 

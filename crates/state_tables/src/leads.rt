@@ -1,7 +1,8 @@
 //! What names were found to lead to.
-ghost use Rattle.std.specs.Prelude.{◌≡◌, [], IfOk, IfSome, OnOk, OnErr, IsTrue};
+ghost use Rattle.std.specs.Prelude.{◌≡◌, ◌<◌, ◌≤◌, [], length, IfOk, IfSome, OnOk, OnErr, IsTrue};
 ghost use Rattle.gateway_state.specs.Resolution.{lead_of};
 ghost use Rattle.state_tables.specs.Leads.{AreLeads, IsLead, IsAskedBy, rows_of};
+ghost use Rattle.state_tables.specs.declared.leads.TheConstants.{LEADS_LIMIT};
 ghost use Rattle.rule_desk.specs.declared.policy.Policy.{Policy as PolicyValue};
 
 use indexmap::IndexMap;
@@ -32,13 +33,16 @@ pub(crate) struct Leads {
 }
 
 impl Model for Leads {
-    ghost use Rattle.std.specs.Prelude.{List};
+    ghost use Rattle.std.specs.Prelude.{◌≤◌, List, length};
     ghost use Rattle.state_tables.specs.Leads.{rows_of};
+    ghost use Rattle.state_tables.specs.declared.leads.TheConstants.{LEADS_LIMIT};
     ghost use Rattle.state_tables.specs.declared.leads.LeadRow.{LeadRow as Row};
 
     ghost Value = { List Row };
 
     ghost view = { λ l. rows_of l.rows.entries };
+
+    ghost invariant = { λ l. length (rows_of l.rows.entries) ≤ LEADS_LIMIT };
 }
 
 impl Leads {
@@ -88,7 +92,8 @@ impl Leads {
 
     // Begins anew where no more are to be held.
     fn make_room(&mut self)
-        ensures { (policy : PolicyValue) → AreLeads policy self.old → AreLeads policy self.new }
+        ensures same { (policy : PolicyValue) → AreLeads policy self.old → AreLeads policy self.new }
+        ensures room { length self.new < LEADS_LIMIT }
     {
         if self.rows.len() >= LEADS_LIMIT {
             self.rows.clear();
@@ -96,9 +101,11 @@ impl Leads {
     }
 }
 
-#[tactic(auto, using(crate::proofs::LeadRows::leads_with_one))]
+#[tactic(auto, using(crate::proofs::LeadRows::leads_with_one, crate::proofs::LeadRows::one_more_at_most))]
 fn put(rows: &mut IndexMap<String, LeadRow>, key: String, row: LeadRow) -> Result<(), AllocError>
-    ensures { (policy : PolicyValue) → IsLead policy row.host row.name row.lead → AreLeads policy (rows_of rows.old.entries) → AreLeads policy (rows_of rows.new.entries) }
+    requires room { length (rows_of rows.old.entries) < LEADS_LIMIT }
+    ensures fits { length (rows_of rows.new.entries) ≤ LEADS_LIMIT }
+    ensures same { (policy : PolicyValue) → IsLead policy row.host row.name row.lead → AreLeads policy (rows_of rows.old.entries) → AreLeads policy (rows_of rows.new.entries) }
 {
     match rows.insert(key, row) {
         Ok(_) => Ok(()),

@@ -14,6 +14,7 @@
 mod cache;
 mod connections;
 mod latest;
+pub mod laws;
 mod leads;
 mod places;
 mod reals;
