@@ -79,15 +79,15 @@ listed_new row rows listed new none are = record {
   ids = ids_with_more row.server row.cid listed are.ids;
   exact = with_this row rows (listed ++ (key row.server row.cid, row.cid) ∷ [])
       (λ server.
-          listed_with_more (key server row.cid) row.server row.cid listed new
-          ∙ ap (λ t. (server == row.server && t) || is_listed server row.cid listed) (nat_eq_equiv.refl row.cid)
-          ∙ ap (λ t. (server == row.server && true) || t) (are.exact server row.cid ∙ ap (is_server server) none)
-          ∙ elim (server == row.server) as (λ t. ((t && true) || false) ≡ t) [ true ↦ refl | false ↦ refl ]
-          ∙ nat_eq_equiv.symm server row.server)
+      listed_with_more (key server row.cid) row.server row.cid listed new
+      ∙ ap (λ t. (server == row.server && t) || is_listed server row.cid listed) (nat_eq_equiv.refl row.cid)
+      ∙ ap (λ t. (server == row.server && true) || t) (are.exact server row.cid ∙ ap (is_server server) none)
+      ∙ elim (server == row.server) as (λ t. ((t && true) || false) ≡ t) [ true ↦ refl | false ↦ refl ]
+      ∙ nat_eq_equiv.symm server row.server)
       (λ server cid other.
-          listed_with_more (key server cid) row.server row.cid listed new
-          ∙ ap (λ t. t || is_listed server cid listed) (beside server row.server row.cid cid other)
-          ∙ are.exact server cid);
+      listed_with_more (key server cid) row.server row.cid listed new
+      ∙ ap (λ t. t || is_listed server cid listed) (beside server row.server row.cid cid other)
+      ∙ are.exact server cid);
 }
 
 moved_here : (server before now : ℕ) → (before ≡ now → ⊥) → (not (server == before && true) && ((server == now && true) || (before == server))) ≡ (now == server)
@@ -108,23 +108,23 @@ pub listed_moved : (before : ℕ) (row : LastMessage) (rows : List LastMessage) 
 listed_moved before row rows listed new is are =
     let more = listed ++ (key row.server row.cid, row.cid) ∷ [] in
     let apart : before ≡ row.server → ⊥ = λ e.
-        false≢true (sym (ap is_some new) ∙ are.exact row.server row.cid ∙ ap (is_server row.server) is ∙ ap (λ x. x == row.server) e ∙ nat_eq_equiv.refl row.server)
+    false≢true (sym (ap is_some new) ∙ are.exact row.server row.cid ∙ ap (is_server row.server) is ∙ ap (λ x. x == row.server) e ∙ nat_eq_equiv.refl row.server)
     in
     record {
       ids = ids_with_fewer (lacks_key (key before row.cid)) more (ids_with_more row.server row.cid listed are.ids);
       exact = with_this row rows (filter (lacks_key (key before row.cid)) more)
           (λ server.
-              listed_with_fewer (key server row.cid) (key before row.cid) more
-              ∙ ap (λ t. not (server == before && row.cid == row.cid) && t) (listed_with_more (key server row.cid) row.server row.cid listed new)
-              ∙ ap (λ t. not (server == before && t) && ((server == row.server && t) || is_listed server row.cid listed)) (nat_eq_equiv.refl row.cid)
-              ∙ ap (λ t. not (server == before && true) && ((server == row.server && true) || t)) (are.exact server row.cid ∙ ap (is_server server) is)
-              ∙ moved_here server before row.server apart)
+          listed_with_fewer (key server row.cid) (key before row.cid) more
+          ∙ ap (λ t. not (server == before && row.cid == row.cid) && t) (listed_with_more (key server row.cid) row.server row.cid listed new)
+          ∙ ap (λ t. not (server == before && t) && ((server == row.server && t) || is_listed server row.cid listed)) (nat_eq_equiv.refl row.cid)
+          ∙ ap (λ t. not (server == before && true) && ((server == row.server && true) || t)) (are.exact server row.cid ∙ ap (is_server server) is)
+          ∙ moved_here server before row.server apart)
           (λ server cid other.
-              listed_with_fewer (key server cid) (key before row.cid) more
-              ∙ ap (λ t. not t && is_listed server cid more) (beside server before row.cid cid other)
-              ∙ listed_with_more (key server cid) row.server row.cid listed new
-              ∙ ap (λ t. t || is_listed server cid listed) (beside server row.server row.cid cid other)
-              ∙ are.exact server cid);
+          listed_with_fewer (key server cid) (key before row.cid) more
+          ∙ ap (λ t. not t && is_listed server cid more) (beside server before row.cid cid other)
+          ∙ listed_with_more (key server cid) row.server row.cid listed new
+          ∙ ap (λ t. t || is_listed server cid listed) (beside server row.server row.cid cid other)
+          ∙ are.exact server cid);
     }
 
 gone_here : (server before : ℕ) → (not (server == before && true) && (before == server)) ≡ false
@@ -172,18 +172,23 @@ pub one_fewer : (server cid : ℕ) (rows : List LastMessage) → is_server serve
 one_fewer server cid rows here =
     one_less (is_cached_of cid) rows (sym (found_where_any (is_cached_of cid) rows) ∙ some_server server (find (is_cached_of cid) rows) here)
 
+-- where there is no server, there is no message
+pub no_server : (o : Option LastMessage) → server_in o ≡ None → o ≡ None
+no_server None e = refl
+no_server (Some row) e = cc
+
 -- all rows are of others, where no link's message is of the server
 none_by : (server : ℕ) (rows : List LastMessage) → AreApart rows → ((cid : ℕ) → is_server server (server_of cid rows) ≡ false) → filter (is_cached_by_another server) rows ≡ rows
 none_by server [] apart none = refl
 none_by server (row ∷ rows) apart none =
     let first : row.server == server ≡ false = ap (λ t. is_server server (server_in (cond t (Some row) (find (is_cached_of row.cid) rows)))) (sym (nat_eq_equiv.refl row.cid)) ∙ none row.cid in
     let later : (cid : ℕ) → is_server server (server_of cid rows) ≡ false = λ cid.
-        elim (is_cached_of cid row) as (λ t. is_cached_of cid row ≡ t → is_server server (server_in (cond t (Some row) (find (is_cached_of cid) rows))) ≡ false → is_server server (server_of cid rows) ≡ false) [
-          | true ↦ λ h _.
-              let absent : list_any (is_cached_of cid) rows ≡ false = ap (λ c. list_any (is_cached_of c) rows) (sym (eqb-true row.cid cid h)) ∙ apart.0 in
-              ap (λ o. is_server server (server_in o)) (absent_is_unfound (is_cached_of cid) rows absent)
-          | false ↦ λ h e. e
-        ] refl (none cid)
+    elim (is_cached_of cid row) as (λ t. is_cached_of cid row ≡ t → is_server server (server_in (cond t (Some row) (find (is_cached_of cid) rows))) ≡ false → is_server server (server_of cid rows) ≡ false) [
+      | true ↦ λ h _.
+          let absent : list_any (is_cached_of cid) rows ≡ false = ap (λ c. list_any (is_cached_of c) rows) (sym (eqb-true row.cid cid h)) ∙ apart.0 in
+          ap (λ o. is_server server (server_in o)) (absent_is_unfound (is_cached_of cid) rows absent)
+      | false ↦ λ h e. e
+    ] refl (none cid)
     in
     ap (λ t. cond (not t) (row ∷ filter (is_cached_by_another server) rows) (filter (is_cached_by_another server) rows)) first
     ∙ ap (λ xs. row ∷ xs) (none_by server rows apart.1 later)
