@@ -8,7 +8,7 @@ use Rattle.gateway_state.specs.declared.notice.ReadVerdict.TheVariants.{Accepted
 use Rattle.gateway_state.specs.Clients.{read_verdict, verdict_on}
 use Rattle.gateway_state.specs.Gateway.{Gateway}
 use Rattle.gateway_state.specs.Rights.{channel_of}
-use Rattle.gateway_state.proofs.ListedLemmas.{found_any}
+use Rattle.channel_table.proofs.Lists.{found_where_any}
 
 pub accepted_is_there : (w : Gateway) (number sid dtype count reach rights : ℕ) → read_verdict w number sid dtype count ≡ Accepted reach rights → has_channel number sid w.clients ≡ true
 accepted_is_there w number sid dtype count reach rights accepted = by (channel_of w number sid) refl accepted
@@ -18,4 +18,4 @@ accepted_is_there w number sid dtype count reach rights accepted = by (channel_o
 
     by : (on : Option Channel) → channel_of w number sid ≡ on → verdict_on w dtype count on ≡ Accepted reach rights → has_channel number sid w.clients ≡ true
     by None missing other = refused other
-    by (Some c) found same = sym (found_any (is_channel number sid) w.clients.channels) ∙ ap is_some found
+    by (Some c) found same = sym (found_where_any (is_channel number sid) w.clients.channels) ∙ ap is_some found

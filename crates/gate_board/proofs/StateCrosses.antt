@@ -2,14 +2,14 @@
 use denote.Param.Send.{IsSend, sendable, view_send}
 use denote.Param.SendFields.{declared_send}
 use Rattle.std.proofs.Crossing.{crosses}
-use Rattle.gateway_state.specs.contracts.connections.Connections as connections
-use Rattle.gateway_state.specs.contracts.cached.Cache as cache
-use Rattle.gateway_state.specs.contracts.search.Searches as searches
-use Rattle.gateway_state.specs.contracts.search.Searches.TheInside as searches_parts
+use Rattle.state_tables.specs.contracts.connections.Connections as connections
+use Rattle.state_tables.specs.contracts.cache.Cache as cache
+use Rattle.state_tables.specs.contracts.searches.Searches as searches
+use Rattle.state_tables.specs.contracts.searches.Searches.TheInside as searches_parts
 use Rattle.gateway_state.specs.contracts.search.Search as looked
-use Rattle.gateway_state.specs.contracts.places.Places as places
-use Rattle.gateway_state.specs.contracts.reals.Reals as reals
-use Rattle.gateway_state.specs.contracts.leads.Leads as leads
+use Rattle.state_tables.specs.contracts.places.Places as places
+use Rattle.state_tables.specs.contracts.reals.Reals as reals
+use Rattle.state_tables.specs.contracts.leads.Leads as leads
 use Rattle.gate_board.proofs.PartsCross.{policy_send, outbox_send, cached_send, name_send}
 
 pub connections_send : IsSend connections.the_row

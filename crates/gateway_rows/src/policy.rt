@@ -6,9 +6,9 @@ ghost use Rattle.gateway_state.specs.Rights.{lead_in};
 
 use crate::state::Rows;
 use channel_table::{Table, Visits};
-use gateway_state::Searches;
 use pv_alias::Lead;
 use pv_name::{Host, Name};
+use state_tables::Searches;
 use std::alloc::{AllocError, Global};
 
 impl Rows {

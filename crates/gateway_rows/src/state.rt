@@ -4,8 +4,9 @@ ghost use Rattle.gateway_state.specs.Gateway.{initial};
 ghost use Rattle.gateway_state.specs.Numbers.{is_past_numbers};
 
 use channel_table::{Table, Visits};
-use gateway_state::{Cache, Config, Connections, Policy, Searches};
+use gateway_state::{Config, Policy};
 use link_table::Links;
+use state_tables::{Cache, Connections, Searches};
 use std::alloc::Global;
 use std::marker::Model;
 

@@ -1,5 +1,4 @@
 pub mod CachedApart
-pub mod ConnectionRows
 pub mod GivenMessages
 pub mod HostsFixed
 pub mod InOrder
@@ -7,7 +6,6 @@ pub mod Kept
 pub mod KeptByClients
 pub mod KeptByRuns
 pub mod KeptByServers
-pub mod LeadRows
 pub mod LinkNotices
 pub mod LinksApart
 pub mod LinksOnServers
@@ -15,7 +13,6 @@ pub mod NewNumbers
 pub mod NumberLemmas
 pub mod OnChannels
 pub mod OrderKept
-pub mod PlacesOf
 pub mod ReachedStates
 pub mod RisingRows
 pub mod RowTests
@@ -35,5 +32,3 @@ pub mod SubsApart
 pub mod ToldRights
 pub mod WriteIdsBelow
 pub mod WritesOnLinks
-pub mod LatestLemmas
-pub mod ListedLemmas

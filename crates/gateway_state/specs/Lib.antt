@@ -2,15 +2,12 @@ pub mod Answer
 pub mod Asked
 pub mod CachedRows
 pub mod Clients
-pub mod ConnectionKeys
 pub mod Connections
 pub mod Delivered
 pub mod Direct
 pub mod Gateway
 pub mod Interest
-pub mod Leads
 pub mod Notices
-pub mod Places
 pub mod Numbers
 pub mod Reached
 pub mod Requests
@@ -27,4 +24,3 @@ pub mod Told
 pub mod Updates
 pub mod Variables
 pub mod Writing
-pub mod LatestRows

@@ -5,11 +5,6 @@ use Rattle.rule_desk.specs.declared.policy.Policy.{Policy}
 use Rattle.gateway_state.specs.declared.search.Search.{Search}
 use Rattle.gateway_state.specs.Resolution.{is_real, lead_of}
 
--- the policy that holds, and the searches that are remembered
-pub record SearchRows : Type 0 where
-  pub policy : Policy
-  pub rows : List Search
-
 -- a search for this name by this host; hosts are alike but for case
 abbrev pub same_search : List ℕ → List ℕ → Search → Bool
 same_search host name row = bytes_eq row.name name && same_host row.host host

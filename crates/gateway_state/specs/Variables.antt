@@ -1,10 +1,9 @@
 -- Links, values and wanted names, by variable.
-use Rattle.std.specs.Prelude.{◌≡◌, ℕ, List, [], ◌∷◌, ◌++◌, Bool, true, false, not, ◌&&◌, ◌||◌, map, filter, filter_map, bytes_eq, is_some, fold, if◌then◌else◌, Option, Some, None}
+use Rattle.std.specs.Prelude.{ℕ, List, [], ◌∷◌, ◌++◌, Bool, true, false, not, ◌&&◌, ◌||◌, map, filter, filter_map, bytes_eq, is_some, fold, if◌then◌else◌, Option, Some, None}
 use Rattle.std.specs.List.{list_any, find}
 use Rattle.std.specs.Ordering.{nat_cmp}
 use Rattle.std.specs.Cmp.Lexicographic.{slice_cmp}
 use Rattle.std.specs.declared.cmp.Ordering.TheVariants.{Less, Equal, Greater}
-use Rattle.indexmap.specs.IndexSet.{IndexSet, contains}
 use Rattle.channel_table.specs.declared.channels.Channel.{Channel}
 use Rattle.link_table.specs.declared.links.Link.{Link}
 use Rattle.link_table.specs.declared.links.LinkState.{LinkState}
@@ -68,10 +67,6 @@ search_names policy searches = filter_map (search_name policy) searches
 -- the name is one of these
 abbrev pub is_among : List (List ℕ) → List ℕ → Bool
 is_among names name = list_any (λ n. bytes_eq n name) names
-
--- the set has these names and no others
-abbrev pub HasThese : {S : Type 0} → IndexSet (List ℕ) S → List (List ℕ) → Type 0
-HasThese set names = (name : List ℕ) → contains bytes_eq set name ≡ is_among names name
 
 -- the wanted names, as often as they are wanted
 abbrev pub wanted_names : Gateway → List (List ℕ)

@@ -1,0 +1,26 @@
+//! The rows of connections, last messages and remembered searches, as the engine keeps them: each found
+//! by an index, under clauses that speak of whole lists of rows.
+//!
+//! - [`Connections`] are the connections that stand, each found by its number.
+//! - [`Cache`] keeps at most one last message of a link, found by its CID. `remove_by` takes the messages
+//!   of a server's links and walks no others.
+//! - [`Searches`] are the policy that holds and the searches that are remembered under it, with the real
+//!   names that these lead to, and with what asked names were found to lead to.
+//!
+//! What a row is, and what is asked of lists of rows, is said in `gateway_state`. A call that fails leaves
+//! the rows as they were.
+#![tactic(auto)]
+
+mod cache;
+mod connections;
+mod latest;
+pub mod laws;
+mod leads;
+mod places;
+mod reals;
+mod searches;
+
+pub use cache::Cache;
+pub use connections::Connections;
+pub use leads::LEADS_LIMIT;
+pub use searches::Searches;
