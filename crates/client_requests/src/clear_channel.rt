@@ -23,6 +23,7 @@ pub(crate) fn clear_channel(
     ensures ok { OnOk result (rows.new ≡ channel_cleared number sid cid head.now rows.old) }
     ensures touched { IfOk result (λ touched. touched ≡ clear_touches rows.old number sid) }
     ensures bound { visits.new ≤ visits.old + 1 }
+    ensures no_less { visits.old ≤ visits.new }
 {
     match rows.channel_of(visits, number, sid) {
         Some(channel) => {

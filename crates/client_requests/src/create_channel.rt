@@ -9,7 +9,7 @@ ghost use Rattle.channel_table.specs.Sessions.{is_numbered};
 
 use crate::host_name::fix_host;
 use ca_message::ToClient;
-use channel_table::{CHANNEL_LIMIT, Channel, Visits};
+use channel_table::{CHANNEL_LIMIT, Channel, Reach, Visits};
 use gateway_rows::{Refusal, Rows, native_in};
 use gateway_state::Native;
 use link_table::{Counter, Link};
@@ -32,6 +32,7 @@ fn remember(
 ) -> Result<(), AllocError>
     ensures ok { OnOk result (rows.new ≡ remembered_by (find (is_numbered number) rows.old.clients.sessions) name.now rows.old) }
     ensures bound { visits.new ≤ visits.old + 1 }
+    ensures no_less { visits.old ≤ visits.new }
 {
     if let Some(session) = rows.clients.session(visits, number) {
         let host = session.host.copy()?;
@@ -49,6 +50,7 @@ fn leave_unconnected(
 ) -> Result<(), AllocError>
     ensures ok { OnOk result (rows.new ≡ not_connected number cid name.now rows.old) }
     ensures bound { visits.new ≤ visits.old + 1 }
+    ensures no_less { visits.old ≤ visits.new }
 {
     remember(rows, visits, number, name)?;
     fail_creation(rows, number, cid)
@@ -78,8 +80,11 @@ fn add_channel(
         cid,
         asked,
         real,
-        reach: 0,
-        rights,
+        reach: Reach {
+            count: 0,
+            props: false,
+        },
+        rights_told: rights,
     };
     match rows.clients.add_channel(channel) {
         Ok(()) => Ok(sid),
@@ -134,6 +139,7 @@ fn create_as(
     ensures ok { OnOk result (rows.new ≡ created_on number cid asked.now lead (link_of rows.old lead.real) rows.old) }
     ensures used_up { IsErrOf result Refusal.NumbersUsedUp → is_past_numbers (created_on number cid asked.now lead (link_of rows.old lead.real) rows.old) ≡ true }
     ensures bound { visits.new ≤ visits.old + 1 }
+    ensures no_less { visits.old ≤ visits.new }
 {
     let Some(link) = rows.link_of(&lead.real) else {
         leave_unconnected(rows, visits, number, cid, asked)?;
@@ -160,6 +166,7 @@ pub(crate) fn create_channel(
     ensures ok { OnOk result (rows.new ≡ channel_asked number cid name.now rows.old) }
     ensures used_up { IsErrOf result Refusal.NumbersUsedUp → is_past_numbers (channel_asked number cid name.now rows.old) ≡ true }
     ensures bound { visits.new ≤ visits.old + 4 }
+    ensures no_less { visits.old ≤ visits.new }
 {
     let lead = rows.learn_lead_in(visits, number, name)?;
     fix_host(rows, visits, number)?;

@@ -43,6 +43,7 @@ pub fn hear_client(
     ensures touched { IfOk result (λ touched. touched ≡ request_touches rows.old number (request_of message.head message.payload)) }
     ensures used_up { IsErrOf result Refusal.NumbersUsedUp → is_past_numbers (client_said rows.old number message) ≡ true }
     ensures bound { visits.new ≤ visits.old + 4 }
+    ensures no_less { visits.old ≤ visits.new }
 {
     match read_message(&message) {
         Ok(request) => hear_request(rows, visits, number, request, &message),
@@ -68,6 +69,7 @@ fn hear_request(
     ensures touched { IfOk result (λ touched. touched ≡ request_touches rows.old number (Ok request.entry)) }
     ensures used_up { IsErrOf result Refusal.NumbersUsedUp → is_past_numbers (requested rows.old number message.now (Ok request.entry)) ≡ true }
     ensures bound { visits.new ≤ visits.old + 4 }
+    ensures no_less { visits.old ≤ visits.new }
 {
     let head = &message.head;
     match request {
@@ -190,6 +192,7 @@ fn hear_unreadable(
 ) -> Result<(), AllocError>
     ensures ok { OnOk result (rows.new ≡ unreadable rows.old number head.now) }
     ensures bound { visits.new ≤ visits.old + 2 }
+    ensures no_less { visits.old ≤ visits.new }
 {
     if head.command == CA_PROTO_CREATE_CHAN {
         fix_host(rows, visits, number)?;

@@ -12,6 +12,7 @@ use std::alloc::AllocError;
 pub(crate) fn fix_host(rows: &mut Rows, visits: &mut Visits, number: u32) -> Result<(), AllocError>
     ensures ok { OnOk result (rows.new ≡ with_host_fixed number rows.old) }
     ensures bound { visits.new ≤ visits.old + 2 }
+    ensures no_less { visits.old ≤ visits.new }
 {
     if let Some(session) = rows.clients.session(visits, number) {
         let host = session.host.copy()?;
@@ -27,6 +28,7 @@ pub(crate) fn fix_host(rows: &mut Rows, visits: &mut Visits, number: u32) -> Res
 pub(crate) fn name_host(rows: &mut Rows, visits: &mut Visits, number: u32, host: Host)
     ensures named { rows.new ≡ host_named number host rows.old }
     ensures bound { visits.new ≤ visits.old + 2 }
+    ensures no_less { visits.old ≤ visits.new }
 {
     let Some(session) = rows.clients.session(visits, number) else {
         return;

@@ -16,6 +16,7 @@ pub(crate) fn pause(
 ) -> Result<(), AllocError>
     ensures ok { OnOk result (rows.new ≡ paused_to number paused rows.old) }
     ensures bound { visits.new ≤ visits.old + 2 }
+    ensures no_less { visits.old ≤ visits.new }
 {
     if let Some(session) = rows.clients.session(visits, number) {
         let host = session.host.copy()?;

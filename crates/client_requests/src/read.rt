@@ -11,8 +11,8 @@ use crate::refusals::refuse_channel;
 use ca_header::Header;
 use ca_message::ToClient;
 use ca_message::codes::ECA_GETFAIL;
-use channel_table::{Channel, READ_LIMIT, Visits, WaitingRead};
-use gateway_rows::{Rows, meant_count, native_in, read_refusal};
+use channel_table::{Channel, READ_LIMIT, Reach, Visits, WaitingRead};
+use gateway_rows::{Rows, native_in, reach_with, read_refusal};
 use gateway_state::{Native, ReadVerdict};
 use link_table::Link;
 use std::alloc::AllocError;
@@ -49,15 +49,15 @@ fn read_verdict_on(
     requires told { KnowsRights rows.now channel.now }
     ensures { IfOk result (λ verdict. verdict ≡ verdict_natively rows.now channel.now link.now dtype count (Some native)) }
 {
-    if let Some(code) = read_refusal(native, channel.rights, dtype, count) {
+    if let Some(code) = read_refusal(native, channel.rights_told, dtype, count) {
         return Ok(ReadVerdict::Refused(code));
     }
     if is_one_too_many(rows, channel, link, native, dtype, count)? {
         return Ok(ReadVerdict::Refused(ECA_GETFAIL));
     }
     Ok(ReadVerdict::Accepted {
-        reach: channel.reach.max(meant_count(native.count, count)),
-        rights: channel.rights,
+        reach: reach_with(channel.reach, native, dtype, count),
+        rights: channel.rights_told,
     })
 }
 
@@ -73,6 +73,7 @@ fn read_verdict(
     requires told { KnowRights rows.now }
     ensures found { IfOk result (λ verdict. verdict ≡ read_verdict rows.now number sid dtype count) }
     ensures bound { visits.new ≤ visits.old + 1 }
+    ensures no_less { visits.old ≤ visits.new }
 {
     let Some(channel) = rows.told_channel(visits, number, sid) else {
         return Ok(ReadVerdict::NoChannel);
@@ -109,12 +110,13 @@ fn accept_read(
     rows: &mut Rows,
     visits: &mut Visits,
     read: WaitingRead,
-    reach: u32,
+    reach: Reach,
     rights: u32,
 ) -> Result<(), AllocError>
     requires there { has_channel read.session read.sid rows.old.clients ≡ true }
     ensures ok { OnOk result (rows.new ≡ accepted read.session read.sid read.ioid read.dtype read.count reach rights rows.old) }
     ensures bound { visits.new ≤ visits.old + 1 }
+    ensures no_less { visits.old ≤ visits.new }
 {
     rows.clients.keep_read(read)?;
     rows.clients
@@ -137,6 +139,7 @@ pub(crate) fn read(
     ensures ok { OnOk result (rows.new ≡ read_asked number sid ioid dtype count head.now rows.old) }
     ensures touched { IfOk result (λ touched. touched ≡ read_touches rows.old (new_read number sid ioid dtype count)) }
     ensures bound { visits.new ≤ visits.old + 3 }
+    ensures no_less { visits.old ≤ visits.new }
 {
     match read_verdict(rows, visits, number, sid, dtype, count)? {
         ReadVerdict::NoChannel => {
@@ -171,6 +174,7 @@ fn accepted_touches(
 ) -> Result<Touched, AllocError>
     ensures found { IfOk result (λ touched. touched ≡ accepted_touches read (channel_of rows.now read.session read.sid)) }
     ensures bound { visits.new ≤ visits.old + 1 }
+    ensures no_less { visits.old ≤ visits.new }
 {
     match rows.channel_of(visits, read.session, read.sid) {
         Some(channel) => Ok(Touched::Read(channel.real.copy()?, read)),

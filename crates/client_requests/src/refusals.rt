@@ -62,6 +62,7 @@ pub(crate) fn refuse_short_subscription(
 ) -> Result<(), AllocError>
     ensures ok { OnOk result (rows.new ≡ short_subscription rows.old number head.now) }
     ensures bound { visits.new ≤ visits.old + 1 }
+    ensures no_less { visits.old ≤ visits.new }
 {
     let cid = match rows.channel_of(visits, number, head.p1) {
         Some(channel) => channel.cid,

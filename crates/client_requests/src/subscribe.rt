@@ -59,6 +59,7 @@ fn subscription_refusal(
 ) -> Option<u32>
     ensures found { result ≡ subscription_refusal rows.now sub native }
     ensures bound { visits.new ≤ visits.old + 1 }
+    ensures no_less { visits.old ≤ visits.new }
 {
     if rows.clients.sub(visits, sub.session, sub.id).is_some() {
         return Some(ECA_INTERNAL);
@@ -78,6 +79,7 @@ fn sub_verdict_on(
 ) -> SubVerdict
     ensures found { result ≡ sub_verdict_natively rows.now sub channel.now (Some native) }
     ensures bound { visits.new ≤ visits.old + 1 }
+    ensures no_less { visits.old ≤ visits.new }
 {
     match subscription_refusal(rows, visits, sub, native) {
         None => SubVerdict::Accepted,
@@ -92,6 +94,7 @@ fn sub_verdict_on(
 fn sub_verdict(rows: &Rows, visits: &mut Visits, sub: ClientSub) -> SubVerdict
     ensures found { result ≡ sub_verdict rows.now sub }
     ensures bound { visits.new ≤ visits.old + 2 }
+    ensures no_less { visits.old ≤ visits.new }
 {
     let Some(channel) = rows.channel_of(visits, sub.session, sub.sid) else {
         return SubVerdict::NoChannel;
@@ -126,6 +129,7 @@ pub(crate) fn subscribe_client(
     ensures ok { OnOk result (rows.new ≡ subscription_asked sub head.now rows.old) }
     ensures touched { IfOk result (λ touched. touched ≡ sub_touches rows.old sub) }
     ensures bound { visits.new ≤ visits.old + 3 }
+    ensures no_less { visits.old ≤ visits.new }
 {
     match sub_verdict(rows, visits, sub) {
         SubVerdict::NoChannel => {
@@ -149,6 +153,7 @@ pub(crate) fn subscribe_client(
 fn made_touches(rows: &Rows, visits: &mut Visits, sub: ClientSub) -> Result<Touched, AllocError>
     ensures found { IfOk result (λ touched. touched ≡ made_touches sub (channel_of rows.now sub.session sub.sid)) }
     ensures bound { visits.new ≤ visits.old + 1 }
+    ensures no_less { visits.old ≤ visits.new }
 {
     match rows.channel_of(visits, sub.session, sub.sid) {
         Some(channel) => Ok(Touched::Subscription(channel.real.copy()?, sub)),

@@ -16,6 +16,7 @@ use touched_rows::Touched;
 fn is_sub_on(rows: &Rows, visits: &mut Visits, number: u32, id: u32, sid: u32) -> bool
     ensures found { result ≡ is_on_sid sid (sub_of rows.now number id) }
     ensures bound { visits.new ≤ visits.old + 1 }
+    ensures no_less { visits.old ≤ visits.new }
 {
     match rows.clients.sub(visits, number, id) {
         Some(sub) => sub.sid == sid,
@@ -43,6 +44,7 @@ pub(crate) fn cancel_subscription(
     ensures ok { OnOk result (rows.new ≡ subscription_cancelled number sid id dtype count head.now rows.old) }
     ensures touched { IfOk result (λ touched. touched ≡ cancel_touches rows.old number sid id) }
     ensures bound { visits.new ≤ visits.old + 2 }
+    ensures no_less { visits.old ≤ visits.new }
 {
     let Some(channel) = rows.channel_of(visits, number, sid) else {
         refuse_channel(rows, number, head)?;

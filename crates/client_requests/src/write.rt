@@ -48,7 +48,7 @@ fn judge<'a>(
             cid,
             code: fault.code(),
         },
-        Ok(value) if may_write(channel.rights) => WriteVerdict::Accepted { server, sid, value },
+        Ok(value) if may_write(channel.rights_told) => WriteVerdict::Accepted { server, sid, value },
         Ok(_) => WriteVerdict::Refused {
             cid,
             code: ECA_NOWTACCESS,
@@ -83,6 +83,7 @@ fn write_verdict<'a>(
     requires told { KnowRights rows.now }
     ensures found { result ≡ write_verdict rows.now write.session write.sid write.dtype write.count payload.now }
     ensures bound { visits.new ≤ visits.old + 1 }
+    ensures no_less { visits.old ≤ visits.new }
 {
     let Some(channel) = rows.told_channel(visits, write.session, write.sid) else {
         return WriteVerdict::NoChannel;
@@ -104,6 +105,7 @@ pub(crate) fn hear_write(
     requires told { KnowRights rows.old }
     ensures ok { OnOk result (rows.new ≡ write_asked write.session write.sid write.dtype write.count payload.now head.now rows.old) }
     ensures bound { visits.new ≤ visits.old + 1 }
+    ensures no_less { visits.old ≤ visits.new }
 {
     match write_verdict(rows, visits, write, payload) {
         WriteVerdict::NoChannel => refuse_channel(rows, write.session, head),
@@ -196,6 +198,7 @@ pub(crate) fn hear_write_notify(
     ensures ok { OnOk result (rows.new ≡ write_notify_asked write.session write.sid ioid write.dtype write.count payload.now head.now rows.old) }
     ensures used_up { IsErrOf result Refusal.NumbersUsedUp → is_past_numbers (write_notify_asked write.session write.sid ioid write.dtype write.count payload.now head.now rows.old) ≡ true }
     ensures bound { visits.new ≤ visits.old + 1 }
+    ensures no_less { visits.old ≤ visits.new }
 {
     match write_verdict(rows, visits, write, payload) {
         WriteVerdict::NoChannel => Ok(refuse_channel(rows, write.session, head)?),

@@ -52,6 +52,7 @@ fn names_of(
 ) -> Result<Names, AllocError>
     ensures names { IfOk result (λ names. names ≡ channel_names (filter (is_channel_of number) clients.now.channels)) }
     ensures bound { OnOk result (visits.new ≤ visits.old + channel_count number clients.now) }
+    ensures no_less { visits.old ≤ visits.new }
 {
     let mut names = Names::new(alloc);
     for n in 0..clients.channel_count(number) {
@@ -71,6 +72,7 @@ pub(crate) fn lose_session(
     ensures ok { OnOk result (rows.new ≡ lost rows.old number) }
     ensures names { IfOk result (λ names. names ≡ names_of rows.old number) }
     ensures bound { OnOk result (visits.new ≤ visits.old + channel_count number rows.old.clients) }
+    ensures no_less { visits.old ≤ visits.new }
 {
     let names = names_of(rows.alloc, &rows.clients, visits, number)?;
     rows.connections.remove(Dest::Session(number));

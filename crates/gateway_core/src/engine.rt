@@ -75,6 +75,7 @@ impl Engine {
         ensures failed { IsErrOf result StepFault.Failed ↔ IsNone self.old.state }
         ensures err { OnErr result (self.new.state ≡ None) }
         ensures bound { OnOk result (IfSome self.old.state (λ w. IsWithin (event_looks w event) self.old.visits self.new.visits)) }
+        ensures no_less { self.old.visits ≤ self.new.visits }
     {
         let Some(rows) = &mut self.rows else {
             return Err(StepFault::Failed);
@@ -93,6 +94,7 @@ impl Engine {
         ensures in_range { OnOk result (option_map (λ w. runs_out w events.items) self.old.state ≡ Some false) }
         ensures failed { IsErrOf result StepFault.Failed ↔ IsNone self.old.state }
         ensures err { OnErr result (self.new.state ≡ None) }
+        ensures no_less { self.old.visits ≤ self.new.visits }
     {
         if self.rows.is_none() {
             return Err(StepFault::Failed);
@@ -112,6 +114,7 @@ impl Engine {
         ensures found { IfOk result (λ outs. Some outs.items ≡ option_map (λ w. taken w (Event.Drain dest count) dest) self.old.state) }
         ensures failed { IsErrOf result StepFault.Failed ↔ IsNone self.old.state }
         ensures err { OnErr result (self.new.state ≡ None) }
+        ensures no_less { self.old.visits ≤ self.new.visits }
     {
         let Some(rows) = &mut self.rows else {
             return Err(StepFault::Failed);
@@ -183,6 +186,8 @@ impl Engine {
         ensures found { IfOk result (λ answer. Some answer ≡ option_map (λ w. rights_asked w session sid) self.old.state) }
         ensures failed { IsOk result ↔ IsSome self.old.state }
         ensures same { self.new.state ≡ self.old.state }
+        ensures bound { self.new.visits ≤ self.old.visits + 1 }
+        ensures no_less { self.old.visits ≤ self.new.visits }
     {
         let Some(rows) = &self.rows else {
             return Err(Failed);
@@ -202,6 +207,7 @@ impl Engine {
         ensures found { IfOk result (λ answer. Some answer ≡ option_map (λ w. reading w session sid dtype count) self.old.state) }
         ensures failed { IsErrOf result AskFault.Failed ↔ IsNone self.old.state }
         ensures same { self.new.state ≡ self.old.state }
+        ensures no_less { self.old.visits ≤ self.new.visits }
     {
         match &self.rows {
             Some(rows) => match rows.reading(&mut self.visits, session, sid, dtype, count) {

@@ -31,6 +31,7 @@ pub(crate) fn step(rows: &mut Rows, visits: &mut Visits, event: Event) -> Result
     ensures used_up { IsErrOf result Refusal.NumbersUsedUp → is_past_numbers (step rows.old event) ≡ true }
     ensures in_range { OnOk result (is_past_numbers rows.new ≡ false) }
     ensures bound { OnOk result (IsWithin (event_looks rows.old event) visits.old visits.new) }
+    ensures no_less { visits.old ≤ visits.new }
 {
     let touched = perform(rows, visits, event)?;
     follow(rows, visits, touched)?;
@@ -51,6 +52,7 @@ pub(crate) fn drain(
     ensures found { IfOk result (λ outs. outs.items ≡ taken rows.old (Event.Drain dest count) dest) }
     ensures used_up { IsErrOf result Refusal.NumbersUsedUp → is_past_numbers (step rows.old (Event.Drain dest count)) ≡ true }
     ensures in_range { OnOk result (is_past_numbers rows.new ≡ false) }
+    ensures no_less { visits.old ≤ visits.new }
 {
     let touched = drain_touches(rows, dest);
     let outs = rows.take(dest, count)?;
@@ -81,6 +83,7 @@ fn perform(rows: &mut Rows, visits: &mut Visits, event: Event) -> Result<Touched
     ensures touched { IfOk result (λ touched. touched ≡ event_touches rows.old event) }
     ensures used_up { IsErrOf result Refusal.NumbersUsedUp → is_past_numbers (direct_effect rows.old event) ≡ true }
     ensures bound { OnOk result (IsWithin (direct_looks rows.old event) visits.old visits.new) }
+    ensures no_less { visits.old ≤ visits.new }
 {
     match event {
         Event::Opened(number, host) => {

@@ -29,7 +29,8 @@ fn channel_notice(
     visits: &mut Visits,
     channel: &Channel,
 ) -> Result<Option<ChannelNotice>, AllocError>
-    ensures { IfOk result (λ notice. notice ≡ channel_notice rows.now channel.now) }
+    ensures found { IfOk result (λ notice. notice ≡ channel_notice rows.now channel.now) }
+    ensures no_less { visits.old ≤ visits.new }
 {
     if !rows.is_link_connected(&channel.real) {
         return Ok(Some(disconnected(channel)));
@@ -52,7 +53,8 @@ fn channel_notice(
 }
 
 fn channel_notices(rows: &Rows, visits: &mut Visits) -> Result<Vec<ChannelNotice>, AllocError>
-    ensures { IfOk result (λ notices. notices.items ≡ channel_notices rows.now) }
+    ensures found { IfOk result (λ notices. notices.items ≡ channel_notices rows.now) }
+    ensures no_less { visits.old ≤ visits.new }
 {
     let mut notices = Vec::new(rows.alloc);
     for channel in rows.clients.channels(visits, rows.alloc)? {
@@ -69,7 +71,8 @@ fn channel_notices_on(
     visits: &mut Visits,
     name: &Name,
 ) -> Result<Vec<ChannelNotice>, AllocError>
-    ensures { IfOk result (λ notices. notices.items ≡ channel_notices_on name.now rows.now) }
+    ensures found { IfOk result (λ notices. notices.items ≡ channel_notices_on name.now rows.now) }
+    ensures no_less { visits.old ≤ visits.new }
 {
     let mut notices = Vec::new(rows.alloc);
     for channel in rows.channels_on(visits, name)? {
@@ -81,7 +84,8 @@ fn channel_notices_on(
 }
 
 fn set_rights(rows: &mut Rows, visits: &mut Visits, session: u32, sid: u32, reach: u32, rights: u32)
-    ensures { rows.new ≡ with_reach session sid reach rights rows.old }
+    ensures ok { rows.new ≡ with_reach session sid reach rights rows.old }
+    ensures no_less { visits.old ≤ visits.new }
 {
     rows.clients
         .put_channel(visits, session, sid, reach, rights);
@@ -92,7 +96,8 @@ fn tell_channel(
     visits: &mut Visits,
     notice: ChannelNotice,
 ) -> Result<(), AllocError>
-    ensures { OnOk result (rows.new ≡ channel_told rows.old notice) }
+    ensures ok { OnOk result (rows.new ≡ channel_told rows.old notice) }
+    ensures no_less { visits.old ≤ visits.new }
 {
     match notice {
         ChannelNotice::Disconnected { session, sid, cid } => {
@@ -117,7 +122,8 @@ pub(crate) fn tell_each(
     visits: &mut Visits,
     notices: &[ChannelNotice],
 ) -> Result<(), AllocError>
-    ensures { OnOk result (rows.new ≡ fold channel_told rows.old notices.now) }
+    ensures ok { OnOk result (rows.new ≡ fold channel_told rows.old notices.now) }
+    ensures no_less { visits.old ≤ visits.new }
 {
     for notice in notices {
         tell_channel(rows, visits, *notice)?;
@@ -127,7 +133,8 @@ pub(crate) fn tell_each(
 
 /// Tells clients of channels that are gone, and of rights that changed.
 pub(crate) fn tell_channels(rows: &mut Rows, visits: &mut Visits) -> Result<(), AllocError>
-    ensures { OnOk result (rows.new ≡ channels_told rows.old) }
+    ensures ok { OnOk result (rows.new ≡ channels_told rows.old) }
+    ensures no_less { visits.old ≤ visits.new }
 {
     let notices = channel_notices(rows, visits)?;
     tell_each(rows, visits, &notices)
@@ -139,7 +146,8 @@ pub(crate) fn tell_channels_on(
     visits: &mut Visits,
     name: &Name,
 ) -> Result<(), AllocError>
-    ensures { OnOk result (rows.new ≡ channels_told_on name.now rows.old) }
+    ensures ok { OnOk result (rows.new ≡ channels_told_on name.now rows.old) }
+    ensures no_less { visits.old ≤ visits.new }
 {
     let notices = channel_notices_on(rows, visits, name)?;
     tell_each(rows, visits, &notices)

@@ -29,6 +29,7 @@ fn follow_all(rows: &mut Rows, visits: &mut Visits) -> Result<(), Refusal>
     requires order { AreInOrder rows.old }
     ensures ok { OnOk result (rows.new ≡ consequences rows.old) }
     ensures used_up { IsErrOf result Refusal.NumbersUsedUp → is_past_numbers (consequences rows.old) ≡ true }
+    ensures no_less { visits.old ≤ visits.new }
 {
     tell_channels(rows, visits)?;
     withhold_updates(rows, visits)?;
@@ -44,6 +45,7 @@ fn follow_anew(rows: &mut Rows, visits: &mut Visits) -> Result<(), Refusal>
     requires order { AreInOrder rows.old }
     ensures ok { OnOk result (rows.new ≡ consequences rows.old) }
     ensures used_up { IsErrOf result Refusal.NumbersUsedUp → is_past_numbers (consequences rows.old) ≡ true }
+    ensures no_less { visits.old ≤ visits.new }
 {
     rows.learn_leads(visits)?;
     follow_all(rows, visits)
@@ -56,6 +58,7 @@ fn follow_variable(rows: &mut Rows, visits: &mut Visits, name: &Name) -> Result<
     requires told { KnowRights (channels_told_on name.now rows.old) }
     ensures ok { OnOk result (rows.new ≡ variable_told name.now rows.old) }
     ensures used_up { IsErrOf result Refusal.NumbersUsedUp → is_past_numbers (variable_told name.now rows.old) ≡ true }
+    ensures no_less { visits.old ≤ visits.new }
 {
     tell_channels_on(rows, visits, name)?;
     withhold_updates_on(rows, visits, name)?;
@@ -74,6 +77,7 @@ pub fn follow(rows: &mut Rows, visits: &mut Visits, touched: Touched) -> Result<
     ensures ok { OnOk result (rows.new ≡ follows touched rows.old) }
     ensures used_up { IsErrOf result Refusal.NumbersUsedUp → is_past_numbers (follows touched rows.old) ≡ true }
     ensures bound { OnOk result (IsWithin (looks_after touched rows.old) visits.old visits.new) }
+    ensures no_less { visits.old ≤ visits.new }
 {
     match touched {
         Touched::All => follow_anew(rows, visits),

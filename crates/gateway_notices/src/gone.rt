@@ -17,7 +17,8 @@ fn channels_of<'a>(
     visits: &mut Visits,
     names: &Names,
 ) -> Result<Vec<&'a Channel>, AllocError>
-    ensures { IfOk result (λ channels. map (λ channel. channel.now) channels.items ≡ flat_map (λ name. filter (is_on name) rows.now.clients.channels) names.now) }
+    ensures found { IfOk result (λ channels. map (λ channel. channel.now) channels.items ≡ flat_map (λ name. filter (is_on name) rows.now.clients.channels) names.now) }
+    ensures no_less { visits.old ≤ visits.new }
 {
     let mut channels = Vec::new(rows.alloc);
     for name in names.as_slice() {
@@ -34,7 +35,8 @@ fn channels_among<'a>(
     names: &Names,
 ) -> Result<Vec<&'a Channel>, AllocError>
     requires order { HasSidsInOrder rows.now }
-    ensures { IfOk result (λ channels. map (λ channel. channel.now) channels.items ≡ filter (is_channel_among names.now) rows.now.clients.channels) }
+    ensures found { IfOk result (λ channels. map (λ channel. channel.now) channels.items ≡ filter (is_channel_among names.now) rows.now.clients.channels) }
+    ensures no_less { visits.old ≤ visits.new }
 {
     let mut channels = channels_of(rows, visits, names)?;
     channels.sort_unstable_by_key(|channel| channel.sid);
@@ -48,7 +50,8 @@ fn gone_notices(
     names: &Names,
 ) -> Result<Vec<ChannelNotice>, AllocError>
     requires order { HasSidsInOrder rows.now }
-    ensures { IfOk result (λ notices. notices.items ≡ gone_notices_among names.now rows.now) }
+    ensures found { IfOk result (λ notices. notices.items ≡ gone_notices_among names.now rows.now) }
+    ensures no_less { visits.old ≤ visits.new }
 {
     let mut notices = Vec::new(rows.alloc);
     for channel in channels_among(rows, visits, names)? {
@@ -64,7 +67,8 @@ pub(crate) fn tell_gone(
     names: &Names,
 ) -> Result<(), AllocError>
     requires order { HasSidsInOrder rows.old }
-    ensures { OnOk result (rows.new ≡ channels_gone_on names.now rows.old) }
+    ensures ok { OnOk result (rows.new ≡ channels_gone_on names.now rows.old) }
+    ensures no_less { visits.old ≤ visits.new }
 {
     let notices = gone_notices(rows, visits, names)?;
     tell_each(rows, visits, &notices)

@@ -1,9 +1,9 @@
 //! What servers are owed about links.
 ghost use Rattle.std.specs.Prelude.{◌≡◌, ◌++◌, map, filter, filter_map, true, false, fold, OnOk, IfOk, IfSome, IsErrOf};
 ghost use Rattle.std.specs.List.{list_any};
-ghost use Rattle.link_table.specs.Links.{has_subscription};
+ghost use Rattle.link_table.specs.Links.{has_other_sub};
 ghost use Rattle.gateway_state.specs.Numbers.{is_past_numbers};
-ghost use Rattle.gateway_state.specs.Notices.{dropped, interest_notices, link_notices, link_notices_of, link_told, links_told, subscribed_to, with_subscription_of};
+ghost use Rattle.gateway_state.specs.Notices.{dropped, interest_notices, link_notices, link_notices_of, link_told, links_told, subject_notices, subscribed_to, with_subscription_of};
 ghost use Rattle.gateway_state.specs.Settled.{AreInOrder, HasCidsInOrder, HasLinksApart};
 ghost use Rattle.gateway_state.specs.Told.{KnowRights};
 ghost use Rattle.gateway_state.specs.Variables.{link_of};
@@ -11,15 +11,60 @@ ghost use Rattle.touched_rows.specs.Touched.{interest_notices_over, interest_tol
 ghost use Rattle.touched_rows.specs.Touches.{AreReady};
 
 use ca_message::ToServer;
-use gateway_rows::{Refusal, Rows, is_for, sent_count, time_of};
-use gateway_state::LinkNotice;
-use link_table::{Counter, Link, LinkState, Subscription, TableFault};
+use gateway_rows::{Refusal, Rows, is_for, sent_for, type_for};
+use gateway_state::{LinkNotice, Native};
+use link_table::{Counter, Link, LinkState, Subject, Subscription, TableFault};
 use mask_merge::Want;
 use pv_name::Name;
 use std::alloc::AllocError;
 use touched_rows::Names;
 
-/// What a server is owed because of what the readers of a connected link's variable want.
+/// What the server of a connected link is owed about a subject.
+fn add_subject_notices(
+    rows: &Rows,
+    notices: &mut Vec<LinkNotice>,
+    subject: Subject,
+    link: &Link,
+    sid: u32,
+    native: Native,
+) -> Result<(), AllocError>
+    requires told { KnowRights rows.now }
+    ensures { OnOk result (notices.new.items ≡ notices.old.items ++ subject_notices subject rows.now link.now sid native.dtype native.count) }
+{
+    let (server, cid) = (link.server, link.cid);
+    let want = rows.wanted_for(subject, &link.name, native.dtype, native.count);
+    let present = link.subscriptions.at(subject);
+    if is_for(want, present) {
+        return Ok(());
+    }
+    let dtype = type_for(subject, native.dtype);
+    if let Some(subscription) = present {
+        notices.push(LinkNotice::Cancelled {
+            subject,
+            server,
+            cid,
+            sid,
+            dtype,
+            subscription,
+        })?;
+    }
+    let notice = match want {
+        None => LinkNotice::Unread { subject, cid },
+        Some(want) => LinkNotice::Subscribed {
+            subject,
+            server,
+            cid,
+            sid,
+            dtype,
+            want,
+            sent: sent_for(subject, rows.minor_of(server), native.count, want.count),
+        },
+    };
+    notices.push(notice)?;
+    Ok(())
+}
+
+/// What a server is owed because of what the readers of a link's variable want.
 fn add_interest_notices(
     rows: &Rows,
     notices: &mut Vec<LinkNotice>,
@@ -31,32 +76,9 @@ fn add_interest_notices(
     let LinkState::Connected { sid, dtype, count } = link.state else {
         return Ok(());
     };
-    let want = rows.interest_of(&link.name, count);
-    if is_for(want, link.subscription) {
-        return Ok(());
-    }
-    if let Some(subscription) = link.subscription {
-        notices.push(LinkNotice::Cancelled {
-            server: link.server,
-            cid: link.cid,
-            sid,
-            dtype: time_of(dtype),
-            subscription,
-        })?;
-    }
-    let notice = match want {
-        None => LinkNotice::Unread { cid: link.cid },
-        Some(want) => LinkNotice::Subscribed {
-            server: link.server,
-            cid: link.cid,
-            sid,
-            dtype: time_of(dtype),
-            want,
-            sent: sent_count(rows.minor_of(link.server), count, want.count),
-        },
-    };
-    notices.push(notice)?;
-    Ok(())
+    let native = Native { dtype, count };
+    add_subject_notices(rows, notices, Subject::Values, link, sid, native)?;
+    add_subject_notices(rows, notices, Subject::Properties, link, sid, native)
 }
 
 fn add_link_notices(
@@ -89,19 +111,20 @@ fn link_notices(rows: &Rows) -> Result<Vec<LinkNotice>, AllocError>
     Ok(notices)
 }
 
-/// Keeps a link's present subscription, or that it has none. Where there is no such link there is
-/// nothing to keep.
+/// Keeps a link's present subscription for a subject, or that it has none. Where there is no such link
+/// there is nothing to keep.
 #[tactic(auto, using(rows::proofs::RowLemmas::change_first_absent))]
 fn set_subscription(
     rows: &mut Rows,
+    subject: Subject,
     server: u32,
     cid: u32,
     subscription: Option<Subscription>,
 ) -> Result<(), AllocError>
-    requires new { IfSome subscription (λ s. list_any (has_subscription server s.id) rows.old.upstream.links ≡ false) }
-    ensures { OnOk result (rows.new ≡ with_subscription_of server cid subscription rows.old) }
+    requires new { IfSome subscription (λ s. list_any (has_other_sub server cid subject s.id) rows.old.upstream.links ≡ false) }
+    ensures { OnOk result (rows.new ≡ with_subscription_of subject server cid subscription rows.old) }
 {
-    match rows.upstream.set_sub(server, cid, subscription) {
+    match rows.upstream.set_sub(server, cid, subject, subscription) {
         Ok(()) => Ok(()),
         Err(TableFault::Missing) => Ok(()),
         Err(_) => Err(AllocError),
@@ -111,6 +134,7 @@ fn set_subscription(
 #[tactic(auto, using(gateway_state::proofs::NewNumbers::new_id), unfolding(gateway_state::specs::Telling::sent, gateway_state::specs::Numbers::is_past_numbers))]
 fn subscribe(
     rows: &mut Rows,
+    subject: Subject,
     server: u32,
     cid: u32,
     sid: u32,
@@ -119,8 +143,8 @@ fn subscribe(
     sent: u32,
 ) -> Result<(), Refusal>
     requires order { AreInOrder rows.old }
-    ensures ok { OnOk result (rows.new ≡ subscribed_to server cid sid dtype want sent rows.old) }
-    ensures used_up { IsErrOf result Refusal.NumbersUsedUp → is_past_numbers (subscribed_to server cid sid dtype want sent rows.old) ≡ true }
+    ensures ok { OnOk result (rows.new ≡ subscribed_to subject server cid sid dtype want sent rows.old) }
+    ensures used_up { IsErrOf result Refusal.NumbersUsedUp → is_past_numbers (subscribed_to subject server cid sid dtype want sent rows.old) ≡ true }
 {
     let Some(id) = rows.upstream.give_out(Counter::Subscription) else {
         return Err(Refusal::NumbersUsedUp);
@@ -131,7 +155,7 @@ fn subscribe(
         count: want.count,
         sent,
     };
-    set_subscription(rows, server, cid, Some(subscription))?;
+    set_subscription(rows, subject, server, cid, Some(subscription))?;
     rows.ask(
         server,
         &ToServer::EventAdd {
@@ -165,13 +189,14 @@ fn tell_link(rows: &mut Rows, notice: LinkNotice) -> Result<(), Refusal>
 {
     match notice {
         LinkNotice::Cancelled {
+            subject,
             server,
             cid,
             sid,
             dtype,
             subscription,
         } => {
-            set_subscription(rows, server, cid, None)?;
+            set_subscription(rows, subject, server, cid, None)?;
             let said = ToServer::EventCancel {
                 sid,
                 id: subscription.id,
@@ -181,18 +206,19 @@ fn tell_link(rows: &mut Rows, notice: LinkNotice) -> Result<(), Refusal>
             rows.ask(server, &said)?;
             Ok(())
         }
-        LinkNotice::Unread { cid } => {
-            rows.forget_value(cid);
+        LinkNotice::Unread { subject, cid } => {
+            rows.forget(subject, cid);
             Ok(())
         }
         LinkNotice::Subscribed {
+            subject,
             server,
             cid,
             sid,
             dtype,
             want,
             sent,
-        } => subscribe(rows, server, cid, sid, dtype, want, sent),
+        } => subscribe(rows, subject, server, cid, sid, dtype, want, sent),
         LinkNotice::Dropped { server, cid, state } => {
             drop_link(rows, server, cid, state)?;
             Ok(())

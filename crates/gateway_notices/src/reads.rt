@@ -44,6 +44,7 @@ fn read_notice(
     requires told { KnowRights rows.now }
     ensures found { IfOk result (λ notice. notice ≡ read_notice rows.now read) }
     ensures bound { visits.new ≤ visits.old + 1 }
+    ensures no_less { visits.old ≤ visits.new }
 {
     let Some(channel) = rows.told_channel(visits, read.session, read.sid) else {
         return Ok(None);
@@ -57,7 +58,8 @@ fn read_notice(
 
 fn read_notices(rows: &Rows, visits: &mut Visits) -> Result<VecDeque<ReadNotice>, AllocError>
     requires told { KnowRights rows.now }
-    ensures { IfOk result (λ notices. notices.items ≡ read_notices rows.now) }
+    ensures found { IfOk result (λ notices. notices.items ≡ read_notices rows.now) }
+    ensures no_less { visits.old ≤ visits.new }
 {
     let mut notices = VecDeque::new(rows.alloc);
     for read in &rows.clients.reads(visits, rows.alloc)? {
@@ -77,6 +79,7 @@ fn read_notices_on(
     requires told { KnowRights rows.now }
     ensures found { IfOk result (λ notices. notices.items ≡ read_notices_on name.now rows.now) }
     ensures bound { OnOk result (visits.new ≤ visits.old + 2 * reads_on rows.now name.now) }
+    ensures no_less { visits.old ≤ visits.new }
 {
     let mut notices = VecDeque::new(rows.alloc);
     for read in &rows.reads_for(visits, name)? {
@@ -126,7 +129,8 @@ fn tell_each(rows: &mut Rows, mut notices: VecDeque<ReadNotice>) -> Result<(), A
 /// Answers reads that are covered, and refuses those whose right is gone.
 pub(crate) fn tell_reads(rows: &mut Rows, visits: &mut Visits) -> Result<(), AllocError>
     requires told { KnowRights rows.old }
-    ensures { OnOk result (rows.new ≡ reads_told rows.old) }
+    ensures ok { OnOk result (rows.new ≡ reads_told rows.old) }
+    ensures no_less { visits.old ≤ visits.new }
 {
     let notices = read_notices(rows, visits)?;
     tell_each(rows, notices)
@@ -141,6 +145,7 @@ pub(crate) fn tell_reads_on(
     requires told { KnowRights rows.old }
     ensures ok { OnOk result (rows.new ≡ reads_told_on name.now rows.old) }
     ensures bound { OnOk result (visits.new ≤ visits.old + 2 * reads_on rows.old name.now) }
+    ensures no_less { visits.old ≤ visits.new }
 {
     let notices = read_notices_on(rows, visits, name)?;
     tell_each(rows, notices)
@@ -155,6 +160,7 @@ pub(crate) fn tell_one_read(
     requires told { KnowRights rows.old }
     ensures ok { OnOk result (rows.new ≡ one_read_told read rows.old) }
     ensures bound { visits.new ≤ visits.old + 1 }
+    ensures no_less { visits.old ≤ visits.new }
 {
     match read_notice(rows, visits, read)? {
         Some(notice) => tell_read(rows, notice),

@@ -12,6 +12,7 @@ use std::alloc::AllocError;
 pub(crate) fn share_on(rows: &mut Rows, visits: &mut Visits, name: &Name) -> Result<(), AllocError>
     ensures same { rows.new ≡ rows.old }
     ensures bound { OnOk result (visits.new ≤ visits.old + 2 * subs_on rows.old name.now) }
+    ensures no_less { visits.old ≤ visits.new }
 {
     let Some((cid, native)) = value_on(rows, name) else {
         return Ok(());
@@ -33,6 +34,7 @@ pub(crate) fn share_with(
 ) -> Result<(), AllocError>
     ensures same { rows.new ≡ rows.old }
     ensures bound { visits.new ≤ visits.old + 1 }
+    ensures no_less { visits.old ≤ visits.new }
 {
     match value_on(rows, name) {
         Some((cid, native)) if is_waiting(rows, visits, sub) => {
@@ -54,7 +56,8 @@ fn value_on(rows: &Rows, name: &Name) -> Option<(u32, u32)> {
 }
 
 fn nth_waiting(rows: &Rows, visits: &mut Visits, name: &Name, n: usize) -> Option<ClientSub>
-    ensures { visits.new ≤ visits.old + 2 }
+    ensures ok { visits.new ≤ visits.old + 2 }
+    ensures no_less { visits.old ≤ visits.new }
 {
     let sub = rows.clients.sub_on(visits, name, n)?;
     if is_waiting(rows, visits, sub) {
@@ -67,7 +70,8 @@ fn nth_waiting(rows: &Rows, visits: &mut Visits, name: &Name, n: usize) -> Optio
 // Whether a subscription may be told an update, by the rights that were told last. What is kept for
 // one whose client wants none for now is kept in vain.
 fn is_waiting(rows: &Rows, visits: &mut Visits, sub: &ClientSub) -> bool
-    ensures { visits.new ≤ visits.old + 1 }
+    ensures ok { visits.new ≤ visits.old + 1 }
+    ensures no_less { visits.old ≤ visits.new }
 {
     sub.owed
         && rows.is_taking(sub.session)

@@ -18,7 +18,8 @@ use std::collections::VecDeque;
 /// Whether a channel stands that may not be read.
 fn is_unreadable(rows: &Rows, visits: &mut Visits, session: u32, sid: u32) -> bool
     requires told { KnowRights rows.now }
-    ensures { result ≡ is_unreadable rows.now (channel_of rows.now session sid) }
+    ensures found { result ≡ is_unreadable rows.now (channel_of rows.now session sid) }
+    ensures no_less { visits.old ≤ visits.new }
 {
     match rows.told_channel(visits, session, sid) {
         Some(channel) => !may_read(channel.rights),
@@ -29,14 +30,16 @@ fn is_unreadable(rows: &Rows, visits: &mut Visits, session: u32, sid: u32) -> bo
 /// Whether a subscription's channel may not be read, and nothing is owed to it yet.
 fn is_withheld(rows: &Rows, visits: &mut Visits, sub: &ClientSub) -> bool
     requires told { KnowRights rows.now }
-    ensures { result ≡ is_withheld rows.now sub.now }
+    ensures found { result ≡ is_withheld rows.now sub.now }
+    ensures no_less { visits.old ≤ visits.new }
 {
     !sub.owed && is_unreadable(rows, visits, sub.session, sub.sid)
 }
 
 fn withheld(rows: &Rows, visits: &mut Visits) -> Result<Vec<ClientSub>, AllocError>
     requires told { KnowRights rows.now }
-    ensures { IfOk result (λ subs. subs.items ≡ withheld rows.now) }
+    ensures found { IfOk result (λ subs. subs.items ≡ withheld rows.now) }
+    ensures no_less { visits.old ≤ visits.new }
 {
     let mut subs = Vec::new(rows.alloc);
     for sub in rows.clients.subs(visits, rows.alloc)? {
@@ -50,7 +53,8 @@ fn withheld(rows: &Rows, visits: &mut Visits) -> Result<Vec<ClientSub>, AllocErr
 /// Owes the latest value to subscriptions whose channels may not be read.
 pub(crate) fn withhold_updates(rows: &mut Rows, visits: &mut Visits) -> Result<(), AllocError>
     requires told { KnowRights rows.old }
-    ensures { OnOk result (rows.new ≡ updates_withheld rows.old) }
+    ensures ok { OnOk result (rows.new ≡ updates_withheld rows.old) }
+    ensures no_less { visits.old ≤ visits.new }
 {
     let subs = withheld(rows, visits)?;
     rows.owe_all(visits, &subs);
@@ -59,7 +63,8 @@ pub(crate) fn withhold_updates(rows: &mut Rows, visits: &mut Visits) -> Result<(
 
 fn withheld_on(rows: &Rows, visits: &mut Visits, name: &Name) -> Result<Vec<ClientSub>, AllocError>
     requires told { KnowRights rows.now }
-    ensures { IfOk result (λ subs. subs.items ≡ withheld_on name.now rows.now) }
+    ensures found { IfOk result (λ subs. subs.items ≡ withheld_on name.now rows.now) }
+    ensures no_less { visits.old ≤ visits.new }
 {
     let mut subs = Vec::new(rows.alloc);
     for sub in &rows.subs_on(visits, name)? {
@@ -77,7 +82,8 @@ pub(crate) fn withhold_updates_on(
     name: &Name,
 ) -> Result<(), AllocError>
     requires told { KnowRights rows.old }
-    ensures { OnOk result (rows.new ≡ updates_withheld_on name.now rows.old) }
+    ensures ok { OnOk result (rows.new ≡ updates_withheld_on name.now rows.old) }
+    ensures no_less { visits.old ≤ visits.new }
 {
     let subs = withheld_on(rows, visits, name)?;
     rows.owe_all(visits, &subs);
@@ -87,6 +93,7 @@ pub(crate) fn withhold_updates_on(
 fn is_paused(rows: &Rows, visits: &mut Visits, number: u32) -> bool
     ensures found { result ≡ is_paused rows.now number }
     ensures bound { visits.new ≤ visits.old + 1 }
+    ensures no_less { visits.old ≤ visits.new }
 {
     match rows.clients.session(visits, number) {
         Some(session) => session.paused,
@@ -98,6 +105,7 @@ fn is_paused(rows: &Rows, visits: &mut Visits, number: u32) -> bool
 fn is_open_to(rows: &Rows, visits: &mut Visits, sub: &ClientSub) -> bool
     ensures found { result ≡ is_open_to rows.now sub.now }
     ensures bound { visits.new ≤ visits.old + 1 }
+    ensures no_less { visits.old ≤ visits.new }
 {
     !is_paused(rows, visits, sub.session) && rows.is_taking(sub.session)
 }
@@ -152,6 +160,7 @@ fn update_notice(
     requires told { KnowRights rows.now }
     ensures found { IfOk result (λ notice. notice ≡ update_notice rows.now sub) }
     ensures bound { visits.new ≤ visits.old + 2 }
+    ensures no_less { visits.old ≤ visits.new }
 {
     if !(sub.owed && is_open_to(rows, visits, &sub)) {
         return Ok(None);
@@ -164,7 +173,8 @@ fn update_notice(
 
 fn update_notices(rows: &Rows, visits: &mut Visits) -> Result<VecDeque<UpdateNotice>, AllocError>
     requires told { KnowRights rows.now }
-    ensures { IfOk result (λ notices. notices.items ≡ update_notices rows.now) }
+    ensures found { IfOk result (λ notices. notices.items ≡ update_notices rows.now) }
+    ensures no_less { visits.old ≤ visits.new }
 {
     let mut notices = VecDeque::new(rows.alloc);
     for sub in rows.clients.subs(visits, rows.alloc)? {
@@ -185,6 +195,7 @@ fn update_notices_on(
     ensures found { IfOk result (λ notices. notices.items ≡ update_notices_on name.now rows.now) }
     ensures bound { OnOk result (visits.new ≤ visits.old + 3 * subs_on rows.now name.now) }
     ensures fewer { IfOk result (λ notices. length notices.items ≤ subs_on rows.now name.now) }
+    ensures no_less { visits.old ≤ visits.new }
 {
     let mut notices = VecDeque::new(rows.alloc);
     for sub in &rows.subs_on(visits, name)? {
@@ -202,7 +213,8 @@ fn update_notices_to(
     number: u32,
 ) -> Result<VecDeque<UpdateNotice>, AllocError>
     requires told { KnowRights rows.now }
-    ensures { IfOk result (λ notices. notices.items ≡ update_notices_to number rows.now) }
+    ensures found { IfOk result (λ notices. notices.items ≡ update_notices_to number rows.now) }
+    ensures no_less { visits.old ≤ visits.new }
 {
     let mut notices = VecDeque::new(rows.alloc);
     for sub in &rows.subs_of(visits, number)? {
@@ -217,6 +229,7 @@ fn update_notices_to(
 fn tell_update(rows: &mut Rows, visits: &mut Visits, notice: UpdateNotice) -> Result<(), AllocError>
     ensures ok { OnOk result (rows.new ≡ update_told rows.old notice) }
     ensures bound { visits.new ≤ visits.old + 1 }
+    ensures no_less { visits.old ≤ visits.new }
 {
     if !rows.is_taking(notice.session) {
         return Ok(());
@@ -238,6 +251,7 @@ fn tell_each(
 ) -> Result<(), AllocError>
     ensures ok { OnOk result (rows.new ≡ fold update_told rows.old notices.items) }
     ensures bound { OnOk result (visits.new ≤ visits.old + length notices.items) }
+    ensures no_less { visits.old ≤ visits.new }
 {
     while let Some(notice) = notices.pop_front() {
         tell_update(rows, visits, notice)?;
@@ -248,7 +262,8 @@ fn tell_each(
 /// Gives the updates that are due.
 pub(crate) fn tell_updates(rows: &mut Rows, visits: &mut Visits) -> Result<(), AllocError>
     requires told { KnowRights rows.old }
-    ensures { OnOk result (rows.new ≡ updates_told rows.old) }
+    ensures ok { OnOk result (rows.new ≡ updates_told rows.old) }
+    ensures no_less { visits.old ≤ visits.new }
 {
     let notices = update_notices(rows, visits)?;
     tell_each(rows, visits, notices)
@@ -263,6 +278,7 @@ pub(crate) fn tell_updates_on(
     requires told { KnowRights rows.old }
     ensures ok { OnOk result (rows.new ≡ updates_told_on name.now rows.old) }
     ensures bound { OnOk result (visits.new ≤ visits.old + 4 * subs_on rows.old name.now) }
+    ensures no_less { visits.old ≤ visits.new }
 {
     let notices = update_notices_on(rows, visits, name)?;
     tell_each(rows, visits, notices)
@@ -275,7 +291,8 @@ pub(crate) fn tell_updates_to(
     number: u32,
 ) -> Result<(), AllocError>
     requires told { KnowRights rows.old }
-    ensures { OnOk result (rows.new ≡ updates_told_to number rows.old) }
+    ensures ok { OnOk result (rows.new ≡ updates_told_to number rows.old) }
+    ensures no_less { visits.old ≤ visits.new }
 {
     let notices = update_notices_to(rows, visits, number)?;
     tell_each(rows, visits, notices)
@@ -290,6 +307,7 @@ pub(crate) fn tell_one_update(
     requires told { KnowRights rows.old }
     ensures ok { OnOk result (rows.new ≡ one_update_told sub rows.old) }
     ensures bound { visits.new ≤ visits.old + 3 }
+    ensures no_less { visits.old ≤ visits.new }
 {
     match update_notice(rows, visits, sub)? {
         Some(notice) => tell_update(rows, visits, notice),

@@ -1,4 +1,4 @@
--- What the readers of a variable want, by the rights that their clients were last told.
+-- What the readers of a variable ask for, by the rights that their clients were last told.
 use Rattle.std.proofs.Common.{◌≡◌, ℕ, ◌==◌, ◌∙◌, true≢false, if◌then◌else◌, List, [], ◌∷◌, ◌++◌, Bool, true, false, cond, ◌&&◌, Option, Some, None, refl, sym, ap}
 use Rattle.std.specs.Prelude.{IfSome, filter, map, nat_lt}
 use Rattle.std.specs.List.{All, find}
@@ -9,14 +9,12 @@ use Rattle.channel_table.specs.declared.channels.Channel.{Channel}
 use Rattle.channel_table.specs.declared.subs.ClientSub.{ClientSub}
 use Rattle.channel_table.specs.Channels.{is_channel}
 use Rattle.channel_table.specs.Indexes.{is_to}
-use Rattle.channel_table.specs.Told.{ask_of_sub, channel_ask, reads_over, sub_ask, want_on}
-use Rattle.mask_merge.specs.declared.want.TheConstants.{ALWAYS_ASKED}
-use Rattle.mask_merge.specs.declared.want.Want.{Want}
-use Rattle.mask_merge.specs.Counts.{as_native, wants_in}
-use Rattle.mask_merge.specs.Merged.{merged}
-use Rattle.gateway_state.specs.declared.interest.TheConstants.{READ_EVENTS}
+use Rattle.channel_table.specs.Demand.{ask_of_sub, asks_on, channel_ask, own_ask, reach_ask, reads_over, sub_ask, want_on}
+use Rattle.link_table.specs.declared.links.Subject.TheVariants.{Values}
+use Rattle.mask_merge.specs.declared.want.Ask.{Ask}
+use Rattle.mask_merge.specs.Counts.{asks_in}
 use Rattle.gateway_state.specs.Gateway.{Gateway}
-use Rattle.gateway_state.specs.Interest.{channel_want, interest_of, is_read_through, is_reader, is_subscriber, readers, sub_want}
+use Rattle.gateway_state.specs.Interest.{interest_of, is_read_through, is_reader, is_subscriber, reader_ask, readers, wanted_by}
 use Rattle.gateway_state.specs.Rights.{channel_of, may_read, rights_of}
 use Rattle.gateway_state.specs.Told.{KnowRights, KnowsRights}
 use Rattle.gateway_state.proofs.ToldRights.{found_told}
@@ -51,91 +49,78 @@ subscribers_as_told w name (sub ∷ subs) told =
 channels_as_told : (w : Gateway) (name : List ℕ) (channels : List Channel) → All (KnowsRights w) channels → filter (is_reader w name) channels ≡ filter (is_told_reader name) channels
 channels_as_told w name [] told = refl
 channels_as_told w name (c ∷ channels) told =
-    let first : c.rights ≡ rights_of w c = All-head (KnowsRights w) c channels told in
+    let first : c.rights_told ≡ rights_of w c = All-head (KnowsRights w) c channels told in
     let rest = channels_as_told w name channels (All-tail (KnowsRights w) c channels told) in
-    λ i. cond (is_on name c && nat_lt 0 c.reach && may_read (sym first i)) (c ∷ rest i) (rest i)
+    λ i. cond (is_on name c && nat_lt 0 c.reach.count && may_read (sym first i)) (c ∷ rest i) (rest i)
 
-pub readers_as_told : (w : Gateway) (name : List ℕ) (native : ℕ) → KnowRights w
-    → readers w name native
-    ≡ map (sub_want native) (filter (is_told_subscriber w name) w.clients.subs) ++ map channel_want (filter (is_told_reader name) w.clients.channels)
-readers_as_told w name native told =
+readers_as_told : (w : Gateway) (name : List ℕ) → KnowRights w
+    → readers w name ≡ map own_ask (filter (is_told_subscriber w name) w.clients.subs) ++ map reader_ask (filter (is_told_reader name) w.clients.channels)
+readers_as_told w name told =
     let subs = subscribers_as_told w name w.clients.subs told in
     let channels = channels_as_told w name w.clients.channels told in
-    λ i. map (sub_want native) (subs i) ++ map channel_want (channels i)
+    λ i. map own_ask (subs i) ++ map reader_ask (channels i)
 
--- ---- what the table of clients counts is what they want
+-- ---- what the table of clients counts is what they ask for
 
-wants_apart : (xs ys : List (Option Want)) → wants_in (xs ++ ys) ≡ wants_in xs ++ wants_in ys
-wants_apart [] ys = refl
-wants_apart (None ∷ xs) ys = wants_apart xs ys
-wants_apart (Some want ∷ xs) ys = ap (λ (rest : List Want). want ∷ rest) (wants_apart xs ys)
+asks_apart : (xs ys : List (Option Ask)) → asks_in (xs ++ ys) ≡ asks_in xs ++ asks_in ys
+asks_apart [] ys = refl
+asks_apart (None ∷ xs) ys = asks_apart xs ys
+asks_apart (Some ask ∷ xs) ys = ap (λ (rest : List Ask). ask ∷ rest) (asks_apart xs ys)
 
-abbrev natives : ℕ → List (Option Want) → List Want
-natives native asks = map (as_native native) (wants_in asks)
+mapped : {A B : Type 0} (f : A → B) (t : Bool) (x : A) (xs : List A) → map f (cond t (x ∷ xs) xs) ≡ cond t (f x ∷ map f xs) (map f xs)
+mapped f true x xs = refl
+mapped f false x xs = refl
 
-natives_apart : (native : ℕ) (xs ys : List (Option Want)) → natives native (xs ++ ys) ≡ natives native xs ++ natives native ys
-natives_apart native xs ys = ap (map (as_native native)) (wants_apart xs ys) ∙ map-append (as_native native) (wants_in xs) (wants_in ys)
-
-sub_counted : (native : ℕ) (name : List ℕ) (sub : ClientSub) (found : Option Channel) (asks : List (Option Want)) (wants : List Want) → natives native asks ≡ wants
-    → natives native (cond (is_channel_on name found) (ask_of_sub (reads_over found) sub ∷ asks) asks) ≡ cond (is_told_through name found) (sub_want native sub ∷ wants) wants
-sub_counted native name sub None asks wants rest = rest
-sub_counted native name sub (Some c) asks wants rest =
-    elim (is_on name c) as (λ t. natives native (cond t (ask_of_sub (may_read c.rights) sub ∷ asks) asks) ≡ cond (t && may_read c.rights) (sub_want native sub ∷ wants) wants) [
-      | true ↦ elim (may_read c.rights) as (λ t. natives native (ask_of_sub t sub ∷ asks) ≡ cond t (sub_want native sub ∷ wants) wants) [ true ↦ ap (λ (left : List Want). sub_want native sub ∷ left) rest | false ↦ rest ]
+sub_counted : (name : List ℕ) (sub : ClientSub) (found : Option Channel) (counted : List (Option Ask)) (asks : List Ask) → asks_in counted ≡ asks
+    → asks_in (cond (is_channel_on name found) (ask_of_sub (reads_over found) sub ∷ counted) counted) ≡ cond (is_told_through name found) (own_ask sub ∷ asks) asks
+sub_counted name sub None counted asks rest = rest
+sub_counted name sub (Some c) counted asks rest =
+    elim (is_on name c) as (λ t. asks_in (cond t (ask_of_sub (may_read c.rights_told) sub ∷ counted) counted) ≡ cond (t && may_read c.rights_told) (own_ask sub ∷ asks) asks) [
+      | true ↦
+          elim (may_read c.rights_told) as (λ t. asks_in (ask_of_sub t sub ∷ counted) ≡ cond t (own_ask sub ∷ asks) asks)
+          [ true ↦ ap (λ (left : List Ask). own_ask sub ∷ left) rest | false ↦ rest ]
       | false ↦ rest
     ]
 
-subs_counted : (native : ℕ) (name : List ℕ) (w : Gateway) (subs : List ClientSub)
-    → natives native (map (sub_ask w.clients.channels) (filter (is_to w.clients.channels name) subs)) ≡ map (sub_want native) (filter (is_told_subscriber w name) subs)
-subs_counted native name w [] = refl
-subs_counted native name w (sub ∷ subs) =
+subs_counted : (name : List ℕ) (w : Gateway) (subs : List ClientSub)
+    → asks_in (map (sub_ask w.clients.channels) (filter (is_to w.clients.channels name) subs)) ≡ map own_ask (filter (is_told_subscriber w name) subs)
+subs_counted name w [] = refl
+subs_counted name w (sub ∷ subs) =
     let found = find (is_channel sub.session sub.sid) w.clients.channels in
-    let rest = subs_counted native name w subs in
-    let asks = map (sub_ask w.clients.channels) (filter (is_to w.clients.channels name) subs) in
-    let wants = map (sub_want native) (filter (is_told_subscriber w name) subs) in
-    ap (natives native) (mapped (sub_ask w.clients.channels) (is_channel_on name found) sub (filter (is_to w.clients.channels name) subs))
-    ∙ sub_counted native name sub found asks wants rest
-    ∙ sym (mapped (sub_want native) (is_told_through name found) sub (filter (is_told_subscriber w name) subs))
-  where
-    mapped : {A B : Type 0} (f : A → B) (t : Bool) (x : A) (xs : List A) → map f (cond t (x ∷ xs) xs) ≡ cond t (f x ∷ map f xs) (map f xs)
-    mapped f true x xs = refl
-    mapped f false x xs = refl
+    let counted = map (sub_ask w.clients.channels) (filter (is_to w.clients.channels name) subs) in
+    let asks = map own_ask (filter (is_told_subscriber w name) subs) in
+    ap asks_in (mapped (sub_ask w.clients.channels) (is_channel_on name found) sub (filter (is_to w.clients.channels name) subs))
+    ∙ sub_counted name sub found counted asks (subs_counted name w subs)
+    ∙ sym (mapped own_ask (is_told_through name found) sub (filter (is_told_subscriber w name) subs))
 
-reach_counted : (native reach : ℕ) → nat_lt 0 reach ≡ true → (if reach == 0 then native else reach) ≡ reach
-reach_counted native reach above =
-    elim (reach == 0) as (λ t. (reach == 0) ≡ t → (if t then native else reach) ≡ reach)
-    [ true ↦ λ e. absurd (true≢false (sym above ∙ ap (nat_lt 0) (eqb-true reach 0 e))) | false ↦ λ _. refl ] refl
+channel_counted : (c : Channel) (counted : List (Option Ask)) (asks : List Ask) → asks_in counted ≡ asks
+    → asks_in (channel_ask c ∷ counted) ≡ cond (nat_lt 0 c.reach.count && may_read c.rights_told) (reader_ask c ∷ asks) asks
+channel_counted c counted asks rest =
+    elim (nat_lt 0 c.reach.count && may_read c.rights_told)
+    as (λ t. asks_in ((if t then Some (reach_ask c.reach) else None) ∷ counted) ≡ cond t (reader_ask c ∷ asks) asks)
+    [ true ↦ ap (λ (left : List Ask). reader_ask c ∷ left) rest | false ↦ rest ]
 
-channel_counted : (native : ℕ) (c : Channel) (asks : List (Option Want)) (wants : List Want) → natives native asks ≡ wants
-    → natives native (channel_ask c ∷ asks) ≡ cond (nat_lt 0 c.reach && may_read c.rights) (channel_want c ∷ wants) wants
-channel_counted native c asks wants rest =
-    elim (nat_lt 0 c.reach) as (λ t. nat_lt 0 c.reach ≡ t → natives native ((if t && may_read c.rights then Some (record { mask = ALWAYS_ASKED; count = c.reach }) else None) ∷ asks) ≡ cond (t && may_read c.rights) (channel_want c ∷ wants) wants) [
-      | true ↦ λ above.
-          elim (may_read c.rights) as (λ t. natives native ((if t then Some (record { mask = ALWAYS_ASKED; count = c.reach }) else None) ∷ asks) ≡ cond t (channel_want c ∷ wants) wants)
-          [ true ↦ (let count = reach_counted native c.reach above in (λ i. record { mask = READ_EVENTS; count = count i } ∷ rest i)) | false ↦ rest ]
-      | false ↦ λ _. rest
-    ] refl
-
-channels_counted : (native : ℕ) (name : List ℕ) (channels : List Channel) → natives native (map channel_ask (filter (is_on name) channels)) ≡ map channel_want (filter (is_told_reader name) channels)
-channels_counted native name [] = refl
-channels_counted native name (c ∷ channels) =
-    elim (is_on name c) as (λ t. natives native (map channel_ask (cond t (c ∷ filter (is_on name) channels) (filter (is_on name) channels))) ≡ map channel_want (cond (t && nat_lt 0 c.reach && may_read c.rights) (c ∷ filter (is_told_reader name) channels) (filter (is_told_reader name) channels))) [
+channels_counted : (name : List ℕ) (channels : List Channel) → asks_in (map channel_ask (filter (is_on name) channels)) ≡ map reader_ask (filter (is_told_reader name) channels)
+channels_counted name [] = refl
+channels_counted name (c ∷ channels) =
+    elim (is_on name c) as (λ t. asks_in (map channel_ask (cond t (c ∷ filter (is_on name) channels) (filter (is_on name) channels)))
+    ≡ map reader_ask (cond (t && nat_lt 0 c.reach.count && may_read c.rights_told) (c ∷ filter (is_told_reader name) channels) (filter (is_told_reader name) channels))) [
       | true ↦
-          channel_counted native c (map channel_ask (filter (is_on name) channels)) (map channel_want (filter (is_told_reader name) channels)) (channels_counted native name channels)
-          ∙ sym (mapped (nat_lt 0 c.reach && may_read c.rights) (filter (is_told_reader name) channels))
-      | false ↦ channels_counted native name channels
+          channel_counted c (map channel_ask (filter (is_on name) channels)) (map reader_ask (filter (is_told_reader name) channels)) (channels_counted name channels)
+          ∙ sym (mapped reader_ask (nat_lt 0 c.reach.count && may_read c.rights_told) c (filter (is_told_reader name) channels))
+      | false ↦ channels_counted name channels
     ]
-  where
-    mapped : (t : Bool) (cs : List Channel) → map channel_want (cond t (c ∷ cs) cs) ≡ cond t (channel_want c ∷ map channel_want cs) (map channel_want cs)
-    mapped true cs = refl
-    mapped false cs = refl
+
+-- what is counted of a variable is what its readers ask for
+readers_as_counted : (w : Gateway) (name : List ℕ) → KnowRights w → asks_in (asks_on w.clients.channels w.clients.subs name) ≡ readers w name
+readers_as_counted w name told =
+    let subs = subs_counted name w w.clients.subs in
+    let channels = channels_counted name w.clients.channels in
+    asks_apart (map (sub_ask w.clients.channels) (filter (is_to w.clients.channels name) w.clients.subs)) (map channel_ask (filter (is_on name) w.clients.channels))
+    ∙ (λ i. subs i ++ channels i) ∙ sym (readers_as_told w name told)
 
 pub interest_as_counted : (w : Gateway) (name : List ℕ) (native : ℕ) → KnowRights w → want_on w.clients.channels w.clients.subs native name ≡ interest_of w name native
-interest_as_counted w name native told =
-    let subs = subs_counted native name w w.clients.subs in
-    let channels = channels_counted native name w.clients.channels in
-    let apart = natives_apart native (map (sub_ask w.clients.channels) (filter (is_to w.clients.channels name) w.clients.subs)) (map channel_ask (filter (is_on name) w.clients.channels)) in
-    ap merged (apart ∙ (λ i. subs i ++ channels i) ∙ sym (readers_as_told w name native told))
+interest_as_counted w name native told = ap (wanted_by Values 0 native) (readers_as_counted w name told)
 
 -- a channel that is found is one of those that stand
 pub found_if_told : (w : Gateway) (session sid : ℕ) (found : Option Channel) → KnowRights w → channel_of w session sid ≡ found → IfSome found (KnowsRights w)

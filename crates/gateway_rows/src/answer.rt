@@ -1,7 +1,8 @@
 //! What reads are answered.
 ghost use Rattle.std.specs.Prelude.{◌≡◌, Some, IfOk};
-ghost use Rattle.gateway_state.specs.Answer.{is_type_served, converts_to, fits_payload, meant_count, refusal, value_refusal, cached_as, cached_value, reading, reading_at, reading_on, reading_of, refused_or};
-ghost use Rattle.gateway_state.specs.Servers.{time_of};
+ghost use Rattle.gateway_state.specs.Answer.{is_type_served, converts_to, fits_payload, meant_count, needs_by_number, refusal, value_refusal, cached_as, cached_value, reading, reading_at, reading_on, reading_of, refused_or};
+ghost use Rattle.gateway_state.specs.Clients.{reach_with};
+ghost use Rattle.gateway_state.specs.Servers.{ctrl_of, time_of};
 ghost use Rattle.gateway_state.specs.Told.{KnowRights, KnowsRights};
 ghost use Rattle.dbr_layout.specs.Dbr.{dbr_of};
 
@@ -9,9 +10,9 @@ use crate::rights::may_read;
 use crate::state::Rows;
 use crate::variables::native_in;
 use ca_message::codes::{ECA_BADCOUNT, ECA_BADTYPE, ECA_NORDACCESS, ECA_TOLARGE};
-use channel_table::{Channel, Visits};
-use dbr_layout::{Dbr, converts};
-use gateway_state::{Given, LastMessage, Native, PLAIN_TYPES, Reading, TIME_FORM};
+use channel_table::{Channel, Reach, Visits};
+use dbr_layout::{Dbr, converts, has_properties_by, is_state_by, is_text_by};
+use gateway_state::{CTRL_FORM, Given, LastMessage, Native, PLAIN_TYPES, Reading, TIME_FORM};
 use link_table::Link;
 use std::alloc::{AllocError, Global};
 
@@ -74,7 +75,7 @@ impl Rows {
         requires told { KnowsRights self.now channel.now }
         ensures { IfOk result (λ reading. reading ≡ reading_at self.now channel.now dtype count) }
     {
-        let rights = channel.rights;
+        let rights = channel.rights_told;
         match self.link_of(&channel.real) {
             Some(link) => match native_in(link.state) {
                 Some(native) => self.reading_of(rights, dtype, count, link, native),
@@ -94,7 +95,8 @@ impl Rows {
         count: u32,
     ) -> Result<Reading, AllocError>
         requires told { KnowRights self.now }
-        ensures { IfOk result (λ answer. answer ≡ reading self.now session sid dtype count) }
+        ensures found { IfOk result (λ answer. answer ≡ reading self.now session sid dtype count) }
+        ensures no_less { visits.old ≤ visits.new }
     {
         match self.told_channel(visits, session, sid) {
             Some(channel) => self.reading_at(channel, dtype, count),
@@ -187,5 +189,33 @@ pub fn time_of(dtype: u16) -> u16
         dtype + TIME_FORM
     } else {
         dtype
+    }
+}
+
+/// The number of a plain type's CTRL form; any other number stays.
+pub(crate) fn ctrl_of(dtype: u16) -> u16
+    ensures { result ≡ ctrl_of dtype }
+{
+    if dtype < PLAIN_TYPES {
+        dtype + CTRL_FORM
+    } else {
+        dtype
+    }
+}
+
+/// Whether an asked type can't be told without the properties of a variable of a native type.
+fn needs_by_number(native: u16, dtype: u16) -> bool
+    ensures { result ≡ needs_by_number native dtype }
+{
+    has_properties_by(dtype) || is_state_by(native) && is_text_by(dtype)
+}
+
+/// How far the reads on a channel reach, with one more of this type and count.
+pub fn reach_with(reach: Reach, native: Native, dtype: u16, count: u32) -> Reach
+    ensures { result ≡ reach_with reach native dtype count }
+{
+    Reach {
+        count: reach.count.max(meant_count(native.count, count)),
+        props: reach.props || needs_by_number(native.dtype, dtype),
     }
 }

@@ -2,7 +2,7 @@
 ghost use Rattle.std.specs.Prelude.{◌≡◌, ◌≤◌, ◌+◌, length, OnOk};
 ghost use Rattle.gateway_state.specs.Clients.{remembered, without_channel};
 ghost use Rattle.gateway_state.specs.Direct.{edited, swept};
-ghost use Rattle.gateway_state.specs.Notices.{without_read};
+ghost use Rattle.gateway_state.specs.Notices.{forgotten, without_read};
 ghost use Rattle.gateway_state.specs.Servers.{without_link};
 ghost use Rattle.gateway_state.specs.Updates.{owed_to, owed_to_all, with_owed_of};
 ghost use Rattle.gateway_state.specs.Variables.{without_cached};
@@ -10,6 +10,7 @@ ghost use Rattle.gateway_state.specs.Variables.{without_cached};
 use crate::state::Rows;
 use channel_table::{ClientSub, Visits, WaitingRead};
 use gateway_state::{Policy, SEARCH_LIMIT, Search};
+use link_table::Subject;
 use pv_name::{Host, Name};
 use std::alloc::AllocError;
 
@@ -33,6 +34,7 @@ impl Rows {
     pub fn set_owed(&mut self, visits: &mut Visits, session: u32, id: u32, owed: bool)
         ensures put { self.new ≡ with_owed_of session id owed self.old }
         ensures bound { visits.new ≤ visits.old + 1 }
+        ensures no_less { visits.old ≤ visits.new }
     {
         self.clients.put_sub(visits, session, id, owed);
     }
@@ -40,6 +42,7 @@ impl Rows {
     fn owe(&mut self, visits: &mut Visits, sub: &ClientSub)
         ensures put { self.new ≡ owed_to self.old sub.now }
         ensures bound { visits.new ≤ visits.old + 1 }
+        ensures no_less { visits.old ≤ visits.new }
     {
         self.set_owed(visits, sub.session, sub.id, true);
     }
@@ -48,6 +51,7 @@ impl Rows {
     pub fn owe_all(&mut self, visits: &mut Visits, subs: &[ClientSub])
         ensures put { self.new ≡ owed_to_all self.old subs.now }
         ensures bound { visits.new ≤ visits.old + length subs.now }
+        ensures no_less { visits.old ≤ visits.new }
     {
         for sub in subs {
             self.owe(visits, sub);
@@ -55,10 +59,20 @@ impl Rows {
     }
 
     /// Forgets a link's last message.
-    pub fn forget_value(&mut self, cid: u32)
+    fn forget_value(&mut self, cid: u32)
         ensures { self.new ≡ without_cached cid self.old }
     {
         self.cache.remove(cid);
+    }
+
+    /// Forgets what a link was told of a subject.
+    pub fn forget(&mut self, subject: Subject, cid: u32)
+        ensures { self.new ≡ forgotten subject cid self.old }
+    {
+        match subject {
+            Subject::Values => self.forget_value(cid),
+            Subject::Properties => {}
+        }
     }
 
     /// Removes a link and its last message.

@@ -1,11 +1,13 @@
 //! What the readers of a variable want together.
 ghost use Rattle.std.specs.Prelude.{◌≡◌};
-ghost use Rattle.gateway_state.specs.Interest.{interest_of, is_for, minor_of, sent_count, subscription_of};
+ghost use Rattle.gateway_state.specs.Interest.{interest_of, is_for, minor_of, sent_count, sent_for, subscription_of, wanted_for};
+ghost use Rattle.gateway_state.specs.Notices.{type_for};
 ghost use Rattle.gateway_state.specs.Told.{KnowRights};
 
+use crate::answer::{ctrl_of, time_of};
 use crate::state::Rows;
 use gateway_state::{Sub, UPDATE_MINOR};
-use link_table::{LinkState, Subscription};
+use link_table::{LinkState, Subject, Subscription};
 use mask_merge::Want;
 use pv_name::Name;
 
@@ -20,7 +22,24 @@ impl Rows {
         self.clients.want_on(name, native)
     }
 
-    /// The present subscription of a variable.
+    /// What the readers of a variable of this native type and count want of a subject.
+    pub fn wanted_for(
+        &self,
+        subject: Subject,
+        name: &Name,
+        dtype: u16,
+        native: u32,
+    ) -> Option<Want>
+        requires told { KnowRights self.now }
+        ensures { result ≡ wanted_for subject self.now name.now dtype native }
+    {
+        match subject {
+            Subject::Values => self.interest_of(name, native),
+            Subject::Properties => None,
+        }
+    }
+
+    /// The present subscription to a variable's values.
     pub fn subscription_of(&self, name: &Name) -> Option<Sub>
         ensures { result ≡ subscription_of self.now name.now }
     {
@@ -28,7 +47,7 @@ impl Rows {
         let LinkState::Connected { .. } = link.state else {
             return None;
         };
-        let subscription = link.subscription?;
+        let subscription = link.subscriptions.values?;
         Some(Sub {
             id: subscription.id,
             mask: subscription.mask,
@@ -60,12 +79,32 @@ pub fn is_for(want: Option<Want>, subscription: Option<Subscription>) -> bool
 }
 
 /// The count as it is sent: 0 stands for the native count, where the server knows that.
-pub fn sent_count(minor: u32, native: u32, count: u32) -> u32
+fn sent_count(minor: u32, native: u32, count: u32) -> u32
     ensures { result ≡ sent_count minor native count }
 {
     if count == native && minor >= UPDATE_MINOR {
         0
     } else {
         count
+    }
+}
+
+/// The count as it is sent for a subject: of properties always the one that is wanted.
+pub fn sent_for(subject: Subject, minor: u32, native: u32, count: u32) -> u32
+    ensures { result ≡ sent_for subject minor native count }
+{
+    match subject {
+        Subject::Values => sent_count(minor, native, count),
+        Subject::Properties => count,
+    }
+}
+
+/// The type that a server is asked to tell a subject in, of a native type.
+pub fn type_for(subject: Subject, dtype: u16) -> u16
+    ensures { result ≡ type_for subject dtype }
+{
+    match subject {
+        Subject::Values => time_of(dtype),
+        Subject::Properties => ctrl_of(dtype),
     }
 }

@@ -23,9 +23,9 @@ mod state;
 mod telling;
 mod variables;
 
-pub use answer::{fits_payload, meant_count, read_refusal, time_of, value_refusal};
+pub use answer::{fits_payload, meant_count, reach_with, read_refusal, time_of, value_refusal};
 pub use fault::Refusal;
-pub use interest::{is_for, sent_count};
+pub use interest::{is_for, sent_for, type_for};
 pub use rights::may_read;
 pub use state::Rows;
 pub use variables::{is_connected, is_creating, native_in};

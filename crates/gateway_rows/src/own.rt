@@ -19,6 +19,7 @@ impl Rows {
     ) -> Result<Vec<WaitingRead>, AllocError>
         ensures found { IfOk result (λ reads. reads.items ≡ filter (waits_for self.now name.now) self.now.clients.reads) }
         ensures bound { IfOk result (λ reads. visits.new ≤ visits.old + length reads.items) }
+        ensures no_less { visits.old ≤ visits.new }
     {
         self.clients.reads_for(visits, self.alloc, name)
     }
@@ -30,7 +31,8 @@ impl Rows {
         visits: &mut Visits,
         name: &Name,
     ) -> Result<Vec<&'a Channel>, AllocError>
-        ensures { IfOk result (λ channels. map (λ channel. channel.now) channels.items ≡ filter (is_on name.now) self.now.clients.channels) }
+        ensures found { IfOk result (λ channels. map (λ channel. channel.now) channels.items ≡ filter (is_on name.now) self.now.clients.channels) }
+        ensures no_less { visits.old ≤ visits.new }
     {
         let mut channels = Vec::new(self.alloc);
         for n in 0..self.clients.channels_on(name) {
@@ -46,6 +48,7 @@ impl Rows {
     pub fn subs_on(&self, visits: &mut Visits, name: &Name) -> Result<Vec<ClientSub>, AllocError>
         ensures found { IfOk result (λ subs. subs.items ≡ filter (is_sub_to self.now name.now) self.now.clients.subs) }
         ensures bound { IfOk result (λ subs. visits.new ≤ visits.old + length subs.items) }
+        ensures no_less { visits.old ≤ visits.new }
     {
         let mut subs = Vec::new(self.alloc);
         for n in 0..self.clients.subs_on(name) {
@@ -58,7 +61,8 @@ impl Rows {
 
     /// The subscriptions of a session, in the order in which they were made.
     pub fn subs_of(&self, visits: &mut Visits, session: u32) -> Result<Vec<ClientSub>, AllocError>
-        ensures { IfOk result (λ subs. subs.items ≡ filter (is_sub_of session) self.now.clients.subs) }
+        ensures found { IfOk result (λ subs. subs.items ≡ filter (is_sub_of session) self.now.clients.subs) }
+        ensures no_less { visits.old ≤ visits.new }
     {
         subs_of(self.alloc, &self.clients, visits, session)
     }
@@ -71,7 +75,8 @@ fn subs_of(
     visits: &mut Visits,
     session: u32,
 ) -> Result<Vec<ClientSub>, AllocError>
-    ensures { IfOk result (λ subs. subs.items ≡ filter (is_sub_of session) clients.now.subs) }
+    ensures found { IfOk result (λ subs. subs.items ≡ filter (is_sub_of session) clients.now.subs) }
+    ensures no_less { visits.old ≤ visits.new }
 {
     let mut subs = Vec::new(alloc);
     for n in 0..clients.sub_count(session) {

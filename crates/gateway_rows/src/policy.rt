@@ -28,6 +28,7 @@ impl Rows {
     ) -> Result<Option<Lead>, AllocError>
         ensures found { IfOk result (λ lead. lead ≡ lead_in self.now number name.now) }
         ensures bound { visits.new ≤ visits.old + 1 }
+        ensures no_less { visits.old ≤ visits.new }
     {
         match self.clients.session(visits, number) {
             Some(session) => self.lead_of(&session.host, name),
@@ -45,6 +46,7 @@ impl Rows {
         ensures found { IfOk result (λ lead. lead ≡ lead_in self.old number name.now) }
         ensures same { self.new ≡ self.old }
         ensures bound { visits.new ≤ visits.old + 1 }
+        ensures no_less { visits.old ≤ visits.new }
     {
         match self.clients.session(visits, number) {
             Some(session) => self.searches.learn_lead(self.alloc, &session.host, name),
@@ -55,7 +57,8 @@ impl Rows {
     /// Remembers what the names of all channels lead to, so that asking for them again runs no rule.
     /// Nothing else changes.
     pub fn learn_leads(&mut self, visits: &mut Visits) -> Result<(), AllocError>
-        ensures { self.new ≡ self.old }
+        ensures ok { self.new ≡ self.old }
+        ensures no_less { visits.old ≤ visits.new }
     {
         learn_leads(self.alloc, &self.clients, visits, &mut self.searches)
     }
@@ -67,7 +70,8 @@ fn learn_leads(
     visits: &mut Visits,
     searches: &mut Searches,
 ) -> Result<(), AllocError>
-    ensures { searches.new ≡ searches.old }
+    ensures ok { searches.new ≡ searches.old }
+    ensures no_less { visits.old ≤ visits.new }
 {
     for channel in &clients.channels(visits, alloc)? {
         if let Some(session) = clients.session(visits, channel.session) {

@@ -70,6 +70,7 @@ impl Rows {
     ) -> Option<&'a Channel>
         ensures found { option_copied result ≡ channel_of self.now session sid }
         ensures bound { visits.new ≤ visits.old + 1 }
+        ensures no_less { visits.old ≤ visits.new }
     {
         self.clients.channel(visits, session, sid)
     }
@@ -85,6 +86,7 @@ impl Rows {
         ensures found { option_copied result ≡ channel_of self.now session sid }
         ensures told { IfSome (option_copied result) (KnowsRights self.now) }
         ensures bound { visits.new ≤ visits.old + 1 }
+        ensures no_less { visits.old ≤ visits.new }
     {
         self.channel_of(visits, session, sid)
     }
@@ -92,10 +94,12 @@ impl Rows {
     /// What a client was last told that it may do with a channel, nothing where it has no such channel. It
     /// takes no memory.
     pub fn rights_told(&self, visits: &mut Visits, session: u32, sid: u32) -> Option<u32>
-        ensures { result ≡ rights_told self.now session sid }
+        ensures found { result ≡ rights_told self.now session sid }
+        ensures bound { visits.new ≤ visits.old + 1 }
+        ensures no_less { visits.old ≤ visits.new }
     {
         match self.channel_of(visits, session, sid) {
-            Some(channel) => Some(channel.rights),
+            Some(channel) => Some(channel.rights_told),
             None => None,
         }
     }

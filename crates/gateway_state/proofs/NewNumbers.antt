@@ -1,7 +1,7 @@
 -- The next numbers are new: no row has them.
 use Rattle.std.proofs.Common.{◌≡◌, ℕ, ◌+◌, ◌<◌, ◌≤◌, List, [], ◌∷◌, Bool, true, false, cond, ◌||◌, ◌&&◌, Option, Some, None, refl, arith}
 use Rattle.std.proofs.lemmas.Bool.{and_from, and_parts, lt-ltb, ltb-true, ne_eqb}
-use Rattle.std.specs.Prelude.{◌==◌}
+use Rattle.std.specs.Prelude.{◌==◌, if◌then◌else◌}
 use Rattle.std.specs.List.{list_all, list_any}
 use Rattle.rows.specs.Rows.{change_first}
 use Rattle.channel_table.specs.Channels.{is_channel}
@@ -12,7 +12,7 @@ use Rattle.link_table.specs.declared.links.Subject.TheVariants.{Values, Properti
 use Rattle.link_table.specs.declared.links.Subscription.{Subscription}
 use Rattle.link_table.specs.declared.links.Subscriptions.{Subscriptions}
 use Rattle.link_table.specs.LinkRows.{has_link}
-use Rattle.link_table.specs.Links.{has_id, has_subscription, is_link, is_named, is_of, with_at, with_subscription}
+use Rattle.link_table.specs.Links.{has_id, has_other_sub, has_subscription, is_link, is_named, is_of, with_at, with_subscription}
 use Rattle.gateway_state.specs.Gateway.{Gateway}
 use Rattle.gateway_state.specs.Settled.{AreInOrder, AreRising, HasCidsInOrder, HasSidsInOrder, are_below, cid_of, has_id_below, is_below, sid_of}
 use Rattle.gateway_state.specs.Variables.{is_linked}
@@ -66,17 +66,28 @@ no_id_above : (next : ℕ) (sub : Option Subscription) → is_below next sub ≡
 no_id_above next None below = refl
 no_id_above next (Some sub) below = let less : sub.id < next = ltb-true sub.id next below in ne_eqb sub.id next (λ same. omega (arith, less, same))
 
-new_id_among : (server next : ℕ) (links : List Link) → list_all (has_id_below next) links ≡ true → list_any (has_subscription server next) links ≡ false
-new_id_among server next [] below = refl
-new_id_among server next (link ∷ links) below =
-    let parts = and_parts (has_id_below next link) (list_all (has_id_below next) links) below in
-    let both = and_parts (is_below next link.subscriptions.values) (is_below next link.subscriptions.properties) parts.0 in
-    rw (no_id_above next link.subscriptions.values both.0, no_id_above next link.subscriptions.properties both.1, new_id_among server next links parts.1)
-    (elim (is_of server link) as (λ t. ((t && false || t && false) || false) ≡ false) [ true ↦ refl | false ↦ refl ])
+no_sub_above : (server next : ℕ) (link : Link) → are_below next link.subscriptions ≡ true → has_subscription server next link ≡ false
+no_sub_above server next link below =
+    let both = and_parts (is_below next link.subscriptions.values) (is_below next link.subscriptions.properties) below in
+    rw (no_id_above next link.subscriptions.values both.0, no_id_above next link.subscriptions.properties both.1)
+    (elim (is_of server link) as (λ t. (t && false || t && false) ≡ false) [ true ↦ refl | false ↦ refl ])
 
--- no link has a subscription of the next ID
-pub new_id : (w : Gateway) (server : ℕ) → AreInOrder w → list_any (has_subscription server w.upstream.counters.subscription) w.upstream.links ≡ false
-new_id w server order = new_id_among server w.upstream.counters.subscription w.upstream.links order.ids
+no_other_above : (server cid : ℕ) (subject : Subject) (next : ℕ) (link : Link) → has_id_below next link ≡ true → has_other_sub server cid subject next link ≡ false
+no_other_above server cid subject next link below =
+    elim (is_link server cid link) as (λ t. has_subscription server next (if t then with_subscription subject None link else link) ≡ false) [
+      | true ↦ no_sub_above server next (with_subscription subject None link) (put_below subject next None link.subscriptions refl below)
+      | false ↦ no_sub_above server next link below
+    ]
+
+new_id_among : (server cid : ℕ) (subject : Subject) (next : ℕ) (links : List Link) → list_all (has_id_below next) links ≡ true → list_any (has_other_sub server cid subject next) links ≡ false
+new_id_among server cid subject next [] below = refl
+new_id_among server cid subject next (link ∷ links) below =
+    let parts = and_parts (has_id_below next link) (list_all (has_id_below next) links) below in
+    rw (no_other_above server cid subject next link parts.0) (new_id_among server cid subject next links parts.1)
+
+-- no other subscription has the next ID
+pub new_id : (w : Gateway) (server cid : ℕ) (subject : Subject) → AreInOrder w → list_any (has_other_sub server cid subject w.upstream.counters.subscription) w.upstream.links ≡ false
+new_id w server cid subject order = new_id_among server cid subject w.upstream.counters.subscription w.upstream.links order.ids
 
 -- CHANNELS AND LINKS
 

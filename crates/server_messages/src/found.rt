@@ -8,7 +8,7 @@ ghost use Rattle.gateway_state.specs.Variables.{is_linked};
 use ca_message::{NameText, ToServer};
 use gateway_rows::{Refusal, Rows};
 use gateway_state::Dest;
-use link_table::{Counter, LINK_LIMIT, Link, LinkState};
+use link_table::{Counter, LINK_LIMIT};
 use pv_name::Name;
 
 /// A server has a variable.
@@ -39,15 +39,7 @@ fn make_link(rows: &mut Rows, server: u32, name: Name) -> Result<(), Refusal>
         return Err(Refusal::NumbersUsedUp);
     };
     let asked = name.copy()?;
-    let link = Link {
-        cid,
-        server,
-        name,
-        state: LinkState::Creating,
-        rights: 0,
-        subscription: None,
-    };
-    if rows.upstream.add_link(link).is_err() {
+    if rows.upstream.add_link(server, cid, name).is_err() {
         return Err(Refusal::OutOfMemory);
     }
     rows.ask(

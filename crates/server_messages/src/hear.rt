@@ -27,6 +27,7 @@ pub fn hear_server(
     ensures ok { OnOk result (rows.new ≡ server_said rows.old server message) }
     ensures touched { IfOk result (λ touched. touched ≡ reply_touches rows.old server (reply_of message.head message.payload)) }
     ensures bound { OnOk result (IsWithin (reply_looks rows.old server (reply_of message.head message.payload)) visits.old visits.new) }
+    ensures no_less { visits.old ≤ visits.new }
 {
     match read_reply(&message.head, &message.payload) {
         Ok(ServerReply::Version { minor }) => {

@@ -3,7 +3,7 @@ ghost use Rattle.std.specs.Prelude.{◌≡◌, ◌≤◌, ◌+◌, ◌*◌, leng
 ghost use Rattle.std.specs.List.{find};
 ghost use Rattle.gateway_rows.specs.Own.{own_over, subs_on};
 ghost use Rattle.link_table.specs.Links.{has_subscription};
-ghost use Rattle.gateway_state.specs.Servers.{has_other_alarm, is_value, read_failed, updated, with_cached};
+ghost use Rattle.gateway_state.specs.Servers.{has_other_alarm, is_value, read_failed, subject_of, updated, with_cached};
 ghost use Rattle.gateway_state.specs.Updates.{concerned, is_concerned};
 ghost use Rattle.touched_rows.specs.Touches.{update_touches};
 
@@ -14,7 +14,7 @@ use channel_table::{ClientSub, Visits, WaitingRead};
 use dbr_layout::View;
 use gateway_rows::{Rows, time_of};
 use gateway_state::{ALARM_EVENTS, LastMessage, LastValue, VALUE_EVENTS};
-use link_table::LinkState;
+use link_table::{Link, LinkState, Subject};
 use pv_name::Name;
 use std::alloc::{AllocError, Global};
 use touched_rows::Touched;
@@ -75,6 +75,7 @@ fn concerned(
     ensures found { IfOk result (λ subs. subs.items ≡ concerned rows.now name.now differs) }
     ensures bound { OnOk result (visits.new ≤ visits.old + subs_on rows.now name.now) }
     ensures fewer { IfOk result (λ subs. length subs.items ≤ subs_on rows.now name.now) }
+    ensures no_less { visits.old ≤ visits.new }
 {
     let mut subs = Vec::new(rows.alloc);
     for sub in &rows.subs_on(visits, name)? {
@@ -98,6 +99,16 @@ fn has_other_alarm(rows: &Rows, cid: u32, dtype: u16, count: u32, payload: &[u8]
     }
 }
 
+/// The subject of a link's subscription that has this ID.
+fn subject_of(id: u32, link: &Link) -> Subject
+    ensures { result ≡ subject_of id link.now }
+{
+    match link.subscriptions.values {
+        Some(sub) if sub.id == id => Subject::Values,
+        _ => Subject::Properties,
+    }
+}
+
 /// An update came under a subscription's ID.
 pub(crate) fn update(
     rows: &mut Rows,
@@ -112,10 +123,15 @@ pub(crate) fn update(
     ensures ok { OnOk result (rows.new ≡ updated rows.old server id status dtype count payload) }
     ensures touched { IfOk result (λ touched. touched ≡ update_touches rows.old server id status dtype count payload) }
     ensures bound { OnOk result (visits.new ≤ visits.old + 2 * own_over rows.old (find (has_subscription server id) rows.old.upstream.links)) }
+    ensures no_less { visits.old ≤ visits.new }
 {
     let Some(link) = rows.upstream.by_sub(server, id) else {
         return Ok(Touched::Nothing);
     };
+    match subject_of(id, link) {
+        Subject::Values => {}
+        Subject::Properties => return Ok(Touched::Nothing),
+    }
     if status != ECA_NORMAL {
         let reads = rows.reads_for(visits, &link.name)?;
         fail_reads(rows, reads)?;
@@ -124,7 +140,7 @@ pub(crate) fn update(
     let LinkState::Connected { dtype: native, .. } = link.state else {
         return Ok(Touched::Nothing);
     };
-    let Some(subscription) = link.subscription else {
+    let Some(subscription) = link.subscriptions.values else {
         return Ok(Touched::Nothing);
     };
     if !is_value(native, subscription.count, dtype, count, &payload) {

@@ -11,4 +11,4 @@ pub returns-clause-found : goal.returns-clause-found
 returns-clause-found c =
     let told = told_rights_hold c.in-Some.rows c.args.session c.args.sid (c.self.invariant c.in-Some.rows c.in-Some.is) in
     let held : Some c.in-Some.rows ≡ c.args.self.now.state = sym c.in-Some.is ∙ ap (λ (e : EngineState). e.state) c.self.view_is in
-    ap Some (c.rights_told.ensures ∙ told) ∙ ap (option_map (λ (w : Gateway). rights_asked w c.args.session c.args.sid)) held
+    ap Some (c.rights_told.ensures.found ∙ told) ∙ ap (option_map (λ (w : Gateway). rights_asked w c.args.session c.args.sid)) held
