@@ -1,7 +1,7 @@
 use Rattle.std.proofs.Common.{is_some, ap, sym, ◌∙◌}
 use Rattle.mask_merge.specs.Counts.{Counts, exchanged, is_nothing}
 use Rattle.channel_table.proofs.Somebody.{somebody_exchanged, somebody_there, somebody_updated}
-use Rattle.channel_table.proofs.TalliesByName.{demand_there, demand_updated, demand_without}
+use Rattle.channel_table.proofs.TalliesByName.{demand_there, demand_updated}
 use Rattle.channel_table.proofs.demand.Demand.exchange.Goals as goal
 
 pub invariant_of-self-2 : goal.invariant_of-self-2

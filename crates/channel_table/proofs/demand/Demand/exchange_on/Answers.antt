@@ -1,4 +1,4 @@
-use Rattle.std.proofs.Common.{is_some, subst, ap, sym, ◌∙◌}
+use Rattle.std.proofs.Common.{is_some, ap, sym, ◌∙◌}
 use Rattle.mask_merge.specs.Counts.{Counts, is_nothing}
 use Rattle.row_index.specs.Lists.{of}
 use Rattle.channel_table.specs.Indexes.{rows_at, sub_key}
