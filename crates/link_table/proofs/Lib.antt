@@ -7,3 +7,4 @@ pub mod LinkSetLemmas
 pub mod NameLemmas
 pub mod OwnerLemmas
 pub mod WriteLemmas
+pub mod CidLemmas

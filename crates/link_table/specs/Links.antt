@@ -1,5 +1,6 @@
 -- The rows of links.
-use Rattle.std.specs.Prelude.{ℕ, List, Bool, false, not, ◌&&◌, ◌||◌, ◌==◌, bytes_eq, Option, Some, None, if◌then◌else◌}
+use Rattle.std.specs.Prelude.{ℕ, ◌+◌, ◌≤◌, nat_lt, List, [], ◌∷◌, Bool, false, not, ◌&&◌, ◌||◌, ◌==◌, bytes_eq, Option, Some, None, if◌then◌else◌}
+use Rattle.std.specs.List.{count_by, find}
 use Rattle.link_table.specs.declared.links.Link.{Link}
 use Rattle.link_table.specs.declared.links.LinkState.{LinkState}
 use Rattle.link_table.specs.declared.links.LinkState.TheVariants.{Creating}
@@ -67,6 +68,23 @@ with_subscription subject sub row = record row { subscriptions = with_at subject
 abbrev pub has_other_sub : ℕ → ℕ → Subject → ℕ → Link → Bool
 has_other_sub server cid subject id row =
     has_subscription server id (if is_link server cid row then with_subscription subject None row else row)
+
+-- a link of a lower CID
+abbrev pub is_below : ℕ → Link → Bool
+is_below cid row = nat_lt row.cid cid
+
+-- exactly n of the links have a lower CID than this one
+abbrev pub has_below : ℕ → List Link → Link → Bool
+has_below n links row = count_by (is_below row.cid) links == n
+
+-- the nth link by rising CID, counted from 0
+abbrev pub nth_by_cid : ℕ → List Link → Option Link
+nth_by_cid n links = find (has_below n links) links
+
+-- links stand in the order of their CIDs, each CID once and none below this one
+abbrev pub CidsRiseFrom : ℕ → List Link → Type 0
+CidsRiseFrom low [] = Unit {0}
+CidsRiseFrom low (row ∷ rows) = (low ≤ row.cid) × CidsRiseFrom (row.cid + 1) rows
 
 -- the second subscription has the ID of the first
 abbrev pub is_same_id : Option Subscription → Option Subscription → Bool

@@ -6,7 +6,7 @@ ghost use Rattle.rows.specs.Rows.{change_first};
 ghost use Rattle.link_table.specs.declared.counter.TheConstants.{LAST_NUMBER};
 ghost use Rattle.link_table.specs.LinkRows.{has_server, has_link, write_count};
 ghost use Rattle.link_table.specs.Servers.{is_server, is_not_server, with_minor};
-ghost use Rattle.link_table.specs.Links.{is_link, is_not_link, is_of, is_not_of, is_named, has_other_sub, has_subscription, new_link, with_state, with_subscription};
+ghost use Rattle.link_table.specs.Links.{is_link, is_not_link, is_of, is_not_of, is_named, has_other_sub, has_subscription, new_link, nth_by_cid, with_state, with_subscription, CidsRiseFrom};
 ghost use Rattle.link_table.specs.Writes.{is_write, is_not_write, is_not_write_of, is_not_write_on, is_not_write_to};
 ghost use Rattle.link_table.specs.Counters.{all_at, are_over, counter_of, raised};
 
@@ -103,9 +103,10 @@ impl Links {
         self.links.by_sub(server, id)
     }
 
-    /// The n-th link, counted from 0 in the order of adding. Since CIDs rise, this is their order.
+    /// The n-th link, counted from 0 in the order of adding. Where CIDs rise, this is their order.
     pub fn link(&self, n: usize) -> Option<&Link>
-        ensures { option_copied result ≡ slice_get self.now.links n }
+        ensures found { option_copied result ≡ slice_get self.now.links n }
+        ensures by_cid { CidsRiseFrom 0 self.now.links → option_copied result ≡ nth_by_cid n self.now.links }
     {
         self.links.link(n)
     }

@@ -8,17 +8,21 @@
 //! - `add servers FIRST LAST`, `add links SERVER FIRST LAST`, `add writes SERVER FIRST LAST SESSION SID`:
 //!   rows of these numbers, of which link 7 is for T7;
 //! - `put server N MINOR`, `put link SERVER CID SID TYPE COUNT RIGHTS`, `put unusable SERVER CID RIGHTS`,
-//!   `put sub SERVER CID ID MASK COUNT SENT`, `put none SERVER CID`;
+//!   `put sub SERVER CID ID MASK COUNT SENT`, `put props ..` of its properties, `put none SERVER CID`,
+//!   `put unlisted SERVER CID`: no subscription to its values, or to its properties;
 //! - `remove server N`, `remove link SERVER CID`, `remove write SERVER ID`, `remove writes SESSION SID`,
 //!   `remove session N`: its writes;
 //! - `find cid SERVER CID`, `find name NAME`, `find place N`, `find of SERVER N`, `find sub SERVER ID`: the
 //!   CID of a link, or `none`;
-//! - `show server N`: its minor version; `show link SERVER CID`: its state, rights and subscription;
+//! - `show server N`: its minor version; `show link SERVER CID`: its state, its rights, and its
+//!   subscriptions to values and to properties;
 //!   `show write SERVER ID`: the write; or `None`;
 //! - `count links`, `count of SERVER`: its links, `count writes SESSION`;
 //! - `give COUNTER`: its next number.
 use crate::words::{Call, Told};
-use link_table::{Counter, Link, LinkState, Links, Server, Subscription, TableFault, WaitingWrite};
+use link_table::{
+    Counter, LinkState, Links, Server, Subject, Subscription, TableFault, WaitingWrite,
+};
 use pv_name::Name;
 use std::alloc::Global;
 use std::process::Abort;
@@ -101,15 +105,7 @@ fn add_new_link(links: &mut Links, server: u32, cid: u32, name: Name, told: &mut
     if let Some(_) = links.by_name(&name) {
         return;
     }
-    let link = Link {
-        cid,
-        server,
-        name,
-        state: LinkState::Creating,
-        rights: 0,
-        subscription: None,
-    };
-    refused(links.add_link(link), told);
+    refused(links.add_link(server, cid, name), told);
 }
 
 /// Adds a write, but none whose ID waits at its server already.
@@ -121,13 +117,20 @@ fn add_new_write(links: &mut Links, write: WaitingWrite, told: &mut Told) {
     refused(links.add_write(write), told);
 }
 
-/// Keeps a link's subscription, but none whose ID the server has already.
-#[tactic(auto, using(channel_table::proofs::Lists::unfound_is_absent))]
-fn set_sub(links: &mut Links, server: u32, cid: u32, subscription: Subscription, told: &mut Told) {
-    if let Some(_) = links.by_sub(server, subscription.id) {
+/// Keeps a link's subscription on a subject, but none whose ID the server has already.
+#[tactic(auto, using(channel_table::proofs::Lists::unfound_is_absent, link_table::proofs::SubLemmas::none_other))]
+fn set_sub(
+    links: &mut Links,
+    server: u32,
+    cid: u32,
+    subject: Subject,
+    sub: Subscription,
+    told: &mut Told,
+) {
+    if let Some(_) = links.by_sub(server, sub.id) {
         return;
     }
-    refused(links.set_sub(server, cid, Some(subscription)), told);
+    refused(links.set_sub(server, cid, subject, Some(sub)), told);
 }
 
 fn name_of(alloc: Global, cid: u32) -> Option<Name> {
@@ -160,16 +163,24 @@ fn put(links: &mut Links, call: &Call<'_>, told: &mut Told) {
             links.put_link(server, cid, state, sixth);
         }
         "unusable" => links.put_link(server, cid, LinkState::Unusable, third),
-        "sub" => {
-            let subscription = Subscription {
+        "sub" | "props" => {
+            let sub = Subscription {
                 id: third,
                 mask: fourth.min(65_535) as u16,
                 count: fifth,
                 sent: sixth,
             };
-            set_sub(links, server, cid, subscription, told);
+            set_sub(links, server, cid, subject(call.what), sub, told);
         }
-        _ => refused(links.set_sub(server, cid, None), told),
+        _ => refused(links.set_sub(server, cid, subject(call.what), None), told),
+    }
+}
+
+/// Of what a subscription tells, by the word for it or for none.
+fn subject(word: &str) -> Subject {
+    match word {
+        "props" | "unlisted" => Subject::Properties,
+        _ => Subject::Values,
     }
 }
 
@@ -208,7 +219,12 @@ fn show(links: &Links, call: &Call<'_>, told: &mut Told) {
         "server" => told.name(&links.server(first).map(|server| server.minor)),
         "link" => {
             let link = links.by_cid(first, second);
-            told.name(&link.map(|link| (link.state, link.rights, link.subscription)));
+            told.name(&link.map(|link| (
+                link.state,
+                link.rights,
+                link.subscriptions.values,
+                link.subscriptions.properties,
+            )));
         }
         _ => told.name(&links.write(first, second)),
     }

@@ -56,12 +56,12 @@ fn a_link_keeps_its_state_and_its_rights(rt: HostRuntime) {
 put link 1 2 101 5 1 3
 put unusable 2 1 3
 show link 1 2
-> Some((Connected { sid: 101, dtype: 5, count: 1 }, 3, None))
+> Some((Connected { sid: 101, dtype: 5, count: 1 }, 3, None, None))
 show link 1 1
-> Some((Creating, 0, None))
+> Some((Creating, 0, None, None))
 put unusable 1 1 2
 show link 1 1
-> Some((Unusable, 2, None))
+> Some((Unusable, 2, None, None))
 ",
     );
 }
@@ -80,12 +80,54 @@ find sub 2 7
 find sub 1 8
 > none
 show link 1 2
-> Some((Creating, 0, Some(Subscription { id: 7, mask: 5, count: 1, sent: 0 })))
+> Some((Creating, 0, Some(Subscription { id: 7, mask: 5, count: 1, sent: 0 }), None))
 put none 1 2
 find sub 1 7
 > none
 put sub 1 3 7 5 1 0
 > Missing
+",
+    );
+}
+
+// The subscriptions to values and to properties come and go apart, and each leads to the link.
+#[test]
+fn a_link_is_found_by_either_of_its_subscriptions(rt: HostRuntime) {
+    tells(
+        &rt,
+        rt.alloc(),
+        "\
+put props 1 2 8 8 1 1
+find sub 1 8
+> 2
+put sub 1 2 7 5 1 0
+find sub 1 7
+> 2
+find sub 1 8
+> 2
+put sub 1 1 8 5 1 0
+show link 1 1
+> Some((Creating, 0, None, None))
+put none 1 2
+find sub 1 7
+> none
+show link 1 2
+> Some((Creating, 0, None, Some(Subscription { id: 8, mask: 8, count: 1, sent: 1 })))
+put props 1 2 9 8 1 1
+find sub 1 8
+> none
+find sub 1 9
+> 2
+put sub 1 2 8 5 1 0
+put unlisted 1 2
+find sub 1 9
+> none
+put props 1 1 9 8 1 1
+remove link 1 2
+find sub 1 8
+> none
+find sub 1 9
+> 1
 ",
     );
 }
