@@ -1,7 +1,7 @@
 //! What names were found to lead to.
-ghost use Rattle.std.specs.Prelude.{◌≡◌, ◌<◌, ◌≤◌, [], length, IfOk, IfSome, OnOk, OnErr, IsTrue};
+ghost use Rattle.std.specs.Prelude.{◌≡◌, ◌<◌, [], length, string_bytes, IfOk, IfSome, OnOk, OnErr, IsTrue};
 ghost use Rattle.gateway_state.specs.Resolution.{lead_of};
-ghost use Rattle.state_tables.specs.Leads.{AreLeads, IsLead, IsAskedBy, rows_of};
+ghost use Rattle.state_tables.specs.Leads.{AreKept, AreLeads, IsLead, IsAskedBy, rows_of, text_of};
 ghost use Rattle.state_tables.specs.declared.leads.TheConstants.{LEADS_LIMIT};
 ghost use Rattle.rule_desk.specs.declared.policy.Policy.{Policy as PolicyValue};
 
@@ -33,8 +33,8 @@ pub(crate) struct Leads {
 }
 
 impl Model for Leads {
-    ghost use Rattle.std.specs.Prelude.{◌≤◌, List, length};
-    ghost use Rattle.state_tables.specs.Leads.{rows_of};
+    ghost use Rattle.std.specs.Prelude.{List};
+    ghost use Rattle.state_tables.specs.Leads.{AreKept, rows_of};
     ghost use Rattle.state_tables.specs.declared.leads.TheConstants.{LEADS_LIMIT};
     ghost use Rattle.state_tables.specs.declared.leads.LeadRow.{LeadRow as Row};
 
@@ -42,7 +42,7 @@ impl Model for Leads {
 
     ghost view = { λ l. rows_of l.rows.entries };
 
-    ghost invariant = { λ l. length (rows_of l.rows.entries) ≤ LEADS_LIMIT };
+    ghost invariant = { λ l. AreKept LEADS_LIMIT l.rows.entries };
 }
 
 impl Leads {
@@ -101,10 +101,12 @@ impl Leads {
     }
 }
 
-#[tactic(auto, using(crate::proofs::LeadRows::leads_with_one, crate::proofs::LeadRows::one_more_at_most))]
+#[tactic(auto, using(crate::proofs::LeadRows::leads_with_one, crate::proofs::LeadRows::kept_with_one))]
 fn put(rows: &mut IndexMap<String, LeadRow>, key: String, row: LeadRow) -> Result<(), AllocError>
+    requires kept { AreKept LEADS_LIMIT rows.old.entries }
     requires room { length (rows_of rows.old.entries) < LEADS_LIMIT }
-    ensures fits { length (rows_of rows.new.entries) ≤ LEADS_LIMIT }
+    requires its { string_bytes key ≡ text_of row.host row.name }
+    ensures kept { AreKept LEADS_LIMIT rows.new.entries }
     ensures same { (policy : PolicyValue) → IsLead policy row.host row.name row.lead → AreLeads policy (rows_of rows.old.entries) → AreLeads policy (rows_of rows.new.entries) }
 {
     match rows.insert(key, row) {
@@ -114,7 +116,9 @@ fn put(rows: &mut IndexMap<String, LeadRow>, key: String, row: LeadRow) -> Resul
 }
 
 // One text for the two: no host has a space.
-fn key(alloc: Global, host: &Host, name: &Name) -> Result<String, AllocError> {
+fn key(alloc: Global, host: &Host, name: &Name) -> Result<String, AllocError>
+    ensures { IfOk result (λ key. string_bytes key ≡ text_of host.now name.now) }
+{
     let mut key = String::from_str(alloc, host.text())?;
     key.push_str(" ")?;
     key.push_str(name.text())?;
