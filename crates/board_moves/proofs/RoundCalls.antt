@@ -1,6 +1,6 @@
 -- Rounds whose calls are performed one by one, by their number.
-use Rattle.std.proofs.Common.{◌≡◌, ℕ, zero, suc, ◌+◌, ◌≤◌, List, [], ◌∷◌, ◌++◌, length, map, min, take, drop, Option, Some, None, Result, Ok, Err, refl, sym, ap, subst, ◌∙◌, arith}
-use Rattle.std.specs.Prelude.{slice_get, IsSome}
+use Rattle.std.proofs.Common.{◌≡◌, ℕ, zero, suc, ◌+◌, ◌-◌, ◌≤◌, List, [], ◌∷◌, ◌++◌, length, map, min, take, drop, Option, Some, None, Result, Ok, Err, refl, sym, ap, subst, ◌∙◌, arith}
+use Rattle.std.specs.Prelude.{◌^◌, slice_get, IsSome}
 use Rattle.std.specs.Option.{option_map}
 use Rattle.std.proofs.lemmas.List.{take_all, length-map}
 use Rattle.std.proofs.lemmas.Option.{slice_get-map}
@@ -20,7 +20,7 @@ use Rattle.board_moves.specs.declared.rounds.Call.TheVariants.{Pump, SendOut}
 pub record IsPerformed (calls : List Call) (n : ℕ) (start now : BoardState) (moved : ℕ) : Type 0 where
   pub exact : ℕ
   pub done : PerformsAll (take n calls) start (Ok exact) now
-  pub told : moved ≡ min exact 18446744073709551615
+  pub told : moved ≡ min exact (2 ^ 64 - 1)
 
 take_next : {A : Type 0} (xs : List A) (n : ℕ) (x : A) → slice_get xs n ≡ Some x → take (suc n) xs ≡ take n xs ++ x ∷ []
 take_next [] n x is = absurd cc
@@ -45,7 +45,7 @@ none_performed calls start = record { exact = 0; done = (refl, refl); told = ref
 
 pub next_performed : (make : Dest → Call) (lines start_lines : List LineState) (n : ℕ) (dest : Dest) (start now next : BoardState) (moved count moved_now : ℕ)
     → dests_of lines ≡ dests_of start_lines → option_map (λ (line : LineState). line.dest) (slice_get lines n) ≡ Some dest
-    → IsPerformed (map make (dests_of start_lines)) n start now moved → Performs (make dest) now (Ok count) next → moved_now ≡ min (moved + count) 18446744073709551615
+    → IsPerformed (map make (dests_of start_lines)) n start now moved → Performs (make dest) now (Ok count) next → moved_now ≡ min (moved + count) (2 ^ 64 - 1)
     → IsPerformed (map make (dests_of start_lines)) (n + 1) start next moved_now
 next_performed make lines start_lines n dest start now next moved count moved_now same there so_far one told =
     let calls = map make (dests_of start_lines) in
@@ -98,7 +98,7 @@ told_fault : (fault : BoardFault) (exact : Result ℕ BoardFault) → Err fault 
 told_fault fault (Ok count) e = absurd cc
 told_fault fault (Err other) e = cc
 
-told_sum : (count : ℕ) (exact : Result ℕ BoardFault) → Ok count ≡ told_count exact → (sum : ℕ) × ((exact ≡ Ok sum) × (count ≡ min sum 18446744073709551615))
+told_sum : (count : ℕ) (exact : Result ℕ BoardFault) → Ok count ≡ told_count exact → (sum : ℕ) × ((exact ≡ Ok sum) × (count ≡ min sum (2 ^ 64 - 1)))
 told_sum count (Ok sum) e = (sum, (refl, cc))
 told_sum count (Err fault) e = absurd cc
 
@@ -123,7 +123,7 @@ fault_follows calls others old between new count fault (exact, (all, told)) (res
     )
 
 all_follow : (calls others : List Call) (old between new : BoardState) (count more total : ℕ) → PerformsUpTo calls old (Ok count) between → PerformsUpTo others between (Ok more) new
-    → total ≡ min (count + more) 18446744073709551615 → PerformsUpTo (calls ++ others) old (Ok total) new
+    → total ≡ min (count + more) (2 ^ 64 - 1) → PerformsUpTo (calls ++ others) old (Ok total) new
 all_follow calls others old between new count more total (exact, (all, told)) (rest, (others_all, others_told)) is =
     let sum = told_sum count exact told in
     let left = told_sum more rest others_told in (
@@ -164,7 +164,7 @@ sends_end engine asked pumped after lines between left received fault some same 
 
 pub round_ends : (engine asked pumped after : Option Gateway) (lines between left : List LineState) (received sent total : ℕ) → IsSome engine → asked ≡ engine → dests_of between ≡ dests_of lines
     → PerformsUpTo (map Pump (dests_of lines)) (board_of asked lines) (Ok received) (board_of pumped between)
-    → PerformsUpTo (map SendOut (dests_of between)) (board_of pumped between) (Ok sent) (board_of after left) → total ≡ min (received + sent) 18446744073709551615
+    → PerformsUpTo (map SendOut (dests_of between)) (board_of pumped between) (Ok sent) (board_of after left) → total ≡ min (received + sent) (2 ^ 64 - 1)
     → IsRound (board_of engine lines) (Ok total) (board_of after left)
 round_ends engine asked pumped after lines between left received sent total some same dests all others is =
     round_of engine asked after lines left (Ok total) some same

@@ -1,5 +1,5 @@
 -- A round of calls.
-use Rattle.std.specs.Prelude.{◌≡◌, ℕ, ◌+◌, List, [], ◌∷◌, ◌++◌, map, min, true, false, Bool, Option, Some, None, Result, Ok, Err}
+use Rattle.std.specs.Prelude.{◌≡◌, ℕ, ◌+◌, ◌-◌, ◌^◌, List, [], ◌∷◌, ◌++◌, map, min, true, false, Bool, Option, Some, None, Result, Ok, Err}
 use Rattle.gateway_calls.specs.declared.fault.StepFault.TheVariants as steps
 use Rattle.gateway_state.specs.Gateway.{Gateway}
 use Rattle.gateway_state.specs.declared.event.Dest.{Dest}
@@ -49,7 +49,7 @@ round_calls lines = map Pump (dests_of lines) ++ map SendOut (dests_of lines)
 
 -- how many items were moved, up to the largest number that can be told
 abbrev pub told_count : Result ℕ BoardFault → Result ℕ BoardFault
-told_count (Ok count) = Ok (min count 18446744073709551615)
+told_count (Ok count) = Ok (min count (2 ^ 64 - 1))
 told_count (Err fault) = Err fault
 
 -- the same, where the count is told

@@ -2,7 +2,7 @@
 use Rattle.std.specs.Prelude.{ℕ, List, [], ◌∷◌, ◌++◌, codes, flat_map, Option, Some, None}
 use Rattle.std.specs.Fmt.{decimal}
 use Rattle.hex.specs.Hex.{encode_lower}
-use Rattle.pvlist.specs.Cause.{cause_text}
+use Rattle.pvlist.specs.Cause.{line_text}
 use Rattle.pvlist.specs.declared.fault.RuleCause.{RuleCause}
 use Rattle.ca_header.specs.declared.reading.FrameFault.{FrameFault}
 use Rattle.ca_header.specs.declared.reading.FrameFault.TheVariants.{Misaligned, TooLarge}
@@ -35,7 +35,7 @@ end_line dest = codes "end " ++ dest_text dest ++ 10 ∷ []
 
 -- a line of a file that is refused: its number, and what is wrong with it
 abbrev pub cause_line : ℕ → RuleCause → List ℕ
-cause_line line cause = codes "line " ++ decimal line ++ codes ": " ++ cause_text cause ++ 10 ∷ []
+cause_line line cause = line_text line cause ++ 10 ∷ []
 
 -- the line of an edit that is refused for a line of its rule file
 abbrev pub refused_line : ℕ → RuleCause → List ℕ
