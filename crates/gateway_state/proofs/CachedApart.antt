@@ -80,7 +80,7 @@ cached_apart_kept = record {
     subscription_ended = λ subject server cid w apart. apart;
     link_removed = λ server cid w apart. apart_filtered (is_cached_elsewhere cid) w.cache apart;
   };
-  connection_drained = λ dest count w apart. apart;
+  outbox_changed = λ dest change w apart. apart;
   session_removed = λ session w apart. apart;
   server_removed = λ server w apart. apart_filtered (is_cached_by_another server) w.cache apart;
 }

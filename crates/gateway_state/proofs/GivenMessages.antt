@@ -1,4 +1,5 @@
--- What an event gives a connection is put behind what waits for it, and is the wire form of what is said.
+-- What an event gives a connection is put behind what waits for it, and is the wire form of what the event
+-- may say.
 use Rattle.std.proofs.Common.{◌≡◌, ℕ, List, [], ◌∷◌, ◌++◌, length, Bool, true, false, cond, not, ◌||◌, Some, None, refl, sym, ap, subst, ◌∙◌}
 use Rattle.std.specs.Prelude.{drop, filter, take}
 use Rattle.std.specs.List.{All, find, list_any}
@@ -7,7 +8,9 @@ use Rattle.std.proofs.lemmas.List.{append-nil, append_assoc, take-append-drop}
 use Rattle.std.proofs.lemmas.List.Elements.{All-append, All-cons, All-nil}
 use Rattle.std.proofs.Math.Seq.{drop-append_seam, drop-nil}
 use Rattle.rows.specs.Rows.{change_first}
+use Rattle.ca_header.specs.declared.header.Message.{Message}
 use Rattle.ca_message.specs.declared.to_client.ToClient.{ToClient}
+use Rattle.ca_message.specs.declared.to_client.ToClient.TheVariants as replies
 use Rattle.ca_message.specs.declared.to_server.ToServer.{ToServer}
 use Rattle.fanout.specs.declared.outbox.Out.{Out}
 use Rattle.fanout.specs.Outbox.{appended, refuses}
@@ -19,12 +22,12 @@ use Rattle.gateway_state.specs.declared.event.Event.{Event}
 use Rattle.gateway_state.specs.declared.event.Event.TheVariants.{Opened, Lost, Client, UpOpened, UpLost, Server, Found, Search, Sweep, Edit, Drain}
 use Rattle.gateway_state.specs.Asked.{stands}
 use Rattle.gateway_state.specs.Connections.{fresh, given, is_not_to, is_to, marked_now, outbox_in, outbox_of, relieved, same_dest}
-use Rattle.gateway_state.specs.Delivered.{IsWireForm, before_said, given_by, is_loss_of, waiting_for}
+use Rattle.gateway_state.specs.Delivered.{IsSaidBy, IsWireForm, before_said, given_by, is_loss_of, waiting_for}
 use Rattle.gateway_state.specs.Direct.{direct_effect}
 use Rattle.gateway_state.specs.Gateway.{Gateway}
 use Rattle.gateway_state.specs.Step.{delivered, delivered_after, makes, run, step, taken}
-use Rattle.gateway_state.specs.Telling.{outgoing, outgoing_upstream, sent}
-use Rattle.gateway_state.proofs.Kept.{KeepsRows}
+use Rattle.gateway_state.specs.Telling.{outgoing, outgoing_upstream, sent, told}
+use Rattle.gateway_state.proofs.Kept.{KeepsQuotes, KeepsRows, quotes}
 use Rattle.gateway_state.proofs.KeptByRuns.{kept_by_event, kept_consequences}
 use Rattle.gateway_state.proofs.KeptByServers.{kept_found}
 
@@ -37,43 +40,43 @@ same_dest_is (Session a) (Upstream b) e = absurd (true≢false (sym e))
 same_dest_is (Upstream a) (Session b) e = absurd (true≢false (sym e))
 
 -- one list of messages is another with wire forms for this connection put behind
-record HasGrown (dest : Dest) (before after : List Out) : Type 0 where
+record HasGrown (event : Event) (dest : Dest) (before after : List Out) : Type 0 where
   given : List Out
   is : after ≡ before ++ given
-  said : All (IsWireForm dest) given
+  said : All (IsWireForm event dest) given
 
-as_before : (dest : Dest) (before after : List Out) → after ≡ before → HasGrown dest before after
-as_before dest before after same = record { given = []; is = same ∙ sym (append-nil before); said = All-nil (IsWireForm dest) }
+as_before : (event : Event) (dest : Dest) (before after : List Out) → after ≡ before → HasGrown event dest before after
+as_before event dest before after same = record { given = []; is = same ∙ sym (append-nil before); said = All-nil (IsWireForm event dest) }
 
-grown_on : (dest : Dest) (a b c : List Out) → HasGrown dest a b → HasGrown dest b c → HasGrown dest a c
-grown_on dest a b c first second = record {
+grown_on : (event : Event) (dest : Dest) (a b c : List Out) → HasGrown event dest a b → HasGrown event dest b c → HasGrown event dest a c
+grown_on event dest a b c first second = record {
   given = first.given ++ second.given;
   is = second.is ∙ ap (λ (l : List Out). l ++ second.given) first.is ∙ append_assoc a first.given second.given;
-  said = All-append (IsWireForm dest) first.given second.given first.said second.said;
+  said = All-append (IsWireForm event dest) first.given second.given first.said second.said;
 }
 
-appended_grows : (dest : Dest) (box : Waiting) (out : Out) → IsWireForm dest out → HasGrown dest box.messages (appended box out).messages
-appended_grows dest box out wire = by (refuses box)
+appended_grows : (event : Event) (dest : Dest) (box : Waiting) (out : Out) → IsWireForm event dest out → HasGrown event dest box.messages (appended box out).messages
+appended_grows event dest box out wire = by (refuses box)
   where
-    by : (full : Bool) → HasGrown dest box.messages (cond full (record box { marked = true }) (record box { messages = box.messages ++ out ∷ [] })).messages
-    by true = as_before dest box.messages box.messages refl
-    by false = record { given = out ∷ []; is = refl; said = All-cons (IsWireForm dest) out [] wire (All-nil (IsWireForm dest)) }
+    by : (full : Bool) → HasGrown event dest box.messages (cond full (record box { marked = true }) (record box { messages = box.messages ++ out ∷ [] })).messages
+    by true = as_before event dest box.messages box.messages refl
+    by false = record { given = out ∷ []; is = refl; said = All-cons (IsWireForm event dest) out [] wire (All-nil (IsWireForm event dest)) }
 
 abbrev messages_of : Dest → List Connection → List Out
 messages_of dest rows = (outbox_of dest rows).messages
 
-sent_grows : (dest to : Dest) (out : Out) (rows : List Connection) → (to ≡ dest → IsWireForm dest out)
-    → HasGrown dest (messages_of dest rows) (messages_of dest (change_first (is_to to) (given out) rows))
-sent_grows dest to out [] wire = as_before dest [] [] refl
-sent_grows dest to out (row ∷ rows) wire = by (is_to to row) (is_to dest row) refl refl (sent_grows dest to out rows wire)
+sent_grows : (event : Event) (dest to : Dest) (out : Out) (rows : List Connection) → (to ≡ dest → IsWireForm event dest out)
+    → HasGrown event dest (messages_of dest rows) (messages_of dest (change_first (is_to to) (given out) rows))
+sent_grows event dest to out [] wire = as_before event dest [] [] refl
+sent_grows event dest to out (row ∷ rows) wire = by (is_to to row) (is_to dest row) refl refl (sent_grows event dest to out rows wire)
   where
     by : (hit own : Bool) → is_to to row ≡ hit → is_to dest row ≡ own
-        → HasGrown dest (messages_of dest rows) (messages_of dest (change_first (is_to to) (given out) rows))
-        → HasGrown dest (outbox_in (cond own (Some row) (find (is_to dest) rows))).messages
+        → HasGrown event dest (messages_of dest rows) (messages_of dest (change_first (is_to to) (given out) rows))
+        → HasGrown event dest (outbox_in (cond own (Some row) (find (is_to dest) rows))).messages
         (messages_of dest (cond hit (given out row ∷ rows) (row ∷ change_first (is_to to) (given out) rows)))
-    by true true is_hit is_own rest = rw (messages_of, is_own) (appended_grows dest row.outbox out (wire (sym (same_dest_is row.dest to is_hit) ∙ same_dest_is row.dest dest is_own)))
-    by true false is_hit is_own rest = rw (messages_of, is_own) (as_before dest (messages_of dest rows) (messages_of dest rows) refl)
-    by false true is_hit is_own rest = rw (messages_of, is_own) (as_before dest row.outbox.messages row.outbox.messages refl)
+    by true true is_hit is_own rest = rw (messages_of, is_own) (appended_grows event dest row.outbox out (wire (sym (same_dest_is row.dest to is_hit) ∙ same_dest_is row.dest dest is_own)))
+    by true false is_hit is_own rest = rw (messages_of, is_own) (as_before event dest (messages_of dest rows) (messages_of dest rows) refl)
+    by false true is_hit is_own rest = rw (messages_of, is_own) (as_before event dest row.outbox.messages row.outbox.messages refl)
     by false false is_hit is_own rest = rw (messages_of, is_own) rest
 
 marked_same : (dest to : Dest) (rows : List Connection) → messages_of dest (change_first (is_to to) marked_now rows) ≡ messages_of dest rows
@@ -95,28 +98,53 @@ added_same dest new (row ∷ rows) =
 
 -- STEPS
 
-module _ (x : Gateway) (dest : Dest) where
-  abbrev GrownFrom : Gateway → Type 0
-  GrownFrom v = HasGrown dest (waiting_for x dest) (waiting_for v dest)
+-- what quotes nothing any event may say
+plainly_said : (event : Event) (number : ℕ) (said : ToClient) → quotes said ≡ false → IsSaidBy event number said
+plainly_said event number replies.Version plain = record {}
+plainly_said event number (replies.Echo message) plain = absurd (true≢false plain)
+plainly_said event number (replies.Error cid code head) plain = absurd (true≢false plain)
+plainly_said event number (replies.Update id dtype count value) plain = record {}
+plainly_said event number (replies.EventCancelled sid id dtype count) plain = record {}
+plainly_said event number (replies.ClearChannel sid cid) plain = record {}
+plainly_said event number (replies.ReadNotify ioid dtype count value) plain = record {}
+plainly_said event number (replies.ReadNotifyRefused ioid dtype count code) plain = record {}
+plainly_said event number (replies.CreateChannel cid sid dtype count) plain = record {}
+plainly_said event number (replies.CreateChannelFail cid) plain = record {}
+plainly_said event number (replies.WriteNotify ioid dtype count status) plain = record {}
+plainly_said event number (replies.AccessRights cid rights) plain = record {}
+plainly_said event number (replies.ServerDisconnect cid) plain = record {}
 
-  grown_by : (to : Dest) (out : Out) (v : Gateway) → (to ≡ dest → IsWireForm dest out) → GrownFrom v → GrownFrom (sent to out v)
+module _ (x : Gateway) (event : Event) (dest : Dest) where
+  abbrev GrownFrom : Gateway → Type 0
+  GrownFrom v = HasGrown event dest (waiting_for x dest) (waiting_for v dest)
+
+  grown_by : (to : Dest) (out : Out) (v : Gateway) → (to ≡ dest → IsWireForm event dest out) → GrownFrom v → GrownFrom (sent to out v)
   unfolding sent
   grown_by to out v wire grown =
-      grown_on dest (waiting_for x dest) (waiting_for v dest) (messages_of dest (change_first (is_to to) (given out) v.connections)) grown (sent_grows dest to out v.connections wire)
+      grown_on event dest (waiting_for x dest) (waiting_for v dest) (messages_of dest (change_first (is_to to) (given out) v.connections)) grown (sent_grows event dest to out v.connections wire)
 
-  same_still : (v : Gateway) (after : List Out) → after ≡ waiting_for v dest → GrownFrom v → HasGrown dest (waiting_for x dest) after
-  same_still v after same grown = subst (λ (l : List Out). HasGrown dest (waiting_for x dest) l) (sym same) grown
+  same_still : (v : Gateway) (after : List Out) → after ≡ waiting_for v dest → GrownFrom v → HasGrown event dest (waiting_for x dest) after
+  same_still v after same grown = subst (λ (l : List Out). HasGrown event dest (waiting_for x dest) l) (sym same) grown
 
-  to_client : (number : ℕ) (said : ToClient) → Session number ≡ dest → IsWireForm dest (outgoing said)
-  to_client number said is = subst (λ (d : Dest). IsWireForm d (outgoing said)) is (said, refl)
+  to_client : (number : ℕ) (said : ToClient) → IsSaidBy event number said → Session number ≡ dest → IsWireForm event dest (outgoing said)
+  to_client number said by is = subst (λ (d : Dest). IsWireForm event d (outgoing said)) is (said, (by, refl))
 
-  to_server : (number : ℕ) (said : ToServer) → Upstream number ≡ dest → IsWireForm dest (outgoing_upstream said)
-  to_server number said is = subst (λ (d : Dest). IsWireForm d (outgoing_upstream said)) is (said, refl)
+  to_server : (number : ℕ) (said : ToServer) → Upstream number ≡ dest → IsWireForm event dest (outgoing_upstream said)
+  to_server number said is = subst (λ (d : Dest). IsWireForm event d (outgoing_upstream said)) is (said, refl)
+
+  grown_told : (number : ℕ) (said : ToClient) → IsSaidBy event number said → (v : Gateway) → GrownFrom v → GrownFrom (told number said v)
+  grown_told number said by v grown = grown_by (Session number) (outgoing said) v (to_client number said by) grown
+
+  grown_quoted : (number : ℕ) (message : Message) → event ≡ Client number message → KeepsQuotes GrownFrom number message
+  grown_quoted number message is = record {
+    echo = λ asked v grown. grown_told number (replies.Echo message) (is, asked) v grown;
+    errors = λ cid code v grown. grown_told number (replies.Error cid code message.head) (message, (is, refl)) v grown;
+  }
 
   grown_kept : KeepsRows GrownFrom
   grown_kept = record {
     messages = record {
-      telling = λ number said w grown. grown_by (Session number) (outgoing said) w (to_client number said) grown;
+      telling = λ number said plain w grown. grown_told number said (plainly_said event number said plain) w grown;
       asking = λ number said w grown. grown_by (Upstream number) (outgoing_upstream said) w (to_server number said) grown;
       marking = λ to w grown. same_still w (messages_of dest (change_first (is_to to) marked_now w.connections)) (marked_same dest to w.connections) grown;
     };
@@ -145,14 +173,15 @@ module _ (x : Gateway) (dest : Dest) where
   }
 
 -- an event puts wire forms behind what it leaves of an outbox
-step_grows : (w : Gateway) (event : Event) (dest : Dest) → HasGrown dest (waiting_for (before_said w event) dest) (waiting_for (step w event) dest)
+step_grows : (w : Gateway) (event : Event) (dest : Dest) → HasGrown event dest (waiting_for (before_said w event) dest) (waiting_for (step w event) dest)
 unfolding step
 step_grows w event dest =
     let from : Gateway = before_said w event in
-    kept_consequences (GrownFrom from dest) (grown_kept from dest) (direct_effect w event)
-    (kept_by_event (GrownFrom from dest) (grown_kept from dest) w event
-    (λ name server grown. kept_found (GrownFrom from dest) (grown_kept from dest).messages w name server (λ missing standing. grown) grown)
-    (as_before dest (waiting_for from dest) (waiting_for from dest) refl))
+    kept_consequences (GrownFrom from event dest) (grown_kept from event dest) (direct_effect w event)
+    (kept_by_event (GrownFrom from event dest) (grown_kept from event dest) w event
+    (grown_quoted from event dest)
+    (λ name server grown. kept_found (GrownFrom from event dest) (grown_kept from event dest).messages w name server (λ missing standing. grown) grown)
+    (as_before event dest (waiting_for from dest) (waiting_for from dest) refl))
 
 -- what an event gives is what it puts there
 given_there : (w : Gateway) (event : Event) (dest : Dest) → (step_grows w event dest).given ≡ given_by w event dest
@@ -160,8 +189,8 @@ given_there w event dest =
     let grows = step_grows w event dest in
     sym (ap (drop (length (waiting_for (before_said w event) dest))) grows.is ∙ drop-append_seam (waiting_for (before_said w event) dest) grows.given)
 
-pub given_is_said : (w : Gateway) (event : Event) (dest : Dest) → All (IsWireForm dest) (given_by w event dest)
-given_is_said w event dest = subst (All (IsWireForm dest)) (given_there w event dest) (step_grows w event dest).said
+pub given_is_said : (w : Gateway) (event : Event) (dest : Dest) → All (IsWireForm event dest) (given_by w event dest)
+given_is_said w event dest = subst (All (IsWireForm event dest)) (given_there w event dest) (step_grows w event dest).said
 
 given_last : (w : Gateway) (event : Event) (dest : Dest) → waiting_for (step w event) dest ≡ waiting_for (before_said w event) dest ++ given_by w event dest
 given_last w event dest =

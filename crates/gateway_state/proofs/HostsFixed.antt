@@ -94,7 +94,7 @@ hosts_fixed_kept = record {
     subscription_ended = λ subject server cid w fixed. fixed;
     link_removed = λ server cid w fixed. fixed;
   };
-  connection_drained = λ dest count w fixed. fixed;
+  outbox_changed = λ dest change w fixed. fixed;
   session_removed = λ session w fixed. fixed_left session w.clients.sessions w.clients.channels fixed;
   server_removed = λ server w fixed. fixed;
 }

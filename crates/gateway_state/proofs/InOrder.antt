@@ -70,7 +70,7 @@ in_order_kept = record {
       ids = all_filtered (has_id_below w.upstream.counters.subscription) (is_not_link server cid) w.upstream.links order.ids;
     };
   };
-  connection_drained = λ dest count w order. record { channels = order.channels; links = order.links; ids = order.ids };
+  outbox_changed = λ dest change w order. record { channels = order.channels; links = order.links; ids = order.ids };
   session_removed = λ session w order. record {
     channels = rising_filtered sid_of (is_not_channel_of session) 0 w.upstream.counters.sid w.clients.channels order.channels;
     links = order.links;

@@ -1,10 +1,15 @@
 -- What every state of a run has, if each change of rows keeps it.
-use Rattle.std.proofs.Common.{◌≡◌, ℕ, ◌+◌, List, [], ◌∷◌, ◌++◌, Bool, true, false, cond, Some, None, refl}
+use Rattle.std.proofs.Common.{◌≡◌, ℕ, ◌+◌, List, [], ◌∷◌, ◌++◌, Bool, true, false, cond, Some, None, Ok, refl}
 use Rattle.std.specs.Prelude.{filter, is_some}
 use Rattle.std.specs.List.{find, list_any}
 use Rattle.rows.specs.Rows.{change_first}
+use Rattle.ca_header.specs.declared.header.Header.{Header}
+use Rattle.ca_header.specs.declared.header.Message.{Message}
+use Rattle.ca_message.specs.declared.request.ClientRequest.TheVariants as requests
 use Rattle.ca_message.specs.declared.to_client.ToClient.{ToClient}
+use Rattle.ca_message.specs.declared.to_client.ToClient.TheVariants as replies
 use Rattle.ca_message.specs.declared.to_server.ToServer.{ToServer}
+use Rattle.ca_message.specs.ClientRequest.{request_of}
 use Rattle.channel_table.specs.declared.channels.Channel.{Channel}
 use Rattle.channel_table.specs.declared.channels.Reach.{Reach}
 use Rattle.channel_table.specs.declared.reads.WaitingRead.{WaitingRead}
@@ -29,7 +34,6 @@ use Rattle.gateway_state.specs.Clients.{no_reach, with_channel, without_channel}
 use Rattle.gateway_state.specs.Asked.{stands}
 use Rattle.gateway_state.specs.CachedRows.{with_row}
 use Rattle.gateway_state.specs.Connections.{fresh, is_to}
-use Rattle.gateway_state.specs.Direct.{drained}
 use Rattle.gateway_state.specs.Gateway.{Gateway}
 use Rattle.gateway_state.specs.Notices.{with_reach, with_subscription_of, without_read}
 use Rattle.gateway_state.specs.Servers.{with_link_state, without_link}
@@ -103,11 +107,26 @@ pub record KeepsSession (change : Session → Session) : Type 0 where
   pub same_number : (row : Session) → (change row).number ≡ row.number
   pub stays_fixed : (row : Session) → row.host_fixed ≡ true → (change row).host_fixed ≡ true
 
--- what is said keeps it, and a mark does
+-- it quotes what its session sent: an ECHO the message, an ERROR the header
+abbrev pub quotes : ToClient → Bool
+quotes (replies.Echo message) = true
+quotes (replies.Error cid code head) = true
+quotes _ = false
+
+-- what is said keeps it, where it quotes nothing, and a mark does
 pub record KeepsMessages (P : Gateway → Type 0) : Type 0 where
-  pub telling : (number : ℕ) (said : ToClient) (w : Gateway) → P w → P (told number said w)
+  pub telling : (number : ℕ) (said : ToClient) → quotes said ≡ false → (w : Gateway) → P w → P (told number said w)
   pub asking : (number : ℕ) (said : ToServer) (w : Gateway) → P w → P (asked number said w)
   pub marking : (dest : Dest) (w : Gateway) → P w → P (marked dest w)
+
+-- an ERROR over this header keeps it
+abbrev pub KeepsErrors : (Gateway → Type 0) → ℕ → Header → Type 0
+KeepsErrors P number head = (cid code : ℕ) (w : Gateway) → P w → P (told number (replies.Error cid code head) w)
+
+-- what quotes this message to who sent it keeps it
+pub record KeepsQuotes (P : Gateway → Type 0) (number : ℕ) (message : Message) : Type 0 where
+  pub echo : request_of message.head message.payload ≡ Ok requests.Echo → (w : Gateway) → P w → P (told number (replies.Echo message) w)
+  pub errors : KeepsErrors P number message.head
 
 -- each change of rows keeps it that what is said makes: rows come, change and go one by one, but for new
 -- links
@@ -139,10 +158,10 @@ pub record KeepsRows (P : Gateway → Type 0) : Type 0 where
   pub subscription_ended : (subject : Subject) (server cid : ℕ) (w : Gateway) → P w → P (with_subscription_of subject server cid None w)
   pub link_removed : (server cid : ℕ) (w : Gateway) → P w → P (without_link server cid w)
 
--- and what is drained and what goes with a connection keep it
+-- and what becomes of outboxes and what goes with a connection keep it
 pub record IsKept (P : Gateway → Type 0) : Type 0 where
   pub rows : KeepsRows P
-  pub connection_drained : (dest : Dest) (count : ℕ) (w : Gateway) → P w → P (drained w dest count)
+  pub outbox_changed : (dest : Dest) (change : Waiting → Waiting) (w : Gateway) → P w → P (with_outbox dest change w)
   pub session_removed : (session : ℕ) (w : Gateway) → P w → P (lost w session)
   pub server_removed : (server : ℕ) (w : Gateway) → P w → P (up_lost w server)
 
@@ -151,13 +170,27 @@ abbrev pub KeepsLinks : (Gateway → Type 0) → Type 0
 KeepsLinks P = (server : ℕ) (name : List ℕ) (w : Gateway) → is_linked w name ≡ false → stands w (dests.Upstream server) ≡ true → P w → P (with_link server name w)
 
 -- what doesn't depend on outboxes is kept by all that is said
-pub messages_kept : (P : Gateway → Type 0) → ((dest : Dest) (change : Waiting → Waiting) (w : Gateway) → P w → P (with_outbox dest change w)) → KeepsMessages P
-unfolding sent
-messages_kept P kept = record {
-  telling = λ number said w holds. kept (dests.Session number) (λ (waiting : Waiting). appended waiting (outgoing said)) w holds;
-  asking = λ number said w holds. kept (dests.Upstream number) (λ (waiting : Waiting). appended waiting (outgoing_upstream said)) w holds;
-  marking = λ dest w holds. kept dest (λ (waiting : Waiting). record waiting { marked = true }) w holds;
-}
+module _ (P : Gateway → Type 0) (kept : (dest : Dest) (change : Waiting → Waiting) (w : Gateway) → P w → P (with_outbox dest change w)) where
+  kept_told : (number : ℕ) (said : ToClient) (w : Gateway) → P w → P (told number said w)
+  unfolding sent
+  kept_told number said w holds = kept (dests.Session number) (λ (waiting : Waiting). appended waiting (outgoing said)) w holds
+
+  kept_asked : (number : ℕ) (said : ToServer) (w : Gateway) → P w → P (asked number said w)
+  unfolding sent
+  kept_asked number said w holds = kept (dests.Upstream number) (λ (waiting : Waiting). appended waiting (outgoing_upstream said)) w holds
+
+  pub messages_kept : KeepsMessages P
+  messages_kept = record {
+    telling = λ number said plain w holds. kept_told number said w holds;
+    asking = λ number said w holds. kept_asked number said w holds;
+    marking = λ dest w holds. kept dest (λ (waiting : Waiting). record waiting { marked = true }) w holds;
+  }
+
+  pub quotes_kept : (number : ℕ) (message : Message) → KeepsQuotes P number message
+  quotes_kept number message = record {
+    echo = λ is w holds. kept_told number (replies.Echo message) w holds;
+    errors = λ cid code w holds. kept_told number (replies.Error cid code message.head) w holds;
+  }
 
 -- one or the other
 pub kept_either : (P : Gateway → Type 0) (test : Bool) (v w : Gateway) → (test ≡ true → P v) → P w → P (cond test v w)

@@ -61,7 +61,7 @@ use Rattle.gateway_state.specs.Telling.{marked, told}
 use Rattle.gateway_state.specs.Variables.{link_of}
 use Rattle.gateway_state.specs.Writing.{may_write, new_write, notified_by, with_write, write_answered, write_handed_on, write_judged, write_verdict, write_verdict_in, write_verdict_on, write_verdict_over, write_waits, written_by}
 use Rattle.gateway_state.proofs.RowTests.{none_found}
-use Rattle.gateway_state.proofs.Kept.{KeepsRows, KeepsSession, kept_either, with_connections, with_read, with_searches}
+use Rattle.gateway_state.proofs.Kept.{KeepsErrors, KeepsQuotes, KeepsRows, KeepsSession, kept_either, with_connections, with_read, with_searches}
 
 -- there is a row where the first that passes is found
 found_there : {A : Type 0} (test : A → Bool) (rows : List A) (row : A) → find test rows ≡ Some row → list_any test rows ≡ true
@@ -183,7 +183,7 @@ module _ (P : Gateway → Type 0) (kept : KeepsRows P) where
       let first : Gateway = with_connections (w.connections ++ fresh (ToSession number) ∷ []) w in
       let second = kept.session_added new first (added_stands number w.connections) (kept.connection_added (ToSession number) w holds) in
       kept_either P (stands w (ToSession number) || leb SESSION_LIMIT (length w.clients.sessions)) w (told number replies.Version (with_session w number host))
-      (λ _. holds) (kept.messages.telling number replies.Version (with_session w number host) second)
+      (λ _. holds) (kept.messages.telling number replies.Version refl (with_session w number host) second)
 
   -- new channels
 
@@ -195,8 +195,8 @@ module _ (P : Gateway → Type 0) (kept : KeepsRows P) where
   kept_created number cid name lead link native w fixed holds =
       let rights : ℕ = rights_on w lead link in
       let first : Gateway = with_channel number cid name lead.real rights w in
-      kept.messages.telling number (replies.CreateChannel cid w.upstream.counters.sid native.dtype native.count) (told number (replies.AccessRights cid rights) first)
-      (kept.messages.telling number (replies.AccessRights cid rights) first (kept.channel_added number cid name lead.real rights w fixed holds))
+      kept.messages.telling number (replies.CreateChannel cid w.upstream.counters.sid native.dtype native.count) refl (told number (replies.AccessRights cid rights) first)
+      (kept.messages.telling number (replies.AccessRights cid rights) refl first (kept.channel_added number cid name lead.real rights w fixed holds))
 
   pub kept_remembered : (host name : List ℕ) (w : Gateway) → P w → P (remembered host name w)
   kept_remembered host name w holds =
@@ -211,7 +211,7 @@ module _ (P : Gateway → Type 0) (kept : KeepsRows P) where
   kept_not_connected : (number cid : ℕ) (name : List ℕ) (w : Gateway) → P w → P (not_connected number cid name w)
   kept_not_connected number cid name w holds =
       let row : Option Session = find (is_numbered number) w.clients.sessions in
-      kept.messages.telling number (replies.CreateChannelFail cid) (remembered_by row name w) (kept_remembered_by row name w holds)
+      kept.messages.telling number (replies.CreateChannelFail cid) refl (remembered_by row name w) (kept_remembered_by row name w holds)
 
   kept_created_on_native : (number cid : ℕ) (name : List ℕ) (lead : Lead) (link : Link) (native : Option Native) (w : Gateway) → HasHost number w → P w
       → P (created_on_native number cid name lead link native w)
@@ -224,10 +224,10 @@ module _ (P : Gateway → Type 0) (kept : KeepsRows P) where
 
   kept_created_as : (number cid : ℕ) (name : List ℕ) (lead : Option Lead) (w : Gateway) → ((to : Lead) → lead ≡ Some to → HasHost number w) → P w
       → P (created_as number cid name lead w)
-  kept_created_as number cid name None w fixed holds = kept.messages.telling number (replies.CreateChannelFail cid) w holds
+  kept_created_as number cid name None w fixed holds = kept.messages.telling number (replies.CreateChannelFail cid) refl w holds
   kept_created_as number cid name (Some lead) w fixed holds =
       kept_either P (leb CHANNEL_LIMIT (channel_count number w.clients)) (creation_failed number cid w) (created_on number cid name lead (link_of w lead.real) w)
-      (λ _. kept.messages.telling number (replies.CreateChannelFail cid) w holds) (kept_created_on number cid name lead (link_of w lead.real) w (fixed lead refl) holds)
+      (λ _. kept.messages.telling number (replies.CreateChannelFail cid) refl w holds) (kept_created_on number cid name lead (link_of w lead.real) w (fixed lead refl) holds)
 
   kept_with_host_fixed : (number : ℕ) (w : Gateway) → P w → P (with_host_fixed number w)
   kept_with_host_fixed number w holds = kept.session_changed number fixed w fixed_keeps holds
@@ -239,64 +239,64 @@ module _ (P : Gateway → Type 0) (kept : KeepsRows P) where
 
   -- channels that go, and reads
 
-  kept_cleared : (number sid cid : ℕ) (head : Header) (found : Option Channel) (w : Gateway) → P w → P (cleared number sid cid head found w)
-  kept_cleared number sid cid head None w holds = kept.messages.telling number (replies.Error NO_CHANNEL ECA_BADCHID head) w holds
-  kept_cleared number sid cid head (Some c) w holds =
-      kept.messages.telling number (replies.ClearChannel sid cid) (without_channel number sid w) (kept.channel_removed number sid w holds)
+  kept_cleared : (number sid cid : ℕ) (head : Header) → KeepsErrors P number head → (found : Option Channel) (w : Gateway) → P w → P (cleared number sid cid head found w)
+  kept_cleared number sid cid head errors None w holds = errors NO_CHANNEL ECA_BADCHID w holds
+  kept_cleared number sid cid head errors (Some c) w holds =
+      kept.messages.telling number (replies.ClearChannel sid cid) refl (without_channel number sid w) (kept.channel_removed number sid w holds)
 
-  kept_judged : (number sid ioid dtype count : ℕ) (head : Header) (verdict : ReadVerdict) (w : Gateway)
+  kept_judged : (number sid ioid dtype count : ℕ) (head : Header) → KeepsErrors P number head → (verdict : ReadVerdict) (w : Gateway)
       → ((reach : Reach) (rights : ℕ) → verdict ≡ Accepted reach rights → list_any (is_channel number sid) w.clients.channels ≡ true)
       → P w → P (judged number sid ioid dtype count head verdict w)
-  kept_judged number sid ioid dtype count head NoChannel w on holds = kept.messages.telling number (replies.Error NO_CHANNEL ECA_BADCHID head) w holds
-  kept_judged number sid ioid dtype count head Ignored w on holds = holds
-  kept_judged number sid ioid dtype count head (Refused code) w on holds = kept.messages.telling number (replies.ReadNotifyRefused ioid dtype count code) w holds
-  kept_judged number sid ioid dtype count head (Accepted reach rights) w on holds =
+  kept_judged number sid ioid dtype count head errors NoChannel w on holds = errors NO_CHANNEL ECA_BADCHID w holds
+  kept_judged number sid ioid dtype count head errors Ignored w on holds = holds
+  kept_judged number sid ioid dtype count head errors (Refused code) w on holds = kept.messages.telling number (replies.ReadNotifyRefused ioid dtype count code) refl w holds
+  kept_judged number sid ioid dtype count head errors (Accepted reach rights) w on holds =
       let read : WaitingRead = record { session = number; sid = sid; dtype = dtype; count = count; ioid = ioid } in
       kept.channel_changed number sid reach rights (with_read read w) (kept.read_added read w (on reach rights refl) holds)
 
   -- subscriptions
 
-  kept_sub_judged : (sub : ClientSub) (head : Header) (verdict : SubVerdict) (w : Gateway) → (verdict ≡ SubVerdicts.Accepted → IsFree w sub) → P w → P (sub_judged sub head verdict w)
-  kept_sub_judged sub head SubVerdicts.NoChannel w free holds = kept.messages.telling sub.session (replies.Error NO_CHANNEL ECA_BADCHID head) w holds
-  kept_sub_judged sub head SubVerdicts.Ignored w free holds = holds
-  kept_sub_judged sub head (SubVerdicts.Refused cid code) w free holds = kept.messages.telling sub.session (replies.Error cid code head) w holds
-  kept_sub_judged sub head SubVerdicts.Accepted w free holds = let is = free refl in kept.sub_added sub w is.free is.on holds
+  kept_sub_judged : (sub : ClientSub) (head : Header) → KeepsErrors P sub.session head → (verdict : SubVerdict) (w : Gateway) → (verdict ≡ SubVerdicts.Accepted → IsFree w sub) → P w → P (sub_judged sub head verdict w)
+  kept_sub_judged sub head errors SubVerdicts.NoChannel w free holds = errors NO_CHANNEL ECA_BADCHID w holds
+  kept_sub_judged sub head errors SubVerdicts.Ignored w free holds = holds
+  kept_sub_judged sub head errors (SubVerdicts.Refused cid code) w free holds = errors cid code w holds
+  kept_sub_judged sub head errors SubVerdicts.Accepted w free holds = let is = free refl in kept.sub_added sub w is.free is.on holds
 
-  kept_cancelled_on : (number sid id dtype count : ℕ) (head : Header) (found : Option Channel) (w : Gateway) → P w → P (cancelled_on number sid id dtype count head found w)
-  kept_cancelled_on number sid id dtype count head None w holds = kept.messages.telling number (replies.Error NO_CHANNEL ECA_BADCHID head) w holds
-  kept_cancelled_on number sid id dtype count head (Some c) w holds =
+  kept_cancelled_on : (number sid id dtype count : ℕ) (head : Header) → KeepsErrors P number head → (found : Option Channel) (w : Gateway) → P w → P (cancelled_on number sid id dtype count head found w)
+  kept_cancelled_on number sid id dtype count head errors None w holds = errors NO_CHANNEL ECA_BADCHID w holds
+  kept_cancelled_on number sid id dtype count head errors (Some c) w holds =
       let removed : Gateway = told number (replies.EventCancelled sid id dtype count) (without_sub number id w) in
       let refused : Gateway = told number (replies.Error c.cid ECA_INTERNAL head) w in
       kept_either P (is_on_sid sid (sub_of w number id)) removed refused
-      (λ _. kept.messages.telling number (replies.EventCancelled sid id dtype count) (without_sub number id w) (kept.sub_removed number id w holds))
-      (kept.messages.telling number (replies.Error c.cid ECA_INTERNAL head) w holds)
+      (λ _. kept.messages.telling number (replies.EventCancelled sid id dtype count) refl (without_sub number id w) (kept.sub_removed number id w holds))
+      (errors c.cid ECA_INTERNAL w holds)
 
   kept_paused_to : (number : ℕ) (paused : Bool) (w : Gateway) → P w → P (paused_to number paused w)
   kept_paused_to number paused w holds = kept.session_changed number (with_pause paused) w (paused_keeps paused) holds
 
   -- writes
 
-  kept_written_by : (number : ℕ) (head : Header) (verdict : WriteVerdict) (w : Gateway) → P w → P (written_by number head verdict w)
-  kept_written_by number head WriteVerdicts.NoChannel w holds = kept.messages.telling number (replies.Error NO_CHANNEL ECA_BADCHID head) w holds
-  kept_written_by number head WriteVerdicts.Ignored w holds = holds
-  kept_written_by number head (WriteVerdicts.Refused cid code) w holds = kept.messages.telling number (replies.Error cid code head) w holds
-  kept_written_by number head (WriteVerdicts.Accepted server sid value) w holds = kept.messages.asking server (to_servers.Write sid value) w holds
+  kept_written_by : (number : ℕ) (head : Header) → KeepsErrors P number head → (verdict : WriteVerdict) (w : Gateway) → P w → P (written_by number head verdict w)
+  kept_written_by number head errors WriteVerdicts.NoChannel w holds = errors NO_CHANNEL ECA_BADCHID w holds
+  kept_written_by number head errors WriteVerdicts.Ignored w holds = holds
+  kept_written_by number head errors (WriteVerdicts.Refused cid code) w holds = errors cid code w holds
+  kept_written_by number head errors (WriteVerdicts.Accepted server sid value) w holds = kept.messages.asking server (to_servers.Write sid value) w holds
 
   kept_handed_on : (number sid ioid dtype count server upstream_sid : ℕ) (value : Written) (w : Gateway)
       → is_write_on_link w (new_write w server number sid dtype count ioid) ≡ true → P w → P (write_handed_on number sid ioid dtype count server upstream_sid value w)
   kept_handed_on number sid ioid dtype count server upstream_sid value w on holds =
       let write : WaitingWrite = new_write w server number sid dtype count ioid in
       kept_either P (leb WRITE_LIMIT (write_count number w.upstream)) (write_answered number ioid dtype count ECA_PUTFAIL w) (write_waits write upstream_sid value w)
-      (λ _. kept.messages.telling number (replies.WriteNotify ioid dtype count ECA_PUTFAIL) w holds)
+      (λ _. kept.messages.telling number (replies.WriteNotify ioid dtype count ECA_PUTFAIL) refl w holds)
       (kept.messages.asking server (to_servers.WriteNotify upstream_sid write.id value) (with_write write w) (kept.write_added write w on refl holds))
 
-  kept_notified_by : (number sid ioid dtype count : ℕ) (head : Header) (verdict : WriteVerdict) (w : Gateway)
+  kept_notified_by : (number sid ioid dtype count : ℕ) (head : Header) → KeepsErrors P number head → (verdict : WriteVerdict) (w : Gateway)
       → ((server upstream_sid : ℕ) (value : Written) → verdict ≡ WriteVerdicts.Accepted server upstream_sid value → is_write_on_link w (new_write w server number sid dtype count ioid) ≡ true)
       → P w → P (notified_by number sid ioid dtype count head verdict w)
-  kept_notified_by number sid ioid dtype count head WriteVerdicts.NoChannel w on holds = kept.messages.telling number (replies.Error NO_CHANNEL ECA_BADCHID head) w holds
-  kept_notified_by number sid ioid dtype count head WriteVerdicts.Ignored w on holds = holds
-  kept_notified_by number sid ioid dtype count head (WriteVerdicts.Refused cid code) w on holds = kept.messages.telling number (replies.WriteNotify ioid dtype count code) w holds
-  kept_notified_by number sid ioid dtype count head (WriteVerdicts.Accepted server upstream_sid value) w on holds =
+  kept_notified_by number sid ioid dtype count head errors WriteVerdicts.NoChannel w on holds = errors NO_CHANNEL ECA_BADCHID w holds
+  kept_notified_by number sid ioid dtype count head errors WriteVerdicts.Ignored w on holds = holds
+  kept_notified_by number sid ioid dtype count head errors (WriteVerdicts.Refused cid code) w on holds = kept.messages.telling number (replies.WriteNotify ioid dtype count code) refl w holds
+  kept_notified_by number sid ioid dtype count head errors (WriteVerdicts.Accepted server upstream_sid value) w on holds =
       kept_handed_on number sid ioid dtype count server upstream_sid value w (on server upstream_sid value refl) holds
 
   -- what a client says
@@ -306,8 +306,8 @@ module _ (P : Gateway → Type 0) (kept : KeepsRows P) where
       kept_either P (ltb minor LOWEST_MINOR) (marked (ToSession number) w) w
       (λ _. kept.messages.marking (ToSession number) w holds) holds
 
-  kept_unreadable : (w : Gateway) (number : ℕ) (head : Header) → P w → P (unreadable w number head)
-  kept_unreadable w number head holds =
+  kept_unreadable : (w : Gateway) (number : ℕ) (head : Header) → KeepsErrors P number head → P w → P (unreadable w number head)
+  kept_unreadable w number head errors holds =
       let failed : Gateway = creation_failed number head.p1 (with_host_fixed number w) in
       let refused : Gateway = told number (replies.Error NO_CHANNEL ECA_INTERNAL head) w in
       let cid : ℕ = cid_in (channel_of w number head.p1) in
@@ -315,33 +315,34 @@ module _ (P : Gateway → Type 0) (kept : KeepsRows P) where
       let ignored : Bool = eqb head.command CA_PROTO_CLIENT_NAME || eqb head.command CA_PROTO_HOST_NAME in
       let adding : Bool = eqb head.command CA_PROTO_EVENT_ADD in
       kept_either P (eqb head.command CA_PROTO_CREATE_CHAN) failed (cond ignored w (cond adding short refused))
-      (λ _. kept.messages.telling number (replies.CreateChannelFail head.p1) (with_host_fixed number w) (kept_with_host_fixed number w holds))
+      (λ _. kept.messages.telling number (replies.CreateChannelFail head.p1) refl (with_host_fixed number w) (kept_with_host_fixed number w holds))
       (kept_either P ignored w (cond adding short refused) (λ _. holds)
-      (kept_either P adding short refused (λ _. kept.messages.telling number (replies.Error cid ECA_INTERNAL head) w holds)
-      (kept.messages.telling number (replies.Error NO_CHANNEL ECA_INTERNAL head) w holds)))
+      (kept_either P adding short refused (λ _. errors cid ECA_INTERNAL w holds)
+      (errors NO_CHANNEL ECA_INTERNAL w holds)))
 
-  kept_requested : (w : Gateway) (number : ℕ) (message : Message) (request : Result ClientRequest RequestFault) → P w → P (requested w number message request)
-  kept_requested w number message (Ok (requests.Version minor)) holds = kept_versioned w number minor holds
-  kept_requested w number message (Ok (requests.EventAdd sid id dtype count mask)) holds =
+  kept_requested : (w : Gateway) (number : ℕ) (message : Message) (request : Result ClientRequest RequestFault)
+      → KeepsQuotes P number message → request_of message.head message.payload ≡ request → P w → P (requested w number message request)
+  kept_requested w number message (Ok (requests.Version minor)) quoted is holds = kept_versioned w number minor holds
+  kept_requested w number message (Ok (requests.EventAdd sid id dtype count mask)) quoted is holds =
       let sub : ClientSub = new_sub number sid id dtype count mask in
-      kept_sub_judged sub message.head (sub_verdict w sub) w (free_on w sub) holds
-  kept_requested w number message (Ok (requests.EventCancel sid id dtype count)) holds =
-      kept_cancelled_on number sid id dtype count message.head (channel_of w number sid) w holds
-  kept_requested w number message (Ok (requests.Write sid dtype count value)) holds =
-      kept_written_by number message.head (write_verdict w number sid dtype count value) w holds
-  kept_requested w number message (Ok requests.EventsOff) holds = kept_paused_to number true w holds
-  kept_requested w number message (Ok requests.EventsOn) holds = kept_paused_to number false w holds
-  kept_requested w number message (Ok (requests.ClearChannel sid cid)) holds = kept_cleared number sid cid message.head (channel_of w number sid) w holds
-  kept_requested w number message (Ok (requests.ReadNotify sid ioid dtype count)) holds =
-      kept_judged number sid ioid dtype count message.head (read_verdict w number sid dtype count) w (accepted_on w number sid dtype count) holds
-  kept_requested w number message (Ok (requests.CreateChannel cid minor name)) holds = kept_channel_asked number cid name w holds
-  kept_requested w number message (Ok (requests.WriteNotify sid ioid dtype count value)) holds =
-      kept_notified_by number sid ioid dtype count message.head (write_verdict w number sid dtype count value) w
-      (λ server upstream_sid written is. write_on_link w number sid dtype count ioid value server upstream_sid written is) holds
-  kept_requested w number message (Ok (requests.ClientName name)) holds = holds
-  kept_requested w number message (Ok (requests.HostName host)) holds = kept.session_changed number (renamed host) w (renamed_keeps host) holds
-  kept_requested w number message (Ok requests.Echo) holds = kept.messages.telling number (replies.Echo message) w holds
-  kept_requested w number message (Err fault) holds = kept_unreadable w number message.head holds
+      kept_sub_judged sub message.head quoted.errors (sub_verdict w sub) w (free_on w sub) holds
+  kept_requested w number message (Ok (requests.EventCancel sid id dtype count)) quoted is holds =
+      kept_cancelled_on number sid id dtype count message.head quoted.errors (channel_of w number sid) w holds
+  kept_requested w number message (Ok (requests.Write sid dtype count value)) quoted is holds =
+      kept_written_by number message.head quoted.errors (write_verdict w number sid dtype count value) w holds
+  kept_requested w number message (Ok requests.EventsOff) quoted is holds = kept_paused_to number true w holds
+  kept_requested w number message (Ok requests.EventsOn) quoted is holds = kept_paused_to number false w holds
+  kept_requested w number message (Ok (requests.ClearChannel sid cid)) quoted is holds = kept_cleared number sid cid message.head quoted.errors (channel_of w number sid) w holds
+  kept_requested w number message (Ok (requests.ReadNotify sid ioid dtype count)) quoted is holds =
+      kept_judged number sid ioid dtype count message.head quoted.errors (read_verdict w number sid dtype count) w (accepted_on w number sid dtype count) holds
+  kept_requested w number message (Ok (requests.CreateChannel cid minor name)) quoted is holds = kept_channel_asked number cid name w holds
+  kept_requested w number message (Ok (requests.WriteNotify sid ioid dtype count value)) quoted is holds =
+      kept_notified_by number sid ioid dtype count message.head quoted.errors (write_verdict w number sid dtype count value) w
+      (λ server upstream_sid written accepted. write_on_link w number sid dtype count ioid value server upstream_sid written accepted) holds
+  kept_requested w number message (Ok (requests.ClientName name)) quoted is holds = holds
+  kept_requested w number message (Ok (requests.HostName host)) quoted is holds = kept.session_changed number (renamed host) w (renamed_keeps host) holds
+  kept_requested w number message (Ok requests.Echo) quoted is holds = quoted.echo is w holds
+  kept_requested w number message (Err fault) quoted is holds = kept_unreadable w number message.head quoted.errors holds
 
-  pub kept_client_said : (w : Gateway) (number : ℕ) (message : Message) → P w → P (client_said w number message)
-  kept_client_said w number message holds = kept_requested w number message (request_of message.head message.payload) holds
+  pub kept_client_said : (w : Gateway) (number : ℕ) (message : Message) → KeepsQuotes P number message → P w → P (client_said w number message)
+  kept_client_said w number message quoted holds = kept_requested w number message (request_of message.head message.payload) quoted refl holds

@@ -1,7 +1,8 @@
 -- What each change of rows keeps, every run keeps.
-use Rattle.std.proofs.Common.{ℕ, List, [], ◌∷◌, None, false}
+use Rattle.std.proofs.Common.{◌≡◌, ℕ, List, [], ◌∷◌, None, false, refl}
 use Rattle.std.specs.Prelude.{is_some}
 use Rattle.std.specs.List.{fold}
+use Rattle.ca_header.specs.declared.header.Message.{Message}
 use Rattle.ca_message.specs.declared.to_client.ToClient.TheVariants as replies
 use Rattle.ca_message.specs.declared.to_server.ToServer.TheVariants as requests
 use Rattle.link_table.specs.declared.links.LinkState.TheVariants.{Creating, Connected, Unusable}
@@ -16,6 +17,7 @@ use Rattle.gateway_state.specs.declared.notice.LinkNotice.TheVariants.{Cancelled
 use Rattle.gateway_state.specs.declared.notice.ReadNotice.{ReadNotice}
 use Rattle.gateway_state.specs.declared.notice.ReadNotice.TheVariants.{Refused, Answered}
 use Rattle.gateway_state.specs.declared.notice.UpdateNotice.{UpdateNotice}
+use Rattle.fanout.specs.Outbox.{without_first}
 use Rattle.gateway_state.specs.Asked.{acts}
 use Rattle.gateway_state.specs.CachedRows.{is_cached_elsewhere}
 use Rattle.gateway_state.specs.Clients.{remembered, without_channel}
@@ -29,36 +31,36 @@ use Rattle.gateway_state.specs.Servers.{found, server_said, without_link}
 use Rattle.gateway_state.specs.Step.{consequences, run, step}
 use Rattle.gateway_state.specs.Telling.{told}
 use Rattle.gateway_state.specs.Updates.{is_taking, update_notices, update_told, updates_withheld, with_owed_of, withheld}
-use Rattle.gateway_state.proofs.Kept.{IsKept, KeepsLinks, KeepsRows, kept_either, kept_owed_to_all, with_new_subscription}
+use Rattle.gateway_state.proofs.Kept.{IsKept, KeepsLinks, KeepsQuotes, KeepsRows, kept_either, kept_owed_to_all, quotes_kept, with_new_subscription}
 use Rattle.gateway_state.proofs.KeptByClients.{kept_client_said, kept_opened, kept_remembered}
 use Rattle.gateway_state.proofs.KeptByServers.{kept_found, kept_server_said, kept_up_opened}
 
 module _ (P : Gateway → Type 0) (kept : KeepsRows P) where
-  -- what an event says, where new links keep it
-  pub kept_by_event : (w : Gateway) (event : Event) → ((name : List ℕ) (server : ℕ) → P w → P (found w name server))
-      → P (before_said w event) → P (direct_effect w event)
-  kept_by_event w (Opened number host) links holds = kept_opened P kept w number host holds
-  kept_by_event w (Lost number) links holds = holds
-  kept_by_event w (Client number message) links holds =
-      kept_either P (acts w (dests.Session number)) (client_said w number message) w (λ _. kept_client_said P kept w number message holds) holds
-  kept_by_event w (UpOpened number) links holds = kept_up_opened P kept w number holds
-  kept_by_event w (UpLost number) links holds = holds
-  kept_by_event w (Server number message) links holds =
+  -- what an event says, where what quotes its message keeps it, and new links do
+  pub kept_by_event : (w : Gateway) (event : Event) → ((number : ℕ) (message : Message) → event ≡ Client number message → KeepsQuotes P number message)
+      → ((name : List ℕ) (server : ℕ) → P w → P (found w name server)) → P (before_said w event) → P (direct_effect w event)
+  kept_by_event w (Opened number host) quoted links holds = kept_opened P kept w number host holds
+  kept_by_event w (Lost number) quoted links holds = holds
+  kept_by_event w (Client number message) quoted links holds =
+      kept_either P (acts w (dests.Session number)) (client_said w number message) w (λ _. kept_client_said P kept w number message (quoted number message refl) holds) holds
+  kept_by_event w (UpOpened number) quoted links holds = kept_up_opened P kept w number holds
+  kept_by_event w (UpLost number) quoted links holds = holds
+  kept_by_event w (Server number message) quoted links holds =
       kept_either P (acts w (dests.Upstream number)) (server_said w number message) w (λ _. kept_server_said P kept w number message holds) holds
-  kept_by_event w (Found name number) links holds = links name number holds
-  kept_by_event w (Search host name) links holds =
+  kept_by_event w (Found name number) quoted links holds = links name number holds
+  kept_by_event w (Search host name) quoted links holds =
       kept_either P (is_some (lead_of w.policy host name)) (remembered host name w) w (λ _. kept_remembered P kept host name w holds) holds
-  kept_by_event w Sweep links holds = kept.searches [] w holds
-  kept_by_event w (Edit policy) links holds = kept.policy policy w holds
-  kept_by_event w (Drain dest count) links holds = holds
+  kept_by_event w Sweep quoted links holds = kept.searches [] w holds
+  kept_by_event w (Edit policy) quoted links holds = kept.policy policy w holds
+  kept_by_event w (Drain dest count) quoted links holds = holds
 
   -- the passes
 
   kept_channel_told : (w : Gateway) (notice : ChannelNotice) → P w → P (channel_told w notice)
   kept_channel_told w (Disconnected session sid cid) holds =
-      kept.messages.telling session (replies.ServerDisconnect cid) (without_channel session sid w) (kept.channel_removed session sid w holds)
+      kept.messages.telling session (replies.ServerDisconnect cid) refl (without_channel session sid w) (kept.channel_removed session sid w holds)
   kept_channel_told w (RightsChanged session sid cid reach rights) holds =
-      kept.messages.telling session (replies.AccessRights cid rights) (with_reach session sid reach rights w) (kept.channel_changed session sid reach rights w holds)
+      kept.messages.telling session (replies.AccessRights cid rights) refl (with_reach session sid reach rights w) (kept.channel_changed session sid reach rights w holds)
 
   pub kept_channels : (notices : List ChannelNotice) (w : Gateway) → P w → P (fold channel_told w notices)
   kept_channels [] w holds = holds
@@ -90,9 +92,9 @@ module _ (P : Gateway → Type 0) (kept : KeepsRows P) where
 
   kept_read_told : (w : Gateway) (notice : ReadNotice) → P w → P (read_told w notice)
   kept_read_told w (Refused read code) holds =
-      kept.messages.telling read.session (replies.ReadNotifyRefused read.ioid read.dtype read.count code) (without_read read w) (kept.read_removed read w holds)
+      kept.messages.telling read.session (replies.ReadNotifyRefused read.ioid read.dtype read.count code) refl (without_read read w) (kept.read_removed read w holds)
   kept_read_told w (Answered read count payload) holds =
-      kept.messages.telling read.session (replies.ReadNotify read.ioid read.dtype count payload) (without_read read w) (kept.read_removed read w holds)
+      kept.messages.telling read.session (replies.ReadNotify read.ioid read.dtype count payload) refl (without_read read w) (kept.read_removed read w holds)
 
   kept_reads : (notices : List ReadNotice) (w : Gateway) → P w → P (fold read_told w notices)
   kept_reads [] w holds = holds
@@ -108,7 +110,7 @@ module _ (P : Gateway → Type 0) (kept : KeepsRows P) where
   kept_update_told w notice holds =
       let served : Gateway = with_owed_of notice.session notice.id false w in
       kept_either P (is_taking w notice.session) (told notice.session (replies.Update notice.id notice.dtype notice.count notice.payload) served) w
-      (λ _. kept.messages.telling notice.session (replies.Update notice.id notice.dtype notice.count notice.payload) served (kept.sub_changed notice.session notice.id false w holds))
+      (λ _. kept.messages.telling notice.session (replies.Update notice.id notice.dtype notice.count notice.payload) refl served (kept.sub_changed notice.session notice.id false w holds))
       holds
 
   kept_updates : (notices : List UpdateNotice) (w : Gateway) → P w → P (fold update_told w notices)
@@ -136,19 +138,22 @@ module _ (P : Gateway → Type 0) (kept : IsKept P) where
   kept_before_said w (Search host name) holds = holds
   kept_before_said w Sweep holds = holds
   kept_before_said w (Edit policy) holds = holds
-  kept_before_said w (Drain dest count) holds = kept.connection_drained dest count w holds
+  kept_before_said w (Drain dest count) holds = kept.outbox_changed dest (without_first count) w holds
+
+  quoted : (event : Event) (number : ℕ) (message : Message) → event ≡ Client number message → KeepsQuotes P number message
+  quoted event number message is = quotes_kept P kept.outbox_changed number message
 
   pub kept_step_by : (w : Gateway) (event : Event) → ((name : List ℕ) (server : ℕ) → P w → P (found w name server)) → P w → P (step w event)
   unfolding step
   kept_step_by w event links holds =
-      kept_consequences P kept.rows (direct_effect w event) (kept_by_event P kept.rows w event links (kept_before_said w event holds))
+      kept_consequences P kept.rows (direct_effect w event) (kept_by_event P kept.rows w event (quoted event) links (kept_before_said w event holds))
 
 module _ (P : Gateway → Type 0) (kept : IsKept P) (links : KeepsLinks P) where
   with_found : (w : Gateway) (name : List ℕ) (server : ℕ) → P w → P (found w name server)
   with_found w name server holds = kept_found P kept.rows.messages w name server (λ missing standing. links server name w missing standing holds) holds
 
   pub kept_direct_effect : (w : Gateway) (event : Event) → P w → P (direct_effect w event)
-  kept_direct_effect w event holds = kept_by_event P kept.rows w event (with_found w) (kept_before_said P kept w event holds)
+  kept_direct_effect w event holds = kept_by_event P kept.rows w event (quoted P kept event) (with_found w) (kept_before_said P kept w event holds)
 
   pub kept_step : (w : Gateway) (event : Event) → P w → P (step w event)
   kept_step w event holds = kept_step_by P kept w event (with_found w) holds

@@ -116,7 +116,7 @@ links_apart_kept = record {
     subscription_ended = λ subject server cid w apart. apart_changed w.upstream.links (is_link server cid) (with_subscription subject None) (λ name link. refl) apart;
     link_removed = λ server cid w apart. apart_filtered w.upstream.links (is_not_link server cid) apart;
   };
-  connection_drained = λ dest count w apart. apart;
+  outbox_changed = λ dest change w apart. apart;
   session_removed = λ session w apart. apart;
   server_removed = λ server w apart. apart_filtered w.upstream.links (is_not_of server) apart;
 }

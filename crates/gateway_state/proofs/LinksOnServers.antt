@@ -12,7 +12,6 @@ use Rattle.gateway_state.specs.declared.connections.Connection.{Connection}
 use Rattle.gateway_state.specs.declared.event.Dest.{Dest}
 use Rattle.gateway_state.specs.declared.event.Dest.TheVariants.{Session, Upstream}
 use Rattle.gateway_state.specs.declared.event.Event.{Event}
-use Rattle.fanout.specs.Outbox.{without_first}
 use Rattle.fanout.specs.Waiting.{Waiting}
 use Rattle.gateway_state.specs.Connections.{fresh, is_not_to, is_to, same_dest}
 use Rattle.gateway_state.specs.Gateway.{Gateway, initial}
@@ -90,7 +89,7 @@ links_on_servers_kept = record {
     subscription_ended = λ subject server cid w on. all_changed (is_on_server w) (is_link server cid) (with_subscription subject None) w.upstream.links (λ link. refl) ∙ on;
     link_removed = λ server cid w on. all_filtered (is_on_server w) (is_not_link server cid) w.upstream.links on;
   };
-  connection_drained = λ dest count w on. outboxes_changed dest (without_first count) w on;
+  outbox_changed = outboxes_changed;
   session_removed = λ session w on. links_left w.connections session w.upstream.links on;
   server_removed = λ server w on. others_left w.connections server w.upstream.links on;
 }

@@ -80,7 +80,7 @@ rows_on_channels_kept = record {
     subscription_ended = λ subject server cid w on. record { reads = on.reads; subs = on.subs };
     link_removed = λ server cid w on. record { reads = on.reads; subs = on.subs };
   };
-  connection_drained = λ dest count w on. record { reads = on.reads; subs = on.subs };
+  outbox_changed = λ dest change w on. record { reads = on.reads; subs = on.subs };
   session_removed = λ session w on. record {
     reads = on_left read_session read_sid w.clients.channels (is_not_channel_of session) (is_not_read_of session) w.clients.reads
         (λ read c kept is. ap not (same_session read_session read_sid read c session is) ∙ kept) on.reads;

@@ -8,7 +8,6 @@ use Rattle.channel_table.specs.declared.sessions.Session.{Session}
 use Rattle.channel_table.specs.ClientRows.{has_session}
 use Rattle.channel_table.specs.Sessions.{is_not_numbered, is_numbered}
 use Rattle.rule_desk.specs.declared.policy.Policy.{Policy}
-use Rattle.fanout.specs.Outbox.{without_first}
 use Rattle.fanout.specs.Waiting.{Waiting}
 use Rattle.gateway_state.specs.declared.config.Config.{Config}
 use Rattle.gateway_state.specs.declared.connections.Connection.{Connection}
@@ -91,7 +90,7 @@ sessions_connected_kept = record {
     subscription_ended = λ subject server cid w connected. connected;
     link_removed = λ server cid w connected. connected;
   };
-  connection_drained = λ dest count w connected. outboxes_changed dest (without_first count) w connected;
+  outbox_changed = outboxes_changed;
   session_removed = λ session w connected. others_left w.connections session w.clients.sessions connected;
   server_removed = λ server w connected. all_stay w.connections server w.clients.sessions connected;
 }

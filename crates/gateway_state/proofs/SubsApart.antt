@@ -97,7 +97,7 @@ subs_apart_kept = record {
     subscription_ended = λ subject server cid w apart. apart;
     link_removed = λ server cid w apart. apart;
   };
-  connection_drained = λ dest count w apart. apart;
+  outbox_changed = λ dest change w apart. apart;
   session_removed = λ session w apart. apart_filtered (is_not_sub_of session) w.clients.subs apart;
   server_removed = λ server w apart. apart;
 }

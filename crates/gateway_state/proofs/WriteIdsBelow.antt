@@ -54,7 +54,7 @@ write_ids_kept = record {
     subscription_ended = λ subject server cid w below. below;
     link_removed = λ server cid w below. below;
   };
-  connection_drained = λ dest count w below. below;
+  outbox_changed = λ dest change w below. below;
   session_removed = λ session w below. all_filtered (has_write_id_below w.upstream.counters.write) (is_not_write_of session) w.upstream.writes below;
   server_removed = λ server w below. all_filtered (has_write_id_below w.upstream.counters.write) (is_not_write_to server) w.upstream.writes below;
 }

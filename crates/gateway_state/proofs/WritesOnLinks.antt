@@ -260,7 +260,7 @@ writes_fit_kept = record {
       fit = fit_over w (filter (is_not_link server cid) w.upstream.links) (λ of name right. all_filtered (is_right of name) (is_not_link server cid) w.upstream.links right) on.fit;
     };
   };
-  connection_drained = λ dest count w on. record { apart = on.apart; fit = on.fit };
+  outbox_changed = λ dest change w on. record { apart = on.apart; fit = on.fit };
   session_removed = λ session w on. record {
     apart = on.apart;
     fit = fit_left w (is_not_channel_of session) (is_not_write_of session) (λ write c kept same. other_session write c session kept same) on.fit;

@@ -1,12 +1,16 @@
 -- What one event gives a connection.
-use Rattle.std.specs.Prelude.{◌≡◌, List, length, drop, Bool, false}
+use Rattle.std.specs.Prelude.{◌≡◌, ℕ, List, length, drop, Bool, false, Ok}
+use Rattle.ca_header.specs.declared.header.Message.{Message}
+use Rattle.ca_message.specs.declared.request.ClientRequest.TheVariants as requests
 use Rattle.ca_message.specs.declared.to_client.ToClient.{ToClient}
+use Rattle.ca_message.specs.declared.to_client.ToClient.TheVariants as replies
 use Rattle.ca_message.specs.declared.to_server.ToServer.{ToServer}
+use Rattle.ca_message.specs.ClientRequest.{request_of}
 use Rattle.fanout.specs.declared.outbox.Out.{Out}
 use Rattle.gateway_state.specs.declared.event.Dest.{Dest}
 use Rattle.gateway_state.specs.declared.event.Dest.TheVariants.{Session, Upstream}
 use Rattle.gateway_state.specs.declared.event.Event.{Event}
-use Rattle.gateway_state.specs.declared.event.Event.TheVariants.{Drain, Lost, UpLost}
+use Rattle.gateway_state.specs.declared.event.Event.TheVariants.{Client, Drain, Lost, UpLost}
 use Rattle.gateway_state.specs.Connections.{outbox_of, same_dest}
 use Rattle.gateway_state.specs.Direct.{drained}
 use Rattle.gateway_state.specs.Gateway.{Gateway}
@@ -36,7 +40,17 @@ is_loss_of (Lost number) dest = same_dest (Session number) dest
 is_loss_of (UpLost number) dest = same_dest (Upstream number) dest
 is_loss_of event dest = false
 
--- a message to a client is the wire form of a reply or notice, one to a server that of a request
-abbrev pub IsWireForm : Dest → Out → Type 0
-IsWireForm (Session number) out = (said : ToClient) × (out ≡ outgoing said)
-IsWireForm (Upstream number) out = (said : ToServer) × (out ≡ outgoing_upstream said)
+-- what an event may say to a session: an ECHO only where the event is this session's own ECHO, which goes
+-- back as it came, and an ERROR only over the header of what this session sent
+abbrev pub IsSaidBy : Event → ℕ → ToClient → Type 0
+IsSaidBy event number (replies.Echo message) =
+    (event ≡ Client number message) × (request_of message.head message.payload ≡ Ok requests.Echo)
+IsSaidBy event number (replies.Error cid code head) =
+    (message : Message) × ((event ≡ Client number message) × (message.head ≡ head))
+IsSaidBy event number _ = Unit {0}
+
+-- a message to a client is the wire form of a reply or notice that the event may say to it, one to a server
+-- that of a request
+abbrev pub IsWireForm : Event → Dest → Out → Type 0
+IsWireForm event (Session number) out = (said : ToClient) × (IsSaidBy event number said × (out ≡ outgoing said))
+IsWireForm event (Upstream number) out = (said : ToServer) × (out ≡ outgoing_upstream said)
