@@ -1,9 +1,9 @@
 -- The set of links stays indexed through each of its changes, and holds the links that it should.
-use Rattle.std.proofs.Common.{◌≡◌, ℕ, List, [], ◌∷◌, ◌++◌, false, ◌==◌, Option, Some, None, map, refl, sym, ap, subst, ◌∙◌, true, cond}
+use Rattle.std.proofs.Common.{◌≡◌, ℕ, List, [], ◌∷◌, ◌++◌, false, ◌&&◌, ◌==◌, Option, Some, None, is_some, map, refl, sym, ap, subst, ◌∙◌, true, cond}
 use Rattle.std.specs.Prelude.{slice_get, IfSome}
 use Rattle.std.specs.List.{find, filter, list_any}
 use Rattle.std.specs.Option.{option_and_then, option_or, option_to_list}
-use Rattle.std.proofs.lemmas.Bool.{false≢true, and_parts, eqb-true}
+use Rattle.std.proofs.lemmas.Bool.{false≢true, and_parts, and_from, eqb-true, eq-eqb}
 use Rattle.std.proofs.lemmas.Option.{same_Some}
 use Rattle.std.proofs.lemmas.Slice.Eq.{bytes_eq-Decides}
 use Rattle.rows.specs.Rows.{change_first}
@@ -16,14 +16,14 @@ use Rattle.link_table.specs.declared.links.Link.{Link}
 use Rattle.link_table.specs.declared.links.Subject.{Subject}
 use Rattle.link_table.specs.declared.links.Subject.TheVariants.{Values, Properties}
 use Rattle.link_table.specs.declared.links.Subscription.{Subscription}
-use Rattle.link_table.specs.Links.{is_link, is_named, has_id, has_sub_to, has_subscription, has_other_sub, is_same_id, new_link, sub_at, with_subscription}
+use Rattle.link_table.specs.Links.{is_link, is_named, has_id, has_sub_to, has_subscription, has_other_sub, is_same_id, new_link, sub_at, with_subscription, HasIdsApart}
 use Rattle.link_table.specs.Keyed.{entry_by}
 use Rattle.link_table.specs.LinkIndex.{Leads, key, key_of, name_of, sub_key, sub_of, leads_at, led_by, IsFree, LeadEachWay, forgotten, renewed, told_at, first_of, AreIndexed}
 use Rattle.link_table.proofs.IndexLemmas.{found_by_index, led_nowhere, silent_added, same_put, told_added, told_removed}
-use Rattle.link_table.proofs.KeyedLemmas.{keyed_by, row_at, keyed_with_more, keyed_with_fewer, keyed_with_put, found_none, found_passes, none_at_a_key}
+use Rattle.link_table.proofs.KeyedLemmas.{keyed_by, row_at, keyed_with_more, keyed_with_fewer, keyed_with_put, found_none, found_passes, found_at_its_key, is_some_found, none_at_a_key}
 use Rattle.link_table.proofs.LeadsBackLemmas.{lead_as}
 use Rattle.link_table.proofs.NameLemmas.{is_same, is_same_decides, first_of_added, first_beside_added, single_with_more, first_of_removed, first_beside_removed, single_with_fewer}
-use Rattle.link_table.proofs.SubLemmas.{subscribed_tells, subscribed_passes, its_own, found_either_first, found_either_second, second_none, moved_leads, subs_without, same_sub_key, kept_key, subs_moved, parted_moved, parted_without}
+use Rattle.link_table.proofs.SubLemmas.{subscribed_tells, subscribed_passes, its_own, has_one, on_another, one_subject, found_either_first, found_either_second, second_none, moved_leads, subs_without, same_sub_key, kept_key, subs_moved, parted_moved, parted_without}
 
 -- what a link says by its name
 named_tells : (name : List ℕ) (row : Link) → is_named name row ≡ true → name_of row ≡ Some name
@@ -101,6 +101,52 @@ module _ (links : List (Key × Link)) (names : List (List ℕ × List Key)) (lea
                   let same : other ≡ row = same_Some other row (sym at ∙ ap (λ y. value_at y links) its ∙ there) in
                   absurd (false≢true (sym differs ∙ ap (λ (r : Link). has_id s.id (sub_at subject r.subscriptions)) (sym same) ∙ own.2))
             ] refl said
+      ] refl
+
+module _ (links : List (Key × Link)) (names : List (List ℕ × List Key)) (leads : Leads) (indexed : AreIndexed links names leads) where
+  leads_there : (subject : Subject) (server id : ℕ) (row : Link) → value_at (key_of row) links ≡ Some row → has_sub_to subject server id row ≡ true → value_at (key id server) (leads_at subject leads) ≡ Some (key_of row)
+  leads_there subject server id row there has =
+      (indexed.by_sub subject).leads (key_of row) (key id server) (ap (option_and_then (sub_of subject)) there ∙ subscribed_tells subject server id row has)
+
+  -- a link that has an ID beside a subscription of that ID is another, and so on another subject
+  none_beside : (server cid : ℕ) (subject : Subject) (id : ℕ) (row other : Link) → is_link server cid row ≡ true → value_at (key_of row) links ≡ Some row → has_sub_to subject server id row ≡ true → value_at (key_of other) links ≡ Some other → has_other_sub server cid subject id other ≡ true → false ≡ true
+  none_beside server cid subject id row other its there has at beside =
+      let led = leads_there subject server id row there has in
+      elim (is_link server cid other) as (λ t. is_link server cid other ≡ t → has_subscription server id (cond t (with_subscription subject None other) other) ≡ true → false ≡ true) [
+        | true ↦ λ is h.
+            let one = has_one server id (with_subscription subject None other) h in
+            let on = on_another subject one.0 server id other one.1 in
+            absurd (on.0 (one_subject leads indexed.parted one.0 subject (key id server) (key_of other) (key_of row) (leads_there one.0 server id other at on.1) led))
+        | false ↦ λ is h.
+            let one = has_one server id other h in
+            let to = leads_there one.0 server id other at one.1 in
+            let same = one_subject leads indexed.parted one.0 subject (key id server) (key_of other) (key_of row) to led in
+            let alike : key_of other ≡ key_of row = same_Some (key_of other) (key_of row) (sym to ∙ ap (λ s. value_at (key id server) (leads_at s leads)) same ∙ led) in
+            sym is ∙ ap (λ (k : Key). k.owner == server && k.id == cid) alike ∙ its
+      ] refl beside
+
+  -- no other subscription to a server has the ID of a present one
+  pub ids_apart : HasIdsApart (map row_of links)
+  ids_apart server cid subject =
+      let rows = map row_of links in
+      let at : Link → Option Subscription = λ row. sub_at subject row.subscriptions in
+      let P : Option Subscription → Type 0 = λ o. IfSome o (λ sub. list_any (has_other_sub server cid subject sub.id) rows ≡ false) in
+      elim (find (is_link server cid) rows) as (λ o. find (is_link server cid) rows ≡ o → P (option_and_then at o)) [
+        | None ↦ λ e. tt
+        | Some row ↦ λ e.
+            elim (at row) as (λ o. at row ≡ o → P o) [
+              | None ↦ λ is. tt
+              | Some s ↦ λ is.
+                  let here = found_at_its_key key_of (is_link server cid) links row indexed.keyed indexed.apart e in
+                  let p = has_other_sub server cid subject s.id in
+                  let has : has_sub_to subject server s.id row ≡ true = and_from (row.server == server) (has_id s.id (at row)) (and_parts (row.server == server) (row.cid == cid) here.1).0 (ap (has_id s.id) is ∙ eq-eqb s.id s.id refl) in
+                  elim (find p rows) as (λ o. find p rows ≡ o → list_any p rows ≡ false) [
+                    | None ↦ λ none. sym (is_some_found p rows) ∙ ap is_some none
+                    | Some other ↦ λ found.
+                        let there = found_at_its_key key_of p links other indexed.keyed indexed.apart found in
+                        absurd (false≢true (none_beside server cid subject s.id row other here.1 here.0 has there.0 there.1))
+                  ] refl
+            ] refl
       ] refl
 
 -- a new link has no subscription

@@ -1,5 +1,5 @@
 -- What the IDs of subscriptions lead to, on each of the two subjects.
-use Rattle.std.proofs.Common.{◌≡◌, ℕ, List, [], ◌∷◌, ◌++◌, Bool, true, false, cond, ◌&&◌, ◌||◌, ◌==◌, Option, Some, None, is_some, refl, sym, ap, ◌∙◌}
+use Rattle.std.proofs.Common.{◌≡◌, ◌≢◌, ℕ, List, [], ◌∷◌, ◌++◌, Bool, true, false, cond, ◌&&◌, ◌||◌, ◌==◌, Option, Some, None, is_some, refl, sym, ap, ◌∙◌}
 use Rattle.std.specs.List.{find, filter, list_any}
 use Rattle.std.specs.Option.{option_and_then}
 use Rattle.std.proofs.lemmas.Bool.{false≢true, and_parts, and_from, or_parts, or_from, eqb-true, eq-eqb}
@@ -15,6 +15,11 @@ use Rattle.link_table.specs.Links.{is_of, is_link, has_id, sub_at, has_sub_to, h
 use Rattle.link_table.specs.LinkIndex.{Leads, key, sub_key, sub_of, leads_at, with_leads, with_led, without_led, AreParted, IsFree, LeadEachWay, forgotten, told_at}
 use Rattle.link_table.proofs.IndexLemmas.{silent_removed, same_put, told_removed, told_put, untold_put, retold_put}
 use Rattle.link_table.proofs.ValueLemmas.{same_key_decides, value_of_added, value_beside_added, value_of_removed, value_beside_removed}
+
+apart_subjects : Values ≢ Properties
+apart_subjects same =
+    let is_values : Subject → Bool = λ s. elim s as (λ _. Bool) [ Values ↦ true | Properties ↦ false ] in
+    false≢true (sym (ap is_values same))
 
 -- what a link says by its subscription on a subject
 pub subscribed_tells : (subject : Subject) (server id : ℕ) (row : Link) → has_sub_to subject server id row ≡ true → sub_of subject row ≡ Some (key id server)
@@ -79,6 +84,26 @@ none_other server cid subject id (row ∷ rows) none =
     let here = elim (is_link server cid row) as (λ t. has_subscription server id (cond t (with_subscription subject None row) row) ≡ false)
     [ true ↦ not_without subject server id row parts.0 | false ↦ parts.0 ] in
     or_from (has_other_sub server cid subject id row) (list_any (has_other_sub server cid subject id) rows) here (none_other server cid subject id rows parts.1)
+
+-- a link that has a subscription on either subject has it on one
+pub has_one : (server id : ℕ) (row : Link) → has_subscription server id row ≡ true → (subject : Subject) × (has_sub_to subject server id row ≡ true)
+has_one server id row has =
+    elim (has_sub_to Values server id row) as (λ t. has_sub_to Values server id row ≡ t → (t || has_sub_to Properties server id row) ≡ true → (subject : Subject) × (has_sub_to subject server id row ≡ true))
+    [ true ↦ λ is h. (Values, is) | false ↦ λ is h. (Properties, h) ] refl has
+
+-- what stays of a link's subscriptions without the one on a subject is on the other
+pub on_another : (subject to : Subject) (server id : ℕ) (row : Link) → has_sub_to to server id (with_subscription subject None row) ≡ true → (to ≢ subject) × (has_sub_to to server id row ≡ true)
+on_another Values Values server id row has = absurd (false≢true (and_parts (is_of server row) false has).1)
+on_another Values Properties server id row has = (λ same. apart_subjects (sym same), has)
+on_another Properties Values server id row has = (λ same. apart_subjects same, has)
+on_another Properties Properties server id row has = absurd (false≢true (and_parts (is_of server row) false has).1)
+
+-- a key that leads on two subjects leads on one
+pub one_subject : (leads : Leads) → AreParted leads → (to subject : Subject) (led x y : Key) → value_at led (leads_at to leads) ≡ Some x → value_at led (leads_at subject leads) ≡ Some y → to ≡ subject
+one_subject leads parted Values Values led x y first second = refl
+one_subject leads parted Values Properties led x y first second = absurd (false≢true (sym (parted led) ∙ (λ i. is_some (first i) && is_some (second i))))
+one_subject leads parted Properties Values led x y first second = absurd (false≢true (sym (parted led) ∙ (λ i. is_some (second i) && is_some (first i))))
+one_subject leads parted Properties Properties led x y first second = refl
 
 -- the first that passes one of two tests, where none passes the other
 module _ {A : Type 0} (p q : A → Bool) where

@@ -1,6 +1,7 @@
 -- The rows of links.
-use Rattle.std.specs.Prelude.{ℕ, ◌+◌, ◌≤◌, nat_lt, List, [], ◌∷◌, Bool, false, not, ◌&&◌, ◌||◌, ◌==◌, bytes_eq, Option, Some, None, if◌then◌else◌}
-use Rattle.std.specs.List.{count_by, find}
+use Rattle.std.specs.Prelude.{◌≡◌, IfSome, ℕ, ◌+◌, ◌≤◌, nat_lt, List, [], ◌∷◌, Bool, false, not, ◌&&◌, ◌||◌, ◌==◌, bytes_eq, Option, Some, None, if◌then◌else◌}
+use Rattle.std.specs.List.{count_by, find, list_any}
+use Rattle.std.specs.Option.{option_and_then}
 use Rattle.link_table.specs.declared.links.Link.{Link}
 use Rattle.link_table.specs.declared.links.LinkState.{LinkState}
 use Rattle.link_table.specs.declared.links.LinkState.TheVariants.{Creating}
@@ -68,6 +69,13 @@ with_subscription subject sub row = record row { subscriptions = with_at subject
 abbrev pub has_other_sub : ℕ → ℕ → Subject → ℕ → Link → Bool
 has_other_sub server cid subject id row =
     has_subscription server id (if is_link server cid row then with_subscription subject None row else row)
+
+-- no other subscription to a server has the ID of a present one
+abbrev pub HasIdsApart : List Link → Type 0
+HasIdsApart links =
+    (server cid : ℕ) (subject : Subject)
+    → IfSome (option_and_then (λ row. sub_at subject row.subscriptions) (find (is_link server cid) links))
+    (λ sub. list_any (has_other_sub server cid subject sub.id) links ≡ false)
 
 -- a link of a lower CID
 abbrev pub is_below : ℕ → Link → Bool

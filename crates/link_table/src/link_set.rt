@@ -3,7 +3,7 @@ ghost use Rattle.std.specs.Prelude.{◌≡◌, [], ◌∷◌, ◌++◌, length, 
 ghost use Rattle.std.specs.List.{filter, find, list_any};
 ghost use Rattle.std.specs.Option.{option_copied};
 ghost use Rattle.rows.specs.Rows.{change_first};
-ghost use Rattle.link_table.specs.Links.{is_link, is_not_link, is_of, is_not_of, is_named, has_other_sub, has_subscription, new_link, with_state, with_subscription};
+ghost use Rattle.link_table.specs.Links.{is_link, is_not_link, is_of, is_not_of, is_named, has_other_sub, has_subscription, new_link, with_state, with_subscription, HasIdsApart};
 
 use crate::links::{Link, LinkState, Subject, Subscription, Subscriptions};
 use crate::sub_leads::SubLeads;
@@ -180,6 +180,14 @@ impl LinkSet {
             row.subscriptions.put(subject, sub);
         }
         Ok(())
+    }
+
+    /// Does nothing. Its contract is a law: no other subscription to a server has the ID of a present
+    /// one.
+    pub(crate) fn has_ids_apart(&self)
+        ensures { HasIdsApart self.now }
+    {
+        let _ = &self.leads;
     }
 
     pub(crate) fn remove(&mut self, server: u32, cid: u32)

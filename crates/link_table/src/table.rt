@@ -6,7 +6,7 @@ ghost use Rattle.rows.specs.Rows.{change_first};
 ghost use Rattle.link_table.specs.declared.counter.TheConstants.{LAST_NUMBER};
 ghost use Rattle.link_table.specs.LinkRows.{has_server, has_link, write_count};
 ghost use Rattle.link_table.specs.Servers.{is_server, is_not_server, with_minor};
-ghost use Rattle.link_table.specs.Links.{is_link, is_not_link, is_of, is_not_of, is_named, has_other_sub, has_subscription, new_link, nth_by_cid, with_state, with_subscription, CidsRiseFrom};
+ghost use Rattle.link_table.specs.Links.{is_link, is_not_link, is_of, is_not_of, is_named, has_other_sub, has_subscription, new_link, nth_by_cid, with_state, with_subscription, CidsRiseFrom, HasIdsApart};
 ghost use Rattle.link_table.specs.Writes.{is_write, is_not_write, is_not_write_of, is_not_write_on, is_not_write_to};
 ghost use Rattle.link_table.specs.Counters.{all_at, are_over, counter_of, raised};
 
@@ -264,6 +264,14 @@ impl Links {
             Ok(()) => Ok(()),
             Err(_) => Err(TableFault::OutOfMemory),
         }
+    }
+
+    /// Does nothing. Its contract is a law: no other subscription to a server has the ID of a present
+    /// one, so that one may be put under it again.
+    pub fn has_ids_apart(&self)
+        ensures { HasIdsApart self.now.links }
+    {
+        self.links.has_ids_apart();
     }
 
     /// Removes a server with its links and the writes to it.

@@ -9,7 +9,8 @@
 //!   rows of these numbers, of which link 7 is for T7;
 //! - `put server N MINOR`, `put link SERVER CID SID TYPE COUNT RIGHTS`, `put unusable SERVER CID RIGHTS`,
 //!   `put sub SERVER CID ID MASK COUNT SENT`, `put props ..` of its properties, `put none SERVER CID`,
-//!   `put unlisted SERVER CID`: no subscription to its values, or to its properties;
+//!   `put unlisted SERVER CID`: no subscription to its values, or to its properties; `put again SERVER CID
+//!   MASK COUNT SENT`: its subscription to values, under the ID that it has;
 //! - `remove server N`, `remove link SERVER CID`, `remove write SERVER ID`, `remove writes SESSION SID`,
 //!   `remove session N`: its writes;
 //! - `find cid SERVER CID`, `find name NAME`, `find place N`, `find of SERVER N`, `find sub SERVER ID`: the
@@ -133,6 +134,22 @@ fn set_sub(
     refused(links.set_sub(server, cid, subject, Some(sub)), told);
 }
 
+/// Puts the subscription to a link's values, if it has one, under the ID that it has.
+fn put_again(links: &mut Links, server: u32, cid: u32, asked: Subscription, told: &mut Told) {
+    links.has_ids_apart();
+    let Some(link) = links.by_cid(server, cid) else {
+        return;
+    };
+    let Some(had) = link.subscriptions.at(Subject::Values) else {
+        return;
+    };
+    let sub = Subscription {
+        id: had.id,
+        ..asked
+    };
+    refused(links.set_sub(server, cid, Subject::Values, Some(sub)), told);
+}
+
 fn name_of(alloc: Global, cid: u32) -> Option<Name> {
     let text = format!(in alloc; "T{cid}").ok()?;
     Name::read(alloc, text.as_bytes()).ok()
@@ -171,6 +188,15 @@ fn put(links: &mut Links, call: &Call<'_>, told: &mut Told) {
                 sent: sixth,
             };
             set_sub(links, server, cid, subject(call.what), sub, told);
+        }
+        "again" => {
+            let asked = Subscription {
+                id: 0,
+                mask: third.min(65_535) as u16,
+                count: fourth,
+                sent: fifth,
+            };
+            put_again(links, server, cid, asked, told);
         }
         _ => refused(links.set_sub(server, cid, subject(call.what), None), told),
     }

@@ -119,9 +119,14 @@ find sub 1 8
 find sub 1 9
 > 2
 put sub 1 2 8 5 1 0
+put again 1 2 1 4 4
+find sub 1 8
+> 2
 put unlisted 1 2
 find sub 1 9
 > none
+show link 1 2
+> Some((Creating, 0, Some(Subscription { id: 8, mask: 1, count: 4, sent: 4 }), None))
 put props 1 1 9 8 1 1
 remove link 1 2
 find sub 1 8
