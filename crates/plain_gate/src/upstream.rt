@@ -82,9 +82,8 @@ impl Key<Link> for LinkSubscribed {
     ghost picks = { λ key. has_subscription key.server key.id };
 
     fn picks(&self, row: &Link) -> bool {
-        let told = row.subscriptions;
-        row.server == self.server
-            && (has_id(told.values, self.id) || has_id(told.properties, self.id))
+        let Subscriptions { values, properties } = row.subscriptions;
+        row.server == self.server && (has_id(values, self.id) || has_id(properties, self.id))
     }
 }
 
@@ -111,12 +110,12 @@ pub(crate) fn put_state(rows: &mut Vec<Link>, server: u32, cid: u32, state: Link
 }
 
 /// The subscription on a subject.
-pub(crate) fn sub_at(subject: Subject, told: Subscriptions) -> Option<Subscription>
-    ensures { result ≡ sub_at subject told }
+pub(crate) fn sub_at(subject: Subject, subscriptions: Subscriptions) -> Option<Subscription>
+    ensures { result ≡ sub_at subject subscriptions }
 {
     match subject {
-        Subject::Values => told.values,
-        Subject::Properties => told.properties,
+        Subject::Values => subscriptions.values,
+        Subject::Properties => subscriptions.properties,
     }
 }
 
