@@ -18,7 +18,7 @@ fn channel_notice(rows: &Rows, channel: &Channel) -> Result<Option<ChannelNotice
         return Ok(Some(ChannelNotice::Disconnected { session, sid, cid }));
     }
     let rights = rows.rights_of(channel)?;
-    if channel.rights == rights {
+    if channel.rights_told == rights {
         return Ok(None);
     }
     Ok(Some(ChannelNotice::RightsChanged {

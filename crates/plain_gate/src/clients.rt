@@ -12,7 +12,7 @@ ghost use Rattle.gateway_state.specs.Updates.{owed_to, owed_to_all};
 use crate::lists::{Key, place_of, remove};
 use crate::state::Rows;
 use crate::upstream::WritesOn;
-use channel_table::{Channel, ClientSub, Session, WaitingRead};
+use channel_table::{Channel, ClientSub, Reach, Session, WaitingRead};
 use pv_name::Host;
 
 // Sessions
@@ -99,14 +99,20 @@ impl Key<Channel> for ChannelsOf {
 
 /// The channel has this reach, and its client was told of these rights.
 #[tactic(auto, using(rows::proofs::RowLemmas::set_is_change_first, rows::proofs::RowLemmas::change_first_none))]
-pub(crate) fn put_channel(rows: &mut Vec<Channel>, session: u32, sid: u32, reach: u32, rights: u32)
+pub(crate) fn put_channel(
+    rows: &mut Vec<Channel>,
+    session: u32,
+    sid: u32,
+    reach: Reach,
+    rights: u32,
+)
     ensures { rows.new.items ≡
         change_first (is_channel session sid) (with_reach_and_rights reach rights) rows.old.items }
 {
     if let Some(place) = place_of(rows, ChannelAt { session, sid }) {
         let row = &mut rows[place];
         row.reach = reach;
-        row.rights = rights;
+        row.rights_told = rights;
     }
 }
 

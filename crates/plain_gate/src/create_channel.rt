@@ -10,7 +10,7 @@ use crate::names::native_in;
 use crate::numbers::Refusal;
 use crate::state::Rows;
 use ca_message::ToClient;
-use channel_table::{CHANNEL_LIMIT, Channel};
+use channel_table::{CHANNEL_LIMIT, Channel, Reach};
 use gateway_state::Native;
 use link_table::Counter;
 use pv_alias::{Lead, group_rights};
@@ -47,8 +47,11 @@ fn create_on(
         cid,
         asked,
         real: real.copy()?,
-        reach: 0,
-        rights,
+        reach: Reach {
+            count: 0,
+            props: false,
+        },
+        rights_told: rights,
     };
     if rows.channels.push(channel).is_err() {
         return Err(Refusal::OutOfMemory);

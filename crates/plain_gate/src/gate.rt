@@ -18,6 +18,7 @@ use crate::step::{drain, step};
 use fanout::Out;
 use gateway_calls::{AskFault, Failed, GatewayCalls, NoMemory, StepFault};
 use gateway_state::{Config, Dest, Event, Policy, Reading, Sub};
+use link_table::Subject;
 use pv_name::{Host, Name};
 use pv_search::{SearchAnswer, answer};
 use std::alloc::{AllocError, Global};
@@ -124,7 +125,7 @@ impl GatewayCalls for PlainGate {
 
     fn subscription(&mut self, name: &Name) -> Result<Option<Sub>, Failed> {
         match &self.rows {
-            Some(rows) => Ok(rows.subscription_of(name)),
+            Some(rows) => Ok(rows.subscription_to(Subject::Values, name)),
             None => Err(Failed),
         }
     }

@@ -1,21 +1,67 @@
 //! The pass over links: what servers are owed about them.
 ghost use Rattle.std.specs.Prelude.{◌≡◌, ◌++◌, true, fold, IfOk, IsErrOf, OnOk};
-ghost use Rattle.gateway_state.specs.Notices.{dropped, interest_notices, link_notices, link_notices_of, link_told, links_told, subscribed_to};
+ghost use Rattle.gateway_state.specs.Notices.{dropped, forgotten, interest_notices, link_notices, link_notices_of, link_told, links_told, subject_notices, subscribed_to};
 ghost use Rattle.gateway_state.specs.Numbers.{is_past_numbers};
 
-use crate::interest::{is_for, sent_count};
+use crate::interest::{is_for, sent_for};
 use crate::lists::remove;
 use crate::numbers::Refusal;
 use crate::state::Rows;
-use crate::upstream::{MessageOf, put_subscription};
-use crate::values::time_of;
+use crate::upstream::{MessageOf, put_subscription, sub_at};
+use crate::values::type_for;
 use ca_message::ToServer;
 use gateway_state::LinkNotice;
-use link_table::{Counter, Link, LinkState, Subscription};
+use link_table::{Counter, Link, LinkState, Subject, Subscription};
 use mask_merge::Want;
 use std::alloc::AllocError;
 
-/// What a server is owed because of what the readers of a connected link's variable want.
+/// What a server is owed about a subject of a connected link: its subscription is exchanged where
+/// something else is wanted.
+fn add_subject_notices(
+    rows: &Rows,
+    notices: &mut Vec<LinkNotice>,
+    subject: Subject,
+    link: &Link,
+    sid: u32,
+    dtype: u16,
+    native: u32,
+) -> Result<(), AllocError>
+    ensures { OnOk result (notices.new.items ≡ notices.old.items ++ subject_notices subject rows.now link.now sid dtype native) }
+{
+    let (server, cid) = (link.server, link.cid);
+    let want = rows.wanted_for(subject, &link.name, dtype, native)?;
+    let present = sub_at(subject, link.subscriptions);
+    if is_for(want, present) {
+        return Ok(());
+    }
+    let dtype = type_for(subject, dtype);
+    if let Some(subscription) = present {
+        notices.push(LinkNotice::Cancelled {
+            subject,
+            server,
+            cid,
+            sid,
+            dtype,
+            subscription,
+        })?;
+    }
+    let notice = match want {
+        None => LinkNotice::Unread { subject, cid },
+        Some(want) => LinkNotice::Subscribed {
+            subject,
+            server,
+            cid,
+            sid,
+            dtype,
+            want,
+            sent: sent_for(subject, rows.minor_of(server), native, want.count),
+        },
+    };
+    notices.push(notice)?;
+    Ok(())
+}
+
+/// What a server is owed because of what the readers of a connected link's variable want, values first.
 fn add_interest_notices(
     rows: &Rows,
     notices: &mut Vec<LinkNotice>,
@@ -26,32 +72,8 @@ fn add_interest_notices(
     let LinkState::Connected { sid, dtype, count } = link.state else {
         return Ok(());
     };
-    let want = rows.interest_of(&link.name, count)?;
-    if is_for(want, link.subscription) {
-        return Ok(());
-    }
-    if let Some(subscription) = link.subscription {
-        notices.push(LinkNotice::Cancelled {
-            server: link.server,
-            cid: link.cid,
-            sid,
-            dtype: time_of(dtype),
-            subscription,
-        })?;
-    }
-    let notice = match want {
-        None => LinkNotice::Unread { cid: link.cid },
-        Some(want) => LinkNotice::Subscribed {
-            server: link.server,
-            cid: link.cid,
-            sid,
-            dtype: time_of(dtype),
-            want,
-            sent: sent_count(rows.minor_of(link.server), count, want.count),
-        },
-    };
-    notices.push(notice)?;
-    Ok(())
+    add_subject_notices(rows, notices, Subject::Values, link, sid, dtype, count)?;
+    add_subject_notices(rows, notices, Subject::Properties, link, sid, dtype, count)
 }
 
 fn add_link_notices(
@@ -85,6 +107,7 @@ fn link_notices(rows: &Rows) -> Result<Vec<LinkNotice>, AllocError>
 #[tactic(auto, unfolding(gateway_state::specs::Telling::sent, gateway_state::specs::Numbers::is_past_numbers))]
 fn subscribe(
     rows: &mut Rows,
+    subject: Subject,
     server: u32,
     cid: u32,
     sid: u32,
@@ -92,8 +115,8 @@ fn subscribe(
     want: Want,
     sent: u32,
 ) -> Result<(), Refusal>
-    ensures ok { OnOk result (rows.new ≡ subscribed_to server cid sid dtype want sent rows.old) }
-    ensures used_up { IsErrOf result Refusal.NumbersUsedUp → is_past_numbers (subscribed_to server cid sid dtype want sent rows.old) ≡ true }
+    ensures ok { OnOk result (rows.new ≡ subscribed_to subject server cid sid dtype want sent rows.old) }
+    ensures used_up { IsErrOf result Refusal.NumbersUsedUp → is_past_numbers (subscribed_to subject server cid sid dtype want sent rows.old) ≡ true }
 {
     let Some(id) = rows.numbers.give_out(Counter::Subscription) else {
         return Err(Refusal::NumbersUsedUp);
@@ -105,7 +128,7 @@ fn subscribe(
         count,
         sent,
     };
-    put_subscription(&mut rows.links, server, cid, Some(subscription));
+    put_subscription(&mut rows.links, subject, server, cid, Some(subscription));
     let said = ToServer::EventAdd {
         sid,
         id,
@@ -115,6 +138,16 @@ fn subscribe(
     };
     rows.ask(server, said)?;
     Ok(())
+}
+
+/// What a link was told of a subject last goes.
+fn forget(rows: &mut Rows, subject: Subject, cid: u32)
+    ensures { rows.new ≡ forgotten subject cid rows.old }
+{
+    match subject {
+        Subject::Values => remove(&mut rows.cache, MessageOf { cid }),
+        Subject::Properties => {}
+    }
 }
 
 fn drop_link(rows: &mut Rows, server: u32, cid: u32, state: LinkState) -> Result<(), AllocError>
@@ -135,13 +168,14 @@ fn tell_link(rows: &mut Rows, notice: LinkNotice) -> Result<(), Refusal>
 {
     match notice {
         LinkNotice::Cancelled {
+            subject,
             server,
             cid,
             sid,
             dtype,
             subscription,
         } => {
-            put_subscription(&mut rows.links, server, cid, None);
+            put_subscription(&mut rows.links, subject, server, cid, None);
             let said = ToServer::EventCancel {
                 sid,
                 id: subscription.id,
@@ -150,18 +184,19 @@ fn tell_link(rows: &mut Rows, notice: LinkNotice) -> Result<(), Refusal>
             };
             Ok(rows.ask(server, said)?)
         }
-        LinkNotice::Unread { cid } => {
-            remove(&mut rows.cache, MessageOf { cid });
+        LinkNotice::Unread { subject, cid } => {
+            forget(rows, subject, cid);
             Ok(())
         }
         LinkNotice::Subscribed {
+            subject,
             server,
             cid,
             sid,
             dtype,
             want,
             sent,
-        } => subscribe(rows, server, cid, sid, dtype, want, sent),
+        } => subscribe(rows, subject, server, cid, sid, dtype, want, sent),
         LinkNotice::Dropped { server, cid, state } => Ok(drop_link(rows, server, cid, state)?),
     }
 }

@@ -97,7 +97,7 @@ impl Rows {
         ensures { result ≡ rights_told self.now session sid }
     {
         match self.channel_of(session, sid) {
-            Some(channel) => Some(channel.rights),
+            Some(channel) => Some(channel.rights_told),
             None => None,
         }
     }

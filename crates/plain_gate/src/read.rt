@@ -1,17 +1,17 @@
 //! READ_NOTIFY.
 ghost use Rattle.std.specs.Prelude.{◌≡◌, Some, IfOk, OnOk};
 ghost use Rattle.gateway_state.specs.Answer.{cached_value};
-ghost use Rattle.gateway_state.specs.Clients.{accepted, is_one_too_many, read_asked, read_verdict, verdict_natively};
+ghost use Rattle.gateway_state.specs.Clients.{accepted, is_one_too_many, reach_with, read_asked, read_verdict, verdict_natively};
 
 use crate::clients::{ReadsOf, put_channel};
 use crate::lists::count;
 use crate::names::native_in;
 use crate::state::Rows;
-use crate::values::{meant_count, read_refusal};
+use crate::values::{meant_count, needs_by_number, read_refusal};
 use ca_header::Header;
 use ca_message::codes::{ECA_BADCHID, ECA_GETFAIL};
 use ca_message::commands::NO_CHANNEL;
-use channel_table::{Channel, READ_LIMIT, WaitingRead};
+use channel_table::{Channel, READ_LIMIT, Reach, WaitingRead};
 use gateway_state::{Native, ReadVerdict};
 use link_table::Link;
 use std::alloc::AllocError;
@@ -38,6 +38,16 @@ fn is_one_too_many(
     }
 }
 
+/// How far the reads on a channel reach, with one more of this type and count.
+fn reach_with(reach: Reach, native: Native, dtype: u16, count: u32) -> Reach
+    ensures { result ≡ reach_with reach native dtype count }
+{
+    Reach {
+        count: reach.count.max(meant_count(native.count, count)),
+        props: reach.props || needs_by_number(native.dtype, dtype),
+    }
+}
+
 fn read_verdict_on(
     rows: &Rows,
     channel: &Channel,
@@ -55,8 +65,8 @@ fn read_verdict_on(
         return Ok(ReadVerdict::Refused(ECA_GETFAIL));
     }
     Ok(ReadVerdict::Accepted {
-        reach: channel.reach.max(meant_count(native.count, read.count)),
-        rights: channel.rights,
+        reach: reach_with(channel.reach, native, read.dtype, read.count),
+        rights: channel.rights_told,
     })
 }
 
@@ -79,7 +89,7 @@ fn read_verdict(rows: &Rows, read: WaitingRead) -> Result<ReadVerdict, AllocErro
 fn accept_read(
     rows: &mut Rows,
     read: WaitingRead,
-    reach: u32,
+    reach: Reach,
     rights: u32,
 ) -> Result<(), AllocError>
     ensures { OnOk result (rows.new ≡ accepted read.session read.sid read.ioid read.dtype read.count reach rights rows.old) }

@@ -14,7 +14,7 @@ use crate::write::end_write;
 use ca_header::Message;
 use ca_message::{NameText, ServerReply, ToServer, read_reply};
 use gateway_state::{Dest, PLAIN_TYPES};
-use link_table::{Counter, LINK_LIMIT, Link, LinkState};
+use link_table::{Counter, LINK_LIMIT, Link, LinkState, Subscriptions};
 use pv_name::Name;
 use std::alloc::AllocError;
 
@@ -162,7 +162,10 @@ fn make_link(rows: &mut Rows, server: u32, name: &Name) -> Result<(), Refusal>
         name: name.copy()?,
         state: LinkState::Creating,
         rights: 0,
-        subscription: None,
+        subscriptions: Subscriptions {
+            values: None,
+            properties: None,
+        },
     };
     if rows.links.push(link).is_err() {
         return Err(Refusal::OutOfMemory);

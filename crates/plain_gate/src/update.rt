@@ -1,19 +1,19 @@
 //! Updates that servers send.
 ghost use Rattle.std.specs.Prelude.{◌≡◌, filter, IfOk, OnOk};
-ghost use Rattle.gateway_state.specs.Servers.{has_other_alarm, is_value, read_failed, reads_failed, updated, waits_for};
+ghost use Rattle.gateway_state.specs.Servers.{has_other_alarm, is_value, read_failed, reads_failed, subject_of, updated, waits_for};
 ghost use Rattle.gateway_state.specs.Updates.{concerned, is_concerned};
 
 use crate::clients::remove_read;
 use crate::lists::find;
 use crate::state::Rows;
-use crate::upstream::{LinkSubscribed, MessageOf, put_message};
+use crate::upstream::{LinkSubscribed, MessageOf, has_id, put_message};
 use crate::values::time_of;
 use bytes::Bytes;
 use ca_message::codes::{ECA_GETFAIL, ECA_NORMAL};
 use channel_table::{ClientSub, WaitingRead};
 use dbr_layout::View;
 use gateway_state::{ALARM_EVENTS, LastMessage, LastValue, VALUE_EVENTS};
-use link_table::LinkState;
+use link_table::{Link, LinkState, Subject};
 use pv_name::Name;
 use std::alloc::AllocError;
 
@@ -75,6 +75,17 @@ fn has_other_alarm(rows: &Rows, cid: u32, dtype: u16, count: u32, payload: &[u8]
     }
 }
 
+/// The subject of a link's subscription that has this ID.
+fn subject_of(id: u32, link: &Link) -> Subject
+    ensures { result ≡ subject_of id link.now }
+{
+    if has_id(link.subscriptions.values, id) {
+        Subject::Values
+    } else {
+        Subject::Properties
+    }
+}
+
 /// An update came under a subscription's ID.
 pub(crate) fn update(
     rows: &mut Rows,
@@ -90,6 +101,10 @@ pub(crate) fn update(
     let Some(link) = find(&rows.links, LinkSubscribed { server, id }) else {
         return Ok(());
     };
+    match subject_of(id, link) {
+        Subject::Values => {}
+        Subject::Properties => return Ok(()),
+    }
     if status != ECA_NORMAL {
         let name = link.name.copy()?;
         return fail_reads(rows, &name);
@@ -97,7 +112,7 @@ pub(crate) fn update(
     let LinkState::Connected { dtype: native, .. } = link.state else {
         return Ok(());
     };
-    let Some(subscription) = link.subscription else {
+    let Some(subscription) = link.subscriptions.values else {
         return Ok(());
     };
     if !is_value(native, subscription.count, dtype, count, payload) {

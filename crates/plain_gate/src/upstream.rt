@@ -1,7 +1,7 @@
 //! Rows towards servers, and their keys: servers, links, waiting writes and last messages.
 ghost use Rattle.std.specs.Prelude.{◌≡◌, ◌==◌, OnOk};
 ghost use Rattle.rows.specs.Rows.{change_first};
-ghost use Rattle.link_table.specs.Links.{has_id, has_subscription, is_link, is_of, with_state, with_subscription};
+ghost use Rattle.link_table.specs.Links.{has_id, has_subscription, is_link, is_of, sub_at, with_state, with_subscription};
 ghost use Rattle.link_table.specs.Servers.{is_server, with_minor};
 ghost use Rattle.link_table.specs.Writes.{is_write, is_write_of, is_write_on, is_write_to};
 ghost use Rattle.gateway_state.specs.CachedRows.{is_cached_of, with_row};
@@ -10,7 +10,7 @@ ghost use Rattle.gateway_state.specs.Servers.{without_link};
 use crate::lists::{Key, place_of, remove};
 use crate::state::Rows;
 use gateway_state::LastMessage;
-use link_table::{Link, LinkState, Server, Subscription, WaitingWrite};
+use link_table::{Link, LinkState, Server, Subject, Subscription, Subscriptions, WaitingWrite};
 use std::alloc::AllocError;
 
 // Servers
@@ -71,7 +71,7 @@ impl Key<Link> for LinksOf {
     }
 }
 
-/// The server's link whose subscription has this ID.
+/// The server's link of which a present subscription has this ID.
 #[derive(Clone, Copy)]
 pub(crate) struct LinkSubscribed {
     pub server: u32,
@@ -82,11 +82,13 @@ impl Key<Link> for LinkSubscribed {
     ghost picks = { λ key. has_subscription key.server key.id };
 
     fn picks(&self, row: &Link) -> bool {
-        row.server == self.server && has_id(row.subscription, self.id)
+        let Subscriptions { values, properties } = row.subscriptions;
+        row.server == self.server && (has_id(values, self.id) || has_id(properties, self.id))
     }
 }
 
-fn has_id(subscription: Option<Subscription>, id: u32) -> bool
+/// Whether it is a subscription of this ID.
+pub(crate) fn has_id(subscription: Option<Subscription>, id: u32) -> bool
     ensures { result ≡ has_id id subscription }
 {
     match subscription {
@@ -107,19 +109,33 @@ pub(crate) fn put_state(rows: &mut Vec<Link>, server: u32, cid: u32, state: Link
     }
 }
 
-/// The link has this subscription, or none.
+/// The subscription on a subject.
+pub(crate) fn sub_at(subject: Subject, subscriptions: Subscriptions) -> Option<Subscription>
+    ensures { result ≡ sub_at subject subscriptions }
+{
+    match subject {
+        Subject::Values => subscriptions.values,
+        Subject::Properties => subscriptions.properties,
+    }
+}
+
+/// The link has this subscription on a subject, or none.
 #[tactic(auto, using(rows::proofs::RowLemmas::set_is_change_first, rows::proofs::RowLemmas::change_first_none))]
 pub(crate) fn put_subscription(
     rows: &mut Vec<Link>,
+    subject: Subject,
     server: u32,
     cid: u32,
     subscription: Option<Subscription>,
 )
-    ensures { rows.new.items ≡ change_first (is_link server cid) (with_subscription subscription) rows.old.items }
+    ensures { rows.new.items ≡ change_first (is_link server cid) (with_subscription subject subscription) rows.old.items }
 {
     if let Some(place) = place_of(rows, LinkAt { server, cid }) {
         let row = &mut rows[place];
-        row.subscription = subscription;
+        match subject {
+            Subject::Values => row.subscriptions.values = subscription,
+            Subject::Properties => row.subscriptions.properties = subscription,
+        }
     }
 }
 

@@ -1,17 +1,19 @@
 //! Last messages, and what reads are answered from them.
 ghost use Rattle.std.specs.Prelude.{◌≡◌, Some, IfOk};
 ghost use Rattle.dbr_layout.specs.Dbr.{dbr_of};
-ghost use Rattle.gateway_state.specs.Answer.{cached_as, cached_value, fits_payload, is_type_served, meant_count, reading, reading_of, refusal, value_refusal};
-ghost use Rattle.gateway_state.specs.Servers.{time_of};
+ghost use Rattle.gateway_state.specs.Answer.{cached_as, cached_value, fits_payload, is_type_served, meant_count, needs_by_number, reading, reading_of, refusal, value_refusal};
+ghost use Rattle.gateway_state.specs.Notices.{type_for};
+ghost use Rattle.gateway_state.specs.Servers.{ctrl_of, time_of};
 
 use crate::lists::find;
 use crate::names::{may_read, native_in};
+use crate::needs::{has_properties_by, is_state_by, is_text_by};
 use crate::state::Rows;
 use crate::upstream::MessageOf;
 use ca_message::codes::{ECA_BADCOUNT, ECA_BADTYPE, ECA_NORDACCESS, ECA_TOLARGE};
 use dbr_layout::{Dbr, converts};
-use gateway_state::{Given, LastMessage, Native, PLAIN_TYPES, Reading, TIME_FORM};
-use link_table::Link;
+use gateway_state::{CTRL_FORM, Given, LastMessage, Native, PLAIN_TYPES, Reading, TIME_FORM};
+use link_table::{Link, Subject};
 use std::alloc::{AllocError, Global};
 
 impl Rows {
@@ -79,6 +81,13 @@ pub(crate) fn meant_count(native: u32, count: u32) -> u32
     ensures { result ≡ meant_count native count }
 {
     if count == 0 { native } else { count }
+}
+
+/// Whether what is asked for of a variable with this native type can't be told without its properties.
+pub(crate) fn needs_by_number(native: u16, dtype: u16) -> bool
+    ensures { result ≡ needs_by_number native dtype }
+{
+    has_properties_by(dtype) || is_state_by(native) && is_text_by(dtype)
 }
 
 fn is_type_served(native: Native, dtype: u16) -> bool
@@ -156,5 +165,26 @@ pub(crate) fn time_of(dtype: u16) -> u16
         dtype + TIME_FORM
     } else {
         dtype
+    }
+}
+
+/// The number of a plain type's CTRL form; any other number stays.
+fn ctrl_of(dtype: u16) -> u16
+    ensures { result ≡ ctrl_of dtype }
+{
+    if dtype < PLAIN_TYPES {
+        dtype + CTRL_FORM
+    } else {
+        dtype
+    }
+}
+
+/// The type that a server is asked to tell a subject in, of a native type.
+pub(crate) fn type_for(subject: Subject, dtype: u16) -> u16
+    ensures { result ≡ type_for subject dtype }
+{
+    match subject {
+        Subject::Values => time_of(dtype),
+        Subject::Properties => ctrl_of(dtype),
     }
 }
