@@ -13,6 +13,8 @@
 
 ghost use Rattle.std.specs.Prelude.{◌≡◌, ◌+◌, ℕ, IsSome, IfOk, OnOk};
 ghost use Rattle.std.specs.Io.KnownBytes.{Appends, Keeps};
+ghost use Rattle.script_player.specs.Performed.{IsPlayed, PerformsLines};
+ghost use Rattle.script_player.specs.Player.{playing};
 ghost use Rattle.script_player.specs.Replay.{EndsIn, IfBadLine, IsStatus, bad_line, last_line, status_at};
 ghost use Rattle.script_player.specs.Reading.{lines_left, IsBadFrom, IsGoodFrom};
 ghost use Rattle.script_player.specs.Script.{IsBadAt, IsGood};
@@ -45,6 +47,7 @@ pub fn play<G: GatewayCalls + Drop, R: Read + Drop, W: Write>(
 ) -> u8
     ensures among { IsStatus result }
     ensures good { result ≡ 0 → IsGood (R.remaining reader) }
+    ensures played { result ≡ 0 → IsPlayed (R.remaining reader) (G.state gate) (W.contents writer.old) (W.contents writer.new) }
     ensures bad { result ≡ 2 → (number : ℕ) × IsBadAt (R.remaining reader) number
         × (((held : W) → IsSome (W.contents held)) → EndsIn (W.contents writer.new) (bad_line number)) }
 {
@@ -62,6 +65,7 @@ fn play_script<G: GatewayCalls + Drop, R: Read + Drop, W: Write>(
     writer: &mut W,
 ) -> Result<(), ReplayFault>
     ensures good { OnOk result (IsGood (R.remaining reader)) }
+    ensures played { OnOk result (IsPlayed (R.remaining reader) (G.state gate) (W.contents writer.old) (W.contents writer.new)) }
     ensures bad { IfBadLine result (IsBadAt (R.remaining reader)) }
 {
     let mut player = Player::new(alloc, gate);
@@ -75,6 +79,7 @@ fn play_entries<G: GatewayCalls + Drop, R: Read + Drop, W: Write>(
     writer: &mut W,
 ) -> Result<(), ReplayFault>
     ensures good { OnOk result (IsGoodFrom (script.old.number + 1) (lines_left R.remaining script.old)) }
+    ensures played { OnOk result (PerformsLines (lines_left R.remaining script.old) (playing G.state player.old) (playing G.state player.new) (W.contents writer.old) (W.contents writer.new)) }
     ensures bad { IfBadLine result (IsBadFrom (script.old.number + 1) (lines_left R.remaining script.old)) }
 {
     for _ in 0..u64::MAX {
