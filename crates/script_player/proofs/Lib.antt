@@ -6,3 +6,4 @@ mod PerformingLemmas
 mod PlayedLemmas
 mod PlayerLemmas
 mod GatewayLemmas
+mod LinesLemmas

@@ -1,5 +1,5 @@
 -- What a player of scripts knows.
-use Rattle.std.specs.Prelude.{ℕ, Bool, List, [], Option, option_map}
+use Rattle.std.specs.Prelude.{◌≡◌, ℕ, Bool, List, [], Option, option_map}
 use Rattle.std.specs.BTreeMap.{is_at}
 use Rattle.std.specs.Map.{keys_of}
 use Rattle.std.specs.Ordering.{nat_cmp}

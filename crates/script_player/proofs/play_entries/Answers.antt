@@ -13,7 +13,7 @@ returns-in_err-entry-clause-bad g c =
     let p = err_from_is_err_and c.from_residual.result c.from_residual.ensures.1 in
     let P : ℕ → Type 0 = λ n. (n ≡ c.loop.script.number + 1) × IsNextBad (left c.loop.script) in
     rw (p.1, p.2) (IfBadLine-weaker {A = Option Entry} (Err c.in_err-entry.field-0.0) P (IsBadFrom (c.args.script.now.number + 1) (left c.args.script.now))
-    (λ n h. rw h.0 (LeadsOn-bad (left c.args.script.now) (left c.loop.script) (c.args.script.now.number + 1) (c.loop.script.number + 1) c.loop.invariant h.1))
+    (λ n h. rw h.0 (LeadsOn-bad (left c.args.script.now) (left c.loop.script) (c.args.script.now.number + 1) (c.loop.script.number + 1) c.loop.invariant.leads h.1))
     c.in_err-entry.ensures.bad)
 
 pub returns-in_default-clause-good : goal.returns-in_default-clause-good
@@ -21,7 +21,7 @@ returns-in_default-clause-good g c =
     let left = lines_left g.R.Read.remaining in
     let none : ◌≡◌ {A = Option Entry} c.in_ok-entry.field-0 None = first_of (search rules, cc) in
     let takes = rw none at c.in_ok-entry.ensures.taken in
-    LeadsOn-end (left c.args.script.now) (left c.loop.script) (left c.next.new.self) (c.args.script.now.number + 1) (c.loop.script.number + 1) c.loop.invariant takes
+    LeadsOn-end (left c.args.script.now) (left c.loop.script) (left c.next.new.self) (c.args.script.now.number + 1) (c.loop.script.number + 1) c.loop.invariant.leads takes
 
 pub loop-preserved : goal.loop-preserved
 loop-preserved g c =
@@ -31,4 +31,4 @@ loop-preserved g c =
     let same : (c.loop.script.number + 1) + lines_with (Some c.in-Some.entry) ≡ c.next.new.self.number + 1 = omega (arith, count) in
     let P : ℕ → Type 0 = λ n. LeadsOn (left c.args.script.now) (c.args.script.now.number + 1) (left c.next.new.self) n in
     subst P same
-    (LeadsOn-next (left c.args.script.now) (left c.loop.script) (left c.next.new.self) (c.args.script.now.number + 1) (c.loop.script.number + 1) c.in-Some.entry c.loop.invariant takes)
+    (LeadsOn-next (left c.args.script.now) (left c.loop.script) (left c.next.new.self) (c.args.script.now.number + 1) (c.loop.script.number + 1) c.in-Some.entry c.loop.invariant.leads takes)
