@@ -1,5 +1,6 @@
 -- Facts on what is done with a gateway's connections, and printed.
-use Rattle.std.proofs.Common.{◌≡◌, ℕ, suc, ◌<◌, List, [], ◌∷◌, ◌++◌, Option, Some, None, Bool, true, false, refl, sym, ap, subst, ◌∙◌}
+use Rattle.std.proofs.Common.{◌≡◌, ℕ, suc, ◌+◌, ◌<◌, ◌≤◌, List, [], ◌∷◌, ◌++◌, drop, Option, Some, None, Bool, true, false, get_or, drop-cons, add-one, refl, sym, ap, subst, ◌∙◌}
+use Rattle.std.proofs.lemmas.List.{drop_all}
 use Rattle.std.specs.Prelude.{IfSome, flat_map, length, map, option_map}
 use Rattle.std.specs.List.{find}
 use Rattle.std.specs.Io.KnownBytes.{Appends}
@@ -8,7 +9,7 @@ use Rattle.gateway_state.specs.Gateway.{Gateway}
 use Rattle.gateway_state.specs.Step.{run, step, taken}
 use Rattle.gateway_state.specs.declared.event.Dest.{Dest}
 use Rattle.gateway_state.specs.declared.event.Event.{Event}
-use Rattle.gateway_state.specs.declared.event.Event.TheVariants.{Drain}
+use Rattle.gateway_state.specs.declared.event.Event.TheVariants.{Drain, Search}
 use Rattle.script_player.specs.Performing.{Performs}
 use Rattle.script_player.specs.Played.{out_line}
 use Rattle.script_player.specs.Printing.{AreEmptied, IsDrained, IsEmptied, IsEmptiedUnless, IsFoundEmpty, IsLessened, is_held, oldest}
@@ -57,10 +58,29 @@ pub run-next : (event : Event) (events : List Event) (w v o : Option Gateway)
     → v ≡ option_map (λ u. step u event) w → o ≡ option_map (λ u. run u events) v
     → o ≡ option_map (λ u. run u (event ∷ events)) w
 unfolding run
-run-next event events None v o is ran = rw is at ran in ran
-run-next event events (Some w) v o is ran = rw is at ran in ran
+run-next event events None v o is ran = rw is at ran
+run-next event events (Some w) v o is ran = rw is at ran
 
 pub run-none : (w : Option Gateway) → w ≡ option_map (λ u. run u []) w
 unfolding run
 run-none None = refl
 run-none (Some w) = refl
+
+-- a name is looked for, and then those after it
+pub run-next_name : (host name : List ℕ) (names : List (List ℕ)) (i : ℕ) (w v o : Option Gateway) → i < length names → name ≡ get_or names i name
+    → v ≡ option_map (λ u. step u (Search host name)) w
+    → o ≡ option_map (λ u. run u (map (Search host) (drop (i + 1) names))) v
+    → o ≡ option_map (λ u. run u (map (Search host) (drop i names))) w
+run-next_name host name names i w v o h is stepped ran =
+    let left = drop-cons names i name h
+    ∙ ap (λ (first : List ℕ). first ∷ drop (suc i) names) (sym is)
+    ∙ ap (λ (k : ℕ). name ∷ drop k names) (sym (add-one i)) in
+    let P : List (List ℕ) → Type 0 = λ left. o ≡ option_map (λ u. run u (map (Search host) left)) w in
+    subst P (sym left) (run-next (Search host name) (map (Search host) (drop (i + 1) names)) w v o stepped ran)
+
+-- all names were looked for
+pub run-no_names : (host : List ℕ) (names : List (List ℕ)) (i : ℕ) (w : Option Gateway) → length names ≤ i
+    → w ≡ option_map (λ u. run u (map (Search host) (drop i names))) w
+run-no_names host names i w h =
+    let P : List (List ℕ) → Type 0 = λ left. w ≡ option_map (λ u. run u (map (Search host) left)) w in
+    subst P (sym (drop_all i names h)) (run-none w)

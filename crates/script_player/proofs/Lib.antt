@@ -6,4 +6,5 @@ mod PerformingLemmas
 mod PlayedLemmas
 mod PlayerLemmas
 mod GatewayLemmas
+mod ReceivingLemmas
 mod LinesLemmas

@@ -15,7 +15,7 @@ ghost use Rattle.script_player.specs.Performing.{Performs};
 ghost use Rattle.script_player.specs.Played.{loss, out_line, said};
 ghost use Rattle.script_player.specs.Player.{beginning, playing};
 ghost use Rattle.script_player.specs.Printing.{AreEmptied, IsEmptied, IsEmptiedUnless, IsPrinted, is_held};
-ghost use Rattle.script_player.specs.Receiving.{AreTaken, IsReceived, fault_in, put_behind};
+ghost use Rattle.script_player.specs.Receiving.{AreTaken, IsReceived, fault_in, misframed_at, put_behind};
 
 use crate::entry::{Entry, Files};
 use crate::fault::Fault;
@@ -209,7 +209,7 @@ impl<G: GatewayCalls + Drop> Player<G> {
         let mut events = Vec::new(self.alloc);
         let fault = take_messages(dest, intake, &mut events)?;
         self.gate.run(events)?;
-        Ok(fault.map(|fault| Misframed { dest, fault }))
+        Ok(with_fault(dest, fault))
     }
 
     /// Prints all that waits for the connections that aren't held.
@@ -272,13 +272,24 @@ fn look_for<G: GatewayCalls>(gate: &mut G, host: &Host, names: &[Name]) -> Resul
     Ok(())
 }
 
+/// A connection whose bytes have this fault, if they have one.
+fn with_fault(dest: Dest, fault: Option<FrameFault>) -> Option<Misframed>
+    ensures { result ≡ option_map (misframed_at dest) fault }
+{
+    match fault {
+        Some(fault) => Some(Misframed { dest, fault }),
+        None => None,
+    }
+}
+
 /// Puts bytes behind those that came before. After a fault nothing is fed, and the fault is what is
 /// taken next.
 fn feed(intake: &mut Intake, bytes: &[u8]) -> Result<(), Fault>
     ensures { OnOk result (intake.new ≡ put_behind (front_at intake.old) intake.old bytes.now) }
 {
     match intake.feed(bytes) {
-        Ok(()) | Err(IntakeFault::Faulted(_)) => Ok(()),
+        Ok(()) => Ok(()),
+        Err(IntakeFault::Faulted(_)) => Ok(()),
         Err(IntakeFault::OutOfMemory) => Err(Fault::OutOfMemory),
     }
 }
