@@ -4,6 +4,10 @@ use Rattle.std.proofs.lemmas.Result.{err_from_is_err_and}
 use Rattle.script_player.specs.declared.entry.Entry.{Entry}
 use Rattle.script_player.specs.Reading.{IsBadFrom, IsNextBad, LeadsOn, lines_left, lines_with}
 use Rattle.script_player.proofs.ReadingLemmas.{LeadsOn-bad, LeadsOn-end, LeadsOn-next}
+use Rattle.script_player.specs.Performed.{IsLine}
+use Rattle.script_player.specs.Player.{playing}
+use Rattle.script_player.proofs.LinesLemmas.{PerformsLines-end, PerformsLines-kept, PerformsLines-next}
+use Rattle.script_player.proofs.PerformingLemmas.{Performs-kept}
 use Rattle.script_player.proofs.ReplayLemmas.{IfBadLine-weaker}
 use Rattle.script_player.proofs.play_entries.Goals as goal
 
@@ -23,12 +27,33 @@ returns-in_default-clause-good g c =
     let takes = rw none at c.in_ok-entry.ensures.taken in
     LeadsOn-end (left c.args.script.now) (left c.loop.script) (left c.next.new.self) (c.args.script.now.number + 1) (c.loop.script.number + 1) c.loop.invariant.leads takes
 
+pub returns-in_default-clause-played : goal.returns-in_default-clause-played
+returns-in_default-clause-played g c =
+    let left = lines_left g.R.Read.remaining in
+    let known = playing g.G.GatewayCalls.state in
+    let held = g.W.Write.contents in
+    let none : ◌≡◌ {A = Option Entry} c.in_ok-entry.field-0 None = first_of (search rules, cc) in
+    let takes = rw none at c.in_ok-entry.ensures.taken in
+    c.loop.invariant.played (known c.loop.player) (held c.next.new.writer)
+    (PerformsLines-kept (left c.loop.script) (known c.loop.player) (known c.loop.player) (held c.loop.writer) (held c.next.new.writer) (held c.next.new.writer)
+    c.in_ok-entry.ensures.same
+    (PerformsLines-end (left c.loop.script) (left c.next.new.self) (known c.loop.player) (held c.next.new.writer) takes))
+
 pub loop-preserved : goal.loop-preserved
 loop-preserved g c =
     let left = lines_left g.R.Read.remaining in
+    let known = playing g.G.GatewayCalls.state in
+    let held = g.W.Write.contents in
     let takes = rw c.in-Some.is at c.in_ok-entry.ensures.taken in
     let count = rw c.in-Some.is at c.in_ok-entry.ensures.counted in
     let same : (c.loop.script.number + 1) + lines_with (Some c.in-Some.entry) ≡ c.next.new.self.number + 1 = omega (arith, count) in
     let P : ℕ → Type 0 = λ n. LeadsOn (left c.args.script.now) (c.args.script.now.number + 1) (left c.next.new.self) n in
-    subst P same
-    (LeadsOn-next (left c.args.script.now) (left c.loop.script) (left c.next.new.self) (c.args.script.now.number + 1) (c.loop.script.number + 1) c.in-Some.entry c.loop.invariant.leads takes)
+    record {
+      leads = subst P same
+          (LeadsOn-next (left c.args.script.now) (left c.loop.script) (left c.next.new.self) (c.args.script.now.number + 1) (c.loop.script.number + 1) c.in-Some.entry c.loop.invariant.leads takes);
+      played = λ new after more. c.loop.invariant.played new after
+          (PerformsLines-next (left c.loop.script) (left c.next.new.self) c.in-Some.entry (known c.loop.player) (known c.play.new.self) new
+          (held c.loop.writer) (held c.play.new.out) after takes
+          (Performs-kept (IsLine c.in-Some.entry) (known c.loop.player) (known c.play.new.self) (held c.loop.writer) (held c.next.new.writer) (held c.play.new.out)
+          c.in_ok-entry.ensures.same c.in_ok-play.ensures) more);
+    }
