@@ -16,6 +16,12 @@ pub Appends-nil : (a : Option (List ℕ)) → Appends a a []
 Appends-nil None = tt
 Appends-nil (Some a) = sym (append-nil a)
 
+pub Keeps-then : (a b c : Option (List ℕ)) → Keeps a b → Keeps b c → Keeps a c
+Keeps-then None b c h k = tt
+Keeps-then (Some a) None c h k = absurd h
+Keeps-then (Some a) (Some b) None h k = absurd k
+Keeps-then (Some a) (Some b) (Some c) h k = k ∙ h
+
 -- what is flushed before a write
 pub Appends-kept : (a b c : Option (List ℕ)) (xs : List ℕ) → Keeps a b → Appends b c xs → Appends a c xs
 Appends-kept None b c xs h k = tt
