@@ -22,6 +22,7 @@ ghost use Rattle.script_player.specs.Script.{IsBadAt, IsGood};
 pub mod counted;
 mod entry;
 mod fault;
+pub mod laws;
 mod player;
 mod script;
 pub mod status;
@@ -36,9 +37,9 @@ use std::io::{Read, Write};
 
 /// Performs the script that the reader gives, one line after another, on the gateway, and prints what the
 /// gateway sends to each connection. Returns the status that the program ends with: good only where every
-/// line of the script was performed, bad input only at the first line that is none of a script, of
-/// which the last line that is printed has the number. What a line prints is flushed before more of
-/// the script is waited for, and at the end.
+/// line of the script was performed, and what was written is the text of the whole script, line by line;
+/// bad input only at the first line that is none of a script, of which the last line that is printed has
+/// the number. What a line prints is flushed before more of the script is waited for, and at the end.
 pub fn play<G: GatewayCalls + Drop, R: Read + Drop, W: Write>(
     alloc: Global,
     gate: G,

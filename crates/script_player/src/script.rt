@@ -1,10 +1,11 @@
 //! A script, read entry by entry.
 ghost use Rattle.std.specs.Prelude.{◌≡◌, ◌+◌, ◌++◌, if◌then◌else◌, IfOk, IsSome, MatchOption, OnOk};
-ghost use Rattle.std.specs.Io.Buffered.{reader_remaining};
+ghost use Rattle.std.specs.Io.Buffered.{reader_inner, reader_remaining};
 ghost use Rattle.std.specs.Io.BufRead.{strip_last};
 ghost use Rattle.std.specs.Io.KnownBytes.{Keeps};
 ghost use Rattle.script_player.specs.Reading.{bytes_left, lines_left, lines_with, AreMissing, IsNextBad, Takes, TakesBytes, TakesEntry, TakesLine, TakesText};
 ghost use Rattle.script_player.specs.Replay.{IfBadLine};
+ghost use Rattle.script_player.specs.declared.script.TheConstants.{MOST_READS};
 ghost use Rattle.script_player.specs.Script.{file_in, files_in, sizes_of, with_end};
 
 use crate::counted::Counted;
@@ -43,6 +44,7 @@ impl<R: Read + Drop> Script<R> {
     pub fn new(alloc: Global, reader: R) -> Result<Script<R>, Fault>
         ensures left { IfOk result (λ script. bytes_left R.remaining script ≡ R.remaining reader) }
         ensures start { IfOk result (λ script. script.number ≡ 0) }
+        ensures reads { IfOk result (λ script. (reader_inner script.reader).left ≡ MOST_READS) }
     {
         let counted = Counted::new(reader, MOST_READS);
         Ok(Script {
