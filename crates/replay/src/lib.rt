@@ -17,7 +17,7 @@
 
 ghost use Rattle.std.specs.Prelude.{◌≡◌, ℕ, IfSome, IsSome, Some};
 ghost use Rattle.replay.specs.Beginning.{beginning};
-ghost use Rattle.script_player.specs.Performed.{IsPlayed};
+ghost use Rattle.script_player.specs.Performed.{IsPlayed, IsPlayedThen};
 ghost use Rattle.script_player.specs.Replay.{EndsIn, IsStatus, bad_line};
 ghost use Rattle.script_player.specs.Script.{IsBadAt, IsGood};
 
@@ -35,14 +35,16 @@ use std::io::{Read, Write};
 /// sends to each connection. Returns the status that the program ends with: good only where every
 /// line of the script was performed, and what was written is the text of the whole script, line by
 /// line; bad input only at the first line that is none of a script, of which the last line that is
-/// printed has the number. What a line prints is flushed before more of the script is waited for,
-/// and at the end.
+/// printed has the number, behind the text of the lines before it. What a line prints is flushed
+/// before more of the script is waited for, and at the end.
 pub fn replay<R: Read + Drop, W: Write>(alloc: Global, reader: R, writer: &mut W) -> u8
     ensures among { IsStatus result }
     ensures good { result ≡ 0 → IsGood (R.remaining reader) }
     ensures played { result ≡ 0 → IsPlayed (R.remaining reader) (Some beginning) (W.contents writer.old) (W.contents writer.new) }
     ensures bad { result ≡ 2 → (number : ℕ) × IsBadAt (R.remaining reader) number
         × (((held : W) → IsSome (W.contents held)) → EndsIn (W.contents writer.new) (bad_line number)) }
+    ensures told { result ≡ 2 → (number : ℕ) × IsBadAt (R.remaining reader) number
+        × IsPlayedThen (bad_line number) (R.remaining reader) (Some beginning) (W.contents writer.old) (W.contents writer.new) }
 {
     match gateway::<Engine>(alloc) {
         Some(engine) => play(alloc, engine, reader, writer),
@@ -57,6 +59,8 @@ pub fn replay_plain<R: Read + Drop, W: Write>(alloc: Global, reader: R, writer: 
     ensures played { result ≡ 0 → IsPlayed (R.remaining reader) (Some beginning) (W.contents writer.old) (W.contents writer.new) }
     ensures bad { result ≡ 2 → (number : ℕ) × IsBadAt (R.remaining reader) number
         × (((held : W) → IsSome (W.contents held)) → EndsIn (W.contents writer.new) (bad_line number)) }
+    ensures told { result ≡ 2 → (number : ℕ) × IsBadAt (R.remaining reader) number
+        × IsPlayedThen (bad_line number) (R.remaining reader) (Some beginning) (W.contents writer.old) (W.contents writer.new) }
 {
     match gateway::<PlainGate>(alloc) {
         Some(gate) => play(alloc, gate, reader, writer),

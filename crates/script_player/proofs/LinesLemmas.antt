@@ -8,11 +8,11 @@ use Rattle.script_player.specs.declared.entry.Entry.{Entry}
 use Rattle.script_player.specs.declared.fault.Fault.TheVariants.{StreamFailed, OutOfMemory, EngineFailed}
 use Rattle.script_player.specs.declared.fault.ReplayFault.{ReplayFault}
 use Rattle.script_player.specs.declared.fault.ReplayFault.TheVariants.{BadLine, Halted}
-use Rattle.script_player.specs.Performed.{AreLines, IsLine, IsPlayed, PerformsLines, entries_after}
+use Rattle.script_player.specs.Performed.{AreLines, IsLine, IsPlayed, IsPlayedThen, PerformsLines, entries_after}
 use Rattle.script_player.specs.Performing.{Performs}
 use Rattle.script_player.specs.Player.{Playing, beginning}
-use Rattle.script_player.specs.Reading.{TakesEntry}
-use Rattle.script_player.specs.Replay.{last_line, status_at}
+use Rattle.script_player.specs.Reading.{IsNextBad, TakesEntry}
+use Rattle.script_player.specs.Replay.{IfBadLine, bad_line, last_line, status_at}
 use Rattle.script_player.specs.Script.{entry_of, lines_of, own_lines_of}
 use Rattle.script_player.proofs.PerformingLemmas.{Performs-kept, Performs-rests, Performs-then, Performs-then_kept}
 
@@ -29,6 +29,13 @@ unfolding entries_after
 PerformsLines-end None rest p x takes = tt
 PerformsLines-end (Some []) rest p x takes = Performs-rests p x
 PerformsLines-end (Some (line ∷ after)) rest p x takes = absurd (cc)
+
+-- the next line is bad
+pub PerformsLines-bad : (left : Option (List (List ℕ))) (p : Option Playing) (x : Option (List ℕ)) → IsNextBad left → PerformsLines left p p x x
+unfolding entries_after
+PerformsLines-bad None p x bad = tt
+PerformsLines-bad (Some []) p x bad = absurd bad
+PerformsLines-bad (Some (line ∷ after)) p x bad = rw bad (Performs-rests p x)
 
 -- the next line is performed, and then those after it
 pub PerformsLines-next : (left rest : Option (List (List ℕ))) (next : Entry) (p q r : Option Playing) (x y z : Option (List ℕ))
@@ -65,3 +72,13 @@ IsPlayed-good (Err (BadLine n)) script gateway x y z is played kept = absurd (cc
 IsPlayed-good (Err (Halted StreamFailed)) script gateway x y z is played kept = absurd (cc)
 IsPlayed-good (Err (Halted OutOfMemory)) script gateway x y z is played kept = absurd (cc)
 IsPlayed-good (Err (Halted EngineFailed)) script gateway x y z is played kept = absurd (cc)
+
+-- with status 2 up to its first bad line, whose number is written then
+pub IsPlayed-bad : {A : Type 0} {P : ℕ → Type 0} (ended : Result A ReplayFault) (script : Option (List ℕ)) (gateway : Option Gateway) (x y z : Option (List ℕ))
+    → status_at ended ≡ 2 → IfBadLine ended P → IfBadLine ended (λ n. IsPlayed script gateway x y) → Appends y z (last_line ended)
+    → (n : ℕ) × P n × IsPlayedThen (bad_line n) script gateway x z
+IsPlayed-bad (Ok a) script gateway x y z is p played wrote = absurd (cc)
+IsPlayed-bad (Err (BadLine n)) script gateway x y z is p played wrote = (n, p, (y, played, wrote))
+IsPlayed-bad (Err (Halted StreamFailed)) script gateway x y z is p played wrote = absurd (cc)
+IsPlayed-bad (Err (Halted OutOfMemory)) script gateway x y z is p played wrote = absurd (cc)
+IsPlayed-bad (Err (Halted EngineFailed)) script gateway x y z is p played wrote = absurd (cc)

@@ -96,27 +96,33 @@ abbrev pub AreLines : List Entry → Playing → Playing → List ℕ → Type 0
 AreLines [] = Rests
 AreLines (entry ∷ entries) = Then (IsLine entry) (AreLines entries)
 
--- an entry, if there is one, before others
+-- an entry before others; nothing behind a bad line counts
 abbrev pub with_entry : Option Entry → List Entry → List Entry
-with_entry None entries = entries
+with_entry None entries = []
 with_entry (Some entry) entries = entry ∷ entries
 
--- the entries of a script's lines, of which so many are an edit's own at first
+-- the entries of a script's lines up to the first that is bad, of which so many lines are an edit's own at first
 unfoldable pub entries_after : ℕ → List (List ℕ) → List Entry
 entries_after pending [] = []
 entries_after zero (line ∷ after) = with_entry (entry_of line after) (entries_after (own_lines_of (line_of line)) after)
 entries_after (suc pending) (line ∷ after) = entries_after pending after
 
--- the entries of a script
+-- the entries of a script up to its first bad line, of a good script all
 abbrev pub entries_of : List ℕ → List Entry
 entries_of script = entries_after 0 (lines_of script)
 
--- lines that are left are performed, where they are known
+-- lines that are left are performed up to the first bad one, where they are known
 abbrev pub PerformsLines : Option (List (List ℕ)) → Option Playing → Option Playing → Option (List ℕ) → Option (List ℕ) → Type 0
 PerformsLines None old new before after = Unit {0}
 PerformsLines (Some lines) old new before after = Performs (AreLines (entries_after 0 lines)) old new before after
 
--- a script is played on a gateway that was in this state: this is what was written before, and then
+-- a script is played up to its first bad line, a good script to its end, on a gateway that was in this state: this is
+-- what was written before, and then
 abbrev pub IsPlayed : Option (List ℕ) → Option Gateway → Option (List ℕ) → Option (List ℕ) → Type 0
 IsPlayed script gateway before after =
     (new : Option Playing) × PerformsLines (option_map lines_of script) (option_map beginning gateway) new before after
+
+-- the same, and then a line is written
+abbrev pub IsPlayedThen : List ℕ → Option (List ℕ) → Option Gateway → Option (List ℕ) → Option (List ℕ) → Type 0
+IsPlayedThen line script gateway before after =
+    (between : Option (List ℕ)) × IsPlayed script gateway before between × Appends between after line

@@ -60,6 +60,7 @@ impl<R: Read + Drop> Script<R> {
         ensures taken { IfOk result (TakesEntry (lines_left R.remaining self.old) (lines_left R.remaining self.new)) }
         ensures counted { IfOk result (λ next. self.new.number ≡ self.old.number + lines_with next) }
         ensures bad { IfBadLine result (λ n. (n ≡ self.old.number + 1) × IsNextBad (lines_left R.remaining self.old)) }
+        ensures same_bad { IfBadLine result (λ n. Keeps (W.contents writer.old) (W.contents writer.new)) }
         ensures same { OnOk result (Keeps (W.contents writer.old) (W.contents writer.new)) }
     {
         if !self.next_line(writer)? {

@@ -1,14 +1,15 @@
 use Rattle.std.proofs.Common.{◌≡◌, ℕ, ◌+◌, Option, Some, None, rules, arith, subst}
 use Rattle.std.specs.Prelude.{Err}
+use Rattle.std.specs.Io.KnownBytes.{Keeps}
 use Rattle.std.proofs.lemmas.Result.{err_from_is_err_and}
 use Rattle.script_player.specs.declared.entry.Entry.{Entry}
 use Rattle.script_player.specs.Reading.{IsBadFrom, IsNextBad, LeadsOn, lines_left, lines_with}
 use Rattle.script_player.proofs.ReadingLemmas.{LeadsOn-bad, LeadsOn-end, LeadsOn-next}
-use Rattle.script_player.specs.Performed.{IsLine}
+use Rattle.script_player.specs.Performed.{IsLine, PerformsLines}
 use Rattle.script_player.specs.Player.{playing}
-use Rattle.script_player.proofs.LinesLemmas.{PerformsLines-end, PerformsLines-kept, PerformsLines-next}
+use Rattle.script_player.proofs.LinesLemmas.{PerformsLines-bad, PerformsLines-end, PerformsLines-kept, PerformsLines-next}
 use Rattle.script_player.proofs.PerformingLemmas.{Performs-kept}
-use Rattle.script_player.proofs.ReplayLemmas.{IfBadLine-weaker}
+use Rattle.script_player.proofs.ReplayLemmas.{IfBadLine-both, IfBadLine-weaker}
 use Rattle.script_player.proofs.play_entries.Goals as goal
 
 pub returns-in_err-entry-clause-bad : goal.returns-in_err-entry-clause-bad
@@ -19,6 +20,21 @@ returns-in_err-entry-clause-bad g c =
     rw (p.1, p.2) (IfBadLine-weaker {A = Option Entry} (Err c.in_err-entry.field-0.0) P (IsBadFrom (c.args.script.now.number + 1) (left c.args.script.now))
     (λ n h. rw h.0 (LeadsOn-bad (left c.args.script.now) (left c.loop.script) (c.args.script.now.number + 1) (c.loop.script.number + 1) c.loop.invariant.leads h.1))
     c.in_err-entry.ensures.bad)
+
+pub returns-in_err-entry-clause-told : goal.returns-in_err-entry-clause-told
+returns-in_err-entry-clause-told g c =
+    let left = lines_left g.R.Read.remaining in
+    let known = playing g.G.GatewayCalls.state in
+    let held = g.W.Write.contents in
+    let p = err_from_is_err_and c.from_residual.result c.from_residual.ensures.1 in
+    let P : ℕ → Type 0 = λ n. (n ≡ c.loop.script.number + 1) × IsNextBad (left c.loop.script) in
+    let Q : ℕ → Type 0 = λ n. Keeps (held c.loop.writer) (held c.next.new.writer) in
+    rw (p.1, p.2) (IfBadLine-weaker {A = Option Entry} (Err c.in_err-entry.field-0.0) (λ n. P n × Q n)
+    (λ n. PerformsLines (left c.args.script.now) (known c.args.player.now) (known c.loop.player) (held c.args.writer.now) (held c.next.new.writer))
+    (λ n h. c.loop.invariant.played (known c.loop.player) (held c.next.new.writer)
+    (PerformsLines-kept (left c.loop.script) (known c.loop.player) (known c.loop.player) (held c.loop.writer) (held c.next.new.writer) (held c.next.new.writer)
+    h.1 (PerformsLines-bad (left c.loop.script) (known c.loop.player) (held c.next.new.writer) h.0.1)))
+    (IfBadLine-both {A = Option Entry} P Q (Err c.in_err-entry.field-0.0) c.in_err-entry.ensures.bad c.in_err-entry.ensures.same_bad))
 
 pub returns-in_default-clause-good : goal.returns-in_default-clause-good
 returns-in_default-clause-good g c =
