@@ -15,7 +15,9 @@
 //! `replay_text` has the lines of scripts, and those that are printed; `script_player` performs them.
 #![tactic(auto)]
 
-ghost use Rattle.std.specs.Prelude.{◌≡◌, ℕ, IsSome};
+ghost use Rattle.std.specs.Prelude.{◌≡◌, ℕ, IfSome, IsSome, Some};
+ghost use Rattle.replay.specs.Beginning.{beginning};
+ghost use Rattle.script_player.specs.Performed.{IsPlayed, IsPlayedThen};
 ghost use Rattle.script_player.specs.Replay.{EndsIn, IsStatus, bad_line};
 ghost use Rattle.script_player.specs.Script.{IsBadAt, IsGood};
 
@@ -31,14 +33,18 @@ use std::io::{Read, Write};
 
 /// Performs the script that the reader gives, one line after another, and prints what the gateway
 /// sends to each connection. Returns the status that the program ends with: good only where every
-/// line of the script was performed, bad input only at the first line that is none of a script, of
-/// which the last line that is printed has the number. What a line prints is flushed before more of
-/// the script is waited for, and at the end.
+/// line of the script was performed, and what was written is the text of the whole script, line by
+/// line; bad input only at the first line that is none of a script, of which the last line that is
+/// printed has the number, behind the text of the lines before it. What a line prints is flushed
+/// before more of the script is waited for, and at the end.
 pub fn replay<R: Read + Drop, W: Write>(alloc: Global, reader: R, writer: &mut W) -> u8
     ensures among { IsStatus result }
     ensures good { result ≡ 0 → IsGood (R.remaining reader) }
+    ensures played { result ≡ 0 → IsPlayed (R.remaining reader) (Some beginning) (W.contents writer.old) (W.contents writer.new) }
     ensures bad { result ≡ 2 → (number : ℕ) × IsBadAt (R.remaining reader) number
         × (((held : W) → IsSome (W.contents held)) → EndsIn (W.contents writer.new) (bad_line number)) }
+    ensures told { result ≡ 2 → (number : ℕ) × IsBadAt (R.remaining reader) number
+        × IsPlayedThen (bad_line number) (R.remaining reader) (Some beginning) (W.contents writer.old) (W.contents writer.new) }
 {
     match gateway::<Engine>(alloc) {
         Some(engine) => play(alloc, engine, reader, writer),
@@ -50,8 +56,11 @@ pub fn replay<R: Read + Drop, W: Write>(alloc: Global, reader: R, writer: &mut W
 pub fn replay_plain<R: Read + Drop, W: Write>(alloc: Global, reader: R, writer: &mut W) -> u8
     ensures among { IsStatus result }
     ensures good { result ≡ 0 → IsGood (R.remaining reader) }
+    ensures played { result ≡ 0 → IsPlayed (R.remaining reader) (Some beginning) (W.contents writer.old) (W.contents writer.new) }
     ensures bad { result ≡ 2 → (number : ℕ) × IsBadAt (R.remaining reader) number
         × (((held : W) → IsSome (W.contents held)) → EndsIn (W.contents writer.new) (bad_line number)) }
+    ensures told { result ≡ 2 → (number : ℕ) × IsBadAt (R.remaining reader) number
+        × IsPlayedThen (bad_line number) (R.remaining reader) (Some beginning) (W.contents writer.old) (W.contents writer.new) }
 {
     match gateway::<PlainGate>(alloc) {
         Some(gate) => play(alloc, gate, reader, writer),
@@ -61,7 +70,9 @@ pub fn replay_plain<R: Read + Drop, W: Write>(alloc: Global, reader: R, writer: 
 
 /// The gateway that scripts are performed on. It admits every name. There is none where memory is
 /// refused.
-fn gateway<G: GatewayCalls>(alloc: Global) -> Option<G> {
+fn gateway<G: GatewayCalls>(alloc: Global) -> Option<G>
+    ensures { IfSome result (λ gate. G.state gate ≡ Some beginning) }
+{
     let config = Config {
         client_name: Name::read(alloc, b"pvgate").ok()?,
         host_name: Name::read(alloc, b"gw").ok()?,

@@ -2,4 +2,9 @@ mod ScriptLemmas
 mod EntryLemmas
 mod ReadingLemmas
 mod ReplayLemmas
+mod PerformingLemmas
 mod PlayedLemmas
+mod PlayerLemmas
+mod GatewayLemmas
+mod ReceivingLemmas
+mod LinesLemmas

@@ -1,22 +1,12 @@
 -- Facts on the lines that are printed of messages.
 use Rattle.std.proofs.Common.{◌≡◌, ℕ, suc, ◌+◌, ◌<◌, ◌≤◌, List, [], ◌∷◌, ◌++◌, length, drop, Option, Some, None, get_or, drop-cons, add-one, refl, sym, ap, subst, ◌∙◌}
 use Rattle.std.specs.Prelude.{flat_map}
-use Rattle.std.proofs.lemmas.List.{append_assoc, append-nil, drop_all}
+use Rattle.std.proofs.lemmas.List.{drop_all}
 use Rattle.std.specs.Io.KnownBytes.{Appends}
 use Rattle.fanout.specs.declared.outbox.Out.{Out}
 use Rattle.gateway_state.specs.declared.event.Dest.{Dest}
 use Rattle.script_player.specs.Played.{out_line}
-
--- one write and then another
-Appends-append : (a b c : Option (List ℕ)) (xs ys : List ℕ) → Appends a b xs → Appends b c ys → Appends a c (xs ++ ys)
-Appends-append None b c xs ys h k = tt
-Appends-append (Some a) None c xs ys h k = absurd h
-Appends-append (Some a) (Some b) None xs ys h k = absurd k
-Appends-append (Some a) (Some b) (Some c) xs ys h k = k ∙ ap (λ (l : List ℕ). l ++ ys) h ∙ append_assoc a xs ys
-
-Appends-nil : (a : Option (List ℕ)) → Appends a a []
-Appends-nil None = tt
-Appends-nil (Some a) = sym (append-nil a)
+use Rattle.script_player.proofs.PerformingLemmas.{Appends-append, Appends-nil}
 
 -- a message's line is written, and then those of the messages after it
 pub Appends-out_line : (dest : Dest) (outs : List Out) (i : ℕ) (out : Out) (a b c : Option (List ℕ))

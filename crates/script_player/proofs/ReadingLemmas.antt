@@ -1,5 +1,5 @@
 -- Facts on what is taken off the lines that are left of a script.
-use Rattle.std.proofs.Common.{◌≡◌, ℕ, zero, suc, ◌+◌, ◌<◌, ◌≤◌, Bool, true, false, List, [], ◌∷◌, ◌++◌, length, take, drop, Option, Some, None, refl, sym, ap, ◌∙◌, add-one, append_assoc, arith}
+use Rattle.std.proofs.Common.{◌≡◌, ℕ, zero, suc, ◌+◌, ◌<◌, ◌≤◌, Bool, true, false, List, [], ◌∷◌, ◌++◌, length, take, drop, Option, Some, None, refl, sym, ap, subst, ◌∙◌, add-one, append_assoc, arith}
 use Rattle.std.specs.Prelude.{◌==◌, IsSome, nat_le, if◌then◌else◌, flat_map, option_map, option_and_then, Result, Ok, Err}
 use Rattle.std.specs.Str.{is_utf8}
 use Rattle.std.proofs.lemmas.List.{append-nil, drop-drop}
@@ -100,6 +100,13 @@ pub Takes-files : (old mid new : Option (List (List ℕ))) (r g : ℕ) (rules : 
     → Takes (files_in (r, g)) old (r + g) new (option_map (files rules) groups)
 Takes-files None mid new r g rules groups first second = tt
 Takes-files (Some lines) mid new r g rules groups first second = files-from lines new r g rules groups first.0 (rw first.1 at second)
+
+-- files of such sizes
+pub Takes-sizes : (old new : Option (List (List ℕ))) (sizes own : ℕ × ℕ) (had : Option Files) → sizes ≡ own
+    → Takes (files_in sizes) old (sizes.0 + sizes.1) new had → Takes (files_in own) old (own.0 + own.1) new had
+Takes-sizes old new sizes own had is takes =
+    let P : ℕ × ℕ → Type 0 = λ s. Takes (files_in s) old (s.0 + s.1) new had in
+    subst P is takes
 
 pub Takes-no_rules : (old mid new : Option (List (List ℕ))) (r g : ℕ) → Takes (file_in r) old r mid None
     → Takes (files_in (r, g)) old (r + g) new None

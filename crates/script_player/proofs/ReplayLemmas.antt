@@ -35,3 +35,8 @@ pub IfBadLine-weaker : {A : Type 0} (ended : Result A ReplayFault) (P Q : ℕ �
 IfBadLine-weaker (Ok a) P Q f h = tt
 IfBadLine-weaker (Err (BadLine n)) P Q f h = f n h
 IfBadLine-weaker (Err (Halted fault)) P Q f h = tt
+
+pub IfBadLine-both : {A : Type 0} (P Q : ℕ → Type 0) (ended : Result A ReplayFault) → IfBadLine ended P → IfBadLine ended Q → IfBadLine ended (λ n. P n × Q n)
+IfBadLine-both P Q (Ok a) p q = tt
+IfBadLine-both P Q (Err (BadLine n)) p q = (p, q)
+IfBadLine-both P Q (Err (Halted fault)) p q = tt

@@ -3,3 +3,9 @@ pub mod Reading
 pub mod Replay
 pub mod Played
 pub mod Editing
+pub mod Performing
+pub mod Player
+pub mod Printing
+pub mod Receiving
+pub mod Ending
+pub mod Performed

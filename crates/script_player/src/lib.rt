@@ -13,6 +13,8 @@
 
 ghost use Rattle.std.specs.Prelude.{◌≡◌, ◌+◌, ℕ, IsSome, IfOk, OnOk};
 ghost use Rattle.std.specs.Io.KnownBytes.{Appends, Keeps};
+ghost use Rattle.script_player.specs.Performed.{IsPlayed, IsPlayedThen, PerformsLines};
+ghost use Rattle.script_player.specs.Player.{playing};
 ghost use Rattle.script_player.specs.Replay.{EndsIn, IfBadLine, IsStatus, bad_line, last_line, status_at};
 ghost use Rattle.script_player.specs.Reading.{lines_left, IsBadFrom, IsGoodFrom};
 ghost use Rattle.script_player.specs.Script.{IsBadAt, IsGood};
@@ -20,6 +22,7 @@ ghost use Rattle.script_player.specs.Script.{IsBadAt, IsGood};
 pub mod counted;
 mod entry;
 mod fault;
+pub mod laws;
 mod player;
 mod script;
 pub mod status;
@@ -34,9 +37,9 @@ use std::io::{Read, Write};
 
 /// Performs the script that the reader gives, one line after another, on the gateway, and prints what the
 /// gateway sends to each connection. Returns the status that the program ends with: good only where every
-/// line of the script was performed, bad input only at the first line that is none of a script, of
-/// which the last line that is printed has the number. What a line prints is flushed before more of
-/// the script is waited for, and at the end.
+/// line of the script was performed, and what was written is the text of the whole script, line by line;
+/// bad input only at the first line that is none of a script, of which the last line that is printed has
+/// the number, behind the text of the lines before it. What a line prints is flushed before more of the script is waited for, and at the end.
 pub fn play<G: GatewayCalls + Drop, R: Read + Drop, W: Write>(
     alloc: Global,
     gate: G,
@@ -45,8 +48,11 @@ pub fn play<G: GatewayCalls + Drop, R: Read + Drop, W: Write>(
 ) -> u8
     ensures among { IsStatus result }
     ensures good { result ≡ 0 → IsGood (R.remaining reader) }
+    ensures played { result ≡ 0 → IsPlayed (R.remaining reader) (G.state gate) (W.contents writer.old) (W.contents writer.new) }
     ensures bad { result ≡ 2 → (number : ℕ) × IsBadAt (R.remaining reader) number
         × (((held : W) → IsSome (W.contents held)) → EndsIn (W.contents writer.new) (bad_line number)) }
+    ensures told { result ≡ 2 → (number : ℕ) × IsBadAt (R.remaining reader) number
+        × IsPlayedThen (bad_line number) (R.remaining reader) (G.state gate) (W.contents writer.old) (W.contents writer.new) }
 {
     let ended = play_script(alloc, gate, reader, writer);
     match report(ended, writer) {
@@ -62,7 +68,9 @@ fn play_script<G: GatewayCalls + Drop, R: Read + Drop, W: Write>(
     writer: &mut W,
 ) -> Result<(), ReplayFault>
     ensures good { OnOk result (IsGood (R.remaining reader)) }
+    ensures played { OnOk result (IsPlayed (R.remaining reader) (G.state gate) (W.contents writer.old) (W.contents writer.new)) }
     ensures bad { IfBadLine result (IsBadAt (R.remaining reader)) }
+    ensures told { IfBadLine result (λ n. IsPlayed (R.remaining reader) (G.state gate) (W.contents writer.old) (W.contents writer.new)) }
 {
     let mut player = Player::new(alloc, gate);
     let mut script = Script::new(alloc, reader)?;
@@ -75,7 +83,9 @@ fn play_entries<G: GatewayCalls + Drop, R: Read + Drop, W: Write>(
     writer: &mut W,
 ) -> Result<(), ReplayFault>
     ensures good { OnOk result (IsGoodFrom (script.old.number + 1) (lines_left R.remaining script.old)) }
+    ensures played { OnOk result (PerformsLines (lines_left R.remaining script.old) (playing G.state player.old) (playing G.state player.new) (W.contents writer.old) (W.contents writer.new)) }
     ensures bad { IfBadLine result (IsBadFrom (script.old.number + 1) (lines_left R.remaining script.old)) }
+    ensures told { IfBadLine result (λ n. PerformsLines (lines_left R.remaining script.old) (playing G.state player.old) (playing G.state player.new) (W.contents writer.old) (W.contents writer.new)) }
 {
     for _ in 0..u64::MAX {
         let Some(entry) = script.next(writer)? else {

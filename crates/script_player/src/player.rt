@@ -1,11 +1,21 @@
 //! The lines of a script, performed on a gateway.
-ghost use Rattle.std.specs.Prelude.{◌≡◌, None, Some, IsTrue, IfOk, IfSome, OnOk, option_map, flat_map, length};
-ghost use Rattle.std.specs.BTreeMap.{get};
+ghost use Rattle.std.specs.Prelude.{◌≡◌, ◌++◌, None, Some, Option, IsTrue, IfOk, IfSome, List, OnOk, map, option_map, flat_map, length, ℕ};
+ghost use Rattle.std.specs.BTreeMap.{get, keys};
 ghost use Rattle.std.specs.BTreeSet.{contains};
-ghost use Rattle.std.specs.Io.KnownBytes.{Appends, Keeps};
-ghost use Rattle.gateway_state.specs.Step.{step, taken};
-ghost use Rattle.script_player.specs.Editing.{IfEdit, IsEdited, IsPrinted, refusal};
+ghost use Rattle.std.specs.Io.KnownBytes.{Appends};
+ghost use Rattle.std.specs.List.{find};
+ghost use Rattle.ca_header.specs.Reading.{front_at};
+ghost use Rattle.ca_header.specs.declared.header.Message.{Message};
+ghost use Rattle.gateway_state.specs.Asked.{ends};
+ghost use Rattle.gateway_state.specs.Step.{run, step, taken};
+ghost use Rattle.script_player.specs.Editing.{IfEdit, IsEdited, IsPrinted as IsLinePrinted, refusal};
+ghost use Rattle.script_player.specs.Ending.{AreEnded, IsEndedFirst, IsShut, opened, without};
+ghost use Rattle.script_player.specs.Performed.{IsDone, IsLine, IsSearchedFor};
+ghost use Rattle.script_player.specs.Performing.{Performs};
 ghost use Rattle.script_player.specs.Played.{loss, out_line, said};
+ghost use Rattle.script_player.specs.Player.{beginning, playing};
+ghost use Rattle.script_player.specs.Printing.{AreEmptied, IsEmptied, IsEmptiedUnless, IsPrinted, is_held};
+ghost use Rattle.script_player.specs.Receiving.{AreTaken, IsReceived, fault_in, misframed_at, put_behind};
 
 use crate::entry::{Entry, Files};
 use crate::fault::Fault;
@@ -29,7 +39,7 @@ const PIECE: usize = 1_024;
 
 /// A gateway, and what a script needs to know beside it.
 #[derive(Drop)]
-pub struct Player<G: GatewayCalls + Drop> {
+pub struct Player<G> {
     alloc: Global,
     gate: G,
     desk: Desk,
@@ -48,7 +58,9 @@ struct Misframed {
 
 impl<G: GatewayCalls + Drop> Player<G> {
     /// A player of scripts on this gateway.
-    pub fn new(alloc: Global, gate: G) -> Player<G> {
+    pub fn new(alloc: Global, gate: G) -> Player<G>
+        ensures { playing G.state result ≡ option_map beginning (G.state gate) }
+    {
         Player {
             alloc,
             gate,
@@ -60,24 +72,31 @@ impl<G: GatewayCalls + Drop> Player<G> {
 
     /// Performs an entry, and what follows from it: messages that wait are printed, and connections
     /// that must end are ended.
-    pub fn play<W: Write>(&mut self, entry: Entry, out: &mut W) -> Result<(), Fault> {
+    pub fn play<W: Write>(&mut self, entry: Entry, out: &mut W) -> Result<(), Fault>
+        ensures { OnOk result (Performs (IsLine entry) (playing G.state self.old) (playing G.state self.new) (W.contents out.old) (W.contents out.new)) }
+    {
         let misframed = self.take(entry, out)?;
         self.print_waiting(out)?;
-        if let Some(misframed) = misframed {
-            self.shut(misframed, out)?;
-        }
+        self.shut(misframed, out)?;
         self.end_marked(out)
     }
 
-    fn take<W: Write>(&mut self, entry: Entry, out: &mut W) -> Result<Option<Misframed>, Fault> {
+    fn take<W: Write>(&mut self, entry: Entry, out: &mut W) -> Result<Option<Misframed>, Fault>
+        ensures { IfOk result (λ misframed. Performs (IsDone entry.line entry.files misframed) (playing G.state self.old) (playing G.state self.new) (W.contents out.old) (W.contents out.new)) }
+    {
         let Entry { line, files } = entry;
         self.perform(line, &files, out)
     }
 
-    /// Cuts off a connection whose bytes are no messages.
-    fn shut<W: Write>(&mut self, misframed: Misframed, out: &mut W) -> Result<(), Fault> {
-        write_shut(out, misframed.dest, misframed.fault)?;
-        self.lose(misframed.dest)?;
+    /// Cuts off a connection whose bytes are no messages, if there is one.
+    fn shut<W: Write>(&mut self, misframed: Option<Misframed>, out: &mut W) -> Result<(), Fault>
+        ensures { OnOk result (Performs (IsShut misframed) (playing G.state self.old) (playing G.state self.new) (W.contents out.old) (W.contents out.new)) }
+    {
+        let Some(Misframed { dest, fault }) = misframed else {
+            return Ok(());
+        };
+        write_shut(out, dest, fault)?;
+        self.lose(dest)?;
         self.print_waiting(out)
     }
 
@@ -88,6 +107,7 @@ impl<G: GatewayCalls + Drop> Player<G> {
         out: &mut W,
     ) -> Result<Option<Misframed>, Fault>
         ensures edit { IfEdit line (OnOk result (IsEdited files.now (G.state self.old.gate) (G.state self.new.gate) (W.contents out.old) (W.contents out.new))) }
+        ensures done { IfOk result (λ misframed. Performs (IsDone line files.now misframed) (playing G.state self.old) (playing G.state self.new) (W.contents out.old) (W.contents out.new)) }
     {
         match line {
             Line::Skipped => {}
@@ -137,23 +157,19 @@ impl<G: GatewayCalls + Drop> Player<G> {
     }
 
     /// Prints the reply to a datagram; the names that it searches for are looked for from then on.
-    fn search<W: Write>(&mut self, host: &Host, datagram: &[u8], out: &mut W) -> Result<(), Fault> {
+    fn search<W: Write>(&mut self, host: &Host, datagram: &[u8], out: &mut W) -> Result<(), Fault>
+        ensures same { (self.new.intakes ≡ self.old.intakes) × (self.new.held ≡ self.old.held) }
+        ensures searched { OnOk result (Performs (IsSearchedFor host.now datagram.now) (G.state self.old.gate) (G.state self.new.gate) (W.contents out.old) (W.contents out.new)) }
+    {
         let answer = self.gate.search(host, datagram)?;
         write_reply(out, answer.reply.as_slice())?;
-        self.look_for(host, answer.asked.as_slice())
-    }
-
-    fn look_for(&mut self, host: &Host, names: &[Name]) -> Result<(), Fault> {
-        for name in names {
-            let event = Event::Search(host.copy()?, name.copy()?);
-            self.gate.step(event)?;
-        }
-        Ok(())
+        look_for(&mut self.gate, host, answer.asked.as_slice())
     }
 
     /// Edits the policy, or prints why not: the first fault of the files, the rule file's first.
     fn edit<W: Write>(&mut self, files: &Files, out: &mut W) -> Result<(), Fault>
-        ensures { OnOk result (IsEdited files.now (G.state self.old.gate) (G.state self.new.gate) (W.contents out.old) (W.contents out.new)) }
+        ensures edited { OnOk result (IsEdited files.now (G.state self.old.gate) (G.state self.new.gate) (W.contents out.old) (W.contents out.new)) }
+        ensures same { (self.new.intakes ≡ self.old.intakes) × (self.new.held ≡ self.old.held) }
     {
         match self.desk.edit(files.rules.text(), files.groups.text()) {
             Ok(policy) => Ok(self.gate.step(Event::Edit(policy))?),
@@ -161,7 +177,9 @@ impl<G: GatewayCalls + Drop> Player<G> {
         }
     }
 
-    fn open(&mut self, dest: Dest, event: Event) -> Result<(), Fault> {
+    fn open(&mut self, dest: Dest, event: Event) -> Result<(), Fault>
+        ensures { OnOk result (playing G.state self.new ≡ option_map (opened dest event) (playing G.state self.old)) }
+    {
         self.gate.step(event)?;
         if !self.intakes.contains_key(&dest) && self.gate.is_open(dest)? {
             self.intakes.insert(dest, Intake::new(self.alloc))?;
@@ -172,7 +190,7 @@ impl<G: GatewayCalls + Drop> Player<G> {
     /// Hands a connection in as lost. What came from it and is no whole message is forgotten.
     fn lose(&mut self, dest: Dest) -> Result<(), Fault>
         ensures gone { OnOk result (get ⟦<Dest as Ord>⟧.cmp self.new.intakes dest ≡ None) }
-        ensures lost { OnOk result (G.state self.new.gate ≡ option_map (λ w. step w (loss dest)) (G.state self.old.gate)) }
+        ensures lost { OnOk result (playing G.state self.new ≡ option_map (without dest) (playing G.state self.old)) }
         ensures held { self.new.held ≡ self.old.held }
     {
         self.gate.step(lost(dest))?;
@@ -181,65 +199,125 @@ impl<G: GatewayCalls + Drop> Player<G> {
     }
 
     /// Takes bytes from a connection: the messages that are whole then are a run of events.
-    fn receive(&mut self, dest: Dest, bytes: &[u8]) -> Result<Option<Misframed>, Fault> {
+    fn receive(&mut self, dest: Dest, bytes: &[u8]) -> Result<Option<Misframed>, Fault>
+        ensures { IfOk result (λ misframed. (out : Option (List ℕ)) → Performs (IsReceived dest bytes.now misframed) (playing G.state self.old) (playing G.state self.new) out out) }
+    {
         let Some(intake) = self.intakes.get_mut(&dest) else {
             return Ok(None);
         };
-        // After a fault nothing is fed, and the fault is what is taken next.
-        if let Err(IntakeFault::OutOfMemory) = intake.feed(bytes) {
-            return Err(Fault::OutOfMemory);
-        }
+        feed(intake, bytes)?;
         let mut events = Vec::new(self.alloc);
-        let mut misframed = None;
-        for _ in 0..u64::MAX {
-            match intake.take() {
-                Ok(Some(message)) => events.push(said_by(dest, message))?,
-                Ok(None) => break,
-                Err(IntakeFault::Faulted(fault)) => {
-                    misframed = Some(Misframed { dest, fault });
-                    break;
-                }
-                Err(IntakeFault::OutOfMemory) => return Err(Fault::OutOfMemory),
-            }
-        }
+        let fault = take_messages(dest, intake, &mut events)?;
         self.gate.run(events)?;
-        Ok(misframed)
+        Ok(with_fault(dest, fault))
     }
 
     /// Prints all that waits for the connections that aren't held.
-    fn print_waiting<W: Write>(&mut self, out: &mut W) -> Result<(), Fault> {
-        for dest in self.intakes.keys() {
-            print_unheld(&mut self.gate, &self.held, *dest, out)?;
-        }
-        Ok(())
+    fn print_waiting<W: Write>(&mut self, out: &mut W) -> Result<(), Fault>
+        ensures { OnOk result (Performs IsPrinted (playing G.state self.old) (playing G.state self.new) (W.contents out.old) (W.contents out.new)) }
+    {
+        print_all(&mut self.gate, &self.intakes, &self.held, out)
     }
 
     /// Ends the connections that must end, one after another: the loss of one may mark others.
-    fn end_marked<W: Write>(&mut self, out: &mut W) -> Result<(), Fault> {
-        for _ in 0..self.intakes.len() {
-            let Some(dest) = self.first_marked()? else {
-                break;
-            };
-            write_end(out, dest)?;
-            self.lose(dest)?;
-            self.print_waiting(out)?;
-        }
-        Ok(())
-    }
-
-    fn first_marked(&mut self) -> Result<Option<Dest>, Fault> {
-        for dest in self.intakes.keys() {
-            if self.gate.must_end(*dest)? {
-                return Ok(Some(*dest));
+    fn end_marked<W: Write>(&mut self, out: &mut W) -> Result<(), Fault>
+        ensures { OnOk result (Performs AreEnded (playing G.state self.old) (playing G.state self.new) (W.contents out.old) (W.contents out.new)) }
+    {
+        for _ in 0..u64::MAX {
+            if !self.end_first(out)? {
+                return Ok(());
             }
         }
-        Ok(None)
+        Err(Fault::StreamFailed)
     }
+
+    /// Ends the first connection that must end. Says whether there was one.
+    fn end_first<W: Write>(&mut self, out: &mut W) -> Result<bool, Fault>
+        ensures { IfOk result (λ ended. Performs (IsEndedFirst ended) (playing G.state self.old) (playing G.state self.new) (W.contents out.old) (W.contents out.new)) }
+    {
+        let Some(dest) = first_marked(&mut self.gate, &self.intakes)? else {
+            return Ok(false);
+        };
+        write_end(out, dest)?;
+        self.lose(dest)?;
+        self.print_waiting(out)?;
+        Ok(true)
+    }
+}
+
+/// The first of the connections that must end.
+fn first_marked<G: GatewayCalls>(
+    gate: &mut G,
+    intakes: &BTreeMap<Dest, Intake>,
+) -> Result<Option<Dest>, Fault>
+    ensures found { IfOk result (λ first. IfSome (G.state gate.old) (λ w. first ≡ find (ends w) (keys intakes.now))) }
+    ensures same { G.state gate.new ≡ G.state gate.old }
+{
+    for dest in intakes.keys() {
+        if gate.must_end(*dest)? {
+            return Ok(Some(*dest));
+        }
+    }
+    Ok(None)
+}
+
+/// Names are looked for from this host from then on.
+fn look_for<G: GatewayCalls>(gate: &mut G, host: &Host, names: &[Name]) -> Result<(), Fault>
+    ensures { OnOk result (G.state gate.new ≡ option_map (λ w. run w (map (Event.Search host.now) names.now)) (G.state gate.old)) }
+{
+    for name in names {
+        let event = Event::Search(host.copy()?, name.copy()?);
+        gate.step(event)?;
+    }
+    Ok(())
+}
+
+/// A connection whose bytes have this fault, if they have one.
+fn with_fault(dest: Dest, fault: Option<FrameFault>) -> Option<Misframed>
+    ensures { result ≡ option_map (misframed_at dest) fault }
+{
+    match fault {
+        Some(fault) => Some(Misframed { dest, fault }),
+        None => None,
+    }
+}
+
+/// Puts bytes behind those that came before. After a fault nothing is fed, and the fault is what is
+/// taken next.
+fn feed(intake: &mut Intake, bytes: &[u8]) -> Result<(), Fault>
+    ensures { OnOk result (intake.new ≡ put_behind (front_at intake.old) intake.old bytes.now) }
+{
+    match intake.feed(bytes) {
+        Ok(()) => Ok(()),
+        Err(IntakeFault::Faulted(_)) => Ok(()),
+        Err(IntakeFault::OutOfMemory) => Err(Fault::OutOfMemory),
+    }
+}
+
+/// Takes the messages that are whole, as events. Says what is wrong with the bytes after them.
+fn take_messages(
+    dest: Dest,
+    intake: &mut Intake,
+    events: &mut Vec<Event>,
+) -> Result<Option<FrameFault>, Fault>
+    ensures taken { OnOk result ((messages : List Message) × AreTaken intake.old messages intake.new
+        × (events.new.items ≡ events.old.items ++ map (said dest) messages)) }
+    ensures fault { IfOk result (λ fault. fault ≡ fault_in (front_at intake.new)) }
+{
+    for _ in 0..u64::MAX {
+        match intake.take() {
+            Ok(Some(message)) => events.push(said_by(dest, message))?,
+            Ok(None) => return Ok(None),
+            Err(IntakeFault::Faulted(fault)) => return Ok(Some(fault)),
+            Err(IntakeFault::OutOfMemory) => return Err(Fault::OutOfMemory),
+        }
+    }
+    Err(Fault::StreamFailed)
 }
 
 /// Prints why an edit is refused.
 fn print_refusal<W: Write>(out: &mut W, fault: DeskFault) -> Result<(), Fault>
-    ensures { OnOk result (IsPrinted (refusal fault) (W.contents out.old) (W.contents out.new)) }
+    ensures { OnOk result (IsLinePrinted (refusal fault) (W.contents out.old) (W.contents out.new)) }
 {
     match fault {
         DeskFault::Rules(line, cause) => Ok(write_refused(out, line, cause)?),
@@ -268,6 +346,21 @@ fn lost(dest: Dest) -> Event
     }
 }
 
+/// Prints all that waits for the connections that aren't held.
+fn print_all<G: GatewayCalls, W: Write>(
+    gate: &mut G,
+    intakes: &BTreeMap<Dest, Intake>,
+    held: &BTreeSet<Dest>,
+    out: &mut W,
+) -> Result<(), Fault>
+    ensures { OnOk result (Performs (AreEmptied held.now.keys (keys intakes.now)) (G.state gate.old) (G.state gate.new) (W.contents out.old) (W.contents out.new)) }
+{
+    for dest in intakes.keys() {
+        print_unheld(gate, held, *dest, out)?;
+    }
+    Ok(())
+}
+
 /// Prints all that waits for a connection, or nothing where it is held.
 fn print_unheld<G: GatewayCalls, W: Write>(
     gate: &mut G,
@@ -277,16 +370,28 @@ fn print_unheld<G: GatewayCalls, W: Write>(
 ) -> Result<(), Fault>
     ensures kept { IsTrue (contains ⟦<Dest as Ord>⟧.cmp held.now dest) → G.state gate.new ≡ G.state gate.old }
     ensures silent { IsTrue (contains ⟦<Dest as Ord>⟧.cmp held.now dest) → W.contents out.new ≡ W.contents out.old }
+    ensures printed { OnOk result (Performs (IsEmptiedUnless (is_held held.now.keys dest) dest) (G.state gate.old) (G.state gate.new) (W.contents out.old) (W.contents out.new)) }
 {
     if held.contains(&dest) {
         return Ok(());
     }
+    print_outbox(gate, dest, out)
+}
+
+/// Prints all that waits for a connection.
+fn print_outbox<G: GatewayCalls, W: Write>(
+    gate: &mut G,
+    dest: Dest,
+    out: &mut W,
+) -> Result<(), Fault>
+    ensures { OnOk result (Performs (IsEmptied dest) (G.state gate.old) (G.state gate.new) (W.contents out.old) (W.contents out.new)) }
+{
     for _ in 0..u64::MAX {
         if print_messages(gate, dest, PIECE, out)? == 0 {
-            break;
+            return Ok(());
         }
     }
-    Ok(())
+    Err(Fault::StreamFailed)
 }
 
 /// Takes the oldest messages of a connection, and prints them. Says how many there were.

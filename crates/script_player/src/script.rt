@@ -1,10 +1,11 @@
 //! A script, read entry by entry.
 ghost use Rattle.std.specs.Prelude.{◌≡◌, ◌+◌, ◌++◌, if◌then◌else◌, IfOk, IsSome, MatchOption, OnOk};
-ghost use Rattle.std.specs.Io.Buffered.{reader_remaining};
+ghost use Rattle.std.specs.Io.Buffered.{reader_inner, reader_remaining};
 ghost use Rattle.std.specs.Io.BufRead.{strip_last};
 ghost use Rattle.std.specs.Io.KnownBytes.{Keeps};
 ghost use Rattle.script_player.specs.Reading.{bytes_left, lines_left, lines_with, AreMissing, IsNextBad, Takes, TakesBytes, TakesEntry, TakesLine, TakesText};
 ghost use Rattle.script_player.specs.Replay.{IfBadLine};
+ghost use Rattle.script_player.specs.declared.script.TheConstants.{MOST_READS};
 ghost use Rattle.script_player.specs.Script.{file_in, files_in, sizes_of, with_end};
 
 use crate::counted::Counted;
@@ -43,6 +44,7 @@ impl<R: Read + Drop> Script<R> {
     pub fn new(alloc: Global, reader: R) -> Result<Script<R>, Fault>
         ensures left { IfOk result (λ script. bytes_left R.remaining script ≡ R.remaining reader) }
         ensures start { IfOk result (λ script. script.number ≡ 0) }
+        ensures reads { IfOk result (λ script. (reader_inner script.reader).left ≡ MOST_READS) }
     {
         let counted = Counted::new(reader, MOST_READS);
         Ok(Script {
@@ -58,6 +60,8 @@ impl<R: Read + Drop> Script<R> {
         ensures taken { IfOk result (TakesEntry (lines_left R.remaining self.old) (lines_left R.remaining self.new)) }
         ensures counted { IfOk result (λ next. self.new.number ≡ self.old.number + lines_with next) }
         ensures bad { IfBadLine result (λ n. (n ≡ self.old.number + 1) × IsNextBad (lines_left R.remaining self.old)) }
+        ensures same_bad { IfBadLine result (λ n. Keeps (W.contents writer.old) (W.contents writer.new)) }
+        ensures same { OnOk result (Keeps (W.contents writer.old) (W.contents writer.new)) }
     {
         if !self.next_line(writer)? {
             return Ok(None);
@@ -78,6 +82,7 @@ impl<R: Read + Drop> Script<R> {
     fn files<W: Write>(&mut self, sizes: Sizes, writer: &mut W) -> Result<Option<Files>, Fault>
         ensures taken { IfOk result (Takes (files_in (sizes.rules, sizes.groups)) (lines_left R.remaining self.old) (sizes.rules + sizes.groups) (lines_left R.remaining self.new)) }
         ensures counted { IfOk result (λ files. IsSome files → self.new.number ≡ self.old.number + (sizes.rules + sizes.groups)) }
+        ensures same { OnOk result (Keeps (W.contents writer.old) (W.contents writer.new)) }
     {
         let Some(rules) = self.file(sizes.rules, writer)? else {
             return Ok(None);
@@ -92,6 +97,7 @@ impl<R: Read + Drop> Script<R> {
     fn file<W: Write>(&mut self, count: usize, writer: &mut W) -> Result<Option<File>, Fault>
         ensures taken { IfOk result (Takes (file_in count) (lines_left R.remaining self.old) count (lines_left R.remaining self.new)) }
         ensures counted { IfOk result (λ file. IsSome file → self.new.number ≡ self.old.number + count) }
+        ensures same { OnOk result (Keeps (W.contents writer.old) (W.contents writer.new)) }
     {
         if count == 0 {
             return Ok(Some(File::none()));
@@ -107,6 +113,7 @@ impl<R: Read + Drop> Script<R> {
         ensures taken { IfOk result (λ text. MatchOption text (AreMissing (lines_left R.remaining self.old) count)
             (λ text. TakesText (lines_left R.remaining self.old) count (lines_left R.remaining self.new) text.items)) }
         ensures counted { IfOk result (λ text. IsSome text → self.new.number ≡ self.old.number + count) }
+        ensures same { OnOk result (Keeps (W.contents writer.old) (W.contents writer.new)) }
     {
         let mut text = Vec::new(self.alloc);
         for _ in 0..count {
@@ -122,6 +129,7 @@ impl<R: Read + Drop> Script<R> {
     fn next_line<W: Write>(&mut self, writer: &mut W) -> Result<bool, Fault>
         ensures taken { IfOk result (TakesLine (lines_left R.remaining self.old) (lines_left R.remaining self.new) self.new.line.items) }
         ensures counted { IfOk result (λ more. self.new.number ≡ self.old.number + (if more then 1 else 0)) }
+        ensures same { OnOk result (Keeps (W.contents writer.old) (W.contents writer.new)) }
     {
         flush_before_wait(&self.reader, writer)?;
         if !read_whole(&mut self.reader, &mut self.line)? {

@@ -69,6 +69,24 @@ asks
 lost s1
 ";
 
+/// It writes twice. The first write is answered, and its number isn't given out again.
+const TWO_WRITES: &str = "found T1 u1
+> u1 0012000800000000fffffffe0000000d5431000000000000
+server u1 0016000000000000fffffffe00000003
+server u1 0012000000050001fffffffe00000065
+client s1 0012000800000000000000070000000d5431000000000000
+> s1 00160000000000000000000700000003
+> s1 001200000005000100000007fffffffe
+client s1 0013000800050001fffffffe000000430000000700000000
+> u1 001300080005000100000065fffffffe0000000700000000
+server u1 001300000005000100000001fffffffe
+> s1 00130000000500010000000100000043
+client s1 0013000800050001fffffffe000000440000000800000000
+> failed
+asks
+lost s1
+";
+
 /// Parts a story into its script and what is printed.
 fn part(text: &str, script: &mut Vec<u8>, printed: &mut Vec<u8>) -> bool {
     let mut is_whole = true;
@@ -116,6 +134,11 @@ fn fails_when_its_channels_are_used_up(rt: HostRuntime) {
 #[test]
 fn fails_when_its_subscriptions_are_used_up(rt: HostRuntime) {
     fails(&rt, rt.alloc(), TWO_SUBSCRIPTIONS);
+}
+
+#[test]
+fn fails_when_its_write_ids_are_used_up(rt: HostRuntime) {
+    fails(&rt, rt.alloc(), TWO_WRITES);
 }
 
 /// The example at the head of `script_player`.

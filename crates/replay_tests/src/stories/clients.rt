@@ -53,6 +53,35 @@ client s1 001700000000000000000000000000",
     )
 }
 
+// A second opening of a connection that stands changes nothing: what came of a message is kept.
+#[test]
+fn keeps_a_part_of_a_message_when_opened_again(rt: HostRuntime) -> Result<(), Fail> {
+    tells(
+        &rt,
+        rt.alloc(),
+        b"open s1 h
+> s1 000000000000000d0000000000000000
+open u1
+> u1 000000000000000d0000000000000000
+> u1 001400080000000000000000000000007076676174650000
+> u1 001500080000000000000000000000006777000000000000
+client s1 00170000000000
+server u1 000000000000000d00
+open s1 h
+open u1
+client s1 000000000000000000
+> s1 00170000000000000000000000000000
+server u1 00000000000000
+hold s1
+client s1 00
+open s1 h
+client s1 170000000000000000000000000000
+flow s1
+> s1 00170000000000000000000000000000
+",
+    )
+}
+
 // Two faults of one session give one line. The messages before a fault are answered.
 #[test]
 fn cuts_off_clients_whose_bytes_are_no_messages(rt: HostRuntime) -> Result<(), Fail> {

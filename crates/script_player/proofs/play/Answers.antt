@@ -1,4 +1,5 @@
 use Rattle.std.proofs.Common.{sym, ◌∙◌}
+use Rattle.script_player.proofs.LinesLemmas.{IsPlayed-bad, IsPlayed-good}
 use Rattle.script_player.proofs.ReplayLemmas.{IfBadLine-bad, OnOk-good}
 use Rattle.script_player.proofs.play.Goals as goal
 
@@ -11,3 +12,17 @@ returns-in-Ok-clause-bad g c = λ is.
     let held = g.W.Write.contents in
     IfBadLine-bad c.play_script-ended.result (held c.play_script-ended.new.writer) (held c.report.new.writer) (sym c.in-Ok.ensures.ok ∙ is)
     c.play_script-ended.ensures.bad (λ known. known c.play_script-ended.new.writer) c.in-Ok.ensures.printed
+
+pub returns-in-Ok-clause-played : goal.returns-in-Ok-clause-played
+returns-in-Ok-clause-played g c = λ is.
+    let held = g.W.Write.contents in
+    IsPlayed-good c.play_script-ended.result (g.R.Read.remaining c.args.reader) (g.G.GatewayCalls.state c.args.gate)
+    (held c.args.writer.now) (held c.play_script-ended.new.writer) (held c.report.new.writer)
+    (sym c.in-Ok.ensures.ok ∙ is) c.play_script-ended.ensures.played c.in-Ok.ensures.printed
+
+pub returns-in-Ok-clause-told : goal.returns-in-Ok-clause-told
+returns-in-Ok-clause-told g c = λ is.
+    let held = g.W.Write.contents in
+    IsPlayed-bad c.play_script-ended.result (g.R.Read.remaining c.args.reader) (g.G.GatewayCalls.state c.args.gate)
+    (held c.args.writer.now) (held c.play_script-ended.new.writer) (held c.report.new.writer)
+    (sym c.in-Ok.ensures.ok ∙ is) c.play_script-ended.ensures.bad c.play_script-ended.ensures.told c.in-Ok.ensures.printed

@@ -3,6 +3,8 @@ use Rattle.std.specs.Prelude.{option_map}
 use Rattle.std.proofs.lemmas.Result.{on_ok_weaker}
 use Rattle.script_player.specs.Reading.{IsBadFrom, lines_left}
 use Rattle.script_player.specs.Script.{IsBadAt, lines_of}
+use Rattle.script_player.specs.Performed.{IsPlayed, PerformsLines}
+use Rattle.script_player.specs.Player.{playing}
 use Rattle.script_player.proofs.ReadingLemmas.{IsBadAt-from, IsGood-from}
 use Rattle.script_player.proofs.ReplayLemmas.{IfBadLine-weaker}
 use Rattle.script_player.proofs.play_script.Goals as goal
@@ -22,3 +24,24 @@ returns-clause-bad g c =
     (IsBadAt-from (g.R.Read.remaining c.args.reader) script.number (lines_left g.R.Read.remaining script)
     c.in_ok-script.ensures.start (ap (option_map lines_of) c.in_ok-script.ensures.left))
     c.play_entries.ensures.bad
+
+pub returns-clause-played : goal.returns-clause-played
+returns-clause-played g c =
+    let known = playing g.G.GatewayCalls.state in
+    let held = g.W.Write.contents in
+    let lines = ap (option_map lines_of) c.in_ok-script.ensures.left in
+    on_ok_weaker c.play_entries.result
+    (λ played. (known c.play_entries.new.player, rw (lines, c.new-player.ensures) at played))
+    c.play_entries.ensures.played
+
+pub returns-clause-told : goal.returns-clause-told
+returns-clause-told g c =
+    let left = lines_left g.R.Read.remaining in
+    let known = playing g.G.GatewayCalls.state in
+    let held = g.W.Write.contents in
+    let lines = ap (option_map lines_of) c.in_ok-script.ensures.left in
+    IfBadLine-weaker c.play_entries.result
+    (λ n. PerformsLines (left c.in_ok-script.script) (known c.new-player.result) (known c.play_entries.new.player) (held c.args.writer.now) (held c.play_entries.new.writer))
+    (λ n. IsPlayed (g.R.Read.remaining c.args.reader) (g.G.GatewayCalls.state c.args.gate) (held c.args.writer.now) (held c.play_entries.new.writer))
+    (λ n played. (known c.play_entries.new.player, rw (lines, c.new-player.ensures) at played))
+    c.play_entries.ensures.told

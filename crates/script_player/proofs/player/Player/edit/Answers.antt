@@ -3,8 +3,8 @@ use Rattle.std.proofs.lemmas.Result.{on_ok_weaker}
 use Rattle.script_player.specs.Editing.{IsPrinted, refusal}
 use Rattle.script_player.proofs.player.Player.edit.Goals as goal
 
-pub returns-in_ok-step-in-Ok : goal.returns-in_ok-step-in-Ok
-returns-in_ok-step-in-Ok g c =
+pub returns-in_ok-step-in-Ok-clause-edited : goal.returns-in_ok-step-in-Ok-clause-edited
+returns-in_ok-step-in-Ok-clause-edited g c =
     inl (record {
       policy = c.in-Ok.policy;
       said = rw (c.text.ensures, c.text-2.ensures) at c.in-Ok.ensures.ok;
@@ -12,8 +12,8 @@ returns-in_ok-step-in-Ok g c =
       silent = refl;
     })
 
-pub returns-in-Err : goal.returns-in-Err
-returns-in-Err g c =
+pub returns-in-Err-clause-edited : goal.returns-in-Err-clause-edited
+returns-in-Err-clause-edited g c =
     let held = g.W.Write.contents in
     on_ok_weaker _
     (λ (told : IsPrinted (refusal c.in-Err.fault) (held c.args.out.now) (held c.print_refusal.new.out)).

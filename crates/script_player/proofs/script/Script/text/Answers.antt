@@ -1,5 +1,6 @@
 use Rattle.std.proofs.Common.{◌≡◌, ◌+◌, true, false, rules, arith}
 use Rattle.script_player.specs.Reading.{lines_left}
+use Rattle.script_player.proofs.PerformingLemmas.{Keeps-then}
 use Rattle.script_player.proofs.ReadingLemmas.{AreMissing-here, TakesText-next}
 use Rattle.script_player.proofs.script.Script.text.Goals as goal
 
@@ -14,6 +15,7 @@ returns-then-not-branch-clause-taken g c =
 pub loop-preserved : goal.loop-preserved
 loop-preserved g c =
     let left = lines_left g.R.Read.remaining in
+    let held = g.W.Write.contents in
     let some : c.in_ok-next_line.field-0 ≡ true = search rules in
     let takes = rw some at c.in_ok-next_line.ensures.taken in
     let one = rw some at c.in_ok-next_line.ensures.counted in
@@ -22,4 +24,5 @@ loop-preserved g c =
           (TakesText-next (left c.args.self.now) (left c.loop.self) (left c.next_line.new.self) c.loop.counter
           c.loop.text.items c.next_line.new.self.line.items c.loop.invariant.taken takes);
       counted = omega (arith, one, c.loop.invariant.counted);
+      same = Keeps-then (held c.args.writer.now) (held c.loop.writer) (held c.next_line.new.writer) c.loop.invariant.same c.in_ok-next_line.ensures.same;
     }

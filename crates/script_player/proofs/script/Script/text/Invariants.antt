@@ -1,4 +1,5 @@
 use Rattle.std.proofs.Common.{◌≡◌, ◌+◌}
+use Rattle.std.specs.Io.KnownBytes.{Keeps}
 use Rattle.script_player.specs.Reading.{TakesText, lines_left}
 use Rattle.script_player.proofs.script.Script.text.Given as goal
 
@@ -7,4 +8,5 @@ abbrev pub invariant-loop : goal.invariant-loop
 invariant-loop g l = record {
   taken : TakesText (lines_left g.R.Read.remaining l.initial.self) l.counter (lines_left g.R.Read.remaining l.self) l.text.items;
   counted : l.self.number ≡ l.initial.self.number + l.counter;
+  same : Keeps (g.W.Write.contents l.initial.writer) (g.W.Write.contents l.writer);
 }

@@ -1,0 +1,83 @@
+-- Facts on what a player knows.
+use Rattle.std.proofs.Common.{◌≡◌, ℕ, List, [], ◌∷◌, ◌++◌, Option, Some, None, Bool, true, false, refl, sym, ap, subst, ◌∙◌}
+use Rattle.std.specs.Prelude.{IfSome, option_map}
+use Rattle.std.specs.Io.KnownBytes.{Appends}
+use Rattle.std.specs.List.{find}
+use Rattle.std.specs.Map.{keys_of}
+use Rattle.gateway_state.specs.Asked.{ends}
+use Rattle.gateway_state.specs.Gateway.{Gateway}
+use Rattle.gateway_state.specs.declared.event.Dest.{Dest}
+use Rattle.script_player.specs.Ending.{AreAllWell, AreEnded, IsCutOff, IsFirstEnded, IsShut, without}
+use Rattle.script_player.specs.Performed.{IsDone, IsFollowed, IsLine}
+use Rattle.script_player.specs.Performing.{Becomes, Performs, Then, silent}
+use Rattle.script_player.specs.Player.{OnGateway, Playing, playing_at}
+use Rattle.script_player.specs.Printing.{AreEmptied, IsPrinted}
+use Rattle.script_player.specs.declared.entry.Entry.{Entry}
+use Rattle.script_player.specs.declared.player.Misframed.{Misframed}
+use Rattle.replay_text.specs.Output.{end_line}
+use Rattle.script_player.proofs.PerformingLemmas.{Appends-nil, Performs-becomes, Performs-then, Performs-weaker}
+
+-- what is done with the gateway alone
+pub Performs-on_gateway : (does : Gateway → Gateway → List ℕ → Type 0) (w v : Option Gateway) (intakes : List (Dest × List ℕ)) (held : List Dest) (x y : Option (List ℕ))
+    → Performs does w v x y
+    → Performs (OnGateway does) (playing_at w intakes held) (playing_at v intakes held) x y
+Performs-on_gateway does None v intakes held x y h = tt
+Performs-on_gateway does (Some u) v intakes held x y h =
+    (record { gateway = h.0; intakes = intakes; held = held }, h.1, ap (λ (o : Option Gateway). playing_at o intakes held) h.2, (h.3, refl), h.4)
+
+-- what waits is printed
+pub Performs-printed : (w v : Option Gateway) (intakes : List (Dest × List ℕ)) (held : List Dest) (x y : Option (List ℕ))
+    → Performs (AreEmptied held (keys_of intakes)) w v x y
+    → Performs IsPrinted (playing_at w intakes held) (playing_at v intakes held) x y
+Performs-printed None v intakes held x y h = tt
+Performs-printed (Some u) v intakes held x y h =
+    (record { gateway = h.0; intakes = intakes; held = held }, h.1, ap (λ (o : Option Gateway). playing_at o intakes held) h.2, (h.3, refl), h.4)
+
+-- other connections are held back from then on
+pub Performs-held : (f : List Dest → List Dest) (w : Option Gateway) (intakes : List (Dest × List ℕ)) (held still : List Dest) (x : Option (List ℕ))
+    → still ≡ f held
+    → Performs (Becomes (λ p. record p { held = f p.held }) silent) (playing_at w intakes held) (playing_at w intakes still) x x
+Performs-held f None intakes held still x is = tt
+Performs-held f (Some u) intakes held still x is =
+    (record { gateway = u; intakes = intakes; held = still }, [], refl, (ap (λ (ks : List Dest). record { gateway = u; intakes = intakes; held = ks }) is, refl), Appends-nil x)
+
+-- a connection is cut off
+pub Performs-cut_off : (line : List ℕ) (dest : Dest) (p q r : Option Playing) (x y z : Option (List ℕ))
+    → Appends x y line → q ≡ option_map (without dest) p → Performs IsPrinted q r y z
+    → Performs (IsCutOff line dest) p r x z
+Performs-cut_off line dest p q r x y z wrote is printed =
+    let said : IfSome p (λ old. Appends x y line) = always p wrote in
+    Performs-then (Becomes (without dest) (λ old. line)) IsPrinted p q r x y z
+    (Performs-becomes (without dest) (λ old. line) p q x y is said) printed
+  where
+    always : {P : Type 0} (p : Option Playing) → P → IfSome p (λ old. P)
+    always None h = tt
+    always (Some old) h = h
+
+-- the first one that must end is
+pub Performs-first_ended : (w : Option Gateway) (intakes : List (Dest × List ℕ)) (held : List Dest) (dest : Dest) (r : Option Playing) (x z : Option (List ℕ))
+    → IfSome w (λ u. Some dest ≡ find (ends u) (keys_of intakes))
+    → Performs (IsCutOff (end_line dest) dest) (playing_at w intakes held) r x z
+    → Performs IsFirstEnded (playing_at w intakes held) r x z
+Performs-first_ended None intakes held dest r x z first h = tt
+Performs-first_ended (Some u) intakes held dest r x z first h =
+    (h.0, h.1, h.2, record { dest = dest; first = sym first; cut_off = h.3 }, h.4)
+
+-- none must end
+pub Performs-all_well : (w : Option Gateway) (intakes : List (Dest × List ℕ)) (held : List Dest) (x : Option (List ℕ))
+    → IfSome w (λ u. None ≡ find (ends u) (keys_of intakes))
+    → Performs AreAllWell (playing_at w intakes held) (playing_at w intakes held) x x
+Performs-all_well None intakes held x none = tt
+Performs-all_well (Some u) intakes held x none =
+    (record { gateway = u; intakes = intakes; held = held }, [], refl, (sym none, (refl, refl)), Appends-nil x)
+
+-- a line is performed, with all that follows
+pub Performs-line : (entry : Entry) (misframed : Option Misframed) (a b c d e : Option Playing) (v w x y z : Option (List ℕ))
+    → Performs (IsDone entry.line entry.files misframed) a b v w → Performs IsPrinted b c w x
+    → Performs (IsShut misframed) c d x y → Performs AreEnded d e y z
+    → Performs (IsLine entry) a e v z
+Performs-line entry misframed a b c d e v w x y z done printed shut ended =
+    Performs-weaker (Then (IsDone entry.line entry.files misframed) (IsFollowed misframed)) (IsLine entry) (λ old new text h. (misframed, h)) a e v z
+    (Performs-then (IsDone entry.line entry.files misframed) (IsFollowed misframed) a b e v w z done
+    (Performs-then IsPrinted (Then (IsShut misframed) AreEnded) b c e w x z printed
+    (Performs-then (IsShut misframed) AreEnded c d e x y z shut ended)))
