@@ -7,11 +7,11 @@ ghost use Rattle.mask_merge.specs.Merged.{events, greatest, merged};
 
 use crate::lists::find;
 use crate::names::may_read;
-use crate::needs::{has_properties_by, is_text_by};
 use crate::state::Rows;
 use crate::upstream::{ServerNumbered, sub_at};
 use crate::values::meant_count;
 use channel_table::{Channel, ClientSub, Reach};
+use dbr_layout::{has_properties_by, is_text_by};
 use gateway_state::{Sub, UPDATE_MINOR};
 use link_table::{LinkState, Subject, Subscription};
 use mask_merge::{ALWAYS_ASKED, Ask, KNOWN_EVENTS, PROPERTY_EVENT, Want};

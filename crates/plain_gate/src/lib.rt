@@ -24,7 +24,6 @@ mod interest;
 mod links_pass;
 mod lists;
 mod names;
-mod needs;
 mod numbers;
 mod opening;
 mod read;

@@ -7,11 +7,10 @@ ghost use Rattle.gateway_state.specs.Servers.{ctrl_of, time_of};
 
 use crate::lists::find;
 use crate::names::{may_read, native_in};
-use crate::needs::{has_properties_by, is_state_by, is_text_by};
 use crate::state::Rows;
 use crate::upstream::MessageOf;
 use ca_message::codes::{ECA_BADCOUNT, ECA_BADTYPE, ECA_NORDACCESS, ECA_TOLARGE};
-use dbr_layout::{Dbr, converts};
+use dbr_layout::{Dbr, converts, has_properties_by, is_state_by, is_text_by};
 use gateway_state::{CTRL_FORM, Given, LastMessage, Native, PLAIN_TYPES, Reading, TIME_FORM};
 use link_table::{Link, Subject};
 use std::alloc::{AllocError, Global};
