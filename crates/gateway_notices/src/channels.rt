@@ -4,7 +4,7 @@ ghost use Rattle.gateway_state.specs.Notices.{channel_notice, channel_notices, c
 ghost use Rattle.touched_rows.specs.Touched.{channel_notices_on, channels_told_on};
 
 use ca_message::ToClient;
-use channel_table::{Channel, Visits};
+use channel_table::{Channel, Reach, Visits};
 use gateway_rows::Rows;
 use gateway_state::ChannelNotice;
 use pv_name::Name;
@@ -40,7 +40,7 @@ fn channel_notice(
         return Ok(Some(disconnected(channel)));
     }
     let rights = rows.rights_by(channel, lead.as_ref());
-    if channel.rights == rights {
+    if channel.rights_told == rights {
         return Ok(None);
     }
     Ok(Some(ChannelNotice::RightsChanged {
@@ -83,7 +83,14 @@ fn channel_notices_on(
     Ok(notices)
 }
 
-fn set_rights(rows: &mut Rows, visits: &mut Visits, session: u32, sid: u32, reach: u32, rights: u32)
+fn set_rights(
+    rows: &mut Rows,
+    visits: &mut Visits,
+    session: u32,
+    sid: u32,
+    reach: Reach,
+    rights: u32,
+)
     ensures ok { rows.new ≡ with_reach session sid reach rights rows.old }
     ensures no_less { visits.old ≤ visits.new }
 {

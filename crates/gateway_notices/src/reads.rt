@@ -49,7 +49,7 @@ fn read_notice(
     let Some(channel) = rows.told_channel(visits, read.session, read.sid) else {
         return Ok(None);
     };
-    if may_read(channel.rights) {
+    if may_read(channel.rights_told) {
         answer_over(rows, read, &channel.real)
     } else {
         Ok(Some(ReadNotice::Refused(read, ECA_NORDACCESS)))

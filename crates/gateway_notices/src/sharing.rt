@@ -76,7 +76,7 @@ fn is_waiting(rows: &Rows, visits: &mut Visits, sub: &ClientSub) -> bool
     sub.owed
         && rows.is_taking(sub.session)
         && match rows.channel_of(visits, sub.session, sub.sid) {
-            Some(channel) => may_read(channel.rights),
+            Some(channel) => may_read(channel.rights_told),
             None => false,
         }
 }

@@ -22,7 +22,7 @@ fn is_unreadable(rows: &Rows, visits: &mut Visits, session: u32, sid: u32) -> bo
     ensures no_less { visits.old ≤ visits.new }
 {
     match rows.told_channel(visits, session, sid) {
-        Some(channel) => !may_read(channel.rights),
+        Some(channel) => !may_read(channel.rights_told),
         None => false,
     }
 }
@@ -143,7 +143,7 @@ fn update_on(
     requires told { KnowsRights rows.now channel.now }
     ensures { IfOk result (λ notice. notice ≡ update_on rows.now sub.now (Some channel.now)) }
 {
-    if may_read(channel.rights) {
+    if may_read(channel.rights_told) {
         update_over(rows, sub, &channel.real)
     } else {
         Ok(None)
