@@ -128,7 +128,7 @@ pub fn delivered_grows_by_what_is_given()
 /// Each message that an event gives a connection is the wire form of one reply or notice, where it is
 /// a client's, or of one request, where it is a server's. An ECHO goes only to a client whose ECHO the
 /// event is, and is that message; an ERROR only to a client whose message the event is, and has its
-/// header.
+/// header. A value is one that is laid out in the type and count that are told with it.
 pub fn what_is_given_is_in_wire_form()
     ensures { (w : Gateway) (event : Event) (dest : Dest) → All (IsWireForm event dest) (given_by w event dest) }
 {}

@@ -27,7 +27,7 @@ use Rattle.gateway_state.specs.Direct.{direct_effect}
 use Rattle.gateway_state.specs.Gateway.{Gateway}
 use Rattle.gateway_state.specs.Step.{delivered, delivered_after, makes, run, step, taken}
 use Rattle.gateway_state.specs.Telling.{outgoing, outgoing_upstream, sent, told}
-use Rattle.gateway_state.proofs.Kept.{KeepsQuotes, KeepsRows, quotes}
+use Rattle.gateway_state.proofs.Kept.{KeepsQuotes, KeepsRows}
 use Rattle.gateway_state.proofs.KeptByRuns.{kept_by_event, kept_consequences}
 use Rattle.gateway_state.proofs.KeptByServers.{kept_found}
 
@@ -98,22 +98,6 @@ added_same dest new (row ∷ rows) =
 
 -- STEPS
 
--- what quotes nothing any event may say
-plainly_said : (event : Event) (number : ℕ) (said : ToClient) → quotes said ≡ false → IsSaidBy event number said
-plainly_said event number replies.Version plain = record {}
-plainly_said event number (replies.Echo message) plain = absurd (true≢false plain)
-plainly_said event number (replies.Error cid code head) plain = absurd (true≢false plain)
-plainly_said event number (replies.Update id dtype count value) plain = record {}
-plainly_said event number (replies.EventCancelled sid id dtype count) plain = record {}
-plainly_said event number (replies.ClearChannel sid cid) plain = record {}
-plainly_said event number (replies.ReadNotify ioid dtype count value) plain = record {}
-plainly_said event number (replies.ReadNotifyRefused ioid dtype count code) plain = record {}
-plainly_said event number (replies.CreateChannel cid sid dtype count) plain = record {}
-plainly_said event number (replies.CreateChannelFail cid) plain = record {}
-plainly_said event number (replies.WriteNotify ioid dtype count status) plain = record {}
-plainly_said event number (replies.AccessRights cid rights) plain = record {}
-plainly_said event number (replies.ServerDisconnect cid) plain = record {}
-
 module _ (x : Gateway) (event : Event) (dest : Dest) where
   abbrev GrownFrom : Gateway → Type 0
   GrownFrom v = HasGrown event dest (waiting_for x dest) (waiting_for v dest)
@@ -144,7 +128,7 @@ module _ (x : Gateway) (event : Event) (dest : Dest) where
   grown_kept : KeepsRows GrownFrom
   grown_kept = record {
     messages = record {
-      telling = λ number said plain w grown. grown_told number said (plainly_said event number said plain) w grown;
+      telling = λ number said any w grown. grown_told number said (any event number) w grown;
       asking = λ number said w grown. grown_by (Upstream number) (outgoing_upstream said) w (to_server number said) grown;
       marking = λ to w grown. same_still w (messages_of dest (change_first (is_to to) marked_now w.connections)) (marked_same dest to w.connections) grown;
     };

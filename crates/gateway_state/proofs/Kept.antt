@@ -24,6 +24,7 @@ use Rattle.link_table.specs.declared.writes.WaitingWrite.{WaitingWrite}
 use Rattle.gateway_state.specs.declared.cached.LastMessage.{LastMessage}
 use Rattle.gateway_state.specs.declared.event.Dest.{Dest}
 use Rattle.gateway_state.specs.declared.event.Dest.TheVariants as dests
+use Rattle.gateway_state.specs.declared.event.Event.{Event}
 use Rattle.rule_desk.specs.declared.policy.Policy.{Policy}
 use Rattle.gateway_state.specs.declared.connections.Connection.{Connection}
 use Rattle.fanout.specs.Outbox.{appended}
@@ -34,6 +35,7 @@ use Rattle.gateway_state.specs.Clients.{no_reach, with_channel, without_channel}
 use Rattle.gateway_state.specs.Asked.{stands}
 use Rattle.gateway_state.specs.CachedRows.{with_row}
 use Rattle.gateway_state.specs.Connections.{fresh, is_to}
+use Rattle.gateway_state.specs.Delivered.{IsSaidBy}
 use Rattle.gateway_state.specs.Gateway.{Gateway}
 use Rattle.gateway_state.specs.Notices.{with_reach, with_subscription_of, without_read}
 use Rattle.gateway_state.specs.Servers.{with_link_state, without_link}
@@ -107,15 +109,17 @@ pub record KeepsSession (change : Session → Session) : Type 0 where
   pub same_number : (row : Session) → (change row).number ≡ row.number
   pub stays_fixed : (row : Session) → row.host_fixed ≡ true → (change row).host_fixed ≡ true
 
--- it quotes what its session sent: an ECHO the message, an ERROR the header
-abbrev pub quotes : ToClient → Bool
-quotes (replies.Echo message) = true
-quotes (replies.Error cid code head) = true
-quotes _ = false
+-- what may be said to any session, whatever the event
+abbrev pub IsSaidByAny : ToClient → Type 0
+IsSaidByAny said = (event : Event) (number : ℕ) → IsSaidBy event number said
 
--- what is said keeps it, where it quotes nothing, and a mark does
+-- as most replies and notices may
+pub by_any : Event → ℕ → Unit {0}
+by_any event number = record {}
+
+-- what any event may say keeps it, what servers are asked does, and a mark
 pub record KeepsMessages (P : Gateway → Type 0) : Type 0 where
-  pub telling : (number : ℕ) (said : ToClient) → quotes said ≡ false → (w : Gateway) → P w → P (told number said w)
+  pub telling : (number : ℕ) (said : ToClient) → IsSaidByAny said → (w : Gateway) → P w → P (told number said w)
   pub asking : (number : ℕ) (said : ToServer) (w : Gateway) → P w → P (asked number said w)
   pub marking : (dest : Dest) (w : Gateway) → P w → P (marked dest w)
 
@@ -181,7 +185,7 @@ module _ (P : Gateway → Type 0) (kept : (dest : Dest) (change : Waiting → Wa
 
   pub messages_kept : KeepsMessages P
   messages_kept = record {
-    telling = λ number said plain w holds. kept_told number said w holds;
+    telling = λ number said any w holds. kept_told number said w holds;
     asking = λ number said w holds. kept_asked number said w holds;
     marking = λ dest w holds. kept dest (λ (waiting : Waiting). record waiting { marked = true }) w holds;
   }

@@ -61,7 +61,7 @@ use Rattle.gateway_state.specs.Telling.{marked, told}
 use Rattle.gateway_state.specs.Variables.{link_of}
 use Rattle.gateway_state.specs.Writing.{may_write, new_write, notified_by, with_write, write_answered, write_handed_on, write_judged, write_verdict, write_verdict_in, write_verdict_on, write_verdict_over, write_waits, written_by}
 use Rattle.gateway_state.proofs.RowTests.{none_found}
-use Rattle.gateway_state.proofs.Kept.{KeepsErrors, KeepsQuotes, KeepsRows, KeepsSession, kept_either, with_connections, with_read, with_searches}
+use Rattle.gateway_state.proofs.Kept.{KeepsErrors, KeepsQuotes, KeepsRows, KeepsSession, by_any, kept_either, with_connections, with_read, with_searches}
 
 -- there is a row where the first that passes is found
 found_there : {A : Type 0} (test : A → Bool) (rows : List A) (row : A) → find test rows ≡ Some row → list_any test rows ≡ true
@@ -183,7 +183,7 @@ module _ (P : Gateway → Type 0) (kept : KeepsRows P) where
       let first : Gateway = with_connections (w.connections ++ fresh (ToSession number) ∷ []) w in
       let second = kept.session_added new first (added_stands number w.connections) (kept.connection_added (ToSession number) w holds) in
       kept_either P (stands w (ToSession number) || leb SESSION_LIMIT (length w.clients.sessions)) w (told number replies.Version (with_session w number host))
-      (λ _. holds) (kept.messages.telling number replies.Version refl (with_session w number host) second)
+      (λ _. holds) (kept.messages.telling number replies.Version by_any (with_session w number host) second)
 
   -- new channels
 
@@ -195,8 +195,8 @@ module _ (P : Gateway → Type 0) (kept : KeepsRows P) where
   kept_created number cid name lead link native w fixed holds =
       let rights : ℕ = rights_on w lead link in
       let first : Gateway = with_channel number cid name lead.real rights w in
-      kept.messages.telling number (replies.CreateChannel cid w.upstream.counters.sid native.dtype native.count) refl (told number (replies.AccessRights cid rights) first)
-      (kept.messages.telling number (replies.AccessRights cid rights) refl first (kept.channel_added number cid name lead.real rights w fixed holds))
+      kept.messages.telling number (replies.CreateChannel cid w.upstream.counters.sid native.dtype native.count) by_any (told number (replies.AccessRights cid rights) first)
+      (kept.messages.telling number (replies.AccessRights cid rights) by_any first (kept.channel_added number cid name lead.real rights w fixed holds))
 
   pub kept_remembered : (host name : List ℕ) (w : Gateway) → P w → P (remembered host name w)
   kept_remembered host name w holds =
@@ -211,7 +211,7 @@ module _ (P : Gateway → Type 0) (kept : KeepsRows P) where
   kept_not_connected : (number cid : ℕ) (name : List ℕ) (w : Gateway) → P w → P (not_connected number cid name w)
   kept_not_connected number cid name w holds =
       let row : Option Session = find (is_numbered number) w.clients.sessions in
-      kept.messages.telling number (replies.CreateChannelFail cid) refl (remembered_by row name w) (kept_remembered_by row name w holds)
+      kept.messages.telling number (replies.CreateChannelFail cid) by_any (remembered_by row name w) (kept_remembered_by row name w holds)
 
   kept_created_on_native : (number cid : ℕ) (name : List ℕ) (lead : Lead) (link : Link) (native : Option Native) (w : Gateway) → HasHost number w → P w
       → P (created_on_native number cid name lead link native w)
@@ -224,10 +224,10 @@ module _ (P : Gateway → Type 0) (kept : KeepsRows P) where
 
   kept_created_as : (number cid : ℕ) (name : List ℕ) (lead : Option Lead) (w : Gateway) → ((to : Lead) → lead ≡ Some to → HasHost number w) → P w
       → P (created_as number cid name lead w)
-  kept_created_as number cid name None w fixed holds = kept.messages.telling number (replies.CreateChannelFail cid) refl w holds
+  kept_created_as number cid name None w fixed holds = kept.messages.telling number (replies.CreateChannelFail cid) by_any w holds
   kept_created_as number cid name (Some lead) w fixed holds =
       kept_either P (leb CHANNEL_LIMIT (channel_count number w.clients)) (creation_failed number cid w) (created_on number cid name lead (link_of w lead.real) w)
-      (λ _. kept.messages.telling number (replies.CreateChannelFail cid) refl w holds) (kept_created_on number cid name lead (link_of w lead.real) w (fixed lead refl) holds)
+      (λ _. kept.messages.telling number (replies.CreateChannelFail cid) by_any w holds) (kept_created_on number cid name lead (link_of w lead.real) w (fixed lead refl) holds)
 
   kept_with_host_fixed : (number : ℕ) (w : Gateway) → P w → P (with_host_fixed number w)
   kept_with_host_fixed number w holds = kept.session_changed number fixed w fixed_keeps holds
@@ -242,14 +242,14 @@ module _ (P : Gateway → Type 0) (kept : KeepsRows P) where
   kept_cleared : (number sid cid : ℕ) (head : Header) → KeepsErrors P number head → (found : Option Channel) (w : Gateway) → P w → P (cleared number sid cid head found w)
   kept_cleared number sid cid head errors None w holds = errors NO_CHANNEL ECA_BADCHID w holds
   kept_cleared number sid cid head errors (Some c) w holds =
-      kept.messages.telling number (replies.ClearChannel sid cid) refl (without_channel number sid w) (kept.channel_removed number sid w holds)
+      kept.messages.telling number (replies.ClearChannel sid cid) by_any (without_channel number sid w) (kept.channel_removed number sid w holds)
 
   kept_judged : (number sid ioid dtype count : ℕ) (head : Header) → KeepsErrors P number head → (verdict : ReadVerdict) (w : Gateway)
       → ((reach : Reach) (rights : ℕ) → verdict ≡ Accepted reach rights → list_any (is_channel number sid) w.clients.channels ≡ true)
       → P w → P (judged number sid ioid dtype count head verdict w)
   kept_judged number sid ioid dtype count head errors NoChannel w on holds = errors NO_CHANNEL ECA_BADCHID w holds
   kept_judged number sid ioid dtype count head errors Ignored w on holds = holds
-  kept_judged number sid ioid dtype count head errors (Refused code) w on holds = kept.messages.telling number (replies.ReadNotifyRefused ioid dtype count code) refl w holds
+  kept_judged number sid ioid dtype count head errors (Refused code) w on holds = kept.messages.telling number (replies.ReadNotifyRefused ioid dtype count code) by_any w holds
   kept_judged number sid ioid dtype count head errors (Accepted reach rights) w on holds =
       let read : WaitingRead = record { session = number; sid = sid; dtype = dtype; count = count; ioid = ioid } in
       kept.channel_changed number sid reach rights (with_read read w) (kept.read_added read w (on reach rights refl) holds)
@@ -268,7 +268,7 @@ module _ (P : Gateway → Type 0) (kept : KeepsRows P) where
       let removed : Gateway = told number (replies.EventCancelled sid id dtype count) (without_sub number id w) in
       let refused : Gateway = told number (replies.Error c.cid ECA_INTERNAL head) w in
       kept_either P (is_on_sid sid (sub_of w number id)) removed refused
-      (λ _. kept.messages.telling number (replies.EventCancelled sid id dtype count) refl (without_sub number id w) (kept.sub_removed number id w holds))
+      (λ _. kept.messages.telling number (replies.EventCancelled sid id dtype count) by_any (without_sub number id w) (kept.sub_removed number id w holds))
       (errors c.cid ECA_INTERNAL w holds)
 
   kept_paused_to : (number : ℕ) (paused : Bool) (w : Gateway) → P w → P (paused_to number paused w)
@@ -287,7 +287,7 @@ module _ (P : Gateway → Type 0) (kept : KeepsRows P) where
   kept_handed_on number sid ioid dtype count server upstream_sid value w on holds =
       let write : WaitingWrite = new_write w server number sid dtype count ioid in
       kept_either P (leb WRITE_LIMIT (write_count number w.upstream)) (write_answered number ioid dtype count ECA_PUTFAIL w) (write_waits write upstream_sid value w)
-      (λ _. kept.messages.telling number (replies.WriteNotify ioid dtype count ECA_PUTFAIL) refl w holds)
+      (λ _. kept.messages.telling number (replies.WriteNotify ioid dtype count ECA_PUTFAIL) by_any w holds)
       (kept.messages.asking server (to_servers.WriteNotify upstream_sid write.id value) (with_write write w) (kept.write_added write w on refl holds))
 
   kept_notified_by : (number sid ioid dtype count : ℕ) (head : Header) → KeepsErrors P number head → (verdict : WriteVerdict) (w : Gateway)
@@ -295,7 +295,7 @@ module _ (P : Gateway → Type 0) (kept : KeepsRows P) where
       → P w → P (notified_by number sid ioid dtype count head verdict w)
   kept_notified_by number sid ioid dtype count head errors WriteVerdicts.NoChannel w on holds = errors NO_CHANNEL ECA_BADCHID w holds
   kept_notified_by number sid ioid dtype count head errors WriteVerdicts.Ignored w on holds = holds
-  kept_notified_by number sid ioid dtype count head errors (WriteVerdicts.Refused cid code) w on holds = kept.messages.telling number (replies.WriteNotify ioid dtype count code) refl w holds
+  kept_notified_by number sid ioid dtype count head errors (WriteVerdicts.Refused cid code) w on holds = kept.messages.telling number (replies.WriteNotify ioid dtype count code) by_any w holds
   kept_notified_by number sid ioid dtype count head errors (WriteVerdicts.Accepted server upstream_sid value) w on holds =
       kept_handed_on number sid ioid dtype count server upstream_sid value w (on server upstream_sid value refl) holds
 
@@ -315,7 +315,7 @@ module _ (P : Gateway → Type 0) (kept : KeepsRows P) where
       let ignored : Bool = eqb head.command CA_PROTO_CLIENT_NAME || eqb head.command CA_PROTO_HOST_NAME in
       let adding : Bool = eqb head.command CA_PROTO_EVENT_ADD in
       kept_either P (eqb head.command CA_PROTO_CREATE_CHAN) failed (cond ignored w (cond adding short refused))
-      (λ _. kept.messages.telling number (replies.CreateChannelFail head.p1) refl (with_host_fixed number w) (kept_with_host_fixed number w holds))
+      (λ _. kept.messages.telling number (replies.CreateChannelFail head.p1) by_any (with_host_fixed number w) (kept_with_host_fixed number w holds))
       (kept_either P ignored w (cond adding short refused) (λ _. holds)
       (kept_either P adding short refused (λ _. errors cid ECA_INTERNAL w holds)
       (errors NO_CHANNEL ECA_INTERNAL w holds)))

@@ -1,7 +1,8 @@
 -- What each change of rows keeps, every run keeps.
 use Rattle.std.proofs.Common.{◌≡◌, ℕ, List, [], ◌∷◌, None, false, refl}
 use Rattle.std.specs.Prelude.{is_some}
-use Rattle.std.specs.List.{fold}
+use Rattle.std.specs.List.{All, fold}
+use Rattle.std.proofs.lemmas.List.Elements.{All-head, All-tail}
 use Rattle.ca_header.specs.declared.header.Message.{Message}
 use Rattle.ca_message.specs.declared.to_client.ToClient.TheVariants as replies
 use Rattle.ca_message.specs.declared.to_server.ToServer.TheVariants as requests
@@ -31,8 +32,9 @@ use Rattle.gateway_state.specs.Servers.{found, server_said, without_link}
 use Rattle.gateway_state.specs.Step.{consequences, run, step}
 use Rattle.gateway_state.specs.Telling.{told}
 use Rattle.gateway_state.specs.Updates.{is_taking, update_notices, update_told, updates_withheld, with_owed_of, withheld}
-use Rattle.gateway_state.proofs.Kept.{IsKept, KeepsLinks, KeepsQuotes, KeepsRows, kept_either, kept_owed_to_all, quotes_kept, with_new_subscription}
+use Rattle.gateway_state.proofs.Kept.{IsKept, KeepsLinks, KeepsQuotes, KeepsRows, by_any, kept_either, kept_owed_to_all, quotes_kept, with_new_subscription}
 use Rattle.gateway_state.proofs.KeptByClients.{kept_client_said, kept_opened, kept_remembered}
+use Rattle.gateway_state.proofs.LaidOutValues.{IsAnswer, IsUpdate, reads_laid, updates_laid}
 use Rattle.gateway_state.proofs.KeptByServers.{kept_found, kept_server_said, kept_up_opened}
 
 module _ (P : Gateway → Type 0) (kept : KeepsRows P) where
@@ -58,9 +60,9 @@ module _ (P : Gateway → Type 0) (kept : KeepsRows P) where
 
   kept_channel_told : (w : Gateway) (notice : ChannelNotice) → P w → P (channel_told w notice)
   kept_channel_told w (Disconnected session sid cid) holds =
-      kept.messages.telling session (replies.ServerDisconnect cid) refl (without_channel session sid w) (kept.channel_removed session sid w holds)
+      kept.messages.telling session (replies.ServerDisconnect cid) by_any (without_channel session sid w) (kept.channel_removed session sid w holds)
   kept_channel_told w (RightsChanged session sid cid reach rights) holds =
-      kept.messages.telling session (replies.AccessRights cid rights) refl (with_reach session sid reach rights w) (kept.channel_changed session sid reach rights w holds)
+      kept.messages.telling session (replies.AccessRights cid rights) by_any (with_reach session sid reach rights w) (kept.channel_changed session sid reach rights w holds)
 
   pub kept_channels : (notices : List ChannelNotice) (w : Gateway) → P w → P (fold channel_told w notices)
   kept_channels [] w holds = holds
@@ -90,38 +92,40 @@ module _ (P : Gateway → Type 0) (kept : KeepsRows P) where
   pub kept_links_told : (w : Gateway) → P w → P (links_told w)
   kept_links_told w holds = kept_links (link_notices w) w holds
 
-  kept_read_told : (w : Gateway) (notice : ReadNotice) → P w → P (read_told w notice)
-  kept_read_told w (Refused read code) holds =
-      kept.messages.telling read.session (replies.ReadNotifyRefused read.ioid read.dtype read.count code) refl (without_read read w) (kept.read_removed read w holds)
-  kept_read_told w (Answered read count payload) holds =
-      kept.messages.telling read.session (replies.ReadNotify read.ioid read.dtype count payload) refl (without_read read w) (kept.read_removed read w holds)
+  kept_read_told : (w : Gateway) (notice : ReadNotice) → IsAnswer notice → P w → P (read_told w notice)
+  kept_read_told w (Refused read code) laid holds =
+      kept.messages.telling read.session (replies.ReadNotifyRefused read.ioid read.dtype read.count code) by_any (without_read read w) (kept.read_removed read w holds)
+  kept_read_told w (Answered read count payload) laid holds =
+      kept.messages.telling read.session (replies.ReadNotify read.ioid read.dtype count payload) (λ event number. laid) (without_read read w) (kept.read_removed read w holds)
 
-  kept_reads : (notices : List ReadNotice) (w : Gateway) → P w → P (fold read_told w notices)
-  kept_reads [] w holds = holds
-  kept_reads (notice ∷ notices) w holds = kept_reads notices (read_told w notice) (kept_read_told w notice holds)
+  kept_reads : (notices : List ReadNotice) (w : Gateway) → All IsAnswer notices → P w → P (fold read_told w notices)
+  kept_reads [] w laid holds = holds
+  kept_reads (notice ∷ notices) w laid holds =
+      kept_reads notices (read_told w notice) (All-tail IsAnswer notice notices laid) (kept_read_told w notice (All-head IsAnswer notice notices laid) holds)
 
   pub kept_reads_told : (w : Gateway) → P w → P (reads_told w)
-  kept_reads_told w holds = kept_reads (read_notices w) w holds
+  kept_reads_told w holds = kept_reads (read_notices w) w (reads_laid w) holds
 
   pub kept_updates_withheld : (w : Gateway) → P w → P (updates_withheld w)
   kept_updates_withheld w holds = kept_owed_to_all P kept (withheld w) w holds
 
-  kept_update_told : (w : Gateway) (notice : UpdateNotice) → P w → P (update_told w notice)
-  kept_update_told w notice holds =
+  kept_update_told : (w : Gateway) (notice : UpdateNotice) → IsUpdate notice → P w → P (update_told w notice)
+  kept_update_told w notice laid holds =
       let served : Gateway = with_owed_of notice.session notice.id false w in
       kept_either P (is_taking w notice.session) (told notice.session (replies.Update notice.id notice.dtype notice.count notice.payload) served) w
-      (λ _. kept.messages.telling notice.session (replies.Update notice.id notice.dtype notice.count notice.payload) refl served (kept.sub_changed notice.session notice.id false w holds))
+      (λ _. kept.messages.telling notice.session (replies.Update notice.id notice.dtype notice.count notice.payload) (λ event number. laid) served (kept.sub_changed notice.session notice.id false w holds))
       holds
 
-  kept_updates : (notices : List UpdateNotice) (w : Gateway) → P w → P (fold update_told w notices)
-  kept_updates [] w holds = holds
-  kept_updates (notice ∷ notices) w holds = kept_updates notices (update_told w notice) (kept_update_told w notice holds)
+  kept_updates : (notices : List UpdateNotice) (w : Gateway) → All IsUpdate notices → P w → P (fold update_told w notices)
+  kept_updates [] w laid holds = holds
+  kept_updates (notice ∷ notices) w laid holds =
+      kept_updates notices (update_told w notice) (All-tail IsUpdate notice notices laid) (kept_update_told w notice (All-head IsUpdate notice notices laid) holds)
 
   pub kept_consequences : (w : Gateway) → P w → P (consequences w)
   kept_consequences w holds =
       let first : Gateway = updates_withheld (channels_told w) in
       let second : Gateway = reads_told (links_told first) in
-      kept_updates (update_notices second) second (kept_reads_told (links_told first) (kept_links_told first (kept_updates_withheld (channels_told w) (kept_channels_told w holds))))
+      kept_updates (update_notices second) second (updates_laid second) (kept_reads_told (links_told first) (kept_links_told first (kept_updates_withheld (channels_told w) (kept_channels_told w holds))))
 
 -- steps and runs
 

@@ -1,5 +1,5 @@
 -- What servers say and do keeps what each change of rows keeps.
-use Rattle.std.proofs.Common.{true, ◌≡◌, ℕ, List, [], ◌∷◌, ◌++◌, length, Bool, false, eqb, leb, ltb, not, ◌||◌, ◌&&◌, Option, Some, None, Ok, Err, Result, refl}
+use Rattle.std.proofs.Common.{true, ◌≡◌, ℕ, List, [], ◌∷◌, ◌++◌, length, Bool, false, eqb, leb, ltb, not, ◌||◌, ◌&&◌, Option, Some, None, Ok, Err, Result}
 use Rattle.std.specs.Prelude.{filter}
 use Rattle.std.specs.List.{find, fold}
 use Rattle.rows.specs.Rows.{change_first}
@@ -38,7 +38,7 @@ use Rattle.gateway_state.specs.Telling.{asked}
 use Rattle.gateway_state.specs.Updates.{concerned}
 use Rattle.gateway_state.specs.Variables.{is_creating, is_linked, is_missing, is_wanted}
 use Rattle.gateway_state.specs.Writing.{without_write, write_ended_for}
-use Rattle.gateway_state.proofs.Kept.{KeepsMessages, KeepsRows, kept_either, kept_owed_to_all, with_connections, with_link}
+use Rattle.gateway_state.proofs.Kept.{KeepsMessages, KeepsRows, by_any, kept_either, kept_owed_to_all, with_connections, with_link}
 
 module _ (P : Gateway → Type 0) (kept : KeepsRows P) where
   -- connections that come
@@ -105,7 +105,7 @@ module _ (P : Gateway → Type 0) (kept : KeepsRows P) where
 
   kept_read_failed : (w : Gateway) (read : WaitingRead) → P w → P (read_failed w read)
   kept_read_failed w read holds =
-      kept.messages.telling read.session (replies.ReadNotifyRefused read.ioid read.dtype read.count ECA_GETFAIL) refl (without_read read w) (kept.read_removed read w holds)
+      kept.messages.telling read.session (replies.ReadNotifyRefused read.ioid read.dtype read.count ECA_GETFAIL) by_any (without_read read w) (kept.read_removed read w holds)
 
   kept_all_failed : (reads : List WaitingRead) (w : Gateway) → P w → P (fold read_failed w reads)
   kept_all_failed [] w holds = holds
@@ -138,7 +138,7 @@ module _ (P : Gateway → Type 0) (kept : KeepsRows P) where
   kept_write_ended_for : (server id status : ℕ) (found : Option WaitingWrite) (w : Gateway) → P w → P (write_ended_for server id status found w)
   kept_write_ended_for server id status None w holds = holds
   kept_write_ended_for server id status (Some write) w holds =
-      kept.messages.telling write.session (replies.WriteNotify write.ioid write.dtype write.count status) refl (without_write server id w) (kept.write_removed server id w holds)
+      kept.messages.telling write.session (replies.WriteNotify write.ioid write.dtype write.count status) by_any (without_write server id w) (kept.write_removed server id w holds)
 
   -- what a server says
 

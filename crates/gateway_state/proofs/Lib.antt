@@ -6,6 +6,7 @@ pub mod Kept
 pub mod KeptByClients
 pub mod KeptByRuns
 pub mod KeptByServers
+pub mod LaidOutValues
 pub mod LinkNotices
 pub mod LinksApart
 pub mod LinksOnServers

@@ -1,5 +1,5 @@
 -- What one event gives a connection.
-use Rattle.std.specs.Prelude.{◌≡◌, ℕ, List, length, drop, Bool, false, Ok}
+use Rattle.std.specs.Prelude.{◌≡◌, ℕ, List, length, drop, Bool, false, Option, Some, Ok}
 use Rattle.ca_header.specs.declared.header.Message.{Message}
 use Rattle.ca_message.specs.declared.request.ClientRequest.TheVariants as requests
 use Rattle.ca_message.specs.declared.to_client.ToClient.{ToClient}
@@ -7,6 +7,7 @@ use Rattle.ca_message.specs.declared.to_client.ToClient.TheVariants as replies
 use Rattle.ca_message.specs.declared.to_server.ToServer.{ToServer}
 use Rattle.ca_message.specs.ClientRequest.{request_of}
 use Rattle.fanout.specs.declared.outbox.Out.{Out}
+use Rattle.value_cache.specs.Held.{Held, answer}
 use Rattle.gateway_state.specs.declared.event.Dest.{Dest}
 use Rattle.gateway_state.specs.declared.event.Dest.TheVariants.{Session, Upstream}
 use Rattle.gateway_state.specs.declared.event.Event.{Event}
@@ -40,13 +41,20 @@ is_loss_of (Lost number) dest = same_dest (Session number) dest
 is_loss_of (UpLost number) dest = same_dest (Upstream number) dest
 is_loss_of event dest = false
 
+-- so many elements of the type, as they are laid out of something held
+abbrev pub IsLaidOut : ℕ → ℕ → List ℕ → Type 0
+IsLaidOut dtype count value = (held : Option Held) × ((asked : ℕ) × (answer dtype asked held ≡ Some (count, value)))
+
 -- what an event may say to a session: an ECHO only where the event is this session's own ECHO, which goes
--- back as it came, and an ERROR only over the header of what this session sent
+-- back as it came; an ERROR only over the header of what this session sent; and values only as they are
+-- laid out, in the type and count that are told
 abbrev pub IsSaidBy : Event → ℕ → ToClient → Type 0
 IsSaidBy event number (replies.Echo message) =
     (event ≡ Client number message) × (request_of message.head message.payload ≡ Ok requests.Echo)
 IsSaidBy event number (replies.Error cid code head) =
     (message : Message) × ((event ≡ Client number message) × (message.head ≡ head))
+IsSaidBy event number (replies.Update id dtype count value) = IsLaidOut dtype count value
+IsSaidBy event number (replies.ReadNotify ioid dtype count value) = IsLaidOut dtype count value
 IsSaidBy event number _ = Unit {0}
 
 -- a message to a client is the wire form of a reply or notice that the event may say to it, one to a server
