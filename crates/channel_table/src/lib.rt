@@ -1,5 +1,5 @@
 //! The rows of clients: their sessions, their channels, their subscriptions, and the reads that wait
-//! for a value. The [`Table`] keeps what it is told to, and decides nothing about it.
+//! for a value. The [`Table`] keeps what it is given, and decides nothing about it.
 //!
 //! - `add_session`, `add_channel`, `add_sub` and `add_read` put a row last. They refuse one whose
 //!   session or channel doesn't stand, and one past its limit ([`TableFault`]).
