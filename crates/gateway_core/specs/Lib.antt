@@ -1,2 +1,3 @@
 pub mod EngineState
 pub mod Looks
+pub mod ReadyForEvent

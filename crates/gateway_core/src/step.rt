@@ -1,13 +1,12 @@
 //! One event.
-ghost use Rattle.std.specs.Prelude.{◌≡◌, true, false, OnOk, IfOk, IsErrOf};
+ghost use Rattle.std.specs.Prelude.{◌≡◌, ◌≤◌, true, false, OnOk, IfOk, IsErrOf};
 ghost use Rattle.gateway_core.specs.Looks.{direct_looks, event_looks};
+ghost use Rattle.gateway_core.specs.ReadyForEvent.{IsReadyForEvent};
 ghost use Rattle.gateway_rows.specs.Own.{IsWithin};
 ghost use Rattle.gateway_state.specs.Numbers.{is_past_numbers};
 ghost use Rattle.gateway_state.specs.Direct.{direct_effect, searched};
 ghost use Rattle.gateway_state.specs.Reached.{IsReached};
-ghost use Rattle.gateway_state.specs.Settled.{HasCidsInOrder, HasSessionsConnected, HasSidsInOrder, HasWriteIdsBelow};
 ghost use Rattle.gateway_state.specs.Step.{step, taken};
-ghost use Rattle.gateway_state.specs.Told.{KnowRights};
 ghost use Rattle.gateway_state.specs.Variables.{search_names};
 ghost use Rattle.touched_rows.specs.Touches.{drain_touches, event_touches};
 
@@ -24,7 +23,7 @@ use std::alloc::AllocError;
 use touched_rows::{Names, Touched};
 
 /// Performs one event, in a state that a run reaches.
-#[tactic(auto, using(gateway_state::proofs::NumberLemmas::consequences_past, gateway_state::proofs::OrderKept::reached_sids, gateway_state::proofs::OrderKept::reached_cids, gateway_state::proofs::SessionsConnected::reached_sessions, gateway_state::proofs::ToldRights::reached_told, gateway_state::proofs::WriteIdsBelow::reached_write_ids, touched_rows::proofs::ToldAlone::step_alone, crate::proofs::Looked::looked_in_all), unfolding(gateway_state::specs::Step::step))]
+#[tactic(auto, using(gateway_state::proofs::NumberLemmas::consequences_past, touched_rows::proofs::ToldAlone::step_alone, crate::proofs::ReadyStates::reached_is_ready, crate::proofs::Looked::looked_in_all), unfolding(gateway_state::specs::Step::step))]
 pub(crate) fn step(rows: &mut Rows, visits: &mut Visits, event: Event) -> Result<(), Refusal>
     requires reached { IsReached rows.old }
     ensures ok { OnOk result (rows.new ≡ step rows.old event) }
@@ -74,11 +73,7 @@ fn drain_touches(rows: &Rows, dest: Dest) -> Touched
 /// What the event does by itself. It answers what was touched.
 #[tactic(auto, using(gateway_rows::proofs::OwnStays::within_none))]
 fn perform(rows: &mut Rows, visits: &mut Visits, event: Event) -> Result<Touched, Refusal>
-    requires sids { HasSidsInOrder rows.old }
-    requires cids { HasCidsInOrder rows.old }
-    requires sessions { HasSessionsConnected rows.old }
-    requires ids { HasWriteIdsBelow rows.old }
-    requires told { KnowRights rows.old }
+    requires ready { IsReadyForEvent rows.old }
     ensures ok { OnOk result (rows.new ≡ direct_effect rows.old event) }
     ensures touched { IfOk result (λ touched. touched ≡ event_touches rows.old event) }
     ensures used_up { IsErrOf result Refusal.NumbersUsedUp → is_past_numbers (direct_effect rows.old event) ≡ true }

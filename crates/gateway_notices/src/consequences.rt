@@ -1,5 +1,5 @@
 //! What follows from an event, by what it touched.
-ghost use Rattle.std.specs.Prelude.{◌≡◌, true, OnOk, IsErrOf};
+ghost use Rattle.std.specs.Prelude.{◌≡◌, ◌≤◌, true, OnOk, IsErrOf};
 ghost use Rattle.gateway_notices.specs.Looks.{looks_after};
 ghost use Rattle.gateway_rows.specs.Own.{IsWithin};
 ghost use Rattle.gateway_state.specs.Numbers.{is_past_numbers};

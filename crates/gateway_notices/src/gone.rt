@@ -1,5 +1,5 @@
 //! Channels that are gone with the links of several variables.
-ghost use Rattle.std.specs.Prelude.{◌≡◌, map, filter, flat_map, OnOk, IfOk};
+ghost use Rattle.std.specs.Prelude.{◌≡◌, ◌≤◌, map, filter, flat_map, OnOk, IfOk};
 ghost use Rattle.channel_table.specs.Channels.{is_on};
 ghost use Rattle.gateway_state.specs.Settled.{HasSidsInOrder};
 ghost use Rattle.touched_rows.specs.Touched.{channels_gone_on, gone_notices_among, is_channel_among};

@@ -1,5 +1,5 @@
 //! What reads are answered.
-ghost use Rattle.std.specs.Prelude.{◌≡◌, Some, IfOk};
+ghost use Rattle.std.specs.Prelude.{◌≡◌, ◌≤◌, Some, IfOk};
 ghost use Rattle.gateway_state.specs.Answer.{is_type_served, converts_to, fits_payload, meant_count, needs_by_number, refusal, value_refusal, cached_as, cached_value, reading, reading_at, reading_on, reading_of, refused_or};
 ghost use Rattle.gateway_state.specs.Clients.{reach_with};
 ghost use Rattle.gateway_state.specs.Servers.{ctrl_of, time_of};

@@ -1,5 +1,5 @@
 //! What servers say.
-ghost use Rattle.std.specs.Prelude.{◌≡◌, OnOk, IfOk};
+ghost use Rattle.std.specs.Prelude.{◌≡◌, ◌≤◌, OnOk, IfOk};
 ghost use Rattle.ca_message.specs.ServerReply.{reply_of};
 ghost use Rattle.gateway_rows.specs.Own.{IsWithin};
 ghost use Rattle.server_messages.specs.Looks.{reply_looks};
