@@ -8,3 +8,4 @@ abbrev pub invariant-loop-n : goal.invariant-loop-n
 invariant-loop-n l =
     (l.names ++ drop l.n (channel_names (filter (is_channel_of l.number) l.clients.channels)) ≡ channel_names (filter (is_channel_of l.number) l.clients.channels))
     × (l.visits ≤ l.fn.visits + l.n)
+    × (l.fn.visits ≤ l.visits)

@@ -1,4 +1,4 @@
-use Rattle.std.proofs.Common.{◌≡◌, ◌++◌, map}
+use Rattle.std.proofs.Common.{◌≡◌, ◌≤◌, ◌++◌, map}
 use Rattle.std.specs.List.{filter_map}
 use Rattle.gateway_state.specs.Notices.{channel_notice, channel_notices}
 use Rattle.gateway_notices.proofs.channels.channel_notices.Given as goal
@@ -6,4 +6,5 @@ use Rattle.gateway_notices.proofs.channels.channel_notices.Given as goal
 -- the notices so far and those on the channels that are left are all
 abbrev pub invariant-loop-channel : goal.invariant-loop-channel
 invariant-loop-channel l =
-    l.notices.items ++ filter_map (channel_notice l.rows) (map (λ row. row.now) l.channel-iterator.rest.items) ≡ channel_notices l.rows
+    (l.notices.items ++ filter_map (channel_notice l.rows) (map (λ row. row.now) l.channel-iterator.rest.items) ≡ channel_notices l.rows)
+    × (l.fn.visits ≤ l.visits)

@@ -1,4 +1,4 @@
-use Rattle.std.proofs.Common.{◌≡◌, ◌++◌, map}
+use Rattle.std.proofs.Common.{◌≡◌, ◌≤◌, ◌++◌, map}
 use Rattle.std.specs.List.{filter_map}
 use Rattle.gateway_state.specs.Notices.{channel_notice}
 use Rattle.touched_rows.specs.Touched.{channel_notices_on}
@@ -7,4 +7,5 @@ use Rattle.gateway_notices.proofs.channels.channel_notices_on.Given as goal
 -- the notices so far and those on the channels that are left are all
 abbrev pub invariant-loop-channel : goal.invariant-loop-channel
 invariant-loop-channel l =
-    l.notices.items ++ filter_map (channel_notice l.rows) (map (λ row. row.now) l.channel-iterator.rest.items) ≡ channel_notices_on l.name l.rows
+    (l.notices.items ++ filter_map (channel_notice l.rows) (map (λ row. row.now) l.channel-iterator.rest.items) ≡ channel_notices_on l.name l.rows)
+    × (l.fn.visits ≤ l.visits)

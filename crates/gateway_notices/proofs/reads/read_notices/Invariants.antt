@@ -1,4 +1,4 @@
-use Rattle.std.proofs.Common.{◌≡◌, ◌++◌, drop}
+use Rattle.std.proofs.Common.{◌≡◌, ◌≤◌, ◌++◌, drop}
 use Rattle.std.specs.List.{filter_map}
 use Rattle.gateway_state.specs.Notices.{read_notice, read_notices}
 use Rattle.gateway_notices.proofs.reads.read_notices.Given as goal
@@ -6,4 +6,5 @@ use Rattle.gateway_notices.proofs.reads.read_notices.Given as goal
 -- the notices so far and those on the reads that are left are all
 abbrev pub invariant-loop-read : goal.invariant-loop-read
 invariant-loop-read l =
-    l.notices.items ++ filter_map (read_notice l.rows) (drop l.read-index l.read-items) ≡ read_notices l.rows
+    (l.notices.items ++ filter_map (read_notice l.rows) (drop l.read-index l.read-items) ≡ read_notices l.rows)
+    × (l.fn.visits ≤ l.visits)

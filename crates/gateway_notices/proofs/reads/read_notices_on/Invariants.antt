@@ -9,3 +9,4 @@ abbrev pub invariant-loop-read : goal.invariant-loop-read
 invariant-loop-read l =
     (l.notices.items ++ filter_map (read_notice l.rows) (drop l.read-index l.read-items) ≡ read_notices_on l.name l.rows)
     × (l.visits ≤ l.fn.visits + length l.read-items + l.read-index)
+    × (l.fn.visits ≤ l.visits)

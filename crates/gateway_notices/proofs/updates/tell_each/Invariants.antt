@@ -7,6 +7,7 @@ abbrev pub invariant-loop-notice : goal.invariant-loop-notice
 invariant-loop-notice l =
     (fold update_told l.rows l.notices.items ≡ fold update_told l.fn.rows l.fn.notices.items)
     × (l.visits + length l.notices.items ≤ l.fn.visits + length l.fn.notices.items)
+    × (l.fn.visits ≤ l.visits)
 
 abbrev pub decreases-loop-notice : goal.decreases-loop-notice
 decreases-loop-notice l = length l.notices.items

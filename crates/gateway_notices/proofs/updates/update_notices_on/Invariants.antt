@@ -11,3 +11,4 @@ invariant-loop-sub l =
     (l.notices.items ++ filter_map (update_notice l.rows) (drop l.sub-index l.sub-items) ≡ update_notices_on l.name l.rows)
     × (l.visits ≤ l.fn.visits + length l.sub-items + 2 * l.sub-index)
     × (length l.notices.items ≤ l.sub-index)
+    × (l.fn.visits ≤ l.visits)

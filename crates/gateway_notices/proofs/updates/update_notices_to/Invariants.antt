@@ -1,4 +1,4 @@
-use Rattle.std.proofs.Common.{◌≡◌, ◌++◌, drop}
+use Rattle.std.proofs.Common.{◌≡◌, ◌≤◌, ◌++◌, drop}
 use Rattle.std.specs.List.{filter_map}
 use Rattle.gateway_state.specs.Updates.{update_notice}
 use Rattle.touched_rows.specs.Touched.{update_notices_to}
@@ -7,4 +7,5 @@ use Rattle.gateway_notices.proofs.updates.update_notices_to.Given as goal
 -- the notices so far and those on the subscriptions that are left are all
 abbrev pub invariant-loop-sub : goal.invariant-loop-sub
 invariant-loop-sub l =
-    l.notices.items ++ filter_map (update_notice l.rows) (drop l.sub-index l.sub-items) ≡ update_notices_to l.number l.rows
+    (l.notices.items ++ filter_map (update_notice l.rows) (drop l.sub-index l.sub-items) ≡ update_notices_to l.number l.rows)
+    × (l.fn.visits ≤ l.visits)

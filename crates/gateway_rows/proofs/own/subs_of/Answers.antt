@@ -8,5 +8,8 @@ use Rattle.gateway_rows.proofs.own.subs_of.Goals as goal
 pub returns : goal.returns
 returns c =
     let counted : c.sub_count-n-end.result ≡ count_by (is_sub_of c.args.session) c.args.clients.now.subs = c.sub_count-n-end.ensures in
-    all_taken (is_sub_of c.args.session) c.args.clients.now.subs c.loop-n.subs.items c.loop-n.n
-    (omega (arith, c.loop-n-test.false, counted)) c.loop-n.invariant
+    record {
+      found = all_taken (is_sub_of c.args.session) c.args.clients.now.subs c.loop-n.subs.items c.loop-n.n
+          (omega (arith, c.loop-n-test.false, counted)) c.loop-n.invariant.0;
+      no_less = c.loop-n.invariant.1;
+    }

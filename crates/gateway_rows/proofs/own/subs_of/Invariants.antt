@@ -1,7 +1,9 @@
-use Rattle.std.proofs.Common.{◌≡◌, ◌++◌, filter, drop}
+use Rattle.std.proofs.Common.{◌≡◌, ◌≤◌, ◌++◌, filter, drop}
 use Rattle.channel_table.specs.Subs.{is_sub_of}
 use Rattle.gateway_rows.proofs.own.subs_of.Given as goal
 
 -- those taken so far and those that are left are all
 abbrev pub invariant-loop-n : goal.invariant-loop-n
-invariant-loop-n l = l.subs.items ++ drop l.n (filter (is_sub_of l.session) l.clients.subs) ≡ filter (is_sub_of l.session) l.clients.subs
+invariant-loop-n l =
+    (l.subs.items ++ drop l.n (filter (is_sub_of l.session) l.clients.subs) ≡ filter (is_sub_of l.session) l.clients.subs)
+    × (l.fn.visits ≤ l.visits)

@@ -7,3 +7,4 @@ abbrev pub invariant-loop-sub : goal.invariant-loop-sub
 invariant-loop-sub l =
     (l.subs.items ++ filter (is_concerned l.differs) (drop l.sub-index l.sub-items) ≡ concerned l.rows l.name l.differs)
     × (length l.subs.items ≤ l.sub-index)
+    × (l.fn.visits ≤ l.visits)

@@ -1,7 +1,9 @@
-use Rattle.std.proofs.Common.{◌≡◌, ◌++◌, filter, map, drop}
+use Rattle.std.proofs.Common.{◌≡◌, ◌≤◌, ◌++◌, filter, map, drop}
 use Rattle.gateway_state.specs.Variables.{is_on}
 use Rattle.gateway_rows.proofs.state.Rows.channels_on.Given as goal
 
 -- those taken so far and those that are left are all
 abbrev pub invariant-loop-n : goal.invariant-loop-n
-invariant-loop-n l = map (λ channel. channel.now) l.channels.items ++ drop l.n (filter (is_on l.name) l.self.clients.channels) ≡ filter (is_on l.name) l.self.clients.channels
+invariant-loop-n l =
+    (map (λ channel. channel.now) l.channels.items ++ drop l.n (filter (is_on l.name) l.self.clients.channels) ≡ filter (is_on l.name) l.self.clients.channels)
+    × (l.fn.visits ≤ l.visits)

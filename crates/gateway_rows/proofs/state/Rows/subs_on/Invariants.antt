@@ -7,3 +7,4 @@ abbrev pub invariant-loop-n : goal.invariant-loop-n
 invariant-loop-n l =
     (l.subs.items ++ drop l.n (filter (is_sub_to l.self l.name) l.self.clients.subs) ≡ filter (is_sub_to l.self l.name) l.self.clients.subs)
     × (l.visits ≤ l.initial.visits + l.n)
+    × (l.fn.visits ≤ l.visits)
