@@ -66,7 +66,7 @@ impl Cache {
         self.listed.add(key, key.id)?;
         match self.latest.put(row) {
             Ok(()) => {
-                // It was of a link of another server.
+                // The link had one of another server.
                 if let Some(owner) = before {
                     self.listed.remove(Key { owner, id: key.id });
                 }
