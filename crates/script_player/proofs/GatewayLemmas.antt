@@ -1,10 +1,8 @@
 -- Facts on what is done with a gateway's connections, and printed.
-use Rattle.std.proofs.Common.{◌≡◌, ℕ, suc, ◌+◌, ◌<◌, ◌≤◌, List, [], ◌∷◌, ◌++◌, drop, Option, Some, None, Bool, true, false, get_or, drop-cons, add-one, refl, sym, ap, subst, ◌∙◌}
+use Rattle.std.proofs.Common.{◌≡◌, ℕ, suc, ◌+◌, ◌<◌, ◌≤◌, List, [], ◌∷◌, drop, Option, Some, None, get_or, drop-cons, add-one, refl, sym, ap, subst, ◌∙◌}
 use Rattle.std.proofs.lemmas.List.{drop_all}
 use Rattle.std.specs.Prelude.{IfSome, flat_map, length, map, option_map}
-use Rattle.std.specs.List.{find}
 use Rattle.std.specs.Io.KnownBytes.{Appends}
-use Rattle.ca_header.specs.declared.header.Message.{Message}
 use Rattle.gateway_state.specs.Gateway.{Gateway}
 use Rattle.gateway_state.specs.Step.{run, step, taken}
 use Rattle.gateway_state.specs.declared.event.Dest.{Dest}

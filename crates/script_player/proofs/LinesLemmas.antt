@@ -1,5 +1,5 @@
 -- Facts on a script that is performed.
-use Rattle.std.proofs.Common.{◌≡◌, ℕ, zero, suc, List, [], ◌∷◌, ◌++◌, drop, Option, Some, None, refl, sym, ap, subst, ◌∙◌}
+use Rattle.std.proofs.Common.{◌≡◌, ℕ, zero, suc, List, [], ◌∷◌, drop, Option, Some, None, refl, subst}
 use Rattle.std.specs.Prelude.{OnOk, Result, Ok, Err, option_map}
 use Rattle.std.specs.Io.KnownBytes.{Appends, Keeps}
 use Rattle.gateway_state.specs.Gateway.{Gateway}
@@ -13,7 +13,7 @@ use Rattle.script_player.specs.Performing.{Performs}
 use Rattle.script_player.specs.Player.{Playing, beginning}
 use Rattle.script_player.specs.Reading.{IsNextBad, TakesEntry}
 use Rattle.script_player.specs.Replay.{IfBadLine, bad_line, last_line, status_at}
-use Rattle.script_player.specs.Script.{entry_of, lines_of, own_lines_of}
+use Rattle.script_player.specs.Script.{lines_of, own_lines_of}
 use Rattle.script_player.proofs.PerformingLemmas.{Performs-kept, Performs-rests, Performs-then, Performs-then_kept}
 
 entries_after-pending : (pending : ℕ) (lines : List (List ℕ)) → entries_after pending lines ≡ entries_after 0 (drop pending lines)

@@ -35,9 +35,13 @@ module _ {A : Type 0} where
   Performs-then first second None b c x y z h k = tt
   Performs-then first second (Some a) b c x y z h k =
       let P : Option A → Type 0 = λ o. Performs second o c y z in
-      let next = subst P h.2 k in
-      (next.0, h.1 ++ next.1, next.2, record { between = h.0; said = h.1; more = next.1; begun = h.3; ended = next.3; parts = refl },
-      Appends-append x y z h.1 next.1 h.4 next.4)
+      let next = subst P h.2 k in (
+        next.0,
+        h.1 ++ next.1,
+        next.2,
+        record { between = h.0; said = h.1; more = next.1; begun = h.3; ended = next.3; parts = refl },
+        Appends-append x y z h.1 next.1 h.4 next.4,
+      )
 
   pub Performs-becomes : (after : A → A) (said : A → List ℕ) (a b : Option A) (x y : Option (List ℕ))
       → b ≡ option_map after a → IfSome a (λ old. Appends x y (said old)) → Performs (Becomes after said) a b x y

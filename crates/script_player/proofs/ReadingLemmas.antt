@@ -1,15 +1,15 @@
 -- Facts on what is taken off the lines that are left of a script.
 use Rattle.std.proofs.Common.{◌≡◌, ℕ, zero, suc, ◌+◌, ◌<◌, ◌≤◌, Bool, true, false, List, [], ◌∷◌, ◌++◌, length, take, drop, Option, Some, None, refl, sym, ap, subst, ◌∙◌, add-one, append_assoc, arith}
-use Rattle.std.specs.Prelude.{◌==◌, IsSome, nat_le, if◌then◌else◌, flat_map, option_map, option_and_then, Result, Ok, Err}
+use Rattle.std.specs.Prelude.{if◌then◌else◌, option_map, option_and_then}
 use Rattle.std.specs.Str.{is_utf8}
 use Rattle.std.proofs.lemmas.List.{append-nil, drop-drop}
 use Rattle.std.proofs.lemmas.Bool.Decides.{nat_tests}
 use Rattle.replay_text.specs.declared.line.Line.{Line}
-use Rattle.replay_text.specs.Lines.{both, line_of}
+use Rattle.replay_text.specs.Lines.{line_of}
 use Rattle.script_player.specs.declared.entry.Entry.{Entry}
 use Rattle.script_player.specs.declared.entry.Files.{Files}
 use Rattle.script_player.specs.Reading.{AreMissing, IsBadFrom, IsGoodFrom, IsNextBad, LeadsOn, Takes, TakesEntry, TakesLine, TakesText, lines_with}
-use Rattle.script_player.specs.Script.{IsBadAt, IsGood, bad_at, entry, entry_of, file_in, files, files_in, first_bad, lines_of, own_lines, own_lines_of, sizes_of, text_file, text_of, with_end}
+use Rattle.script_player.specs.Script.{IsBadAt, IsGood, entry, entry_of, file_in, files, files_in, first_bad, lines_of, own_lines, own_lines_of, sizes_of, text_file, text_of, with_end}
 use Rattle.script_player.proofs.ScriptLemmas.{first_bad-pending}
 
 -- the first line after so many

@@ -13,7 +13,6 @@ use Rattle.ca_header.specs.declared.reading.Front.TheVariants.{Whole, Partial, F
 use Rattle.gateway_state.specs.Gateway.{Gateway}
 use Rattle.gateway_state.specs.Step.{run}
 use Rattle.gateway_state.specs.declared.event.Dest.{Dest}
-use Rattle.gateway_state.specs.declared.event.Event.{Event}
 use Rattle.script_player.specs.Performing.{Performs}
 use Rattle.script_player.specs.Played.{said}
 use Rattle.script_player.specs.Player.{Playing, is_dest, playing_at}

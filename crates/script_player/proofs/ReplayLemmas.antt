@@ -1,8 +1,7 @@
 -- Facts on how a replay ends.
-use Rattle.std.proofs.Common.{◌≡◌, ℕ, List, ◌++◌, Option, Some, None, refl}
+use Rattle.std.proofs.Common.{◌≡◌, ℕ, List, Option, Some, None}
 use Rattle.std.specs.Prelude.{IsSome, OnOk, Result, Ok, Err}
 use Rattle.std.specs.Io.KnownBytes.{Appends}
-use Rattle.script_player.specs.declared.fault.Fault.{Fault}
 use Rattle.script_player.specs.declared.fault.Fault.TheVariants.{StreamFailed, OutOfMemory, EngineFailed}
 use Rattle.script_player.specs.declared.fault.ReplayFault.{ReplayFault}
 use Rattle.script_player.specs.declared.fault.ReplayFault.TheVariants.{BadLine, Halted}

@@ -1,9 +1,8 @@
 -- Facts on the lines of a script.
-use Rattle.std.proofs.Common.{◌≡◌, ℕ, zero, suc, ◌+◌, ◌-◌, Bool, true, false, List, [], ◌∷◌, length, take, drop, Option, Some, None, refl, sym, ap, ◌∙◌, add-one, arith}
+use Rattle.std.proofs.Common.{◌≡◌, ℕ, zero, suc, ◌+◌, ◌-◌, Bool, true, false, List, [], ◌∷◌, length, take, drop, Option, Some, None, refl, sym, ap, ◌∙◌, arith}
 use Rattle.std.specs.Prelude.{◌==◌, if◌then◌else◌, slice_index, option_map}
 use Rattle.std.specs.Io.BufRead.{strip_last, take_through, drop_through}
 use Rattle.std.proofs.lemmas.Bool.{lt-ltb}
-use Rattle.replay_text.specs.Lines.{line_of}
 use Rattle.script_player.specs.Reading.{TakesBytes, TakesLine}
 use Rattle.script_player.specs.Script.{first_bad, lines_of, longer}
 

@@ -2,10 +2,8 @@
 use Rattle.std.specs.Prelude.{◌≡◌, ℕ, ◌+◌, ◌<◌, ◌≤◌, Bool, true, false, List, [], ◌∷◌, length, take, drop, Option, Some, None, IsSome, option_map}
 use Rattle.std.specs.Io.BufRead.{take_through, drop_through}
 use Rattle.std.specs.Io.Buffered.{reader_remaining}
-use Rattle.replay_text.specs.declared.line.Line.{Line}
 use Rattle.replay_text.specs.Lines.{line_of}
 use Rattle.script_player.specs.declared.entry.Entry.{Entry}
-use Rattle.script_player.specs.declared.entry.Files.{Files}
 use Rattle.script_player.specs.declared.script.Script.{Script}
 use Rattle.script_player.specs.Script.{entry_of, first_bad, lines_of, own_lines, own_lines_of, text_of}
 

@@ -1,4 +1,4 @@
-use Rattle.std.proofs.Common.{◌≡◌, ℕ, ◌+◌, List, Option}
+use Rattle.std.proofs.Common.{ℕ, ◌+◌, List, Option}
 use Rattle.script_player.specs.Performed.{PerformsLines}
 use Rattle.script_player.specs.Player.{Playing, playing}
 use Rattle.script_player.specs.Reading.{LeadsOn, lines_left}

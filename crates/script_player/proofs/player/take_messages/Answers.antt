@@ -18,7 +18,9 @@ returns-in-Err-Faulted-clause-taken c =
 pub loop-preserved : goal.loop-preserved
 loop-preserved c = λ more left taken.
     let takes = rw c.in-Ok-Some.field-0-is at c.in-Ok-Some.ensures in
-    let all = c.loop.invariant (c.in-Ok-Some.message ∷ more) left (c.take.new.self, takes, taken) in
-    (all.0, all.1,
-    events-next all.0 more c.in-Ok-Some.message (said c.args.dest) c.args.events.now.items c.loop.events.items c.push.new.self.items c.said_by.result
-    c.in_ok-push-in-Ok-Some.ensures.items c.said_by.ensures all.2)
+    let all = c.loop.invariant (c.in-Ok-Some.message ∷ more) left (c.take.new.self, takes, taken) in (
+      all.0,
+      all.1,
+      events-next all.0 more c.in-Ok-Some.message (said c.args.dest) c.args.events.now.items c.loop.events.items c.push.new.self.items c.said_by.result
+          c.in_ok-push-in-Ok-Some.ensures.items c.said_by.ensures all.2,
+    )

@@ -10,4 +10,4 @@ abbrev pub invariant-loop : goal.invariant-loop
 invariant-loop l =
     (more : List Message) (left : List ℕ) → AreTaken l.intake more left
     → (messages : List Message) × AreTaken l.initial.intake messages left
-      × (l.events.items ++ map (said l.dest) more ≡ l.initial.events.items ++ map (said l.dest) messages)
+    × (l.events.items ++ map (said l.dest) more ≡ l.initial.events.items ++ map (said l.dest) messages)

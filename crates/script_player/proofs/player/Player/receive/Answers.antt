@@ -17,7 +17,7 @@ returns g c = λ out.
     let taken = c.in_ok-fault.ensures.taken in
     let stands : lookup (is_dest c.args.dest) c.args.self.now.intakes.entries ≡ Some c.in-Some.intake.now = search rules in
     let keeps : (c.get_mut.follows.lender c.take_messages.new.intake).entries
-        ≡ set_value (is_dest c.args.dest) c.args.self.now.intakes.entries c.take_messages.new.intake = search rules in
+    ≡ set_value (is_dest c.args.dest) c.args.self.now.intakes.entries c.take_messages.new.intake = search rules in
     Performs-heard (state c.args.self.now.gate) (state c.run.new.self) c.args.self.now.intakes.entries
     (c.get_mut.follows.lender c.take_messages.new.intake).entries c.args.self.now.held.keys c.args.dest c.in-Some.intake.now c.args.bytes.now
     c.take_messages.new.intake taken.0 c.in_ok-fault.fault c.with_fault.result out

@@ -1,4 +1,4 @@
-use Rattle.std.proofs.Common.{◌≡◌, ◌+◌, rules, arith}
+use Rattle.std.proofs.Common.{arith}
 use Rattle.script_player.specs.Reading.{lines_left}
 use Rattle.script_player.proofs.ReadingLemmas.{Takes-file, Takes-missing, Takes-no_file}
 use Rattle.script_player.proofs.script.Script.file.Goals as goal

@@ -1,4 +1,4 @@
-use Rattle.std.proofs.Common.{◌≡◌, ◌+◌, true, false, rules, arith}
+use Rattle.std.proofs.Common.{◌≡◌, true, false, rules, arith}
 use Rattle.script_player.specs.Reading.{lines_left}
 use Rattle.script_player.proofs.PerformingLemmas.{Keeps-then}
 use Rattle.script_player.proofs.ReadingLemmas.{AreMissing-here, TakesText-next}
