@@ -2,6 +2,7 @@
 use Rattle.std.proofs.Common.{◌≡◌, ℕ, true, Option, Some, None, refl, sym, ap, ◌∙◌}
 use Rattle.std.specs.Prelude.{is_some}
 use Rattle.channel_table.specs.declared.channels.Channel.{Channel}
+use Rattle.channel_table.specs.declared.channels.Reach.{Reach}
 use Rattle.channel_table.specs.Channels.{is_channel}
 use Rattle.channel_table.specs.ClientRows.{has_channel}
 use Rattle.gateway_state.specs.declared.notice.ReadVerdict.TheVariants.{Accepted, NoChannel}
@@ -10,7 +11,7 @@ use Rattle.gateway_state.specs.Gateway.{Gateway}
 use Rattle.gateway_state.specs.Rights.{channel_of}
 use Rattle.channel_table.proofs.Lists.{found_where_any}
 
-pub accepted_is_there : (w : Gateway) (number sid dtype count reach rights : ℕ) → read_verdict w number sid dtype count ≡ Accepted reach rights → has_channel number sid w.clients ≡ true
+pub accepted_is_there : (w : Gateway) (number sid dtype count : ℕ) (reach : Reach) (rights : ℕ) → read_verdict w number sid dtype count ≡ Accepted reach rights → has_channel number sid w.clients ≡ true
 accepted_is_there w number sid dtype count reach rights accepted = by (channel_of w number sid) refl accepted
   where
     refused : NoChannel ≡ Accepted reach rights → has_channel number sid w.clients ≡ true
