@@ -9,7 +9,7 @@ use Rattle.gateway_notices.proofs.consequences.follow_all.Goals as goal
 -- the passes before leave numbers in order
 pub tell_links-requires : goal.tell_links-requires
 tell_links-requires c =
-    let before = c.in_ok-withhold_updates.ensures ∙ ap updates_withheld c.in_ok-tell_channels.ensures in
+    let before = c.in_ok-withhold_updates.ensures.ok ∙ ap updates_withheld c.in_ok-tell_channels.ensures.ok in
     record {
       order = subst AreInOrder (sym before) (order_before_links c.args.rows.now c.requires.order);
       told = subst KnowRights (sym before) (told_before_links c.args.rows.now c.requires.order);

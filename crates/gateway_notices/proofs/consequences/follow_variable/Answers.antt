@@ -8,17 +8,17 @@ use Rattle.gateway_notices.proofs.consequences.follow_variable.Goals as goal
 -- the passes before leave numbers in order
 pub tell_link_on-requires-clause-order : goal.tell_link_on-requires-clause-order
 tell_link_on-requires-clause-order c =
-    let before = c.in_ok-withhold_updates_on.ensures ∙ ap (updates_withheld_on c.args.name.now) c.in_ok-tell_channels_on.ensures in
+    let before = c.in_ok-withhold_updates_on.ensures.ok ∙ ap (updates_withheld_on c.args.name.now) c.in_ok-tell_channels_on.ensures.ok in
     subst AreInOrder (sym before) (order_before_link c.args.name.now c.args.rows.now c.requires.order)
 
 -- and clients know their rights from the pass over channels on
 pub tell_updates_on-requires : goal.tell_updates_on-requires
 tell_updates_on-requires c =
     let name = c.args.name.now in
-    let before = c.in_ok-withhold_updates_on.ensures ∙ ap (updates_withheld_on name) c.in_ok-tell_channels_on.ensures in
+    let before = c.in_ok-withhold_updates_on.ensures.ok ∙ ap (updates_withheld_on name) c.in_ok-tell_channels_on.ensures.ok in
     let order = subst AreInOrder (sym before) (order_before_link name c.args.rows.now c.requires.order) in
-    let first = subst KnowRights (sym c.in_ok-tell_channels_on.ensures) c.requires.told in
-    let held = subst KnowRights (sym c.in_ok-withhold_updates_on.ensures) (told_after_withheld name _ first) in
+    let first = subst KnowRights (sym c.in_ok-tell_channels_on.ensures.ok) c.requires.told in
+    let held = subst KnowRights (sym c.in_ok-withhold_updates_on.ensures.ok) (told_after_withheld name _ first) in
     let linked = subst KnowRights (sym c.in_ok-tell_link_on.ensures.ok) (told_after_link name _ order held) in
     let shared = subst KnowRights (sym c.in_ok-share_on.ensures.same) linked in
     record { told = subst KnowRights (sym c.in_ok-tell_reads_on.ensures.ok) (told_after_reads name _ shared) }
