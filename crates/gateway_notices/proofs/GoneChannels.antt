@@ -12,8 +12,8 @@ use Rattle.gateway_state.proofs.SettledChannels.{notice_by}
 -- whatever the rules say
 pub gone_with_link : (w : Gateway) (c : Channel) → link_connected (link_of w c.real) ≡ false → channel_notice w c ≡ Some (Disconnected c.session c.sid c.cid)
 gone_with_link w c gone =
-    ap (λ (connected : Bool). notice_by (is_real (lead_in w c.session c.asked) c.real && connected) (eqb c.rights (rights_of w c)) (rights_of w c) c) gone
-    ∙ ap (λ (served : Bool). notice_by served (eqb c.rights (rights_of w c)) (rights_of w c) c) (and_false (is_real (lead_in w c.session c.asked) c.real))
+    ap (λ (connected : Bool). notice_by (is_real (lead_in w c.session c.asked) c.real && connected) (eqb c.rights_told (rights_of w c)) (rights_of w c) c) gone
+    ∙ ap (λ (served : Bool). notice_by served (eqb c.rights_told (rights_of w c)) (rights_of w c) c) (and_false (is_real (lead_in w c.session c.asked) c.real))
   where
     and_false : (t : Bool) → (t && false) ≡ false
     and_false true = refl
