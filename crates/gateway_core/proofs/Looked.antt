@@ -34,16 +34,18 @@ use Rattle.gateway_state.specs.Asked.{acts}
 use Rattle.gateway_state.specs.Direct.{direct_effect}
 use Rattle.gateway_state.specs.Gateway.{Gateway}
 use Rattle.gateway_state.specs.Variables.{is_creating}
-use Rattle.gateway_state.specs.Servers.{concerned_owed, has_other_alarm, is_value, reads_failed, replied, server_said, updated_by, updated_link, with_cached}
+use Rattle.gateway_state.specs.Servers.{concerned_owed, has_other_alarm, is_value, reads_failed, replied, server_said, subject_of, updated_by, updated_link, updated_under, with_cached}
 use Rattle.gateway_state.specs.Updates.{concerned}
 use Rattle.link_table.specs.declared.links.Link.{Link}
 use Rattle.link_table.specs.declared.links.LinkState.{LinkState}
 use Rattle.link_table.specs.declared.links.LinkState.TheVariants.{Creating, Connected, Unusable}
+use Rattle.link_table.specs.declared.links.Subject.{Subject}
+use Rattle.link_table.specs.declared.links.Subject.TheVariants.{Values, Properties}
 use Rattle.link_table.specs.declared.links.Subscription.{Subscription}
 use Rattle.link_table.specs.Links.{has_subscription, is_link}
 use Rattle.server_messages.specs.Looks.{reply_looks}
 use Rattle.touched_rows.specs.declared.touched.Touched.TheVariants.{Interest, Nothing, Value}
-use Rattle.touched_rows.specs.Touches.{cancel_touches_by, clear_touches_by, created_touches_over, event_touches, new_read, read_touches_by, reply_touches, request_touches, sub_touches_by, update_touches_over, value_touches}
+use Rattle.touched_rows.specs.Touches.{cancel_touches_by, clear_touches_by, created_touches_over, event_touches, new_read, read_touches_by, reply_touches, request_touches, sub_touches_by, update_touches_over, update_touches_under, value_touches}
 use Rattle.value_cache.specs.Held.{held_after}
 
 -- nothing followed
@@ -145,16 +147,24 @@ module _ (w : Gateway) (before direct after : ℕ) where
   looked_over dtype count payload link Creating sub first = λ rest. quiet before direct after (own_over w (Some link)) first rest
   looked_over dtype count payload link Unusable sub first = λ rest. quiet before direct after (own_over w (Some link)) first rest
 
-  looked_by : (status dtype count : ℕ) (payload : List ℕ) (found : Option Link) → direct ≤ before + 2 * own_over w found
-      → IsWithin (looks_after (update_touches_over status dtype count payload found) (updated_by status dtype count payload found w)) direct after
-      → after ≤ before + (4 + 8 * own_over w found)
-  looked_by status dtype count payload None first = λ rest. quiet before direct after 0 first rest
-  looked_by status dtype count payload (Some link) first =
-      let then : Gateway = updated_link link link.state link.subscription dtype count payload w in
+  -- of properties nothing is taken
+  looked_under : (subject : Subject) (status dtype count : ℕ) (payload : List ℕ) (link : Link) → direct ≤ before + 2 * own_over w (Some link)
+      → IsWithin (looks_after (update_touches_under subject status dtype count payload link) (updated_under subject status dtype count payload link w)) direct after
+      → after ≤ before + (4 + 8 * own_over w (Some link))
+  looked_under Values status dtype count payload link first =
+      let sub : Option Subscription = link.subscriptions.values in
+      let then : Gateway = updated_link link link.state sub dtype count payload w in
       elim (eqb status ECA_NORMAL)
-      as (λ t. IsWithin (looks_after (cond t (value_touches link link.state link.subscription dtype count payload) Nothing) (cond t then (reads_failed w link.name))) direct after
+      as (λ t. IsWithin (looks_after (cond t (value_touches link link.state sub dtype count payload) Nothing) (cond t then (reads_failed w link.name))) direct after
       → after ≤ before + (4 + 8 * own_over w (Some link)))
-      [ true ↦ looked_over dtype count payload link link.state link.subscription first | false ↦ λ rest. quiet before direct after (own_over w (Some link)) first rest ]
+      [ true ↦ looked_over dtype count payload link link.state sub first | false ↦ λ rest. quiet before direct after (own_over w (Some link)) first rest ]
+  looked_under Properties status dtype count payload link first = λ rest. quiet before direct after (own_over w (Some link)) first rest
+
+  looked_by : (id status dtype count : ℕ) (payload : List ℕ) (found : Option Link) → direct ≤ before + 2 * own_over w found
+      → IsWithin (looks_after (update_touches_over id status dtype count payload found) (updated_by id status dtype count payload found w)) direct after
+      → after ≤ before + (4 + 8 * own_over w found)
+  looked_by id status dtype count payload None first = λ rest. quiet before direct after 0 first rest
+  looked_by id status dtype count payload (Some link) first = looked_under (subject_of id link) status dtype count payload link first
 
   none : direct ≤ before + 0 → after ≤ direct + 0 → after ≤ before + 0
   none first rest = omega (arith, first, rest)
@@ -168,7 +178,7 @@ module _ (w : Gateway) (before direct after : ℕ) where
   looked_for : (server : ℕ) (reply : Result ServerReply ReplyFault) → IsWithin (reply_looks w server reply) before direct
       → IsWithin (looks_after (reply_touches w server reply) (replied w server reply)) direct after → IsWithin (update_looks w server reply) before after
   looked_for server (Ok (says.Version minor)) first rest = none first rest
-  looked_for server (Ok (says.EventAdd id status dtype count value)) first rest = looked_by status dtype count value (find (has_subscription server id) w.upstream.links) first rest
+  looked_for server (Ok (says.EventAdd id status dtype count value)) first rest = looked_by id status dtype count value (find (has_subscription server id) w.upstream.links) first rest
   looked_for server (Ok (says.CreateChannel cid sid dtype count)) first rest = made (replied w server (Ok (says.CreateChannel cid sid dtype count))) (find (is_link server cid) w.upstream.links) first rest
   looked_for server (Ok (says.WriteNotify ioid status)) first rest = none first rest
   looked_for server (Ok (says.AccessRights cid rights)) first rest = tt
