@@ -40,7 +40,11 @@ fn pump_one<G: GatewayCalls>(
 
 /// Pumps each attached connection, in order, on a gateway that hasn't failed.
 #[tactic(auto, using(crate::proofs::RoundCalls::next_performed))]
-fn pump_all<G: GatewayCalls>(gate: &mut G, lines: &mut Lines, news: &mut News) -> Result<usize, BoardFault>
+fn pump_all<G: GatewayCalls>(
+    gate: &mut G,
+    lines: &mut Lines,
+    news: &mut News,
+) -> Result<usize, BoardFault>
     requires stands { IsSome (G.state gate.old) }
     ensures calls { PerformsUpTo (map Call.Pump (dests_of lines.old)) (board_of (G.state gate.old) lines.old) result (board_of (G.state gate.new) lines.new) }
     ensures dests { dests_of lines.new ≡ dests_of lines.old }
@@ -61,7 +65,11 @@ fn pump_all<G: GatewayCalls>(gate: &mut G, lines: &mut Lines, news: &mut News) -
 
 /// Sends out to each attached connection, in order.
 #[tactic(auto, using(crate::proofs::RoundCalls::next_performed))]
-fn send_all<G: GatewayCalls>(gate: &mut G, lines: &mut Lines, news: &mut News) -> Result<usize, BoardFault>
+fn send_all<G: GatewayCalls>(
+    gate: &mut G,
+    lines: &mut Lines,
+    news: &mut News,
+) -> Result<usize, BoardFault>
     ensures calls { PerformsUpTo (map Call.SendOut (dests_of lines.old)) (board_of (G.state gate.old) lines.old) result (board_of (G.state gate.new) lines.new) }
     ensures dests { dests_of lines.new ≡ dests_of lines.old }
     ensures rings { KeepsRings lines.old lines.new }

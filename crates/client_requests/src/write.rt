@@ -48,7 +48,11 @@ fn judge<'a>(
             cid,
             code: fault.code(),
         },
-        Ok(value) if may_write(channel.rights_told) => WriteVerdict::Accepted { server, sid, value },
+        Ok(value) if may_write(channel.rights_told) => WriteVerdict::Accepted {
+            server,
+            sid,
+            value,
+        },
         Ok(_) => WriteVerdict::Refused {
             cid,
             code: ECA_NOWTACCESS,

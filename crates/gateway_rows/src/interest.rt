@@ -23,13 +23,7 @@ impl Rows {
     }
 
     /// What the readers of a variable of this native type and count want of a subject.
-    pub fn wanted_for(
-        &self,
-        subject: Subject,
-        name: &Name,
-        dtype: u16,
-        native: u32,
-    ) -> Option<Want>
+    pub fn wanted_for(&self, subject: Subject, name: &Name, dtype: u16, native: u32) -> Option<Want>
         requires told { KnowRights self.now }
         ensures { result ≡ wanted_for subject self.now name.now dtype native }
     {
