@@ -2,7 +2,12 @@ use Rattle.std.proofs.Common.{sym, subst}
 use Rattle.gateway_state.specs.Settled.{AreInOrder}
 use Rattle.gateway_state.proofs.OrderKept.{order_after_effect}
 use Rattle.touched_rows.proofs.Ready.{ready_as}
+use Rattle.gateway_core.proofs.ReadyStates.{reached_is_ready}
 use Rattle.gateway_core.proofs.step.step.Goals as goal
+
+-- a run's state is ready for an event
+pub perform-requires : goal.perform-requires
+perform-requires c = record { ready = reached_is_ready c.args.rows.now c.requires.reached }
 
 -- numbers are in order after an event's direct effect, and clients know their rights
 pub follow-requires : goal.follow-requires
