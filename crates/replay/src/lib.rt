@@ -46,10 +46,7 @@ pub fn replay<R: Read + Drop, W: Write>(alloc: Global, reader: R, writer: &mut W
     ensures told { result ≡ 2 → (number : ℕ) × IsBadAt (R.remaining reader) number
         × IsPlayedThen (bad_line number) (R.remaining reader) (Some beginning) (W.contents writer.old) (W.contents writer.new) }
 {
-    match gateway::<Engine>(alloc) {
-        Some(engine) => play(alloc, engine, reader, writer),
-        None => status::FAILED,
-    }
+    replay_on::<Engine, R, W>(alloc, reader, writer)
 }
 
 /// The same on the plain gateway, which is slow, and to be compared with the other.
@@ -62,7 +59,24 @@ pub fn replay_plain<R: Read + Drop, W: Write>(alloc: Global, reader: R, writer: 
     ensures told { result ≡ 2 → (number : ℕ) × IsBadAt (R.remaining reader) number
         × IsPlayedThen (bad_line number) (R.remaining reader) (Some beginning) (W.contents writer.old) (W.contents writer.new) }
 {
-    match gateway::<PlainGate>(alloc) {
+    replay_on::<PlainGate, R, W>(alloc, reader, writer)
+}
+
+/// The same on either gateway.
+fn replay_on<G: GatewayCalls + Drop, R: Read + Drop, W: Write>(
+    alloc: Global,
+    reader: R,
+    writer: &mut W,
+) -> u8
+    ensures among { IsStatus result }
+    ensures good { result ≡ 0 → IsGood (R.remaining reader) }
+    ensures played { result ≡ 0 → IsPlayed (R.remaining reader) (Some beginning) (W.contents writer.old) (W.contents writer.new) }
+    ensures bad { result ≡ 2 → (number : ℕ) × IsBadAt (R.remaining reader) number
+        × (((held : W) → IsSome (W.contents held)) → EndsIn (W.contents writer.new) (bad_line number)) }
+    ensures told { result ≡ 2 → (number : ℕ) × IsBadAt (R.remaining reader) number
+        × IsPlayedThen (bad_line number) (R.remaining reader) (Some beginning) (W.contents writer.old) (W.contents writer.new) }
+{
+    match gateway::<G>(alloc) {
         Some(gate) => play(alloc, gate, reader, writer),
         None => status::FAILED,
     }
