@@ -138,6 +138,7 @@ impl Engine {
         ensures found { IfOk result (λ answer. Some answer ≡ option_map (λ w. stands w dest) self.old.state) }
         ensures failed { IsOk result ↔ IsSome self.old.state }
         ensures same { self.new.state ≡ self.old.state }
+        ensures looks { self.new.visits ≡ self.old.visits }
     {
         match &self.rows {
             Some(rows) => Ok(rows.stands(dest)),
@@ -150,6 +151,7 @@ impl Engine {
         ensures found { IfOk result (λ answer. Some answer ≡ option_map (λ w. ends w dest) self.old.state) }
         ensures failed { IsOk result ↔ IsSome self.old.state }
         ensures same { self.new.state ≡ self.old.state }
+        ensures looks { self.new.visits ≡ self.old.visits }
     {
         match &self.rows {
             Some(rows) => Ok(rows.ends(dest)),
@@ -162,6 +164,7 @@ impl Engine {
         ensures found { IfOk result (λ answer. Some answer ≡ option_map (λ w. queued w dest) self.old.state) }
         ensures failed { IsOk result ↔ IsSome self.old.state }
         ensures same { self.new.state ≡ self.old.state }
+        ensures looks { self.new.visits ≡ self.old.visits }
     {
         match &self.rows {
             Some(rows) => Ok(rows.queued(dest)),
@@ -174,6 +177,7 @@ impl Engine {
         ensures found { IfOk result (λ answer. Some answer ≡ option_map (λ w. subscription_of w name.now) self.old.state) }
         ensures failed { IsOk result ↔ IsSome self.old.state }
         ensures same { self.new.state ≡ self.old.state }
+        ensures looks { self.new.visits ≡ self.old.visits }
     {
         match &self.rows {
             Some(rows) => Ok(rows.subscription_of(name)),
@@ -223,6 +227,7 @@ impl Engine {
         ensures found { IfOk result (λ names. Some names.items ≡ option_map asks self.old.state) }
         ensures failed { IsErrOf result AskFault.Failed ↔ IsNone self.old.state }
         ensures same { self.new.state ≡ self.old.state }
+        ensures looks { self.new.visits ≡ self.old.visits }
     {
         match &self.rows {
             Some(rows) => match rows.asks() {
@@ -239,6 +244,7 @@ impl Engine {
         ensures found { IfOk result (λ answer. IfSome self.old.state (λ w. IsSearched w host.now datagram.now answer)) }
         ensures failed { IsErrOf result AskFault.Failed ↔ IsNone self.old.state }
         ensures same { self.new.state ≡ self.old.state }
+        ensures looks { self.new.visits ≡ self.old.visits }
     {
         match &self.rows {
             Some(rows) => match search(rows, host, datagram) {
