@@ -10,8 +10,7 @@ use ca_header::Header;
 use ca_message::codes::{ECA_ALLOCMEM, ECA_BADMASK, ECA_INTERNAL};
 use channel_table::{Channel, ClientSub, SUB_LIMIT, TableFault, Visits};
 use gateway_rows::{Rows, native_in, value_refusal};
-use gateway_state::{Native, SubVerdict};
-use mask_merge::KNOWN_EVENTS;
+use gateway_state::{Native, SERVED_EVENTS, SubVerdict};
 use std::alloc::AllocError;
 use touched_rows::Touched;
 
@@ -41,7 +40,7 @@ pub(crate) fn new_sub(
 fn subscription_limit(rows: &Rows, number: u32, mask: u16) -> Option<u32>
     ensures { result ≡ subscription_limit rows.now number mask }
 {
-    if mask & KNOWN_EVENTS == 0 {
+    if mask & SERVED_EVENTS == 0 {
         Some(ECA_BADMASK)
     } else if rows.clients.sub_count(number) >= SUB_LIMIT {
         Some(ECA_ALLOCMEM)

@@ -4,7 +4,7 @@ use Rattle.std.proofs.lemmas.Bool.{cases_lt}
 use Rattle.std.proofs.lemmas.List.{append_assoc, length-append, replicate-append-replicate, take_all, drop-drop, length-drop, length-take, nil_from_length, take-append-drop, take-append-le, drop-append-le}
 use Rattle.std.proofs.Math.Nat.{add_comm, mul-le-mul_right, suc-mul, zero-mul}
 use Rattle.std.specs.List.{concat}
-use Rattle.dbr_layout.specs.Parts.{AreSized, elements_in}
+use Rattle.dbr_layout.specs.Elements.{AreSized, elements_in}
 
 -- there are as many as are asked for
 pub length-elements_in : (size count : ℕ) (bytes : List ℕ) → length (elements_in size count bytes) ≡ count
@@ -33,13 +33,18 @@ elements_in-take size count bytes h =
     sym (elements_in-append size count (take (count * size) bytes) (drop (count * size) bytes) front)
     ∙ ap (elements_in size count) (take-append-drop (count * size) bytes)
 
--- the bytes of the elements that begin at a place
+-- the bytes that elements take
+pub take_elements : (size count : ℕ) (bytes : List ℕ) → count * size ≤ length bytes → take (count * size) bytes ≡ concat (elements_in size count bytes)
+take_elements size count bytes h =
+    let cut : length (take (count * size) bytes) ≡ count * size = omega (arith, h, length-take (count * size) bytes) in
+    rw (← elements_in-take size count bytes h) (sym (concat-elements_in size count _ cut))
+
+-- the same of those that begin at a place
 pub take-drop_elements : (start size count : ℕ) (bytes : List ℕ) → start + count * size ≤ length bytes → take (start + count * size - start) (drop start bytes) ≡ concat (elements_in size count (drop start bytes))
 take-drop_elements start size count bytes h =
     let there : count * size ≤ length (drop start bytes) = omega (arith, h, length-drop start bytes) in
-    let cut : length (take (count * size) (drop start bytes)) ≡ count * size = omega (arith, there, length-take (count * size) (drop start bytes)) in
     let long : start + count * size - start ≡ count * size = omega arith in
-    rw (long, ← elements_in-take size count (drop start bytes) there) (sym (concat-elements_in size count _ cut))
+    rw long (take_elements size count (drop start bytes) there)
 
 -- there are as many bytes
 pub length-concat-elements_in : (start size count : ℕ) (bytes : List ℕ) → start + count * size ≤ length bytes → length (concat (elements_in size count (drop start bytes))) ≡ count * size
@@ -55,20 +60,20 @@ take-elements_in size (suc count) (suc n) bytes h =
     let less : n ≤ count = omega (arith, h) in
     rw (take-elements_in size count n (drop size bytes) less) refl
 
--- the bytes of the first elements that begin at a place
-pub take-drop_first : (start size count n : ℕ) (bytes : List ℕ) → start + count * size ≤ length bytes → take (start + min count n * size - start) (drop start bytes) ≡ concat (take n (elements_in size count (drop start bytes)))
-take-drop_first start size count n bytes h =
-    let taken : take n (elements_in size count (drop start bytes)) ≡ elements_in size (min count n) (drop start bytes) =
+-- the bytes of the first elements
+pub take_first : (size count n : ℕ) (bytes : List ℕ) → count * size ≤ length bytes → take (min count n * size) bytes ≡ concat (take n (elements_in size count bytes))
+take_first size count n bytes h =
+    let taken : take n (elements_in size count bytes) ≡ elements_in size (min count n) bytes =
     ⊎_elim
     (λ (less : n < count).
     let same : min count n ≡ n = omega (arith, less) in
-    rw same (take-elements_in size count n (drop start bytes) (omega (arith, less))))
+    rw same (take-elements_in size count n bytes (omega (arith, less))))
     (λ (all : count ≤ n).
     let same : min count n ≡ count = omega (arith, all) in
-    rw same (take_all n (elements_in size count (drop start bytes)) (omega (arith, all, length-elements_in size count (drop start bytes)))))
+    rw same (take_all n (elements_in size count bytes) (omega (arith, all, length-elements_in size count bytes))))
     (cases_lt n count) in
     let below : min count n * size ≤ count * size = mul-le-mul_right size (omega arith) in
-    rw taken (take-drop_elements start size (min count n) bytes (omega (arith, h, below)))
+    rw taken (take_elements size (min count n) bytes (omega (arith, h, below)))
 
 -- each has its size, where the bytes are there
 pub AreSized-elements_in : (size count : ℕ) (bytes : List ℕ) → count * size ≤ length bytes → AreSized size (elements_in size count bytes)
@@ -120,20 +125,20 @@ get_or-elements_in size (suc count) (suc i) bytes h =
     ∙ ap (take size) (drop-drop (i * size) size bytes)
     ∙ ap (λ (n : ℕ). take size (drop n bytes)) moved
 
--- the bytes of the element at an index, of those that begin at a place
-pub take-drop_element : (start size count i : ℕ) (bytes : List ℕ) → i < count → take (start + i * size + size - (start + i * size)) (drop (start + i * size) bytes) ≡ get_or (elements_in size count (drop start bytes)) i []
-take-drop_element start size count i bytes h =
-    let one : start + i * size + size - (start + i * size) ≡ size = omega arith in
-    rw (one, ← drop-drop (i * size) start bytes) (sym (get_or-elements_in size count i (drop start bytes) h))
+-- the bytes of the element at an index
+pub take_element : (size count i : ℕ) (bytes : List ℕ) → i < count → take (i * size + size - i * size) (drop (i * size) bytes) ≡ get_or (elements_in size count bytes) i []
+take_element size count i bytes h =
+    let one : i * size + size - i * size ≡ size = omega arith in
+    rw one (sym (get_or-elements_in size count i bytes h))
 
 -- they are there
-pub element_end-le : (start size count i : ℕ) (bytes : List ℕ) → start + count * size ≤ length bytes → i < count → start + i * size + size ≤ length bytes
-element_end-le start size count i bytes there h =
+pub element_end-le : (size count i : ℕ) (bytes : List ℕ) → count * size ≤ length bytes → i < count → i * size + size ≤ length bytes
+element_end-le size count i bytes there h =
     let behind : suc i * size ≤ count * size = mul-le-mul_right size (omega (arith, h)) in
     omega (arith, there, behind, suc-mul i size)
 
 -- as many as an element has
-pub length-element : (start size count i : ℕ) (bytes : List ℕ) → start + count * size ≤ length bytes → i < count → length (get_or (elements_in size count (drop start bytes)) i []) ≡ size
-length-element start size count i bytes there h =
-    rw (get_or-elements_in size count i (drop start bytes) h, drop-drop (i * size) start bytes)
-    (omega (arith, element_end-le start size count i bytes there h, length-take size (drop (start + i * size) bytes), length-drop (start + i * size) bytes))
+pub length-element : (size count i : ℕ) (bytes : List ℕ) → count * size ≤ length bytes → i < count → length (get_or (elements_in size count bytes) i []) ≡ size
+length-element size count i bytes there h =
+    rw (get_or-elements_in size count i bytes h)
+    (omega (arith, element_end-le size count i bytes there h, length-take size (drop (i * size) bytes), length-drop (i * size) bytes))

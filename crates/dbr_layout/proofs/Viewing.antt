@@ -15,7 +15,7 @@ pub shown_ok : (dtype count : ℕ) (bytes : List ℕ) (dbr : Dbr) → dbr_of dty
 shown_ok dtype count bytes dbr known there =
     rw (known, le-leb (value_end dbr count) (length bytes) there) refl
 
-fields_len_column : (form : Form) (b : Base) → fields_len form ≤ column (offsets form) b
+pub fields_len_column : (form : Form) (b : Base) → fields_len form ≤ column (offsets form) b
 fields_len_column Plain b = omega arith
 fields_len_column Sts base.String = omega arith
 fields_len_column Sts _ = omega arith

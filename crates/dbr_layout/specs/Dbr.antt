@@ -36,9 +36,9 @@ bases = base.String ∷ base.Short ∷ base.Float ∷ base.Enum ∷ base.Char �
 abbrev pub types_of : Form → List Dbr
 types_of f = map (λ b. record { base = b; form = f }) bases
 
--- the types that are served: those of three forms
+-- the types that are served: those of all bases in all forms
 abbrev pub served : List Dbr
-served = flat_map types_of (form.Plain ∷ form.Sts ∷ form.Time ∷ [])
+served = flat_map types_of (form.Plain ∷ form.Sts ∷ form.Time ∷ form.Gr ∷ form.Ctrl ∷ [])
 
 -- the served type with this number
 unfoldable pub dbr_of : ℕ → Option Dbr

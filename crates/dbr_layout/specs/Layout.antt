@@ -9,6 +9,7 @@ use Rattle.dbr_layout.specs.declared.dbr.TheConstants.{ALIGNMENT}
 use Rattle.dbr_layout.specs.declared.view.Stamp.{Stamp}
 use Rattle.dbr_layout.specs.Dbr.{value_offset}
 use Rattle.dbr_layout.specs.Parts.{Parts}
+use Rattle.dbr_layout.specs.Properties.{limits_told, property_bytes_in}
 
 abbrev pub alarm_bytes : Parts → List ℕ
 alarm_bytes parts =
@@ -17,11 +18,13 @@ alarm_bytes parts =
 abbrev pub stamp_bytes : Stamp → List ℕ
 stamp_bytes stamp = to_be_bytes w32 stamp.seconds ++ to_be_bytes w32 stamp.nanoseconds
 
--- the fields of a form; GR and CTRL, whose types aren't served yet, are laid out without units, limits and texts
+-- the fields of a form
 abbrev pub fields : Form → Parts → List ℕ
 fields form.Plain parts = []
+fields form.Sts parts = alarm_bytes parts
 fields form.Time parts = alarm_bytes parts ++ stamp_bytes parts.stamp
-fields _ parts = alarm_bytes parts
+fields form.Gr parts = alarm_bytes parts ++ property_bytes_in (limits_told form.Gr) parts.properties
+fields form.Ctrl parts = alarm_bytes parts ++ property_bytes_in (limits_told form.Ctrl) parts.properties
 
 -- the bytes, and zero bytes up to a length
 abbrev pub filled_to : ℕ → List ℕ → List ℕ

@@ -1,8 +1,11 @@
 pub mod Dbr
 pub mod Needs
 pub mod Fault
+pub mod Elements
+pub mod Properties
 pub mod Parts
 pub mod Layout
+pub mod States
 pub mod View
 pub mod Conversion
 pub mod Converted

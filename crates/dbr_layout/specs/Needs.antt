@@ -1,11 +1,11 @@
 -- What a type needs beside a value.
-use Rattle.std.specs.Prelude.{ℕ, [], ◌∷◌, Bool, true, false, ◌&&◌, not, ◌==◌, flat_map, find, Option, option_map, unwrap_or}
+use Rattle.std.specs.Prelude.{ℕ, Bool, true, false, ◌&&◌, ◌||◌, not, option_map, unwrap_or}
 use Rattle.dbr_layout.specs.declared.dbr.Base.{Base}
 use Rattle.dbr_layout.specs.declared.dbr.Base.TheVariants as base
 use Rattle.dbr_layout.specs.declared.dbr.Form.{Form}
 use Rattle.dbr_layout.specs.declared.dbr.Form.TheVariants as form
 use Rattle.dbr_layout.specs.declared.dbr.Dbr.{Dbr}
-use Rattle.dbr_layout.specs.Dbr.{number_of, types_of}
+use Rattle.dbr_layout.specs.Dbr.{dbr_of}
 
 -- the forms that tell properties of the variable beside the alarm
 abbrev pub is_described : Form → Bool
@@ -25,18 +25,16 @@ is_state _ = false
 abbrev pub has_properties : Dbr → Bool
 has_properties dbr = is_described dbr.form && not (is_text dbr.base)
 
--- the type with this number, whether it is served or not
-unfoldable pub named : ℕ → Option Dbr
-named number =
-    find (λ dbr. number_of dbr == number)
-    (flat_map types_of (form.Plain ∷ form.Sts ∷ form.Time ∷ form.Gr ∷ form.Ctrl ∷ []))
+-- a type can't be told of a variable of this base without its properties: it tells them, or the texts of states
+abbrev pub needs : Base → Dbr → Bool
+needs native asked = has_properties asked || is_state native && is_text asked.base
 
 -- the same by the number of a type, and false where no type has it
 abbrev pub has_properties_by : ℕ → Bool
-has_properties_by dtype = unwrap_or (option_map has_properties (named dtype)) false
+has_properties_by dtype = unwrap_or (option_map has_properties (dbr_of dtype)) false
 
 abbrev pub is_text_by : ℕ → Bool
-is_text_by dtype = unwrap_or (option_map (λ dbr. is_text dbr.base) (named dtype)) false
+is_text_by dtype = unwrap_or (option_map (λ dbr. is_text dbr.base) (dbr_of dtype)) false
 
 abbrev pub is_state_by : ℕ → Bool
-is_state_by dtype = unwrap_or (option_map (λ dbr. is_state dbr.base) (named dtype)) false
+is_state_by dtype = unwrap_or (option_map (λ dbr. is_state dbr.base) (dbr_of dtype)) false

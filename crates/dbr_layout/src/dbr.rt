@@ -1,7 +1,7 @@
 //! The DBR types: a base and a form each (Channel Access Protocol Specification, "Payload Data
 //! Types").
 ghost use Rattle.std.specs.Prelude.{◌≡◌, ◌*◌, ◌<◌, ◌≤◌, ◌^◌, IsNone, IfSome, SomeIff};
-ghost use Rattle.dbr_layout.specs.Dbr.{base_number, form_number};
+ghost use Rattle.dbr_layout.specs.Dbr.{base_number, element_size, form_number};
 
 /// The size of a payload is a multiple of this many bytes.
 pub const ALIGNMENT: usize = 8;
@@ -63,10 +63,17 @@ impl Base {
         }
     }
 
-    fn number(self) -> u16
+    pub(crate) fn number(self) -> u16
         ensures { result ≡ base_number self }
     {
         self as u16
+    }
+
+    /// The bytes of one element.
+    pub(crate) fn element(self) -> u32
+        ensures { result ≡ element_size self }
+    {
+        [40, 2, 4, 2, 1, 4, 8][self as usize]
     }
 }
 
@@ -100,20 +107,16 @@ pub struct Dbr {
 }
 
 impl Dbr {
-    ghost use Rattle.dbr_layout.specs.Dbr.{dbr_of, element_size, number_of, payload_size, value_end, value_offset};
+    ghost use Rattle.dbr_layout.specs.Dbr.{dbr_of, number_of, payload_size, value_end, value_offset};
 
-    /// The type with this number, where it is served: those of all bases in the forms `Plain`, `Sts`
-    /// and `Time`.
+    /// The type with this number: those of all bases in all forms are served.
     #[tactic(auto, unfolding(crate::specs::Dbr::dbr_of))]
     pub fn of(number: u16) -> Option<Dbr>
         ensures { result ≡ dbr_of number }
     {
         let base = Base::of(number % BASES)?;
         let form = Form::of(number / BASES)?;
-        match form {
-            Form::Plain | Form::Sts | Form::Time => Some(Dbr { base, form }),
-            Form::Gr | Form::Ctrl => None,
-        }
+        Some(Dbr { base, form })
     }
 
     /// The number of the type.
@@ -141,7 +144,7 @@ impl Dbr {
     pub fn element(self) -> u32
         ensures { result ≡ element_size self.base }
     {
-        [40, 2, 4, 2, 1, 4, 8][self.base as usize]
+        self.base.element()
     }
 
     /// Where this many elements end, in bytes.

@@ -10,6 +10,8 @@ pub enum LayoutFault {
     BadType,
     /// The bytes don't hold as many elements as they are said to.
     Short,
+    /// The type needs properties of the variable, and none of its base were given.
+    NoProperties,
     /// The payload would be larger than `MAX_PAYLOAD`.
     TooLarge,
     /// The payload is fine, but the allocator had no memory for it.
@@ -21,6 +23,7 @@ impl fmt::Display for LayoutFault {
         f.write_str(match self {
             LayoutFault::BadType => "type not served",
             LayoutFault::Short => "too short for its elements",
+            LayoutFault::NoProperties => "no properties are there",
             LayoutFault::TooLarge => "larger than a payload may be",
             LayoutFault::OutOfMemory => "out of memory",
         })

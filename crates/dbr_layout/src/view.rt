@@ -1,10 +1,12 @@
 //! Payloads that are read.
-ghost use Rattle.std.specs.Prelude.{◌≡◌, ◌*◌, ◌<◌, [], length, slice_index_or, take};
+ghost use Rattle.std.specs.Prelude.{◌≡◌, ◌*◌, length};
 ghost use Rattle.std.specs.List.{concat};
 
-use crate::dbr::Dbr;
+use crate::dbr::{Dbr, Form};
 use crate::fault::LayoutFault;
 use crate::fields::{severity_in, stamp_in, status_in};
+use crate::props::Props;
+use crate::sized::Elements;
 use std::marker::Model;
 
 /// When a value was taken, from the start of 1990 in UTC on.
@@ -38,7 +40,7 @@ impl<'a> Model for View<'a> {
 impl<'a> View<'a> {
     ghost use Rattle.dbr_layout.specs.Conversion.{given_count};
     ghost use Rattle.dbr_layout.specs.Dbr.{element_size};
-    ghost use Rattle.dbr_layout.specs.Parts.{AreSized};
+    ghost use Rattle.dbr_layout.specs.Elements.{AreSized};
     ghost use Rattle.dbr_layout.specs.View.{shown};
 
     /// What the bytes hold as `count` elements of the type with the number `dtype`. Bytes past the
@@ -96,6 +98,16 @@ impl<'a> View<'a> {
         stamp_in(self.dbr.form, self.bytes)
     }
 
+    /// The properties of the variable, where the form is CTRL: a GR form tells fewer limits.
+    pub(crate) fn properties(&self) -> Option<Props<'a>>
+        ensures { result ≡ self.now.parts.properties }
+    {
+        match self.dbr.form {
+            Form::Ctrl => Some(Props::new(self.dbr.base, &self.bytes[4..])),
+            Form::Plain | Form::Sts | Form::Time | Form::Gr => None,
+        }
+    }
+
     /// The bytes of the elements.
     pub fn elements(&self) -> &'a [u8]
         ensures bytes { result.now ≡ concat self.now.parts.elements }
@@ -105,21 +117,15 @@ impl<'a> View<'a> {
         &self.bytes[self.dbr.offset() as usize..self.dbr.value_end(self.count)]
     }
 
-    /// The bytes of the first elements, `count` of them where as many are there.
-    pub(crate) fn first(&self, count: u32) -> &'a [u8]
-        ensures bytes { result.now ≡ concat (take count self.now.parts.elements) }
-        ensures sized { AreSized (element_size self.now.dbr.base) self.now.parts.elements }
+    /// The elements, one by one.
+    pub(crate) fn items(&self) -> Elements<'a>
+        ensures size { result.size ≡ element_size self.now.dbr.base }
+        ensures items { result.items ≡ self.now.parts.elements }
     {
-        &self.bytes[self.dbr.offset() as usize..self.dbr.value_end(self.count.min(count))]
-    }
-
-    /// The bytes of the element at an index.
-    pub(crate) fn element(&self, index: u32) -> &'a [u8]
-        requires { index < length self.now.parts.elements }
-        ensures bytes { result.now ≡ slice_index_or self.now.parts.elements index [] }
-        ensures len { length result.now ≡ element_size self.now.dbr.base }
-    {
-        let start = self.dbr.value_end(index);
-        &self.bytes[start..start + self.dbr.element() as usize]
+        Elements::new(
+            self.dbr.element(),
+            self.count,
+            &self.bytes[self.dbr.offset() as usize..],
+        )
     }
 }

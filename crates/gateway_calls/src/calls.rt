@@ -7,7 +7,7 @@ ghost use Rattle.gateway_state.specs.Numbers.{is_past_numbers, runs_out};
 ghost use Rattle.gateway_state.specs.Step.{step, run, taken};
 ghost use Rattle.gateway_state.specs.Answer.{reading};
 ghost use Rattle.gateway_state.specs.Asked.{stands, ends, queued};
-ghost use Rattle.gateway_state.specs.Interest.{subscription_of};
+ghost use Rattle.gateway_state.specs.Interest.{property_subscription_of, subscription_of};
 ghost use Rattle.gateway_state.specs.Rights.{rights_asked};
 ghost use Rattle.gateway_state.specs.Variables.{asks};
 ghost use Rattle.gateway_calls.specs.Searching.{IsSearched};
@@ -77,6 +77,12 @@ pub trait GatewayCalls {
     /// The present subscription of a variable upstream, nothing where there is none.
     fn subscription(&mut self, name: &Name) -> Result<Option<Sub>, Failed>
         ensures found { IfOk result (λ answer. Some answer ≡ option_map (λ w. subscription_of w name.now) (state self.old)) }
+        ensures failed { IsOk result ↔ IsSome (state self.old) }
+        ensures same { state self.new ≡ state self.old };
+
+    /// The ID of the present subscription to a variable's properties, nothing where there is none.
+    fn property_subscription(&mut self, name: &Name) -> Result<Option<u32>, Failed>
+        ensures found { IfOk result (λ answer. Some answer ≡ option_map (λ w. property_subscription_of w name.now) (state self.old)) }
         ensures failed { IsOk result ↔ IsSome (state self.old) }
         ensures same { state self.new ≡ state self.old };
 

@@ -1,5 +1,5 @@
 -- An event looks at as many rows of clients as it does by itself and what follows from it does.
-use Rattle.std.proofs.Common.{◌≡◌, ◌≤◌, ℕ, ◌+◌, ◌*◌, List, true, false, cond, eqb, Option, Some, None, arith}
+use Rattle.std.proofs.Common.{◌≡◌, ◌≤◌, ℕ, ◌+◌, ◌*◌, List, Bool, true, false, cond, eqb, Option, Some, None, arith}
 use Rattle.std.specs.Prelude.{Ok, Err, Result}
 use Rattle.std.specs.List.{find}
 use Rattle.ca_message.specs.declared.codes.TheConstants.{ECA_NORMAL}
@@ -26,27 +26,25 @@ use Rattle.gateway_core.specs.Looks.{direct_looks, event_looks, request_looks, u
 use Rattle.gateway_notices.specs.Looks.{looks_after}
 use Rattle.gateway_rows.specs.Own.{IsWithin, channels_on, own_over, reads_on, subs_on}
 use Rattle.gateway_rows.proofs.OwnStays.{reads_on_owed, subs_on_owed}
-use Rattle.gateway_state.specs.declared.cached.LastMessage.{LastMessage}
 use Rattle.gateway_state.specs.declared.event.Dest.TheVariants.{Session, Upstream}
 use Rattle.gateway_state.specs.declared.event.Event.{Event}
 use Rattle.gateway_state.specs.declared.event.Event.TheVariants.{Opened, Lost, Client, UpOpened, UpLost, Server, Found, Search, Sweep, Edit, Drain}
+use Rattle.gateway_state.specs.Answer.{native_in}
 use Rattle.gateway_state.specs.Asked.{acts}
 use Rattle.gateway_state.specs.Direct.{direct_effect}
 use Rattle.gateway_state.specs.Gateway.{Gateway}
 use Rattle.gateway_state.specs.Variables.{is_creating}
-use Rattle.gateway_state.specs.Servers.{concerned_owed, has_other_alarm, is_value, reads_failed, replied, server_said, subject_of, updated_by, updated_link, updated_under, with_cached}
+use Rattle.gateway_state.specs.Servers.{concerned_owed, concerns, fails_without, held_with, is_told, reads_failed, replied, server_said, subject_of, updated_by, updated_link, updated_under, with_held}
 use Rattle.gateway_state.specs.Updates.{concerned}
 use Rattle.link_table.specs.declared.links.Link.{Link}
 use Rattle.link_table.specs.declared.links.LinkState.{LinkState}
 use Rattle.link_table.specs.declared.links.LinkState.TheVariants.{Creating, Connected, Unusable}
 use Rattle.link_table.specs.declared.links.Subject.{Subject}
-use Rattle.link_table.specs.declared.links.Subject.TheVariants.{Values, Properties}
 use Rattle.link_table.specs.declared.links.Subscription.{Subscription}
-use Rattle.link_table.specs.Links.{has_subscription, is_link}
+use Rattle.link_table.specs.Links.{has_subscription, is_link, sub_at}
 use Rattle.server_messages.specs.Looks.{reply_looks}
 use Rattle.touched_rows.specs.declared.touched.Touched.TheVariants.{Interest, Nothing, Value}
 use Rattle.touched_rows.specs.Touches.{cancel_touches_by, clear_touches_by, created_touches_over, event_touches, new_read, read_touches_by, reply_touches, request_touches, sub_touches_by, update_touches_over, update_touches_under, value_touches}
-use Rattle.value_cache.specs.Held.{held_after}
 
 -- nothing followed
 quiet : (before direct after own : ℕ) → direct ≤ before + 2 * own → after ≤ direct + 0 → after ≤ before + (4 + 8 * own)
@@ -129,36 +127,34 @@ module _ (then : Gateway) (direct after : ℕ) where
 -- ---- servers' messages
 
 module _ (w : Gateway) (before direct after : ℕ) where
-  looked_over : (dtype count : ℕ) (payload : List ℕ) (link : Link) (state : LinkState) (sub : Option Subscription) → direct ≤ before + 2 * own_over w (Some link)
-      → IsWithin (looks_after (value_touches link state sub dtype count payload) (updated_link link state sub dtype count payload w)) direct after
+  looked_over : (subject : Subject) (dtype count : ℕ) (payload : List ℕ) (link : Link) (state : LinkState) (sub : Option Subscription) → direct ≤ before + 2 * own_over w (Some link)
+      → IsWithin (looks_after (value_touches subject link state sub dtype count payload) (updated_link subject link state sub dtype count payload w)) direct after
       → after ≤ before + (4 + 8 * own_over w (Some link))
-  looked_over dtype count payload link (Connected sid native native_count) (Some sub) first =
-      let differs = has_other_alarm w link.cid dtype count payload in
-      let row : LastMessage = record { server = link.server; cid = link.cid; held = held_after dtype count payload sub.count } in
-      let then : Gateway = with_cached row (concerned_owed link.name differs w) in
-      elim (is_value native sub.count dtype count payload)
+  looked_over subject dtype count payload link (Connected sid native native_count) (Some sub) first =
+      let passes : ClientSub → Bool = concerns subject w link.cid dtype count payload in
+      let then : Gateway = with_held link.server link.cid (held_with subject dtype count payload sub.count) (concerned_owed link.name passes w) in
+      elim (is_told subject native sub.count dtype count payload)
       as (λ t. IsWithin (looks_after (cond t (Value link.name) Nothing) (cond t then w)) direct after → after ≤ before + (4 + 8 * own_over w (Some link))) [
         | true ↦
             λ rest. told before direct after (channels_on w link.name) (subs_on w link.name) (reads_on w link.name) (subs_on then link.name) (reads_on then link.name) first rest
-            (subs_on_owed link.name (concerned w link.name differs) w) (reads_on_owed link.name (concerned w link.name differs) w)
+            (subs_on_owed link.name (concerned w link.name passes) w) (reads_on_owed link.name (concerned w link.name passes) w)
         | false ↦ λ rest. quiet before direct after (own_over w (Some link)) first rest
       ]
-  looked_over dtype count payload link (Connected sid native native_count) None first = λ rest. quiet before direct after (own_over w (Some link)) first rest
-  looked_over dtype count payload link Creating sub first = λ rest. quiet before direct after (own_over w (Some link)) first rest
-  looked_over dtype count payload link Unusable sub first = λ rest. quiet before direct after (own_over w (Some link)) first rest
+  looked_over subject dtype count payload link (Connected sid native native_count) None first = λ rest. quiet before direct after (own_over w (Some link)) first rest
+  looked_over subject dtype count payload link Creating sub first = λ rest. quiet before direct after (own_over w (Some link)) first rest
+  looked_over subject dtype count payload link Unusable sub first = λ rest. quiet before direct after (own_over w (Some link)) first rest
 
-  -- of properties nothing is taken
   looked_under : (subject : Subject) (status dtype count : ℕ) (payload : List ℕ) (link : Link) → direct ≤ before + 2 * own_over w (Some link)
       → IsWithin (looks_after (update_touches_under subject status dtype count payload link) (updated_under subject status dtype count payload link w)) direct after
       → after ≤ before + (4 + 8 * own_over w (Some link))
-  looked_under Values status dtype count payload link first =
-      let sub : Option Subscription = link.subscriptions.values in
-      let then : Gateway = updated_link link link.state sub dtype count payload w in
+  looked_under subject status dtype count payload link first =
+      let sub : Option Subscription = sub_at subject link.subscriptions in
+      let then : Gateway = updated_link subject link link.state sub dtype count payload w in
+      let failed : Gateway = reads_failed (fails_without subject (native_in link.state)) w link.name in
       elim (eqb status ECA_NORMAL)
-      as (λ t. IsWithin (looks_after (cond t (value_touches link link.state sub dtype count payload) Nothing) (cond t then (reads_failed w link.name))) direct after
+      as (λ t. IsWithin (looks_after (cond t (value_touches subject link link.state sub dtype count payload) Nothing) (cond t then failed)) direct after
       → after ≤ before + (4 + 8 * own_over w (Some link)))
-      [ true ↦ looked_over dtype count payload link link.state sub first | false ↦ λ rest. quiet before direct after (own_over w (Some link)) first rest ]
-  looked_under Properties status dtype count payload link first = λ rest. quiet before direct after (own_over w (Some link)) first rest
+      [ true ↦ looked_over subject dtype count payload link link.state sub first | false ↦ λ rest. quiet before direct after (own_over w (Some link)) first rest ]
 
   looked_by : (id status dtype count : ℕ) (payload : List ℕ) (found : Option Link) → direct ≤ before + 2 * own_over w found
       → IsWithin (looks_after (update_touches_over id status dtype count payload found) (updated_by id status dtype count payload found w)) direct after

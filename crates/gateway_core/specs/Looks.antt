@@ -24,8 +24,8 @@ direct_looks w (events.Client number message) = Some 4
 direct_looks w (events.Server number message) = reply_looks w number (reply_of message.head message.payload)
 direct_looks w event = Some 0
 
--- An update may look eight times at each channel, subscription and waiting read of its variable, and four
--- times more, however many rows there are. Rights, and a channel that goes, are told to all who use the
+-- An update, of a value or of properties, may look eight times at each channel, subscription and waiting read of
+-- its variable, and four times more, however many rows there are. Rights, and a channel that goes, are told to all who use the
 -- variable; nothing else that a server says is looked at for a client
 abbrev pub update_looks : Gateway → ℕ → Result ServerReply ReplyFault → Option ℕ
 update_looks w server (Ok (says.EventAdd id status dtype count value)) =

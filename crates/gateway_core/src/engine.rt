@@ -7,7 +7,7 @@ ghost use Rattle.gateway_state.specs.Numbers.{is_past_numbers, runs_out};
 ghost use Rattle.gateway_state.specs.Step.{step, run, taken};
 ghost use Rattle.gateway_state.specs.Answer.{reading};
 ghost use Rattle.gateway_state.specs.Asked.{stands, ends, queued};
-ghost use Rattle.gateway_state.specs.Interest.{subscription_of};
+ghost use Rattle.gateway_state.specs.Interest.{property_subscription_of, subscription_of};
 ghost use Rattle.gateway_state.specs.Rights.{rights_asked};
 ghost use Rattle.gateway_state.specs.Variables.{asks};
 ghost use Rattle.gateway_calls.specs.Searching.{IsSearched};
@@ -181,6 +181,19 @@ impl Engine {
     {
         match &self.rows {
             Some(rows) => Ok(rows.subscription_of(name)),
+            None => Err(Failed),
+        }
+    }
+
+    /// The ID of the present subscription to a variable's properties, nothing where there is none.
+    pub fn property_subscription(&mut self, name: &Name) -> Result<Option<u32>, Failed>
+        ensures found { IfOk result (λ answer. Some answer ≡ option_map (λ w. property_subscription_of w name.now) self.old.state) }
+        ensures failed { IsOk result ↔ IsSome self.old.state }
+        ensures same { self.new.state ≡ self.old.state }
+        ensures looks { self.new.visits ≡ self.old.visits }
+    {
+        match &self.rows {
+            Some(rows) => Ok(rows.property_subscription_of(name)),
             None => Err(Failed),
         }
     }

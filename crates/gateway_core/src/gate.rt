@@ -43,6 +43,10 @@ impl GatewayCalls for Engine {
         Engine::subscription(self, name)
     }
 
+    fn property_subscription(&mut self, name: &Name) -> Result<Option<u32>, Failed> {
+        Engine::property_subscription(self, name)
+    }
+
     fn rights(&mut self, session: u32, sid: u32) -> Result<Option<u32>, Failed> {
         Engine::rights(self, session, sid)
     }

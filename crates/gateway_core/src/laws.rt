@@ -2,12 +2,13 @@
 ghost use Rattle.std.specs.Prelude.{◌≡◌, List, [], ◌∷◌, ◌++◌, false, if◌then◌else◌};
 ghost use Rattle.std.specs.List.{All};
 ghost use Rattle.gateway_state.specs.declared.config.Config.{Config};
+ghost use Rattle.link_table.specs.declared.links.Subject.TheVariants.{Properties};
 ghost use Rattle.rule_desk.specs.declared.policy.Policy.{Policy};
 ghost use Rattle.gateway_state.specs.declared.event.Dest.{Dest};
 ghost use Rattle.gateway_state.specs.declared.event.Event.{Event};
 ghost use Rattle.gateway_state.specs.Delivered.{IsWireForm, given_by, is_loss_of};
 ghost use Rattle.gateway_state.specs.Gateway.{Gateway, initial};
-ghost use Rattle.gateway_state.specs.Settled.{AreInOrder, HasHostsFixed, HasLinksApart, HasLinksOnServers, HasSessionsConnected, HasSubsApart, HasSubsOnChannels, HasWriteIdsBelow, HasWritesOnLinks, IsInUse, IsKeptPosted, IsSettled, IsSubscribedExactly, IsUpToDate, IsWaiting};
+ghost use Rattle.gateway_state.specs.Settled.{AreInOrder, HasHostsFixed, HasLinksApart, HasLinksOnServers, HasSessionsConnected, HasSubsApart, HasSubsOnChannels, HasWriteIdsBelow, HasWritesOnLinks, IsInUse, IsKeptPosted, IsSettled, IsSubscribedExactly, IsSubscribedTo, IsUpToDate, IsWaiting};
 ghost use Rattle.gateway_state.specs.Step.{consequences, delivered, makes, run};
 
 /// In every state that a run reaches nobody is owed anything: no pass over channels, links, waiting
@@ -44,10 +45,13 @@ pub fn run_leaves_reads_that_wait()
 {}
 
 /// In every state that a run reaches each variable has a subscription upstream exactly for what its
-/// readers want together, and none where nobody reads it.
+/// readers want together, and none where nobody reads it; and one to its properties exactly where a reader
+/// asks for them.
 pub fn run_subscribes_exactly()
-    ensures { (config : Config) (policy : Policy) (events : List Event)
+    ensures values { (config : Config) (policy : Policy) (events : List Event)
         → IsSubscribedExactly (run (initial config policy) events) }
+    ensures properties { (config : Config) (policy : Policy) (events : List Event)
+        → IsSubscribedTo Properties (run (initial config policy) events) }
 {}
 
 /// In every state that a run reaches a client's subscription is owed an update as long as its channel

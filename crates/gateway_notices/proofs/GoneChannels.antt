@@ -1,9 +1,9 @@
 -- A channel is gone with its link.
-use Rattle.std.proofs.Common.{◌≡◌, Bool, true, false, cond, eqb, ◌&&◌, Some, None, refl, sym, ap, ◌∙◌}
+use Rattle.std.proofs.Common.{◌≡◌, Bool, true, false, eqb, ◌&&◌, Some, refl, ap, ◌∙◌}
 use Rattle.channel_table.specs.declared.channels.Channel.{Channel}
-use Rattle.gateway_state.specs.declared.notice.ChannelNotice.TheVariants.{Disconnected, RightsChanged}
+use Rattle.gateway_state.specs.declared.notice.ChannelNotice.TheVariants.{Disconnected}
 use Rattle.gateway_state.specs.Gateway.{Gateway}
-use Rattle.gateway_state.specs.Notices.{channel_notice, channel_notices}
+use Rattle.gateway_state.specs.Notices.{channel_notice}
 use Rattle.gateway_state.specs.Resolution.{is_real}
 use Rattle.gateway_state.specs.Rights.{lead_in, link_connected, rights_of}
 use Rattle.gateway_state.specs.Variables.{link_of}

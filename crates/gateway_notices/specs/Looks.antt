@@ -5,8 +5,8 @@ use Rattle.gateway_state.specs.Gateway.{Gateway}
 use Rattle.touched_rows.specs.declared.touched.Touched.{Touched}
 use Rattle.touched_rows.specs.declared.touched.Touched.TheVariants.{Nothing, Value, Interest, Link, Links, Read, Subscription}
 
--- A value is told to each subscription to it and each read that waits for it. What a server is asked for
--- is counted, whatever rows there are: a read or a subscription that is new is looked at alone
+-- A value, or properties, are told to each subscription to the variable and each read that waits for it. What a
+-- server is asked for is counted, whatever rows there are: a read or a subscription that is new is looked at alone
 abbrev pub looks_after : Touched → Gateway → Option ℕ
 looks_after (Value name) w = Some (6 * subs_on w name + 2 * reads_on w name)
 looks_after Nothing w = Some 0

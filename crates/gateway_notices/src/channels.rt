@@ -1,5 +1,5 @@
 //! What clients are owed about their channels.
-ghost use Rattle.std.specs.Prelude.{◌≡◌, ◌≤◌, filter_map, fold, OnOk, IfOk};
+ghost use Rattle.std.specs.Prelude.{◌≡◌, ◌≤◌, fold, OnOk, IfOk};
 ghost use Rattle.gateway_state.specs.Notices.{channel_notice, channel_notices, channel_told, channels_told, with_reach};
 ghost use Rattle.touched_rows.specs.Touched.{channel_notices_on, channels_told_on};
 

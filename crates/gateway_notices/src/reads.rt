@@ -1,7 +1,7 @@
 //! What clients are owed about reads that wait.
 ghost use Rattle.std.specs.Prelude.{◌≡◌, ◌≤◌, ◌+◌, ◌*◌, fold, OnOk, IfOk};
 ghost use Rattle.gateway_rows.specs.Own.{reads_on};
-ghost use Rattle.gateway_state.specs.Notices.{answered_natively, answered_over, read_notice, read_notices, read_told, reads_told};
+ghost use Rattle.gateway_state.specs.Notices.{answered_over, read_notice, read_notices, read_told, reads_told};
 ghost use Rattle.gateway_state.specs.Told.{KnowRights};
 ghost use Rattle.gateway_state.specs.Variables.{link_of};
 ghost use Rattle.touched_rows.specs.Touched.{one_read_told, read_notices_on, reads_told_on};

@@ -1,20 +1,21 @@
 -- What the readers of a variable ask for, by the rights that their clients were last told.
-use Rattle.std.proofs.Common.{◌≡◌, ℕ, ◌==◌, ◌∙◌, true≢false, if◌then◌else◌, List, [], ◌∷◌, ◌++◌, Bool, true, false, cond, ◌&&◌, Option, Some, None, refl, sym, ap}
+use Rattle.std.proofs.Common.{◌≡◌, ℕ, ◌==◌, ◌∙◌, true≢false, if◌then◌else◌, List, [], ◌∷◌, ◌++◌, Bool, true, false, cond, ◌&&◌, ◌||◌, Option, Some, None, refl, sym, ap}
 use Rattle.std.specs.Prelude.{IfSome, filter, map, nat_lt}
-use Rattle.std.specs.List.{All, find}
+use Rattle.std.specs.List.{All, find, list_any}
 use Rattle.std.proofs.lemmas.Bool.{eqb-true}
 use Rattle.std.proofs.lemmas.List.{map-append}
 use Rattle.std.proofs.lemmas.List.Elements.{All-head, All-tail}
+use Rattle.dbr_layout.specs.Needs.{is_state_by}
 use Rattle.channel_table.specs.declared.channels.Channel.{Channel}
 use Rattle.channel_table.specs.declared.subs.ClientSub.{ClientSub}
 use Rattle.channel_table.specs.Channels.{is_channel}
 use Rattle.channel_table.specs.Indexes.{is_to}
-use Rattle.channel_table.specs.Demand.{ask_of_sub, asks_on, channel_ask, own_ask, reach_ask, reads_over, sub_ask, want_on}
+use Rattle.channel_table.specs.Demand.{ask_of_sub, asks_on, channel_ask, own_ask, props_on, reach_ask, reads_over, sub_ask, want_on}
 use Rattle.link_table.specs.declared.links.Subject.TheVariants.{Values}
 use Rattle.mask_merge.specs.declared.want.Ask.{Ask}
-use Rattle.mask_merge.specs.Counts.{asks_in}
+use Rattle.mask_merge.specs.Counts.{asks_in, asks_props}
 use Rattle.gateway_state.specs.Gateway.{Gateway}
-use Rattle.gateway_state.specs.Interest.{interest_of, is_read_through, is_reader, is_subscriber, reader_ask, readers, wanted_by}
+use Rattle.gateway_state.specs.Interest.{ask_props, interest_of, is_read_through, is_reader, is_subscriber, reader_ask, readers, wanted_by}
 use Rattle.gateway_state.specs.Rights.{channel_of, may_read, rights_of}
 use Rattle.gateway_state.specs.Told.{KnowRights, KnowsRights}
 use Rattle.gateway_state.proofs.ToldRights.{found_told}
@@ -118,6 +119,16 @@ readers_as_counted w name told =
     let channels = channels_counted name w.clients.channels in
     asks_apart (map (sub_ask w.clients.channels) (filter (is_to w.clients.channels name) w.clients.subs)) (map channel_ask (filter (is_on name) w.clients.channels))
     ∙ (λ i. subs i ++ channels i) ∙ sym (readers_as_told w name told)
+
+-- what those need who are counted is what those need who ask
+needed_by_asks : (states : Bool) (counted : List (Option Ask)) → list_any (asks_props states) counted ≡ list_any (λ ask. asks_props states (Some ask)) (asks_in counted)
+needed_by_asks states [] = refl
+needed_by_asks states (None ∷ counted) = needed_by_asks states counted
+needed_by_asks states (Some ask ∷ counted) = ap (λ t. asks_props states (Some ask) || t) (needed_by_asks states counted)
+
+pub properties_as_counted : (w : Gateway) (name : List ℕ) (dtype : ℕ) → KnowRights w → props_on w.clients.channels w.clients.subs (is_state_by dtype) name ≡ ask_props dtype (readers w name)
+properties_as_counted w name dtype told =
+    needed_by_asks (is_state_by dtype) (asks_on w.clients.channels w.clients.subs name) ∙ ap (ask_props dtype) (readers_as_counted w name told)
 
 pub interest_as_counted : (w : Gateway) (name : List ℕ) (native : ℕ) → KnowRights w → want_on w.clients.channels w.clients.subs native name ≡ interest_of w name native
 interest_as_counted w name native told = ap (wanted_by Values 0 native) (readers_as_counted w name told)

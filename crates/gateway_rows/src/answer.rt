@@ -17,7 +17,7 @@ use link_table::Link;
 use std::alloc::{AllocError, Global};
 
 impl Rows {
-    /// A link's last message, as an asked type and count; nothing where it doesn't cover that count.
+    /// What a link was told last, as an asked type and count; nothing where these aren't covered.
     pub fn cached_value(
         &self,
         cid: u32,
@@ -33,8 +33,8 @@ impl Rows {
         }
     }
 
-    /// Keeps a link's last message as an asked type and count, where it covers that count, so that all
-    /// who ask for these are given one payload. What the gateway knows is as before, also at an error.
+    /// Keeps what a link was told last as an asked type and count, where these are covered, so that all
+    /// who ask for them are given one payload. What the gateway knows is as before, also at an error.
     pub fn keep_value(
         &mut self,
         cid: u32,
@@ -45,7 +45,7 @@ impl Rows {
         ensures { self.new ≡ self.old }
     {
         match self.cache.get(cid) {
-            Some(last) if last.held.covers(meant_count(native, count)) => self
+            Some(last) if last.held.covers(dtype, meant_count(native, count)) => self
                 .cache
                 .keep(self.alloc, cid, dtype, count),
             _ => Ok(()),
@@ -172,7 +172,7 @@ fn cached_as(
 ) -> Result<Option<Given>, AllocError>
     ensures { IfOk result (λ given. given ≡ cached_as native dtype count (Some last.now)) }
 {
-    if !last.held.covers(meant_count(native, count)) {
+    if !last.held.covers(dtype, meant_count(native, count)) {
         return Ok(None);
     }
     match last.held.answer(alloc, dtype, count)? {
@@ -193,7 +193,7 @@ pub fn time_of(dtype: u16) -> u16
 }
 
 /// The number of a plain type's CTRL form; any other number stays.
-pub(crate) fn ctrl_of(dtype: u16) -> u16
+pub fn ctrl_of(dtype: u16) -> u16
     ensures { result ≡ ctrl_of dtype }
 {
     if dtype < PLAIN_TYPES {
@@ -204,7 +204,7 @@ pub(crate) fn ctrl_of(dtype: u16) -> u16
 }
 
 /// Whether an asked type can't be told without the properties of a variable of a native type.
-fn needs_by_number(native: u16, dtype: u16) -> bool
+pub fn needs_by_number(native: u16, dtype: u16) -> bool
     ensures { result ≡ needs_by_number native dtype }
 {
     has_properties_by(dtype) || is_state_by(native) && is_text_by(dtype)

@@ -58,24 +58,24 @@ impl Rows {
         }
     }
 
-    /// Forgets a link's last message.
+    /// Forgets all that a link was told.
     fn forget_value(&mut self, cid: u32)
         ensures { self.new ≡ without_cached cid self.old }
     {
         self.cache.remove(cid);
     }
 
-    /// Forgets what a link was told of a subject.
+    /// Forgets what a link was told of a subject: with its value its properties too.
     pub fn forget(&mut self, subject: Subject, cid: u32)
         ensures { self.new ≡ forgotten subject cid self.old }
     {
         match subject {
             Subject::Values => self.forget_value(cid),
-            Subject::Properties => {}
+            Subject::Properties => self.cache.drop_properties(cid),
         }
     }
 
-    /// Removes a link and its last message.
+    /// Removes a link and what it was told.
     pub fn remove_link(&mut self, server: u32, cid: u32)
         ensures { self.new ≡ without_link server cid self.old }
     {

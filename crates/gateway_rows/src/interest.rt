@@ -1,14 +1,16 @@
 //! What the readers of a variable want together.
 ghost use Rattle.std.specs.Prelude.{◌≡◌};
-ghost use Rattle.gateway_state.specs.Interest.{interest_of, is_for, minor_of, sent_count, sent_for, subscription_of, wanted_for};
+ghost use Rattle.gateway_state.specs.Interest.{ask_props, interest_of, is_for, minor_of, property_subscription_of, property_want, readers, sent_count, sent_for, subscription_of, subscription_to, wanted_by, wanted_for};
 ghost use Rattle.gateway_state.specs.Notices.{type_for};
 ghost use Rattle.gateway_state.specs.Told.{KnowRights};
+ghost use Rattle.link_table.specs.declared.links.Subject.TheVariants.{Properties};
 
 use crate::answer::{ctrl_of, time_of};
 use crate::state::Rows;
+use dbr_layout::is_state_by;
 use gateway_state::{Sub, UPDATE_MINOR};
 use link_table::{LinkState, Subject, Subscription};
-use mask_merge::Want;
+use mask_merge::{PROPERTY_EVENT, Want};
 use pv_name::Name;
 
 impl Rows {
@@ -22,6 +24,26 @@ impl Rows {
         self.clients.want_on(name, native)
     }
 
+    /// Whether one of the readers of a variable of this native type needs its properties. This looks
+    /// at no row either.
+    fn needs_properties(&self, name: &Name, dtype: u16) -> bool
+        requires told { KnowRights self.now }
+        ensures { result ≡ ask_props dtype (readers self.now name.now) }
+    {
+        self.clients.props_on(name, is_state_by(dtype))
+    }
+
+    fn property_interest_of(&self, name: &Name, dtype: u16) -> Option<Want>
+        requires told { KnowRights self.now }
+        ensures { result ≡ wanted_by Properties dtype 0 (readers self.now name.now) }
+    {
+        if self.needs_properties(name, dtype) {
+            Some(property_want())
+        } else {
+            None
+        }
+    }
+
     /// What the readers of a variable of this native type and count want of a subject.
     pub fn wanted_for(&self, subject: Subject, name: &Name, dtype: u16, native: u32) -> Option<Want>
         requires told { KnowRights self.now }
@@ -29,24 +51,40 @@ impl Rows {
     {
         match subject {
             Subject::Values => self.interest_of(name, native),
-            Subject::Properties => None,
+            Subject::Properties => self.property_interest_of(name, dtype),
         }
+    }
+
+    fn subscription_to(&self, subject: Subject, name: &Name) -> Option<Sub>
+        ensures { result ≡ subscription_to subject self.now name.now }
+    {
+        let link = self.link_of(name)?;
+        let LinkState::Connected { .. } = link.state else {
+            return None;
+        };
+        let subscription = link.subscriptions.at(subject)?;
+        Some(Sub {
+            id: subscription.id,
+            mask: subscription.mask,
+            count: subscription.count,
+        })
     }
 
     /// The present subscription to a variable's values.
     pub fn subscription_of(&self, name: &Name) -> Option<Sub>
         ensures { result ≡ subscription_of self.now name.now }
     {
-        let link = self.link_of(name)?;
-        let LinkState::Connected { .. } = link.state else {
-            return None;
-        };
-        let subscription = link.subscriptions.values?;
-        Some(Sub {
-            id: subscription.id,
-            mask: subscription.mask,
-            count: subscription.count,
-        })
+        self.subscription_to(Subject::Values, name)
+    }
+
+    /// The ID of the present subscription to a variable's properties.
+    pub fn property_subscription_of(&self, name: &Name) -> Option<u32>
+        ensures { result ≡ property_subscription_of self.now name.now }
+    {
+        match self.subscription_to(Subject::Properties, name) {
+            Some(sub) => Some(sub.id),
+            None => None,
+        }
     }
 
     /// The minor version that a server said.
@@ -57,6 +95,16 @@ impl Rows {
             Some(row) => row.minor,
             None => 0,
         }
+    }
+}
+
+/// What is asked of a server that is to tell a variable's properties.
+fn property_want() -> Want
+    ensures { result ≡ property_want }
+{
+    Want {
+        mask: PROPERTY_EVENT,
+        count: 1,
     }
 }
 

@@ -23,7 +23,10 @@ mod state;
 mod telling;
 mod variables;
 
-pub use answer::{fits_payload, meant_count, reach_with, read_refusal, time_of, value_refusal};
+pub use answer::{
+    ctrl_of, fits_payload, meant_count, needs_by_number, reach_with, read_refusal, time_of,
+    value_refusal,
+};
 pub use fault::Refusal;
 pub use interest::{is_for, sent_for, type_for};
 pub use rights::may_read;

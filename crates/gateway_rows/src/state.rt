@@ -20,7 +20,7 @@ pub struct Rows {
     pub clients: Table,
     /// Servers, links, and the numbers that are given out.
     pub upstream: Links,
-    /// The last message of each link.
+    /// What each link was told last.
     pub cache: Cache,
     /// The policy that holds, and the searches that are remembered.
     pub searches: Searches,

@@ -1,17 +1,18 @@
--- No link ever has two last messages.
-use Rattle.std.proofs.Common.{◌≡◌, ℕ, ◌+◌, ◌≤◌, List, [], ◌∷◌, ◌++◌, Bool, true, false, cond, not, length, refl, ap, subst, ◌∙◌, arith}
+-- No link ever has two rows of last messages.
+use Rattle.std.proofs.Common.{◌≡◌, ℕ, ◌≤◌, List, [], ◌∷◌, Bool, true, false, cond, eqb, length, refl, sym, ap, subst, ◌∙◌, arith}
 use Rattle.std.specs.Prelude.{filter}
 use Rattle.std.proofs.lemmas.Bool.{eqb-true}
+use Rattle.value_cache.specs.Held.{Held, nothing}
 use Rattle.gateway_state.specs.declared.cached.LastMessage.{LastMessage}
 use Rattle.gateway_state.specs.declared.config.Config.{Config}
 use Rattle.rule_desk.specs.declared.policy.Policy.{Policy}
 use Rattle.gateway_state.specs.declared.event.Event.{Event}
-use Rattle.gateway_state.specs.CachedRows.{is_cached_by_another, is_cached_elsewhere, is_cached_of, with_row}
+use Rattle.gateway_state.specs.CachedRows.{is_cached_by_another, is_cached_elsewhere, is_cached_of, put_row, without_told}
 use Rattle.gateway_state.specs.Gateway.{Gateway, initial}
 use Rattle.gateway_state.specs.Step.{run}
 use Rattle.gateway_state.proofs.Kept.{IsKept, KeepsLinks, messages_kept}
 use Rattle.gateway_state.proofs.KeptByRuns.{kept_run}
-use Rattle.gateway_state.proofs.LinksApart.{passing_filtered, passing_pushed}
+use Rattle.gateway_state.proofs.LinksApart.{passing_changed, passing_filtered}
 
 abbrev pub AreCachedApart : List LastMessage → Type 0
 AreCachedApart rows = (cid : ℕ) → length (filter (is_cached_of cid) rows) ≤ 1
@@ -24,34 +25,38 @@ apart_filtered stays rows apart cid =
     let most = apart cid in
     omega (arith, passing_filtered (is_cached_of cid) stays rows)
 
--- once a link's row is gone it has none
-none_of : (cid : ℕ) (rows : List LastMessage) → length (filter (is_cached_of cid) (filter (is_cached_elsewhere cid) rows)) ≡ 0
-none_of cid [] = refl
-none_of cid (row ∷ rows) = by (is_cached_of cid row) refl (none_of cid rows)
-  where
-    by : (is : Bool) → is_cached_of cid row ≡ is → length (filter (is_cached_of cid) (filter (is_cached_elsewhere cid) rows)) ≡ 0
-        → length (filter (is_cached_of cid) (cond (not is) (row ∷ filter (is_cached_elsewhere cid) rows) (filter (is_cached_elsewhere cid) rows))) ≡ 0
-    by true is rest = rest
-    by false is rest = rw is rest
+-- a change of what is held of one link leaves the rows of others, and one row at most where there was one at most
+module _ (server cid : ℕ) (change : Held → Held) where
+  others_left : (other : ℕ) (rows : List LastMessage) → eqb cid other ≡ false → filter (is_cached_of other) (put_row server cid change rows) ≡ filter (is_cached_of other) rows
+  others_left other [] differs = rw differs refl
+  others_left other (row ∷ rows) differs = by (is_cached_of cid row) refl (others_left other rows differs)
+    where
+      by : (here : Bool) → is_cached_of cid row ≡ here → filter (is_cached_of other) (put_row server cid change rows) ≡ filter (is_cached_of other) rows
+          → filter (is_cached_of other) (cond here (record row { held = change row.held } ∷ rows) (row ∷ put_row server cid change rows)) ≡ filter (is_cached_of other) (row ∷ rows)
+      by true is rest =
+          let elsewhere : is_cached_of other row ≡ false = ap (λ (n : ℕ). eqb n other) (eqb-true row.cid cid is) ∙ differs in
+          rw elsewhere refl
+      by false is rest = ap (λ (l : List LastMessage). cond (is_cached_of other row) (row ∷ l) l) rest
 
--- a row in place of the one that its link had
-apart_with : (row : LastMessage) (rows : List LastMessage) → AreCachedApart rows → AreCachedApart (with_row row rows)
-apart_with row rows apart cid = by (is_cached_of cid row) refl
-  where
-    left : List LastMessage
-    left = filter (is_cached_elsewhere row.cid) rows
+  one_left : (rows : List LastMessage) → length (filter (is_cached_of cid) rows) ≤ 1 → length (filter (is_cached_of cid) (put_row server cid change rows)) ≤ 1
+  one_left [] most = elim (eqb cid cid) as (λ t. length (cond t (new ∷ []) []) ≤ 1) [ true ↦ omega arith | false ↦ omega arith ]
+    where
+      new : LastMessage
+      new = record { server = server; cid = cid; held = change nothing }
+  one_left (row ∷ rows) most = by (is_cached_of cid row) refl most (one_left rows)
+    where
+      by : (here : Bool) → is_cached_of cid row ≡ here → length (cond here (row ∷ filter (is_cached_of cid) rows) (filter (is_cached_of cid) rows)) ≤ 1
+          → (length (filter (is_cached_of cid) rows) ≤ 1 → length (filter (is_cached_of cid) (put_row server cid change rows)) ≤ 1)
+          → length (filter (is_cached_of cid) (cond here (record row { held = change row.held } ∷ rows) (row ∷ put_row server cid change rows))) ≤ 1
+      by true is most rest = rw is most
+      by false is most rest = rw is (rest most)
 
-    by : (is : Bool) → is_cached_of cid row ≡ is → length (filter (is_cached_of cid) (left ++ row ∷ [])) ≤ 1
-    by true is =
-        let count : length (filter (is_cached_of cid) (left ++ row ∷ [])) ≡ length (filter (is_cached_of cid) left) + cond true 1 0 =
-        passing_pushed (is_cached_of cid) left row ∙ ap (λ (t : Bool). length (filter (is_cached_of cid) left) + cond t 1 0) is in
-        let none : length (filter (is_cached_of cid) left) ≡ 0 = subst (λ (of : ℕ). length (filter (is_cached_of of) left) ≡ 0) (eqb-true row.cid cid is) (none_of row.cid rows) in
-        omega arith
-    by false is =
-        let count : length (filter (is_cached_of cid) (left ++ row ∷ [])) ≡ length (filter (is_cached_of cid) left) + cond false 1 0 =
-        passing_pushed (is_cached_of cid) left row ∙ ap (λ (t : Bool). length (filter (is_cached_of cid) left) + cond t 1 0) is in
-        let most = apart_filtered (is_cached_elsewhere row.cid) rows apart cid in
-        omega arith
+  apart_put : (rows : List LastMessage) → AreCachedApart rows → AreCachedApart (put_row server cid change rows)
+  apart_put rows apart other = by (eqb cid other) refl
+    where
+      by : (own : Bool) → eqb cid other ≡ own → length (filter (is_cached_of other) (put_row server cid change rows)) ≤ 1
+      by true is = subst (λ (of : ℕ). length (filter (is_cached_of of) (put_row server cid change rows)) ≤ 1) (eqb-true cid other is) (one_left rows (apart cid))
+      by false is = subst (λ (l : List LastMessage). length l ≤ 1) (sym (others_left other rows is)) (apart other)
 
 cached_apart_kept : IsKept HasCachedApart
 cached_apart_kept = record {
@@ -62,7 +67,10 @@ cached_apart_kept = record {
     session_changed = λ number change w same apart. apart;
     servers = λ rows w apart. apart;
     cache_left = λ stays w apart. apart_filtered stays w.cache apart;
-    cached = λ row w apart. apart_with row w.cache apart;
+    cached = λ server cid change w apart. apart_put server cid change w.cache apart;
+    untold = λ cid w apart other.
+        let most = apart other in
+        omega (arith, passing_changed (is_cached_of other) (is_cached_of cid) without_told w.cache (λ row. refl));
     searches = λ rows w apart. apart;
     policy = λ policy w apart. apart;
     channel_added = λ session cid name real rights w fixed apart. apart;

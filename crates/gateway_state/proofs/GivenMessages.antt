@@ -137,7 +137,8 @@ module _ (x : Gateway) (event : Event) (dest : Dest) where
     session_changed = λ number change w same grown. grown;
     servers = λ rows w grown. grown;
     cache_left = λ stays w grown. grown;
-    cached = λ row w grown. grown;
+    cached = λ server cid change w grown. grown;
+    untold = λ cid w grown. grown;
     searches = λ rows w grown. grown;
     policy = λ policy w grown. grown;
     channel_added = λ session cid name real rights w fixed grown. grown;

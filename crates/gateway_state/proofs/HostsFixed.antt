@@ -74,7 +74,8 @@ hosts_fixed_kept = record {
         (λ c is. fixed_changed c.session number change w.clients.sessions same is) fixed;
     servers = λ rows w fixed. fixed;
     cache_left = λ stays w fixed. fixed;
-    cached = λ row w fixed. fixed;
+    cached = λ server cid change w fixed. fixed;
+    untold = λ cid w fixed. fixed;
     searches = λ rows w fixed. fixed;
     policy = λ policy w fixed. fixed;
     channel_added = λ session cid name real rights w host fixed.

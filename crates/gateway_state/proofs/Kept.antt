@@ -19,8 +19,10 @@ use Rattle.channel_table.specs.Channels.{is_channel}
 use Rattle.channel_table.specs.Sessions.{is_numbered}
 use Rattle.link_table.specs.declared.links.LinkState.{LinkState}
 use Rattle.link_table.specs.declared.links.Subject.{Subject}
+use Rattle.link_table.specs.declared.links.Subject.TheVariants.{Properties}
 use Rattle.link_table.specs.declared.servers.Server.{Server}
 use Rattle.link_table.specs.declared.writes.WaitingWrite.{WaitingWrite}
+use Rattle.value_cache.specs.Held.{Held}
 use Rattle.gateway_state.specs.declared.cached.LastMessage.{LastMessage}
 use Rattle.gateway_state.specs.declared.event.Dest.{Dest}
 use Rattle.gateway_state.specs.declared.event.Dest.TheVariants as dests
@@ -33,11 +35,11 @@ use Rattle.gateway_state.specs.declared.search.Search.{Search}
 use Rattle.link_table.specs.Links.{new_link}
 use Rattle.gateway_state.specs.Clients.{no_reach, with_channel, without_channel}
 use Rattle.gateway_state.specs.Asked.{stands}
-use Rattle.gateway_state.specs.CachedRows.{with_row}
+use Rattle.gateway_state.specs.CachedRows.{put_row}
 use Rattle.gateway_state.specs.Connections.{fresh, is_to}
 use Rattle.gateway_state.specs.Delivered.{IsSaidBy}
 use Rattle.gateway_state.specs.Gateway.{Gateway}
-use Rattle.gateway_state.specs.Notices.{with_reach, with_subscription_of, without_read}
+use Rattle.gateway_state.specs.Notices.{forgotten, with_reach, with_subscription_of, without_read}
 use Rattle.gateway_state.specs.Servers.{with_link_state, without_link}
 use Rattle.gateway_state.specs.Sessions.{lost, up_lost}
 use Rattle.gateway_state.specs.Subscribing.{sub_of, with_sub, without_sub}
@@ -142,7 +144,8 @@ pub record KeepsRows (P : Gateway → Type 0) : Type 0 where
       → P (with_sessions (change_first (is_numbered number) change w.clients.sessions) w)
   pub servers : (rows : List Server) (w : Gateway) → P w → P (with_servers rows w)
   pub cache_left : (stays : LastMessage → Bool) (w : Gateway) → P w → P (with_cache (filter stays w.cache) w)
-  pub cached : (row : LastMessage) (w : Gateway) → P w → P (with_cache (with_row row w.cache) w)
+  pub cached : (server cid : ℕ) (change : Held → Held) (w : Gateway) → P w → P (with_cache (put_row server cid change w.cache) w)
+  pub untold : (cid : ℕ) (w : Gateway) → P w → P (forgotten Properties cid w)
   pub searches : (rows : List Search) (w : Gateway) → P w → P (with_searches rows w)
   pub policy : (policy : Policy) (w : Gateway) → P w → P (with_policy policy w)
   pub channel_added : (session cid : ℕ) (name real : List ℕ) (rights : ℕ) (w : Gateway) → is_host_fixed (find (is_numbered session) w.clients.sessions) ≡ true → P w

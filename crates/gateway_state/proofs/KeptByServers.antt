@@ -12,20 +12,20 @@ use Rattle.ca_message.specs.declared.to_client.ToClient.TheVariants as replies
 use Rattle.ca_message.specs.declared.to_server.ToServer.TheVariants as requests
 use Rattle.ca_message.specs.ServerReply.{reply_of}
 use Rattle.channel_table.specs.declared.reads.WaitingRead.{WaitingRead}
+use Rattle.channel_table.specs.declared.subs.ClientSub.{ClientSub}
 use Rattle.link_table.specs.declared.links.Link.{Link}
 use Rattle.link_table.specs.declared.links.LinkState.{LinkState}
 use Rattle.link_table.specs.declared.links.LinkState.TheVariants.{Creating, Connected, Unusable}
 use Rattle.link_table.specs.declared.links.Subject.{Subject}
-use Rattle.link_table.specs.declared.links.Subject.TheVariants.{Values, Properties}
 use Rattle.link_table.specs.declared.links.Subscription.{Subscription}
 use Rattle.link_table.specs.declared.table.TheConstants.{LINK_LIMIT, SERVER_LIMIT}
-use Rattle.link_table.specs.Links.{has_subscription, is_link}
-use Rattle.value_cache.specs.Held.{held_after}
-use Rattle.gateway_state.specs.declared.cached.LastMessage.{LastMessage}
+use Rattle.link_table.specs.Links.{has_subscription, is_link, sub_at}
+use Rattle.value_cache.specs.Held.{Held}
 use Rattle.gateway_state.specs.declared.event.Dest.TheVariants.{Upstream}
+use Rattle.gateway_state.specs.Answer.{native_in}
 use Rattle.gateway_state.specs.Asked.{acts, ends, stands}
 use Rattle.gateway_state.specs.Gateway.{Gateway}
-use Rattle.gateway_state.specs.Servers.{answered_creating, concerned_owed, created_for, failed_for, found, gone_for, has_other_alarm, is_usable, is_value, linked, read_failed, reads_failed, replied, rights_given, server_said, subject_of, updated_by, updated_link, updated_under, waits_for, with_cached, with_link_state, without_link}
+use Rattle.gateway_state.specs.Servers.{answered_creating, concerned_owed, concerns, created_for, failed_for, fails_without, found, gone_for, held_with, is_told, is_usable, linked, read_failed, reads_failed, replied, rights_given, server_said, subject_of, updated_by, updated_link, updated_under, waits_for, with_held, with_link_state, without_link}
 use Rattle.gateway_state.specs.Sessions.{introduced, up_opened, with_server}
 use Rattle.gateway_state.specs.Connections.{fresh}
 use Rattle.gateway_state.specs.Notices.{without_read}
@@ -111,23 +111,24 @@ module _ (P : Gateway → Type 0) (kept : KeepsRows P) where
   kept_all_failed [] w holds = holds
   kept_all_failed (read ∷ reads) w holds = kept_all_failed reads (read_failed w read) (kept_read_failed w read holds)
 
-  kept_updated_link : (link : Link) (state : LinkState) (sub : Option Subscription) (dtype count : ℕ) (payload : List ℕ) (w : Gateway) → P w → P (updated_link link state sub dtype count payload w)
-  kept_updated_link link (Connected sid native native_count) (Some sub) dtype count payload w holds =
-      let row : LastMessage = record { server = link.server; cid = link.cid; held = held_after dtype count payload sub.count } in
-      let differs : Bool = has_other_alarm w link.cid dtype count payload in
-      let owed : Gateway = concerned_owed link.name differs w in
-      kept_either P (is_value native sub.count dtype count payload) (with_cached row owed) w
-      (λ _. kept.cached row owed (kept_owed_to_all P kept (concerned w link.name differs) w holds)) holds
-  kept_updated_link link (Connected sid native native_count) None dtype count payload w holds = holds
-  kept_updated_link link Creating sub dtype count payload w holds = holds
-  kept_updated_link link Unusable sub dtype count payload w holds = holds
+  kept_updated_link : (subject : Subject) (link : Link) (state : LinkState) (sub : Option Subscription) (dtype count : ℕ) (payload : List ℕ) (w : Gateway) → P w → P (updated_link subject link state sub dtype count payload w)
+  kept_updated_link subject link (Connected sid native native_count) (Some sub) dtype count payload w holds =
+      let change : Held → Held = held_with subject dtype count payload sub.count in
+      let passes : ClientSub → Bool = concerns subject w link.cid dtype count payload in
+      let owed : Gateway = concerned_owed link.name passes w in
+      kept_either P (is_told subject native sub.count dtype count payload) (with_held link.server link.cid change owed) w
+      (λ _. kept.cached link.server link.cid change owed (kept_owed_to_all P kept (concerned w link.name passes) w holds)) holds
+  kept_updated_link subject link (Connected sid native native_count) None dtype count payload w holds = holds
+  kept_updated_link subject link Creating sub dtype count payload w holds = holds
+  kept_updated_link subject link Unusable sub dtype count payload w holds = holds
 
   kept_updated_under : (subject : Subject) (status dtype count : ℕ) (payload : List ℕ) (link : Link) (w : Gateway) → P w → P (updated_under subject status dtype count payload link w)
-  kept_updated_under Values status dtype count payload link w holds =
-      kept_either P (eqb status ECA_NORMAL) (updated_link link link.state link.subscriptions.values dtype count payload w) (reads_failed w link.name)
-      (λ _. kept_updated_link link link.state link.subscriptions.values dtype count payload w holds)
-      (kept_all_failed (filter (waits_for w link.name) w.clients.reads) w holds)
-  kept_updated_under Properties status dtype count payload link w holds = holds
+  kept_updated_under subject status dtype count payload link w holds =
+      let sub : Option Subscription = sub_at subject link.subscriptions in
+      let fails : WaitingRead → Bool = fails_without subject (native_in link.state) in
+      kept_either P (eqb status ECA_NORMAL) (updated_link subject link link.state sub dtype count payload w) (reads_failed fails w link.name)
+      (λ _. kept_updated_link subject link link.state sub dtype count payload w holds)
+      (kept_all_failed (filter (λ read. waits_for w link.name read && fails read) w.clients.reads) w holds)
 
   kept_updated_by : (id status dtype count : ℕ) (payload : List ℕ) (link : Option Link) (w : Gateway) → P w → P (updated_by id status dtype count payload link w)
   kept_updated_by id status dtype count payload None w holds = holds

@@ -37,13 +37,13 @@ each_of {B = B} notice Q holds (row ∷ rows) = by (notice row) (holds row) (eac
     by None first rest = rest
     by (Some told) first rest = All-cons Q told (filter_map notice rows) first rest
 
--- what is given of a last message
+-- what is given of what was told last
 abbrev IsGiven : ℕ → Given → Type 0
 IsGiven dtype given = IsLaidOut dtype given.count given.payload
 
 cached_laid : (native dtype count : ℕ) (row : Option LastMessage) → OfSome (IsGiven dtype) (cached_as native dtype count row)
 cached_laid native dtype count None = record {}
-cached_laid native dtype count (Some last) = by (covers (meant_count native count) last.held)
+cached_laid native dtype count (Some last) = by (covers dtype (meant_count native count) last.held)
   where
     answered : (found : Option (ℕ × List ℕ)) → answer dtype count last.held ≡ found → OfSome (IsGiven dtype) (given_in found)
     answered None is = record {}

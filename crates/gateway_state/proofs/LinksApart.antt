@@ -30,7 +30,7 @@ passing_filtered test other (row ∷ rows) =
     ]
 
 -- a change that the test doesn't see leaves as many
-passing_changed : {A : Type 0} (test other : A → Bool) (change : A → A) (rows : List A) → ((row : A) → test (change row) ≡ test row)
+pub passing_changed : {A : Type 0} (test other : A → Bool) (change : A → A) (rows : List A) → ((row : A) → test (change row) ≡ test row)
     → length (filter test (change_first other change rows)) ≡ length (filter test rows)
 passing_changed test other change [] unseen = refl
 passing_changed test other change (row ∷ rows) unseen =
@@ -51,7 +51,7 @@ none_passing test (row ∷ rows) none =
     elim (test row) as (λ t. is_some (cond t (Some row) (find test rows)) ≡ false → cond t (row ∷ filter test rows) (filter test rows) ≡ [])
     [ true ↦ λ h. cc | false ↦ λ h. none_passing test rows h ] none
 
-pub passing_pushed : {A : Type 0} (test : A → Bool) (rows : List A) (new : A) → length (filter test (rows ++ new ∷ [])) ≡ length (filter test rows) + cond (test new) 1 0
+passing_pushed : {A : Type 0} (test : A → Bool) (rows : List A) (new : A) → length (filter test (rows ++ new ∷ [])) ≡ length (filter test rows) + cond (test new) 1 0
 passing_pushed test [] new = elim (test new) as (λ t. length (cond t (new ∷ []) []) ≡ 0 + cond t 1 0) [ true ↦ omega arith | false ↦ omega arith ]
 passing_pushed test (row ∷ rows) new =
     let rest = passing_pushed test rows new in
@@ -97,7 +97,8 @@ links_apart_kept = record {
     session_changed = λ number change w same apart. apart;
     servers = λ rows w apart. apart;
     cache_left = λ stays w apart. apart;
-    cached = λ row w apart. apart;
+    cached = λ server cid change w apart. apart;
+    untold = λ cid w apart. apart;
     searches = λ rows w apart. apart;
     policy = λ policy w apart. apart;
     channel_added = λ session cid name real rights w fixed apart. apart;

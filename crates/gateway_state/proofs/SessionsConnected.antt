@@ -72,7 +72,8 @@ sessions_connected_kept = record {
         all_changed (is_session_connected w) (is_numbered number) change w.clients.sessions (λ row. ap (λ (n : ℕ). stands w (dests.Session n)) (same.same_number row)) ∙ connected;
     servers = λ rows w connected. connected;
     cache_left = λ stays w connected. connected;
-    cached = λ row w connected. connected;
+    cached = λ server cid change w connected. connected;
+    untold = λ cid w connected. connected;
     searches = λ rows w connected. connected;
     policy = λ policy w connected. connected;
     channel_added = λ session cid name real rights w fixed connected. connected;

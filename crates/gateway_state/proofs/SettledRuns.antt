@@ -1,19 +1,21 @@
 -- Every state that a run reaches is settled, and what that means in it row by row.
 use Rattle.std.proofs.Common.{List, [], ◌∷◌, refl}
 use Rattle.std.specs.List.{All}
+use Rattle.link_table.specs.declared.links.Subject.{Subject}
+use Rattle.link_table.specs.declared.links.Subject.TheVariants.{Values}
 use Rattle.gateway_state.specs.declared.config.Config.{Config}
 use Rattle.rule_desk.specs.declared.policy.Policy.{Policy}
 use Rattle.gateway_state.specs.declared.event.Event.{Event}
 use Rattle.gateway_state.specs.Direct.{direct_effect}
 use Rattle.gateway_state.specs.Gateway.{Gateway, initial}
-use Rattle.gateway_state.specs.Settled.{AreInOrder, HasSubsApart, IsInUse, IsKeptPosted, IsSettled, IsSubscribedExactly, IsUpToDate, IsWaiting}
+use Rattle.gateway_state.specs.Settled.{AreInOrder, HasSubsApart, IsInUse, IsKeptPosted, IsSettled, IsSubscribedExactly, IsSubscribedTo, IsUpToDate, IsWaiting}
 use Rattle.gateway_state.specs.Step.{run, step}
 use Rattle.gateway_state.proofs.InOrder.{in_order_kept, in_order_with_links, initial_in_order}
 use Rattle.gateway_state.proofs.KeptByRuns.{kept_direct_effect, kept_run, kept_step}
 use Rattle.gateway_state.proofs.RowsOnChannels.{run_on_channels}
 use Rattle.gateway_state.proofs.SettledMeaning.{all_in_use, all_up_to_date, all_waiting}
 use Rattle.gateway_state.proofs.SettledSteps.{consequences_settled}
-use Rattle.gateway_state.proofs.SettledSubs.{all_kept_posted, subscribed_exactly}
+use Rattle.gateway_state.proofs.SettledSubs.{all_kept_posted, subscribed_to_each}
 use Rattle.gateway_state.proofs.SubsApart.{subs_apart_kept, subs_apart_with_links}
 
 -- after a step nobody is owed anything
@@ -48,8 +50,11 @@ pub run_waiting : (config : Config) (policy : Policy) (events : List Event)
 run_waiting config policy events =
     all_waiting (run (initial config policy) events) (run_settled config policy events) (run_on_channels config policy events).reads
 
+pub run_subscribed_to : (subject : Subject) (config : Config) (policy : Policy) (events : List Event) → IsSubscribedTo subject (run (initial config policy) events)
+run_subscribed_to subject config policy events = subscribed_to_each subject (run (initial config policy) events) (run_settled config policy events)
+
 pub run_subscribed_exactly : (config : Config) (policy : Policy) (events : List Event) → IsSubscribedExactly (run (initial config policy) events)
-run_subscribed_exactly config policy events = subscribed_exactly (run (initial config policy) events) (run_settled config policy events)
+run_subscribed_exactly config policy events = run_subscribed_to Values config policy events
 
 pub run_kept_posted : (config : Config) (policy : Policy) (events : List Event)
     → All (IsKeptPosted (run (initial config policy) events)) (run (initial config policy) events).clients.subs

@@ -19,7 +19,7 @@ use Rattle.link_table.specs.Links.{is_named, sub_at}
 use Rattle.gateway_state.specs.Gateway.{Gateway}
 use Rattle.gateway_state.specs.Interest.{is_read_through, is_reader, is_subscriber, present, reader_ask, readers, sub_in, subscription_in, wanted_by, wanted_for}
 use Rattle.gateway_state.specs.Rights.{channel_of, link_connected}
-use Rattle.gateway_state.specs.Settled.{IsInUse, IsKeptPosted, IsSettled, IsSubscribedExactly, IsSubscribedTo, IsUpToDate, native_count_over, native_type_over, want_in, want_of}
+use Rattle.gateway_state.specs.Settled.{IsInUse, IsKeptPosted, IsSettled, IsSubscribedTo, IsUpToDate, native_count_over, native_type_over, want_in, want_of}
 use Rattle.gateway_state.specs.Updates.{is_open_to, is_unreadable, is_withheld, update_notice, update_on}
 use Rattle.gateway_state.specs.Variables.{is_on, link_of}
 use Rattle.gateway_state.proofs.SettledMeaning.{all_in_use, all_up_to_date, none_told}
@@ -109,9 +109,6 @@ subscribed_to_each subject w settled name = by (link_of w name) refl
         → option_map want_of (sub_in (subscription_in subject link)) ≡ wanted_for subject w name (native_type_over link) (native_count_over link)
     by None is = sym (nothing_wanted subject w name 0 0 settled (ap link_connected is))
     by (Some link) is = over link link.state is refl
-
-pub subscribed_exactly : (w : Gateway) → IsSettled w → IsSubscribedExactly w
-subscribed_exactly w settled = subscribed_to_each Values w settled
 
 -- ---- subscriptions of clients
 

@@ -19,6 +19,7 @@ use Rattle.gateway_state.specs.declared.reading.Reading.{Reading}
 use Rattle.gateway_state.specs.declared.reading.Reading.TheVariants.{Value, Refused, Waits, NoChannel}
 use Rattle.gateway_state.specs.CachedRows.{is_cached_of}
 use Rattle.gateway_state.specs.Gateway.{Gateway}
+use Rattle.gateway_state.specs.Quantities.{Cid, Count, Dtype, SessionNumber, Sid}
 use Rattle.gateway_state.specs.Rights.{channel_of, rights_of, may_read}
 use Rattle.gateway_state.specs.Variables.{link_of}
 
@@ -65,7 +66,7 @@ refusal_unless None rights = if may_read rights then None else Some ECA_NORDACCE
 abbrev pub refusal : Native → ℕ → ℕ → ℕ → Option ℕ
 refusal native rights dtype count = refusal_unless (value_refusal native dtype count) rights
 
--- what is answered of a last message, as it is given
+-- what is answered of what was told last, as it is given
 abbrev pub given_in : Option (ℕ × List ℕ) → Option Given
 given_in None = None
 given_in (Some (count, payload)) = Some (record { count = count; payload = payload })
@@ -73,10 +74,10 @@ given_in (Some (count, payload)) = Some (record { count = count; payload = paylo
 abbrev pub cached_as : ℕ → ℕ → ℕ → Option LastMessage → Option Given
 cached_as native dtype count None = None
 cached_as native dtype count (Some last) =
-    if covers (meant_count native count) last.held then given_in (answer dtype count last.held) else None
+    if covers dtype (meant_count native count) last.held then given_in (answer dtype count last.held) else None
 
--- a link's last message, as an asked type and count; nothing where it doesn't cover that count
-abbrev pub cached_value : Gateway → ℕ → ℕ → ℕ → ℕ → Option Given
+-- what a link was told last, as an asked type and count; nothing where these aren't covered
+abbrev pub cached_value : Gateway → Cid → Count → Dtype → Count → Option Given
 cached_value w cid native dtype count = cached_as native dtype count (find (is_cached_of cid) w.cache)
 
 abbrev pub value_or_wait : Option Given → Reading
@@ -105,5 +106,5 @@ reading_in w dtype count None = NoChannel
 reading_in w dtype count (Some c) = reading_at w c dtype count
 
 -- what a session's read would be answered
-abbrev pub reading : Gateway → ℕ → ℕ → ℕ → ℕ → Reading
+abbrev pub reading : Gateway → SessionNumber → Sid → Dtype → Count → Reading
 reading w session sid dtype count = reading_in w dtype count (channel_of w session sid)

@@ -27,6 +27,7 @@ use Rattle.gateway_state.specs.declared.notice.ReadVerdict.TheVariants.{NoChanne
 use Rattle.gateway_state.specs.declared.reading.Given.{Given}
 use Rattle.gateway_state.specs.declared.reading.Native.{Native}
 use Rattle.gateway_state.specs.Gateway.{Gateway}
+use Rattle.gateway_state.specs.Quantities.{Code, Count, Dtype, Ioid, SessionNumber, Sid}
 use Rattle.gateway_state.specs.Searches.{same_search}
 use Rattle.gateway_state.specs.Rights.{channel_of, lead_in, rights_of}
 use Rattle.gateway_state.specs.Telling.{told, marked}
@@ -148,7 +149,7 @@ channel_cleared number sid cid head w = cleared number sid cid head (channel_of 
 
 -- READ_NOTIFY
 
-abbrev pub read_refused : ℕ → ℕ → ℕ → ℕ → ℕ → Gateway → Gateway
+abbrev pub read_refused : SessionNumber → Ioid → Dtype → Count → Code → Gateway → Gateway
 read_refused number ioid dtype count code w = told number (replies.ReadNotifyRefused ioid dtype count code) w
 
 -- how far the reads on a channel reach, with one more of this type and count
@@ -159,7 +160,7 @@ reach_with reach native dtype count = record {
 }
 
 -- a read that is accepted raises the channel's reach, and is answered later in the step or waits
-abbrev pub accepted : ℕ → ℕ → ℕ → ℕ → ℕ → Reach → ℕ → Gateway → Gateway
+abbrev pub accepted : SessionNumber → Sid → Ioid → Dtype → Count → Reach → ℕ → Gateway → Gateway
 accepted number sid ioid dtype count reach rights w = record w {
   clients = record w.clients {
     channels = change_first (is_channel number sid) (with_reach_and_rights reach rights) w.clients.channels;
@@ -191,17 +192,17 @@ verdict_on w dtype count None = NoChannel
 verdict_on w dtype count (Some c) = verdict_over w c dtype count (link_of w c.real)
 
 -- what becomes of a read
-abbrev pub read_verdict : Gateway → ℕ → ℕ → ℕ → ℕ → ReadVerdict
+abbrev pub read_verdict : Gateway → SessionNumber → Sid → Dtype → Count → ReadVerdict
 read_verdict w number sid dtype count = verdict_on w dtype count (channel_of w number sid)
 
-abbrev pub judged : ℕ → ℕ → ℕ → ℕ → ℕ → Header → ReadVerdict → Gateway → Gateway
+abbrev pub judged : SessionNumber → Sid → Ioid → Dtype → Count → Header → ReadVerdict → Gateway → Gateway
 judged number sid ioid dtype count head NoChannel w = no_channel w number head
 judged number sid ioid dtype count head Ignored w = w
 judged number sid ioid dtype count head (Refused code) w = read_refused number ioid dtype count code w
 judged number sid ioid dtype count head (Accepted reach rights) w = accepted number sid ioid dtype count reach rights w
 
 -- the client wants a value
-abbrev pub read_asked : ℕ → ℕ → ℕ → ℕ → ℕ → Header → Gateway → Gateway
+abbrev pub read_asked : SessionNumber → Sid → Ioid → Dtype → Count → Header → Gateway → Gateway
 read_asked number sid ioid dtype count head w =
     judged number sid ioid dtype count head (read_verdict w number sid dtype count) w
 

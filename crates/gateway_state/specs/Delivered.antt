@@ -1,5 +1,5 @@
 -- What one event gives a connection.
-use Rattle.std.specs.Prelude.{◌≡◌, ℕ, List, length, drop, Bool, false, Option, Some, Ok}
+use Rattle.std.specs.Prelude.{◌≡◌, ℕ, List, length, drop, Bool, false, Some, Ok}
 use Rattle.ca_header.specs.declared.header.Message.{Message}
 use Rattle.ca_message.specs.declared.request.ClientRequest.TheVariants as requests
 use Rattle.ca_message.specs.declared.to_client.ToClient.{ToClient}
@@ -43,7 +43,7 @@ is_loss_of event dest = false
 
 -- so many elements of the type, as they are laid out of something held
 abbrev pub IsLaidOut : ℕ → ℕ → List ℕ → Type 0
-IsLaidOut dtype count value = (held : Option Held) × ((asked : ℕ) × (answer dtype asked held ≡ Some (count, value)))
+IsLaidOut dtype count value = (held : Held) × ((asked : ℕ) × (answer dtype asked held ≡ Some (count, value)))
 
 -- what an event may say to a session: an ECHO only where the event is this session's own ECHO, which goes
 -- back as it came; an ERROR only over the header of what this session sent; and values only as they are

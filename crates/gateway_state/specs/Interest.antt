@@ -1,5 +1,5 @@
 -- What the readers of a variable want together.
-use Rattle.std.specs.Prelude.{ℕ, List, ◌++◌, Bool, true, false, ◌==◌, ◌&&◌, nat_lt, nat_le, map, filter, if◌then◌else◌, Option, Some, None}
+use Rattle.std.specs.Prelude.{ℕ, List, ◌++◌, Bool, true, false, ◌==◌, ◌&&◌, nat_lt, nat_le, map, filter, if◌then◌else◌, Option, Some, None, option_map}
 use Rattle.channel_table.specs.declared.channels.Channel.{Channel}
 use Rattle.channel_table.specs.declared.subs.ClientSub.{ClientSub}
 use Rattle.channel_table.specs.Demand.{own_ask, reach_ask}
@@ -12,14 +12,17 @@ use Rattle.link_table.specs.declared.links.Subject.TheVariants.{Values, Properti
 use Rattle.link_table.specs.declared.links.Subscription.{Subscription}
 use Rattle.link_table.specs.Links.{sub_at}
 use Rattle.link_table.specs.Servers.{is_server}
-use Rattle.std.specs.List.{find}
+use Rattle.std.specs.List.{find, list_any}
 use Rattle.mask_merge.specs.declared.want.Ask.{Ask}
 use Rattle.mask_merge.specs.declared.want.Want.{Want}
-use Rattle.mask_merge.specs.Counts.{as_native, want_asked}
+use Rattle.mask_merge.specs.declared.want.TheConstants.{PROPERTY_EVENT}
+use Rattle.mask_merge.specs.Counts.{as_native, asks_props, want_asked}
+use Rattle.dbr_layout.specs.Needs.{is_state_by}
 use Rattle.mask_merge.specs.Merged.{merged}
 use Rattle.gateway_state.specs.declared.interest.Sub.{Sub}
 use Rattle.gateway_state.specs.declared.limits.TheConstants.{UPDATE_MINOR}
 use Rattle.gateway_state.specs.Gateway.{Gateway}
+use Rattle.gateway_state.specs.Quantities.{Count, Minor}
 use Rattle.gateway_state.specs.Rights.{channel_of, rights_of, may_read}
 use Rattle.gateway_state.specs.Variables.{is_on, link_of}
 
@@ -45,11 +48,20 @@ readers w name =
     map own_ask (filter (is_subscriber w name) w.clients.subs)
     ++ map reader_ask (filter (is_reader w name) w.clients.channels)
 
+-- what is asked of a server that is to tell a variable's properties
+abbrev pub property_want : Want
+property_want = record { mask = PROPERTY_EVENT; count = 1 }
+
+-- one of these asks for the properties of a variable of this native type: for their event, or for a type that
+-- needs them
+abbrev pub ask_props : ℕ → List Ask → Bool
+ask_props dtype asks = list_any (λ ask. asks_props (is_state_by dtype) (Some ask)) asks
+
 -- what those who ask this of a variable of a native type and count want a server to tell of a subject: of
--- values what they want together, where a count of 0 stands for the native one; properties nobody wants
+-- values what they want together, where a count of 0 stands for the native one; properties where one asks for them
 abbrev pub wanted_by : Subject → ℕ → ℕ → List Ask → Option Want
 wanted_by Values dtype native asks = merged (map (as_native native) (map want_asked asks))
-wanted_by Properties dtype native asks = None
+wanted_by Properties dtype native asks = if ask_props dtype asks then Some property_want else None
 
 -- what the readers of a variable of this native type and count want of a subject
 abbrev pub wanted_for : Subject → Gateway → List ℕ → ℕ → ℕ → Option Want
@@ -75,11 +87,11 @@ abbrev pub minor_of : Gateway → ℕ → ℕ
 minor_of w number = minor_in (find (is_server number) w.upstream.servers)
 
 -- the count as it is sent to a server: 0 stands for the native count, where the server knows that
-abbrev pub sent_count : ℕ → ℕ → ℕ → ℕ
+abbrev pub sent_count : Minor → Count → Count → Count
 sent_count minor native count = if count == native && nat_le UPDATE_MINOR minor then 0 else count
 
 -- the count as it is sent for a subject: of properties always the one that is wanted
-abbrev pub sent_for : Subject → ℕ → ℕ → ℕ → ℕ
+abbrev pub sent_for : Subject → Minor → Count → Count → Count
 sent_for Values minor native count = sent_count minor native count
 sent_for Properties minor native count = count
 
@@ -105,3 +117,7 @@ subscription_to subject w name = sub_in (subscription_in subject (link_of w name
 -- the present subscription to a variable's values
 abbrev pub subscription_of : Gateway → List ℕ → Option Sub
 subscription_of w name = subscription_to Values w name
+
+-- the ID of the present subscription to a variable's properties
+abbrev pub property_subscription_of : Gateway → List ℕ → Option ℕ
+property_subscription_of w name = option_map (λ sub. sub.id) (subscription_to Properties w name)

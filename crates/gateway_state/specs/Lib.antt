@@ -9,6 +9,7 @@ pub mod Gateway
 pub mod Interest
 pub mod Notices
 pub mod Numbers
+pub mod Quantities
 pub mod Reached
 pub mod Requests
 pub mod Resolution

@@ -27,12 +27,13 @@ use Rattle.gateway_state.specs.declared.notice.LinkNotice.TheVariants.{Cancelled
 use Rattle.gateway_state.specs.declared.notice.ReadNotice.{ReadNotice}
 use Rattle.gateway_state.specs.declared.notice.ReadNotice.TheVariants.{Refused, Answered}
 use Rattle.gateway_state.specs.Answer.{native_in, cached_value}
-use Rattle.gateway_state.specs.CachedRows.{is_cached_elsewhere}
+use Rattle.gateway_state.specs.CachedRows.{is_cached_elsewhere, is_cached_of, without_told}
 use Rattle.gateway_state.specs.Clients.{without_channel}
 use Rattle.gateway_state.specs.declared.reading.Given.{Given}
 use Rattle.gateway_state.specs.declared.reading.Native.{Native}
 use Rattle.gateway_state.specs.Gateway.{Gateway}
 use Rattle.gateway_state.specs.Interest.{is_for, minor_of, sent_for, wanted_for}
+use Rattle.gateway_state.specs.Quantities.{Cid, Count, Dtype, Minor, ServerNumber, Sid}
 use Rattle.gateway_state.specs.Rights.{rights_of, may_read, is_served, channel_of}
 use Rattle.gateway_state.specs.Servers.{ctrl_of, time_of, without_link}
 use Rattle.gateway_state.specs.Telling.{told, asked}
@@ -79,19 +80,19 @@ cancelled subject link sid dtype None = []
 cancelled subject link sid dtype (Some sub) = Cancelled subject link.server link.cid sid (type_for subject dtype) sub ∷ []
 
 -- what is wanted of a subject is asked for; with nothing wanted what it told last goes
-abbrev pub subscribed : Subject → ℕ → Link → ℕ → ℕ → ℕ → Option Want → List LinkNotice
+abbrev pub subscribed : Subject → Minor → Link → Sid → Dtype → Count → Option Want → List LinkNotice
 subscribed subject minor link sid dtype native None = Unread subject link.cid ∷ []
 subscribed subject minor link sid dtype native (Some want) =
     Subscribed subject link.server link.cid sid (type_for subject dtype) want (sent_for subject minor native want.count) ∷ []
 
 -- what a server is owed where this is wanted of a subject, and that is its subscription
-abbrev pub notices_between : Subject → ℕ → Link → ℕ → ℕ → ℕ → Option Want → Option Subscription → List LinkNotice
+abbrev pub notices_between : Subject → Minor → Link → Sid → Dtype → Count → Option Want → Option Subscription → List LinkNotice
 notices_between subject minor link sid dtype native want sub =
     if is_for want sub then []
     else cancelled subject link sid dtype sub ++ subscribed subject minor link sid dtype native want
 
 -- what the server of a connected link is owed about a subject
-abbrev pub subject_notices : Subject → Gateway → Link → ℕ → ℕ → ℕ → List LinkNotice
+abbrev pub subject_notices : Subject → Gateway → Link → Sid → Dtype → Count → List LinkNotice
 subject_notices subject w link sid dtype native =
     notices_between subject (minor_of w link.server) link sid dtype native
     (wanted_for subject w link.name dtype native) (sub_at subject link.subscriptions)
@@ -116,16 +117,17 @@ abbrev pub with_subscription_of : Subject → ℕ → ℕ → Option Subscriptio
 with_subscription_of subject server cid sub w =
     record w { upstream = record w.upstream { links = change_first (is_link server cid) (with_subscription subject sub) w.upstream.links } }
 
--- the last messages without what a link was told of a subject: its value is all that is held
+-- the last messages without what a link was told of a subject. With its value all goes, since who wants its
+-- properties wants its value too
 abbrev pub forgotten_rows : Subject → ℕ → List LastMessage → List LastMessage
 forgotten_rows Values cid rows = filter (is_cached_elsewhere cid) rows
-forgotten_rows Properties cid rows = rows
+forgotten_rows Properties cid rows = change_first (is_cached_of cid) without_told rows
 
 abbrev pub forgotten : Subject → ℕ → Gateway → Gateway
 forgotten subject cid w = record w { cache = forgotten_rows subject cid w.cache }
 
 -- a new subscription for a subject, under the next ID
-abbrev pub subscribed_to : Subject → ℕ → ℕ → ℕ → ℕ → Want → ℕ → Gateway → Gateway
+abbrev pub subscribed_to : Subject → ServerNumber → Cid → Sid → Dtype → Want → Count → Gateway → Gateway
 subscribed_to subject server cid sid dtype want sent w =
     let id = w.upstream.counters.subscription in
     asked server (requests.EventAdd sid id dtype sent want.mask)

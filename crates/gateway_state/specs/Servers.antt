@@ -1,5 +1,5 @@
 -- What servers' messages do.
-use Rattle.std.specs.Prelude.{ℕ, ◌+◌, List, [], ◌∷◌, ◌++◌, length, filter, Bool, ◌==◌, ◌&&◌, nat_lt, nat_le, is_ok, if◌then◌else◌, Option, Some, None, Result, Ok, Err}
+use Rattle.std.specs.Prelude.{ℕ, ◌+◌, List, [], ◌∷◌, ◌++◌, length, filter, Bool, true, false, ◌==◌, ◌&&◌, nat_lt, nat_le, is_ok, is_some, if◌then◌else◌, Option, Some, None, Result, Ok, Err}
 use Rattle.std.specs.List.{find, fold}
 use Rattle.rows.specs.Rows.{change_first, remove_first}
 use Rattle.ca_header.specs.declared.header.Message.{Message}
@@ -11,10 +11,12 @@ use Rattle.ca_message.specs.declared.to_client.ToClient.TheVariants as replies
 use Rattle.ca_message.specs.declared.to_server.ToServer.TheVariants as requests
 use Rattle.ca_message.specs.ServerReply.{reply_of}
 use Rattle.channel_table.specs.declared.reads.WaitingRead.{WaitingRead}
+use Rattle.channel_table.specs.declared.subs.ClientSub.{ClientSub}
 use Rattle.channel_table.specs.Reads.{same_read}
 use Rattle.dbr_layout.specs.Dbr.{dbr_of}
-use Rattle.dbr_layout.specs.View.{shown}
-use Rattle.value_cache.specs.Held.{held_after}
+use Rattle.dbr_layout.specs.declared.fault.LayoutFault.{LayoutFault}
+use Rattle.dbr_layout.specs.View.{Shown, shown}
+use Rattle.value_cache.specs.Held.{Held, with_properties, with_value}
 use Rattle.link_table.specs.declared.links.Link.{Link}
 use Rattle.link_table.specs.declared.links.LinkState.{LinkState}
 use Rattle.link_table.specs.declared.links.LinkState.TheVariants.{Creating, Connected, Unusable}
@@ -22,18 +24,20 @@ use Rattle.link_table.specs.declared.links.Subject.{Subject}
 use Rattle.link_table.specs.declared.links.Subject.TheVariants.{Values, Properties}
 use Rattle.link_table.specs.declared.links.Subscription.{Subscription}
 use Rattle.link_table.specs.declared.table.TheConstants.{LINK_LIMIT}
-use Rattle.link_table.specs.Links.{is_link, is_not_link, has_id, has_subscription, new_link, with_state}
+use Rattle.mask_merge.specs.declared.want.TheConstants.{PROPERTY_EVENT}
+use Rattle.link_table.specs.Links.{is_link, is_not_link, has_id, has_subscription, new_link, sub_at, with_state}
 use Rattle.link_table.specs.Servers.{is_server, with_minor}
-use Rattle.gateway_state.specs.declared.cached.LastMessage.{LastMessage}
+use Rattle.gateway_state.specs.declared.reading.Native.{Native}
 use Rattle.gateway_state.specs.declared.event.Dest.TheVariants as dests
 use Rattle.gateway_state.specs.declared.interest.TheConstants.{CTRL_FORM, PLAIN_TYPES, TIME_FORM}
-use Rattle.gateway_state.specs.Answer.{fits_payload}
+use Rattle.gateway_state.specs.Answer.{fits_payload, native_in, needs_by_number}
 use Rattle.gateway_state.specs.Asked.{acts}
-use Rattle.gateway_state.specs.CachedRows.{with_row}
+use Rattle.gateway_state.specs.CachedRows.{put_row}
 use Rattle.gateway_state.specs.Gateway.{Gateway}
+use Rattle.gateway_state.specs.Quantities.{Cid, Code, Count, Dtype, ServerNumber, Sid, SubId}
 use Rattle.gateway_state.specs.Rights.{channel_of}
 use Rattle.gateway_state.specs.Telling.{told, asked}
-use Rattle.gateway_state.specs.Updates.{alarm_differs_in, concerned, held_by, owed_to_all}
+use Rattle.gateway_state.specs.Updates.{alarm_differs_in, asks_for, concerned, held_by, is_concerned, owed_to_all}
 use Rattle.gateway_state.specs.Variables.{is_channel_on, is_missing, is_creating, without_cached}
 use Rattle.gateway_state.specs.Writing.{write_ended}
 
@@ -86,18 +90,18 @@ is_usable dtype count = nat_lt dtype PLAIN_TYPES && nat_lt 0 count && fits_paylo
 abbrev pub channel_returned : ℕ → ℕ → ℕ → Gateway → Gateway
 channel_returned server sid cid w = asked server (requests.ClearChannel sid cid) w
 
-abbrev pub answered_creating : ℕ → ℕ → ℕ → ℕ → ℕ → Link → Gateway → Gateway
+abbrev pub answered_creating : ServerNumber → Cid → Sid → Dtype → Count → Link → Gateway → Gateway
 answered_creating server cid sid dtype count link w =
     if is_usable dtype count then with_link_state server cid (Connected sid dtype count) link.rights w
     else channel_returned server sid cid (with_link_state server cid Unusable link.rights w)
 
-abbrev pub created_for : ℕ → ℕ → ℕ → ℕ → ℕ → Option Link → Gateway → Gateway
+abbrev pub created_for : ServerNumber → Cid → Sid → Dtype → Count → Option Link → Gateway → Gateway
 created_for server cid sid dtype count None w = channel_returned server sid cid w
 created_for server cid sid dtype count (Some link) w =
     if is_creating link.state then answered_creating server cid sid dtype count link w else w
 
 -- the server made the channel
-abbrev pub channel_made : Gateway → ℕ → ℕ → ℕ → ℕ → ℕ → Gateway
+abbrev pub channel_made : Gateway → ServerNumber → Cid → Sid → Dtype → Count → Gateway
 channel_made w server cid sid dtype count =
     created_for server cid sid dtype count (find (is_link server cid) w.upstream.links) w
 
@@ -112,7 +116,7 @@ rights_said w server cid rights = rights_given server cid rights (find (is_link 
 
 -- CREATE_CH_FAIL and SERVER_DISCONN
 
--- without a link and its last message
+-- without a link and its last messages
 abbrev pub without_link : ℕ → ℕ → Gateway → Gateway
 without_link server cid w =
     record (without_cached cid w) { upstream = record w.upstream { links = filter (is_not_link server cid) w.upstream.links } }
@@ -143,60 +147,92 @@ read_failed w read =
     told read.session (replies.ReadNotifyRefused read.ioid read.dtype read.count ECA_GETFAIL)
     (record w { clients = record w.clients { reads = remove_first (same_read read) w.clients.reads } })
 
--- none of the reads that wait for the variable can be had, in the order of asking
-abbrev pub reads_failed : Gateway → List ℕ → Gateway
-reads_failed w name = fold read_failed w (filter (waits_for w name) w.clients.reads)
+-- a read of this type of a variable can't be had where a server fails to tell a subject: without values none can,
+-- without properties none that needs them
+abbrev pub fails_without : Subject → Option Native → WaitingRead → Bool
+fails_without Values native read = true
+fails_without Properties None read = false
+fails_without Properties (Some native) read = needs_by_number native.dtype read.dtype
 
--- with a link's last message in place of the one before
-abbrev pub with_cached : LastMessage → Gateway → Gateway
-with_cached row w = record w { cache = with_row row w.cache }
+-- none of the reads that wait for the variable and fail can be had, in the order of asking
+abbrev pub reads_failed : (WaitingRead → Bool) → Gateway → List ℕ → Gateway
+reads_failed fails w name = fold read_failed w (filter (λ read. waits_for w name read && fails read) w.clients.reads)
 
--- an update counts as the last message: its type is the native TIME type, it has no more elements than
--- were asked for, and it is long enough
-abbrev pub is_value : ℕ → ℕ → ℕ → ℕ → List ℕ → Bool
+-- with what is held of a link changed
+abbrev pub with_held : ℕ → ℕ → (Held → Held) → Gateway → Gateway
+with_held server cid change w = record w { cache = put_row server cid change w.cache }
+
+-- a message's payload tells properties
+abbrev pub is_described_in : Result Shown LayoutFault → Bool
+is_described_in (Ok seen) = is_some seen.parts.properties
+is_described_in (Err fault) = false
+
+-- an update counts as a value: its type is the native TIME type, it has no more elements than were asked for, and it
+-- is long enough
+abbrev pub is_value : Dtype → Count → Dtype → Count → List ℕ → Bool
 is_value native asked_with dtype count payload =
     dtype == time_of native && nat_le count asked_with && is_ok (shown dtype count payload)
 
--- the alarm of an update differs from that of the last message, or there is none
+-- an update counts as properties: its type is the native CTRL type, it has one element or none, and it is long enough
+abbrev pub is_description : ℕ → ℕ → ℕ → List ℕ → Bool
+is_description native dtype count payload =
+    dtype == ctrl_of native && nat_le count 1 && is_described_in (shown dtype count payload)
+
+-- an update counts, of a variable of this native type, by the count that was asked for
+abbrev pub is_told : Subject → Dtype → Count → Dtype → Count → List ℕ → Bool
+is_told Values native asked_with dtype count payload = is_value native asked_with dtype count payload
+is_told Properties native asked_with dtype count payload = is_description native dtype count payload
+
+-- what is held once it came
+abbrev pub held_with : Subject → ℕ → ℕ → List ℕ → ℕ → Held → Held
+held_with Values dtype count payload asked_with held = with_value dtype count payload asked_with held
+held_with Properties dtype count payload asked_with held = with_properties dtype payload held
+
+-- the alarm of an update differs from that of the value that is held, or none is held
 abbrev pub has_other_alarm : Gateway → ℕ → ℕ → ℕ → List ℕ → Bool
 has_other_alarm w cid dtype count payload = alarm_differs_in (shown dtype count payload) (held_by w cid)
 
--- each subscription that the update concerns is owed one
-abbrev pub concerned_owed : List ℕ → Bool → Gateway → Gateway
-concerned_owed name differs w = owed_to_all w (concerned w name differs)
+-- an update concerns a subscription: a value by its events, properties one that asks for theirs
+abbrev pub concerns : Subject → Gateway → ℕ → ℕ → ℕ → List ℕ → ClientSub → Bool
+concerns Values w cid dtype count payload sub = is_concerned (has_other_alarm w cid dtype count payload) sub
+concerns Properties w cid dtype count payload sub = asks_for PROPERTY_EVENT sub
 
-abbrev pub updated_connected : Link → ℕ → ℕ → ℕ → ℕ → List ℕ → Gateway → Gateway
-updated_connected link native asked_with dtype count payload w =
-    if is_value native asked_with dtype count payload
-    then with_cached (record { server = link.server; cid = link.cid; held = held_after dtype count payload asked_with })
-    (concerned_owed link.name (has_other_alarm w link.cid dtype count payload) w)
+-- each subscription to a variable that passes is owed an update
+abbrev pub concerned_owed : List ℕ → (ClientSub → Bool) → Gateway → Gateway
+concerned_owed name passes w = owed_to_all w (concerned w name passes)
+
+abbrev pub updated_connected : Subject → Link → Dtype → Count → Dtype → Count → List ℕ → Gateway → Gateway
+updated_connected subject link native asked_with dtype count payload w =
+    if is_told subject native asked_with dtype count payload
+    then with_held link.server link.cid (held_with subject dtype count payload asked_with)
+    (concerned_owed link.name (concerns subject w link.cid dtype count payload) w)
     else w
 
-abbrev pub updated_link : Link → LinkState → Option Subscription → ℕ → ℕ → List ℕ → Gateway → Gateway
-updated_link link (Connected sid native native_count) (Some sub) dtype count payload w =
-    updated_connected link native sub.count dtype count payload w
-updated_link link (Connected sid native native_count) None dtype count payload w = w
-updated_link link Creating sub dtype count payload w = w
-updated_link link Unusable sub dtype count payload w = w
+abbrev pub updated_link : Subject → Link → LinkState → Option Subscription → ℕ → ℕ → List ℕ → Gateway → Gateway
+updated_link subject link (Connected sid native native_count) (Some sub) dtype count payload w =
+    updated_connected subject link native sub.count dtype count payload w
+updated_link subject link (Connected sid native native_count) None dtype count payload w = w
+updated_link subject link Creating sub dtype count payload w = w
+updated_link subject link Unusable sub dtype count payload w = w
 
--- what a server tells of a subject on a link; of properties nothing is taken
+-- what a server tells of a subject on a link
 abbrev pub updated_under : Subject → ℕ → ℕ → ℕ → List ℕ → Link → Gateway → Gateway
-updated_under Values status dtype count payload link w =
-    if status == ECA_NORMAL then updated_link link link.state link.subscriptions.values dtype count payload w
-    else reads_failed w link.name
-updated_under Properties status dtype count payload link w = w
+updated_under subject status dtype count payload link w =
+    if status == ECA_NORMAL
+    then updated_link subject link link.state (sub_at subject link.subscriptions) dtype count payload w
+    else reads_failed (fails_without subject (native_in link.state)) w link.name
 
 -- the subject of a link's subscription that has this ID
 abbrev pub subject_of : ℕ → Link → Subject
 subject_of id link = if has_id id link.subscriptions.values then Values else Properties
 
-abbrev pub updated_by : ℕ → ℕ → ℕ → ℕ → List ℕ → Option Link → Gateway → Gateway
+abbrev pub updated_by : SubId → Code → Dtype → Count → List ℕ → Option Link → Gateway → Gateway
 updated_by id status dtype count payload None w = w
 updated_by id status dtype count payload (Some link) w =
     updated_under (subject_of id link) status dtype count payload link w
 
 -- an update under a present subscription's ID; under any other it is ignored
-abbrev pub updated : Gateway → ℕ → ℕ → ℕ → ℕ → ℕ → List ℕ → Gateway
+abbrev pub updated : Gateway → ServerNumber → SubId → Code → Dtype → Count → List ℕ → Gateway
 updated w server id status dtype count payload =
     updated_by id status dtype count payload (find (has_subscription server id) w.upstream.links) w
 

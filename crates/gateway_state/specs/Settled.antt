@@ -217,13 +217,13 @@ pub record IsInUse (w : Gateway) (link : Link) : Type 0 where
       ≡ wanted_for subject w link.name (native_type_in link.state) (native_count_in link.state)
 
 -- a subscription is owed an update as long as its channel may not be read; and where one is owed, its
--- session takes none now, its channel may not be read, or the last message doesn't cover it
+-- session takes none now, its channel may not be read, or what was told last doesn't cover it
 pub record IsKeptPosted (w : Gateway) (sub : ClientSub) : Type 0 where
   pub owed : is_unreadable w (channel_of w sub.session sub.sid) ≡ true → sub.owed ≡ true
   pub waits : sub.owed ≡ true → is_open_to w sub ≡ true → update_on w sub (channel_of w sub.session sub.sid) ≡ None
 
--- a read waits for its value: its channel may be read, over a connected link, whose last message
--- doesn't cover it
+-- a read waits for its value: its channel may be read, over a connected link, and what this was told
+-- last doesn't cover it
 pub record IsWaiting (w : Gateway) (read : WaitingRead) : Type 0 where
   pub channel : Channel
   pub link : Link

@@ -14,13 +14,14 @@ use Rattle.channel_table.specs.ClientRows.{sub_count}
 use Rattle.channel_table.specs.Sessions.{is_numbered}
 use Rattle.channel_table.specs.Subs.{is_sub, is_not_sub}
 use Rattle.link_table.specs.declared.links.Link.{Link}
-use Rattle.mask_merge.specs.declared.want.TheConstants.{KNOWN_EVENTS}
+use Rattle.gateway_state.specs.declared.interest.TheConstants.{SERVED_EVENTS}
 use Rattle.gateway_state.specs.declared.notice.SubVerdict.{SubVerdict}
 use Rattle.gateway_state.specs.declared.notice.SubVerdict.TheVariants.{NoChannel, Ignored, Refused, Accepted}
 use Rattle.gateway_state.specs.declared.reading.Native.{Native}
 use Rattle.gateway_state.specs.Answer.{native_in, value_refusal}
 use Rattle.gateway_state.specs.Clients.{no_channel}
 use Rattle.gateway_state.specs.Gateway.{Gateway}
+use Rattle.gateway_state.specs.Quantities.{Count, Dtype, Mask, SessionNumber, Sid, SubId}
 use Rattle.gateway_state.specs.Rights.{channel_of}
 use Rattle.gateway_state.specs.Telling.{told}
 use Rattle.gateway_state.specs.Variables.{link_of}
@@ -46,7 +47,7 @@ short_subscription w number head = request_refused number (cid_in (channel_of w 
 -- why a subscription is refused though its updates could be had, the first reason that applies
 abbrev pub subscription_limit : Gateway → ℕ → ℕ → Option ℕ
 subscription_limit w number mask =
-    if bit_and mask KNOWN_EVENTS == 0 then Some ECA_BADMASK
+    if bit_and mask SERVED_EVENTS == 0 then Some ECA_BADMASK
     else if nat_le SUB_LIMIT (sub_count number w.clients) then Some ECA_ALLOCMEM
     else None
 
@@ -86,7 +87,7 @@ abbrev pub with_sub : ClientSub → Gateway → Gateway
 with_sub sub w = record w { clients = record w.clients { subs = w.clients.subs ++ sub ∷ [] } }
 
 -- a new subscription is owed an update
-abbrev pub new_sub : ℕ → ℕ → ℕ → ℕ → ℕ → ℕ → ClientSub
+abbrev pub new_sub : SessionNumber → Sid → SubId → Dtype → Count → Mask → ClientSub
 new_sub number sid id dtype count mask = record {
   session = number;
   id = id;
@@ -116,7 +117,7 @@ abbrev pub is_on_sid : ℕ → Option ClientSub → Bool
 is_on_sid sid None = false
 is_on_sid sid (Some sub) = sub.sid == sid
 
-abbrev pub cancelled_on : ℕ → ℕ → ℕ → ℕ → ℕ → Header → Option Channel → Gateway → Gateway
+abbrev pub cancelled_on : SessionNumber → Sid → SubId → Dtype → Count → Header → Option Channel → Gateway → Gateway
 cancelled_on number sid id dtype count head None w = no_channel w number head
 cancelled_on number sid id dtype count head (Some c) w =
     if is_on_sid sid (sub_of w number id)
@@ -124,7 +125,7 @@ cancelled_on number sid id dtype count head (Some c) w =
     else request_refused number c.cid ECA_INTERNAL head w
 
 -- the client gives up a subscription, which must be on the channel that it names
-abbrev pub subscription_cancelled : ℕ → ℕ → ℕ → ℕ → ℕ → Header → Gateway → Gateway
+abbrev pub subscription_cancelled : SessionNumber → Sid → SubId → Dtype → Count → Header → Gateway → Gateway
 subscription_cancelled number sid id dtype count head w =
     cancelled_on number sid id dtype count head (channel_of w number sid) w
 

@@ -11,7 +11,7 @@ use Rattle.channel_table.specs.Subs.{is_sub, with_owed}
 use Rattle.dbr_layout.specs.declared.fault.LayoutFault.{LayoutFault}
 use Rattle.dbr_layout.specs.View.{Shown}
 use Rattle.link_table.specs.declared.links.Link.{Link}
-use Rattle.value_cache.specs.Held.{Held, alarm_differs}
+use Rattle.value_cache.specs.Held.{Held, alarm_differs, nothing}
 use Rattle.gateway_state.specs.declared.cached.LastMessage.{LastMessage}
 use Rattle.gateway_state.specs.declared.event.Dest.TheVariants.{Session as ToSession}
 use Rattle.gateway_state.specs.declared.interest.TheConstants.{ALARM_EVENTS, VALUE_EVENTS}
@@ -49,25 +49,25 @@ is_sub_to w name sub = is_channel_on name (channel_of w sub.session sub.sid)
 abbrev pub asks_for : ℕ → ClientSub → Bool
 asks_for events sub = nat_lt 0 (bit_and sub.mask events)
 
--- it asks for values or for the log, or for alarms and the alarm is another
+-- a value concerns it: it asks for values or for the log, or for alarms and the alarm is another
 abbrev pub is_concerned : Bool → ClientSub → Bool
 is_concerned differs sub = asks_for VALUE_EVENTS sub || asks_for ALARM_EVENTS sub && differs
 
-abbrev pub held_of_row : Option LastMessage → Option Held
-held_of_row None = None
+abbrev pub held_of_row : Option LastMessage → Held
+held_of_row None = nothing
 held_of_row (Some row) = row.held
 
--- what is held of a link's last message
-abbrev pub held_by : Gateway → ℕ → Option Held
+-- what is held of what a link was told last
+abbrev pub held_by : Gateway → ℕ → Held
 held_by w cid = held_of_row (find (is_cached_of cid) w.cache)
 
-abbrev pub alarm_differs_in : Result Shown LayoutFault → Option Held → Bool
+abbrev pub alarm_differs_in : Result Shown LayoutFault → Held → Bool
 alarm_differs_in (Ok seen) held = alarm_differs seen held
 alarm_differs_in (Err fault) held = false
 
--- the subscriptions to a variable that an update of it concerns
-abbrev pub concerned : Gateway → List ℕ → Bool → List ClientSub
-concerned w name differs = filter (λ sub. is_sub_to w name sub && is_concerned differs sub) w.clients.subs
+-- the subscriptions to a variable that pass
+abbrev pub concerned : Gateway → List ℕ → (ClientSub → Bool) → List ClientSub
+concerned w name passes = filter (λ sub. is_sub_to w name sub && passes sub) w.clients.subs
 
 -- UPDATES THAT ARE WITHHELD
 
@@ -130,7 +130,7 @@ abbrev pub is_open_to : Gateway → ClientSub → Bool
 is_open_to w sub = not (is_paused w sub.session) && is_taking w sub.session
 
 -- the update that is due to a subscription: one is owed, its session takes updates, its channel may be
--- read, and the last message covers its count
+-- read, and what was told last covers its type and count
 unfoldable pub update_notice : Gateway → ClientSub → Option UpdateNotice
 update_notice w sub =
     if sub.owed && is_open_to w sub then update_on w sub (channel_of w sub.session sub.sid) else None

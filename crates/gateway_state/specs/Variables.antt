@@ -33,7 +33,7 @@ is_creating Creating = true
 is_creating (Connected sid dtype count) = false
 is_creating Unusable = false
 
--- a link's last message goes
+-- a link's last messages go
 abbrev pub without_cached : ℕ → Gateway → Gateway
 without_cached cid w = record w { cache = filter (is_cached_elsewhere cid) w.cache }
 

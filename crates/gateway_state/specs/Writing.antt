@@ -20,6 +20,7 @@ use Rattle.gateway_state.specs.declared.notice.WriteVerdict.{WriteVerdict}
 use Rattle.gateway_state.specs.declared.notice.WriteVerdict.TheVariants.{NoChannel, Ignored, Refused, Accepted}
 use Rattle.gateway_state.specs.Clients.{no_channel}
 use Rattle.gateway_state.specs.Gateway.{Gateway}
+use Rattle.gateway_state.specs.Quantities.{Code, Count, Dtype, Ioid, ServerNumber, SessionNumber, Sid}
 use Rattle.gateway_state.specs.Rights.{channel_of, rights_of}
 use Rattle.gateway_state.specs.Subscribing.{request_refused}
 use Rattle.gateway_state.specs.Telling.{asked, told}
@@ -51,7 +52,7 @@ write_verdict_on w dtype count payload None = NoChannel
 write_verdict_on w dtype count payload (Some c) = write_verdict_over w c dtype count payload (link_of w c.real)
 
 -- what becomes of a write
-abbrev pub write_verdict : Gateway → ℕ → ℕ → ℕ → ℕ → List ℕ → WriteVerdict
+abbrev pub write_verdict : Gateway → SessionNumber → Sid → Dtype → Count → List ℕ → WriteVerdict
 write_verdict w number sid dtype count payload = write_verdict_on w dtype count payload (channel_of w number sid)
 
 -- WRITE
@@ -63,18 +64,18 @@ written_by number head (Refused cid code) w = request_refused number cid code he
 written_by number head (Accepted server sid value) w = asked server (requests.Write sid value) w
 
 -- the client writes a value, and wants no reply
-abbrev pub write_asked : ℕ → ℕ → ℕ → ℕ → List ℕ → Header → Gateway → Gateway
+abbrev pub write_asked : SessionNumber → Sid → Dtype → Count → List ℕ → Header → Gateway → Gateway
 write_asked number sid dtype count payload head w =
     written_by number head (write_verdict w number sid dtype count payload) w
 
 -- WRITE_NOTIFY
 
 -- the client is told how its write ended
-abbrev pub write_answered : ℕ → ℕ → ℕ → ℕ → ℕ → Gateway → Gateway
+abbrev pub write_answered : SessionNumber → Ioid → Dtype → Count → Code → Gateway → Gateway
 write_answered number ioid dtype count status w = told number (replies.WriteNotify ioid dtype count status) w
 
 -- a write under the next ID, until its server says how it ended
-abbrev pub new_write : Gateway → ℕ → ℕ → ℕ → ℕ → ℕ → ℕ → WaitingWrite
+abbrev pub new_write : Gateway → ServerNumber → SessionNumber → Sid → Dtype → Count → Ioid → WaitingWrite
 new_write w server number sid dtype count ioid = record {
   server = server;
   id = w.upstream.counters.write;
@@ -100,12 +101,12 @@ write_waits write upstream_sid value w =
     asked write.server (requests.WriteNotify upstream_sid write.id value) (with_write write w)
 
 -- unless as many writes of the session wait as may
-abbrev pub write_handed_on : ℕ → ℕ → ℕ → ℕ → ℕ → ℕ → ℕ → Written → Gateway → Gateway
+abbrev pub write_handed_on : SessionNumber → Sid → Ioid → Dtype → Count → ServerNumber → Sid → Written → Gateway → Gateway
 write_handed_on number sid ioid dtype count server upstream_sid value w =
     if nat_le WRITE_LIMIT (write_count number w.upstream) then write_answered number ioid dtype count ECA_PUTFAIL w
     else write_waits (new_write w server number sid dtype count ioid) upstream_sid value w
 
-abbrev pub notified_by : ℕ → ℕ → ℕ → ℕ → ℕ → Header → WriteVerdict → Gateway → Gateway
+abbrev pub notified_by : SessionNumber → Sid → Ioid → Dtype → Count → Header → WriteVerdict → Gateway → Gateway
 notified_by number sid ioid dtype count head NoChannel w = no_channel w number head
 notified_by number sid ioid dtype count head Ignored w = w
 notified_by number sid ioid dtype count head (Refused cid code) w = write_answered number ioid dtype count code w
@@ -113,7 +114,7 @@ notified_by number sid ioid dtype count head (Accepted server upstream_sid value
     write_handed_on number sid ioid dtype count server upstream_sid value w
 
 -- the client writes a value, and wants to be told how that ended
-abbrev pub write_notify_asked : ℕ → ℕ → ℕ → ℕ → ℕ → List ℕ → Header → Gateway → Gateway
+abbrev pub write_notify_asked : SessionNumber → Sid → Ioid → Dtype → Count → List ℕ → Header → Gateway → Gateway
 write_notify_asked number sid ioid dtype count payload head w =
     notified_by number sid ioid dtype count head (write_verdict w number sid dtype count payload) w
 

@@ -6,6 +6,9 @@ pub const VALUE_EVENTS: u16 = 3;
 /// The event that a new alarm is.
 pub const ALARM_EVENTS: u16 = 4;
 
+/// The events that a subscription may ask for: VALUE, LOG, ALARM and PROPERTY.
+pub const SERVED_EVENTS: u16 = 15;
+
 /// How many plain types there are; their numbers are below this.
 pub const PLAIN_TYPES: u16 = 7;
 

@@ -1,4 +1,4 @@
-//! What a last message says.
+//! What a variable told last.
 ghost use Rattle.std.specs.Prelude.{◌≡◌, IsOk, IfOk, IsSome, OnErr};
 
 use bytes::Bytes;
@@ -7,35 +7,57 @@ use std::alloc::{AllocError, Global};
 use std::marker::Model;
 use value_cache::{Cached, MOST_KEPT};
 
-/// A value as it came. Contracts see what it says, and not which encodings of it are kept: so what
-/// the gateway knows doesn't depend on that.
+/// A value and properties as they came. Contracts see what they say, and not which encodings are
+/// kept: so what the gateway knows doesn't depend on that.
 #[derive(Drop)]
 pub struct LastValue {
     cached: Cached,
 }
 
 impl Model for LastValue {
-    ghost use Rattle.std.specs.Prelude.{Option};
     ghost use Rattle.value_cache.specs.Held.{Held};
 
-    ghost Value = { Option Held };
+    ghost Value = { Held };
 
     ghost view = { λ v. v.cached.held };
 }
 
 impl LastValue {
     ghost use Rattle.dbr_layout.specs.View.{shown};
-    ghost use Rattle.value_cache.specs.Held.{alarm_differs, answer, covers, held_after};
+    ghost use Rattle.value_cache.specs.Held.{alarm_differs, answer, covers, nothing, with_properties, with_value, without_properties};
+    ghost use Rattle.value_cache.specs.Message.{TellsProperties};
 
-    /// A message of `count` elements of the type with the number `dtype`, and the count that was
-    /// asked for when it came.
-    pub fn new(dtype: u16, count: u32, payload: Bytes, asked_with: u32) -> LastValue
-        requires { IsOk (shown dtype count payload) }
-        ensures { result ≡ held_after dtype count payload asked_with }
+    /// Nothing was told.
+    pub fn empty() -> LastValue
+        ensures { result ≡ nothing }
     {
-        let mut cached = Cached::empty();
-        cached.put(dtype, count, payload, asked_with);
-        LastValue { cached }
+        LastValue {
+            cached: Cached::empty(),
+        }
+    }
+
+    /// A value came: `count` elements of the type with the number `dtype`, and the count that was asked
+    /// for. The properties stay.
+    pub fn put(&mut self, dtype: u16, count: u32, payload: Bytes, asked_with: u32)
+        requires { IsOk (shown dtype count payload) }
+        ensures { self.new ≡ with_value dtype count payload asked_with self.old }
+    {
+        self.cached.put(dtype, count, payload, asked_with);
+    }
+
+    /// Properties came, in the type with the number `dtype`. The value stays.
+    pub fn put_properties(&mut self, dtype: u16, payload: Bytes)
+        requires { TellsProperties dtype payload }
+        ensures { self.new ≡ with_properties dtype payload self.old }
+    {
+        self.cached.put_properties(dtype, payload);
+    }
+
+    /// Forgets the properties.
+    pub fn drop_properties(&mut self)
+        ensures { self.new ≡ without_properties self.old }
+    {
+        self.cached.drop_properties();
     }
 
     /// Keeps what is answered under a type and a count, so that answers share it. What is held is as
@@ -50,11 +72,11 @@ impl LastValue {
         Ok(())
     }
 
-    /// Whether it can answer a read of so many elements (`Cached::covers`).
-    pub fn covers(&self, count: u32) -> bool
-        ensures { result ≡ covers count self.now }
+    /// Whether it can answer a read of so many elements of a type (`Cached::covers`).
+    pub fn covers(&self, dtype: u16, count: u32) -> bool
+        ensures { result ≡ covers dtype count self.now }
     {
-        self.cached.covers(count)
+        self.cached.covers(dtype, count)
     }
 
     /// Whether the alarm that a view shows is another (`Cached::alarm_differs`).

@@ -1,16 +1,17 @@
 //! Laws of the definitions: each is the contract of a call that does nothing.
 ghost use Rattle.std.specs.Prelude.{◌≡◌, ◌+◌};
 ghost use Rattle.gateway_state.specs.declared.config.TheConstants.{LAST_FIRST};
-ghost use Rattle.gateway_state.specs.declared.interest.TheConstants.{ALARM_EVENTS, CTRL_FORM, PLAIN_TYPES, TIME_FORM, VALUE_EVENTS};
+ghost use Rattle.gateway_state.specs.declared.interest.TheConstants.{ALARM_EVENTS, CTRL_FORM, PLAIN_TYPES, SERVED_EVENTS, TIME_FORM, VALUE_EVENTS};
 ghost use Rattle.gateway_state.specs.declared.limits.TheConstants.{LOWEST_MINOR, SEARCH_LIMIT, UPDATE_LIMIT, UPDATE_MINOR};
 
-/// The numbers that the definitions name. Masks are sums of VALUE 1, LOG 2 and ALARM 4; there are seven
-/// plain DBR types, and the TIME form of each is 14 above it, the CTRL form 28 (Channel Access Protocol
-/// Specification, "Monitor Mask" and "DBR Types"). A client speaks minor version 9 at least, and a server
-/// from 13 on takes the count 0 as the native one. The limits are the gateway's own.
+/// The numbers that the definitions name. Masks are sums of VALUE 1, LOG 2, ALARM 4 and PROPERTY 8; there
+/// are seven plain DBR types, and the TIME form of each is 14 above it, the CTRL form 28 (Channel Access
+/// Protocol Specification, "Monitor Mask" and "DBR Types"). A client speaks minor version 9 at least, and a
+/// server from 13 on takes the count 0 as the native one. The limits are the gateway's own.
 pub fn numbers_are_as_documented()
     ensures value_events { VALUE_EVENTS ≡ 1 + 2 }
     ensures alarm_events { ALARM_EVENTS ≡ 4 }
+    ensures served_events { SERVED_EVENTS ≡ 1 + 2 + 4 + 8 }
     ensures plain_types { PLAIN_TYPES ≡ 7 }
     ensures time_form { TIME_FORM ≡ 14 }
     ensures ctrl_form { CTRL_FORM ≡ 28 }

@@ -22,7 +22,9 @@ pub use cached::LastMessage;
 pub use config::{Config, LAST_FIRST};
 pub use connections::Connection;
 pub use event::{Dest, Event};
-pub use interest::{ALARM_EVENTS, CTRL_FORM, PLAIN_TYPES, Sub, TIME_FORM, VALUE_EVENTS};
+pub use interest::{
+    ALARM_EVENTS, CTRL_FORM, PLAIN_TYPES, SERVED_EVENTS, Sub, TIME_FORM, VALUE_EVENTS,
+};
 pub use last_value::LastValue;
 pub use limits::{LOWEST_MINOR, SEARCH_LIMIT, UPDATE_LIMIT, UPDATE_MINOR};
 pub use notice::{

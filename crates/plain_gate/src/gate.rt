@@ -7,7 +7,7 @@ ghost use Rattle.gateway_state.specs.Numbers.{is_past_numbers, runs_out};
 ghost use Rattle.gateway_state.specs.Step.{step, run, taken};
 ghost use Rattle.gateway_state.specs.Answer.{reading};
 ghost use Rattle.gateway_state.specs.Asked.{stands, ends, queued};
-ghost use Rattle.gateway_state.specs.Interest.{subscription_of};
+ghost use Rattle.gateway_state.specs.Interest.{property_subscription_of, subscription_of};
 ghost use Rattle.gateway_state.specs.Rights.{rights_asked};
 ghost use Rattle.gateway_state.specs.Variables.{asks};
 ghost use Rattle.gateway_calls.specs.Searching.{IsSearched};
@@ -127,6 +127,16 @@ impl GatewayCalls for PlainGate {
         match &self.rows {
             Some(rows) => Ok(rows.subscription_to(Subject::Values, name)),
             None => Err(Failed),
+        }
+    }
+
+    fn property_subscription(&mut self, name: &Name) -> Result<Option<u32>, Failed> {
+        let Some(rows) = &self.rows else {
+            return Err(Failed);
+        };
+        match rows.subscription_to(Subject::Properties, name) {
+            Some(sub) => Ok(Some(sub.id)),
+            None => Ok(None),
         }
     }
 

@@ -1,8 +1,8 @@
 //! What the readers of a variable want together, from the list of all readers.
-ghost use Rattle.std.specs.Prelude.{◌≡◌, ◌++◌, filter, map, IfOk, OnOk};
+ghost use Rattle.std.specs.Prelude.{◌≡◌, ◌++◌, filter, map, Some, IfOk, OnOk};
 ghost use Rattle.channel_table.specs.Demand.{names_properties, own_ask, reach_ask};
-ghost use Rattle.gateway_state.specs.Interest.{is_for, is_reader, is_subscriber, minor_of, reader_ask, readers, sent_count, sent_for, subscription_to, wanted_by, wanted_for};
-ghost use Rattle.mask_merge.specs.Counts.{as_native, want_asked};
+ghost use Rattle.gateway_state.specs.Interest.{ask_props, is_for, is_reader, is_subscriber, minor_of, reader_ask, readers, sent_count, sent_for, subscription_to, wanted_by, wanted_for};
+ghost use Rattle.mask_merge.specs.Counts.{as_native, asks_props, want_asked};
 ghost use Rattle.mask_merge.specs.Merged.{events, greatest, merged};
 
 use crate::lists::find;
@@ -11,7 +11,7 @@ use crate::state::Rows;
 use crate::upstream::{ServerNumbered, sub_at};
 use crate::values::meant_count;
 use channel_table::{Channel, ClientSub, Reach};
-use dbr_layout::{has_properties_by, is_text_by};
+use dbr_layout::{has_properties_by, is_state_by, is_text_by};
 use gateway_state::{Sub, UPDATE_MINOR};
 use link_table::{LinkState, Subject, Subscription};
 use mask_merge::{ALWAYS_ASKED, Ask, KNOWN_EVENTS, PROPERTY_EVENT, Want};
@@ -148,19 +148,37 @@ fn reach_ask(reach: Reach) -> Ask
 fn wanted_by(
     alloc: Global,
     subject: Subject,
-    _dtype: u16,
+    dtype: u16,
     native: u32,
     asks: &[Ask],
 ) -> Result<Option<Want>, AllocError>
-    ensures { IfOk result (λ want. want ≡ wanted_by subject _dtype native asks.now) }
+    ensures { IfOk result (λ want. want ≡ wanted_by subject dtype native asks.now) }
 {
     match subject {
         Subject::Values => {
             let wants = wants_of(alloc, native, asks)?;
             Ok(merged(&wants))
         }
+        Subject::Properties if ask_props(dtype, asks) => Ok(Some(Want {
+            mask: PROPERTY_EVENT,
+            count: 1,
+        })),
         Subject::Properties => Ok(None),
     }
+}
+
+/// Whether one of these asks for the properties of a variable of this native type.
+fn ask_props(dtype: u16, asks: &[Ask]) -> bool
+    ensures { result ≡ ask_props dtype asks.now }
+{
+    asks.iter().any(|ask| asks_props(is_state_by(dtype), *ask))
+}
+
+/// Whether one asks for the properties of a variable, whose elements may be states: those have texts.
+fn asks_props(states: bool, ask: Ask) -> bool
+    ensures { result ≡ asks_props states (Some ask) }
+{
+    ask.props || states && ask.texts
 }
 
 /// What each wants of the values, where a count of 0 stands for the native one.

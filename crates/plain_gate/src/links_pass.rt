@@ -7,7 +7,7 @@ use crate::interest::{is_for, sent_for};
 use crate::lists::remove;
 use crate::numbers::Refusal;
 use crate::state::Rows;
-use crate::upstream::{MessageOf, put_subscription, sub_at};
+use crate::upstream::{MessageOf, drop_properties, put_subscription, sub_at};
 use crate::values::type_for;
 use ca_message::ToServer;
 use gateway_state::LinkNotice;
@@ -146,7 +146,7 @@ fn forget(rows: &mut Rows, subject: Subject, cid: u32)
 {
     match subject {
         Subject::Values => remove(&mut rows.cache, MessageOf { cid }),
-        Subject::Properties => {}
+        Subject::Properties => drop_properties(&mut rows.cache, cid),
     }
 }
 

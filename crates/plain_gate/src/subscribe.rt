@@ -12,8 +12,7 @@ use ca_message::ToClient;
 use ca_message::codes::{ECA_ALLOCMEM, ECA_BADCHID, ECA_BADMASK, ECA_INTERNAL};
 use ca_message::commands::NO_CHANNEL;
 use channel_table::{ClientSub, SUB_LIMIT};
-use gateway_state::{Native, SubVerdict};
-use mask_merge::KNOWN_EVENTS;
+use gateway_state::{Native, SERVED_EVENTS, SubVerdict};
 use std::alloc::AllocError;
 
 /// Why a subscription is refused, the first reason that applies.
@@ -33,7 +32,7 @@ fn subscription_refusal(rows: &Rows, sub: ClientSub, native: Native) -> Option<u
     if let Some(code) = value_refusal(native, sub.dtype, sub.count) {
         return Some(code);
     }
-    if sub.mask & KNOWN_EVENTS == 0 {
+    if sub.mask & SERVED_EVENTS == 0 {
         Some(ECA_BADMASK)
     } else if count(&rows.subs, its) >= SUB_LIMIT {
         Some(ECA_ALLOCMEM)

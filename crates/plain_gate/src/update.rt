@@ -1,29 +1,51 @@
 //! Updates that servers send.
-ghost use Rattle.std.specs.Prelude.{◌≡◌, filter, IfOk, OnOk};
-ghost use Rattle.gateway_state.specs.Servers.{has_other_alarm, is_value, read_failed, reads_failed, subject_of, updated, waits_for};
-ghost use Rattle.gateway_state.specs.Updates.{concerned, is_concerned};
+ghost use Rattle.std.specs.Prelude.{◌≡◌, ◌&&◌, filter, IfOk, OnOk};
+ghost use Rattle.dbr_layout.specs.View.{shown};
+ghost use Rattle.gateway_state.specs.Servers.{concerns, fails_without, has_other_alarm, is_described_in, is_description, is_told, is_value, read_failed, reads_failed, subject_of, updated, waits_for};
+ghost use Rattle.gateway_state.specs.Updates.{asks_for, concerned, is_concerned};
 
 use crate::clients::remove_read;
 use crate::lists::find;
+use crate::names::native_in;
 use crate::state::Rows;
-use crate::upstream::{LinkSubscribed, MessageOf, has_id, put_message};
-use crate::values::time_of;
+use crate::upstream::{LinkSubscribed, MessageOf, has_id, sub_at};
+use crate::values::{ctrl_of, needs_by_number, time_of};
 use bytes::Bytes;
 use ca_message::codes::{ECA_GETFAIL, ECA_NORMAL};
 use channel_table::{ClientSub, WaitingRead};
-use dbr_layout::View;
-use gateway_state::{ALARM_EVENTS, LastMessage, LastValue, VALUE_EVENTS};
+use dbr_layout::{Props, View};
+use gateway_state::{ALARM_EVENTS, Native, VALUE_EVENTS};
 use link_table::{Link, LinkState, Subject};
+use mask_merge::PROPERTY_EVENT;
 use pv_name::Name;
 use std::alloc::AllocError;
 
-/// The reads that wait for a variable, in the order of asking.
-fn reads_for(rows: &Rows, name: &Name) -> Result<Vec<WaitingRead>, AllocError>
-    ensures { IfOk result (λ reads. reads.items ≡ filter (waits_for rows.now name.now) rows.now.clients.reads) }
+/// Whether a read can't be had where a server fails to tell a subject: without values none can, without
+/// properties none that needs them.
+fn fails_without(subject: Subject, native: Option<Native>, read: &WaitingRead) -> bool
+    ensures { result ≡ fails_without subject native read.now }
+{
+    match (subject, native) {
+        (Subject::Values, _) => true,
+        (Subject::Properties, Some(native)) => needs_by_number(native.dtype, read.dtype),
+        (Subject::Properties, None) => false,
+    }
+}
+
+/// The reads that wait for a variable and fail without a subject, in the order of asking.
+fn reads_without(
+    rows: &Rows,
+    subject: Subject,
+    native: Option<Native>,
+    name: &Name,
+) -> Result<Vec<WaitingRead>, AllocError>
+    ensures { IfOk result (λ reads. reads.items ≡ filter (λ read. waits_for rows.now name.now read && fails_without subject native read) rows.now.clients.reads) }
 {
     let mut reads = Vec::new(rows.alloc);
     for read in &rows.reads {
-        if rows.is_channel_on(name, read.session, read.sid) {
+        if rows.is_channel_on(name, read.session, read.sid)
+            && fails_without(subject, native, read)
+        {
             reads.push(*read)?;
         }
     }
@@ -38,31 +60,23 @@ fn fail_read(rows: &mut Rows, read: WaitingRead) -> Result<(), AllocError>
     rows.refuse_read(read, ECA_GETFAIL)
 }
 
-/// None of the reads that wait for a variable can be had.
-fn fail_reads(rows: &mut Rows, name: &Name) -> Result<(), AllocError>
-    ensures { OnOk result (rows.new ≡ reads_failed rows.old name.now) }
+/// None of the reads that wait for a variable and fail without a subject can be had.
+fn fail_reads(
+    rows: &mut Rows,
+    subject: Subject,
+    native: Option<Native>,
+    name: &Name,
+) -> Result<(), AllocError>
+    ensures { OnOk result (rows.new ≡ reads_failed (fails_without subject native) rows.old name.now) }
 {
-    let reads = reads_for(rows, name)?;
+    let reads = reads_without(rows, subject, native, name)?;
     for read in &reads {
         fail_read(rows, *read)?;
     }
     Ok(())
 }
 
-/// The subscriptions to a variable that an update of it concerns.
-fn concerned(rows: &Rows, name: &Name, differs: bool) -> Result<Vec<ClientSub>, AllocError>
-    ensures { IfOk result (λ subs. subs.items ≡ concerned rows.now name.now differs) }
-{
-    let mut subs = Vec::new(rows.alloc);
-    for sub in &rows.subs {
-        if rows.is_channel_on(name, sub.session, sub.sid) && is_concerned(sub, differs) {
-            subs.push(*sub)?;
-        }
-    }
-    Ok(subs)
-}
-
-/// Whether the alarm of an update differs from that of a link's last message, or there is none.
+/// Whether the alarm of an update differs from that of the value that is held of a link, or none is.
 fn has_other_alarm(rows: &Rows, cid: u32, dtype: u16, count: u32, payload: &[u8]) -> bool
     ensures { result ≡ has_other_alarm rows.now cid dtype count payload.now }
 {
@@ -72,6 +86,102 @@ fn has_other_alarm(rows: &Rows, cid: u32, dtype: u16, count: u32, payload: &[u8]
     match find(&rows.cache, MessageOf { cid }) {
         Some(last) => last.held.alarm_differs(&view),
         None => true,
+    }
+}
+
+/// Whether a subscription asks for one of these events.
+fn asks_for(events: u16, sub: &ClientSub) -> bool
+    ensures { result ≡ asks_for events sub.now }
+{
+    sub.mask & events > 0
+}
+
+/// Whether a value concerns a subscription: it asks for values or for the log, or for alarms and the
+/// alarm is another.
+fn is_concerned(differs: bool, sub: &ClientSub) -> bool
+    ensures { result ≡ is_concerned differs sub.now }
+{
+    asks_for(VALUE_EVENTS, sub) || asks_for(ALARM_EVENTS, sub) && differs
+}
+
+/// Whether an update concerns a subscription: a value by its events, properties one that asks for
+/// theirs.
+fn concerns(
+    rows: &Rows,
+    subject: Subject,
+    cid: u32,
+    dtype: u16,
+    count: u32,
+    payload: &[u8],
+    sub: &ClientSub,
+) -> bool
+    ensures { result ≡ concerns subject rows.now cid dtype count payload.now sub.now }
+{
+    match subject {
+        Subject::Values => is_concerned(has_other_alarm(rows, cid, dtype, count, payload), sub),
+        Subject::Properties => asks_for(PROPERTY_EVENT, sub),
+    }
+}
+
+/// The subscriptions to a variable that an update of it concerns.
+fn concerned(
+    rows: &Rows,
+    subject: Subject,
+    link: &Link,
+    dtype: u16,
+    count: u32,
+    payload: &[u8],
+) -> Result<Vec<ClientSub>, AllocError>
+    ensures { IfOk result (λ subs. subs.items ≡ concerned rows.now link.now.name (concerns subject rows.now link.now.cid dtype count payload.now)) }
+{
+    let mut subs = Vec::new(rows.alloc);
+    for sub in &rows.subs {
+        if rows.is_channel_on(&link.name, sub.session, sub.sid)
+            && concerns(rows, subject, link.cid, dtype, count, payload, sub)
+        {
+            subs.push(*sub)?;
+        }
+    }
+    Ok(subs)
+}
+
+/// Whether an update counts as a value.
+fn is_value(native: u16, asked_with: u32, dtype: u16, count: u32, payload: &[u8]) -> bool
+    ensures { result ≡ is_value native asked_with dtype count payload.now }
+{
+    dtype == time_of(native) && count <= asked_with && View::new(dtype, count, payload).is_ok()
+}
+
+/// Whether an update counts as properties.
+fn is_description(native: u16, dtype: u16, count: u32, payload: &[u8]) -> bool
+    ensures { result ≡ is_description native dtype count payload.now }
+{
+    dtype == ctrl_of(native) && count <= 1 && tells_properties(dtype, count, payload)
+}
+
+fn tells_properties(dtype: u16, count: u32, payload: &[u8]) -> bool
+    ensures { result ≡ is_described_in (shown dtype count payload.now) }
+{
+    match View::new(dtype, count, payload) {
+        Ok(view) => Props::of(&view).is_some(),
+        Err(_) => false,
+    }
+}
+
+/// Whether an update of a subject counts, of a variable of this native type.
+fn is_told(
+    subject: Subject,
+    native: u16,
+    asked_with: u32,
+    dtype: u16,
+    count: u32,
+    payload: &[u8],
+) -> bool
+    ensures { result ≡ is_told subject native asked_with dtype count payload.now }
+{
+    match subject {
+        Subject::Values => is_value(native, asked_with, dtype, count, payload),
+        Subject::Properties => is_description(native, dtype, count, payload),
     }
 }
 
@@ -101,42 +211,25 @@ pub(crate) fn update(
     let Some(link) = find(&rows.links, LinkSubscribed { server, id }) else {
         return Ok(());
     };
-    match subject_of(id, link) {
-        Subject::Values => {}
-        Subject::Properties => return Ok(()),
-    }
+    let subject = subject_of(id, link);
     if status != ECA_NORMAL {
+        let native = native_in(link.state);
         let name = link.name.copy()?;
-        return fail_reads(rows, &name);
+        return fail_reads(rows, subject, native, &name);
     }
     let LinkState::Connected { dtype: native, .. } = link.state else {
         return Ok(());
     };
-    let Some(subscription) = link.subscriptions.values else {
+    let Some(subscription) = sub_at(subject, link.subscriptions) else {
         return Ok(());
     };
-    if !is_value(native, subscription.count, dtype, count, payload) {
+    let asked_with = subscription.count;
+    if !is_told(subject, native, asked_with, dtype, count, payload) {
         return Ok(());
     }
     let (server, cid) = (link.server, link.cid);
-    let differs = has_other_alarm(rows, cid, dtype, count, payload);
-    let owed = concerned(rows, &link.name, differs)?;
+    let owed = concerned(rows, subject, link, dtype, count, payload)?;
     rows.owe_all(&owed);
-    let held = LastValue::new(dtype, count, payload.clone()?, subscription.count);
-    put_message(&mut rows.cache, LastMessage { server, cid, held })
-}
-
-/// Whether an update counts as the last message.
-fn is_value(native: u16, asked_with: u32, dtype: u16, count: u32, payload: &[u8]) -> bool
-    ensures { result ≡ is_value native asked_with dtype count payload.now }
-{
-    dtype == time_of(native) && count <= asked_with && View::new(dtype, count, payload).is_ok()
-}
-
-/// Whether an update concerns a subscription: it asks for values or for the log, or for alarms and
-/// the alarm is another.
-fn is_concerned(sub: &ClientSub, differs: bool) -> bool
-    ensures { result ≡ is_concerned differs sub.now }
-{
-    sub.mask & VALUE_EVENTS > 0 || sub.mask & ALARM_EVENTS > 0 && differs
+    let payload = payload.clone()?;
+    rows.put_told(subject, server, cid, dtype, count, payload, asked_with)
 }

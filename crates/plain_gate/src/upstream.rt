@@ -1,15 +1,18 @@
-//! Rows towards servers, and their keys: servers, links, waiting writes and last messages.
-ghost use Rattle.std.specs.Prelude.{◌≡◌, ◌==◌, OnOk};
+//! Rows towards servers, and their keys: servers, links, waiting writes, and what variables told last.
+ghost use Rattle.std.specs.Prelude.{◌≡◌, ◌==◌, IsOk, OnOk};
 ghost use Rattle.rows.specs.Rows.{change_first};
 ghost use Rattle.link_table.specs.Links.{has_id, has_subscription, is_link, is_of, sub_at, with_state, with_subscription};
 ghost use Rattle.link_table.specs.Servers.{is_server, with_minor};
 ghost use Rattle.link_table.specs.Writes.{is_write, is_write_of, is_write_on, is_write_to};
-ghost use Rattle.gateway_state.specs.CachedRows.{is_cached_of, with_row};
-ghost use Rattle.gateway_state.specs.Servers.{without_link};
+ghost use Rattle.dbr_layout.specs.View.{shown};
+ghost use Rattle.value_cache.specs.Message.{TellsProperties};
+ghost use Rattle.gateway_state.specs.CachedRows.{is_cached_of, without_told};
+ghost use Rattle.gateway_state.specs.Servers.{held_with, with_held, without_link};
 
 use crate::lists::{Key, place_of, remove};
 use crate::state::Rows;
-use gateway_state::LastMessage;
+use bytes::Bytes;
+use gateway_state::{LastMessage, LastValue};
 use link_table::{Link, LinkState, Server, Subject, Subscription, Subscriptions, WaitingWrite};
 use std::alloc::AllocError;
 
@@ -199,9 +202,9 @@ impl Key<WaitingWrite> for WritesTo {
     }
 }
 
-// Last messages
+// What variables told last
 
-/// A link's last message.
+/// What a link was told last.
 #[derive(Clone, Copy)]
 pub(crate) struct MessageOf {
     pub cid: u32,
@@ -215,7 +218,7 @@ impl Key<LastMessage> for MessageOf {
     }
 }
 
-/// The last messages of a server's links.
+/// What the links of a server were told last.
 #[derive(Clone, Copy)]
 pub(crate) struct MessagesBy {
     pub server: u32,
@@ -229,18 +232,65 @@ impl Key<LastMessage> for MessagesBy {
     }
 }
 
-/// Keeps a message in place of the one that its link had.
-pub(crate) fn put_message(rows: &mut Vec<LastMessage>, row: LastMessage) -> Result<(), AllocError>
-    ensures { OnOk result (rows.new.items ≡ with_row row rows.old.items) }
+/// A link's properties are forgotten, its value isn't.
+#[tactic(auto, using(rows::proofs::RowLemmas::set_is_change_first, rows::proofs::RowLemmas::change_first_none))]
+pub(crate) fn drop_properties(rows: &mut Vec<LastMessage>, cid: u32)
+    ensures { rows.new.items ≡ change_first (is_cached_of cid) without_told rows.old.items }
 {
-    let cid = row.cid;
-    remove(rows, MessageOf { cid });
-    rows.push(row)?;
-    Ok(())
+    if let Some(place) = place_of(rows, MessageOf { cid }) {
+        let row = &mut rows[place];
+        row.held.drop_properties();
+    }
+}
+
+/// What a server told of a subject is held in place of what it told of that subject before.
+fn hold(
+    held: &mut LastValue,
+    subject: Subject,
+    dtype: u16,
+    count: u32,
+    payload: Bytes,
+    asked_with: u32,
+)
+    requires value { subject ≡ Subject.Values → IsOk (shown dtype count payload) }
+    requires properties { subject ≡ Subject.Properties → TellsProperties dtype payload }
+    ensures { held.new ≡ held_with subject dtype count payload asked_with held.old }
+{
+    match subject {
+        Subject::Values => held.put(dtype, count, payload, asked_with),
+        Subject::Properties => held.put_properties(dtype, payload),
+    }
 }
 
 impl Rows {
-    /// Removes a link and its last message.
+    /// Keeps what a link was told of a subject, in a row of its own where it was told nothing yet.
+    #[tactic(auto, using(crate::proofs::PutRows::set_is_put_row, crate::proofs::PutRows::put_row_none))]
+    pub(crate) fn put_told(
+        &mut self,
+        subject: Subject,
+        server: u32,
+        cid: u32,
+        dtype: u16,
+        count: u32,
+        payload: Bytes,
+        asked_with: u32,
+    ) -> Result<(), AllocError>
+        requires value { subject ≡ Subject.Values → IsOk (shown dtype count payload) }
+        requires properties { subject ≡ Subject.Properties → TellsProperties dtype payload }
+        ensures { OnOk result (self.new ≡ with_held server cid (held_with subject dtype count payload asked_with) self.old) }
+    {
+        if let Some(place) = place_of(&self.cache, MessageOf { cid }) {
+            let row = &mut self.cache[place];
+            hold(&mut row.held, subject, dtype, count, payload, asked_with);
+            return Ok(());
+        }
+        let mut held = LastValue::empty();
+        hold(&mut held, subject, dtype, count, payload, asked_with);
+        self.cache.push(LastMessage { server, cid, held })?;
+        Ok(())
+    }
+
+    /// Removes a link and what it was told last.
     pub(crate) fn remove_link(&mut self, server: u32, cid: u32)
         ensures { self.new ≡ without_link server cid self.old }
     {

@@ -1,4 +1,4 @@
-//! Last messages, and what reads are answered from them.
+//! What variables told last, and what reads are answered from it.
 ghost use Rattle.std.specs.Prelude.{◌≡◌, Some, IfOk};
 ghost use Rattle.dbr_layout.specs.Dbr.{dbr_of};
 ghost use Rattle.gateway_state.specs.Answer.{cached_as, cached_value, fits_payload, is_type_served, meant_count, needs_by_number, reading, reading_of, refusal, value_refusal};
@@ -16,7 +16,7 @@ use link_table::{Link, Subject};
 use std::alloc::{AllocError, Global};
 
 impl Rows {
-    /// A link's last message, as an asked type and count; nothing where it doesn't cover that count.
+    /// What a link was told last, as an asked type and count; nothing where these aren't covered.
     pub(crate) fn cached_value(
         &self,
         cid: u32,
@@ -147,7 +147,7 @@ fn cached_as(
 ) -> Result<Option<Given>, AllocError>
     ensures { IfOk result (λ given. given ≡ cached_as native dtype count (Some last.now)) }
 {
-    if !last.held.covers(meant_count(native, count)) {
+    if !last.held.covers(dtype, meant_count(native, count)) {
         return Ok(None);
     }
     match last.held.answer(alloc, dtype, count)? {
@@ -168,7 +168,7 @@ pub(crate) fn time_of(dtype: u16) -> u16
 }
 
 /// The number of a plain type's CTRL form; any other number stays.
-fn ctrl_of(dtype: u16) -> u16
+pub(crate) fn ctrl_of(dtype: u16) -> u16
     ensures { result ≡ ctrl_of dtype }
 {
     if dtype < PLAIN_TYPES {

@@ -41,6 +41,7 @@ Lines that change nothing, and what they print:
   read sN SID TYPE COUNT   what a read on the client's channel SID would be answered now:
                            value COUNT HEX, refused CODE, waits, or no channel
   sub NAME                 sub ID MASK COUNT, the gateway's own subscription to the variable, or sub -
+  props NAME               props ID, its subscription to the variable's properties, or props -
   rights sN SID            rights N (1: read, 2: write, 3: both), or rights - for no such channel
 
 Also printed:

@@ -32,6 +32,7 @@ command_named word =
     else if bytes_eq word (codes "asks") then Some commands.Asks
     else if bytes_eq word (codes "read") then Some commands.Read
     else if bytes_eq word (codes "sub") then Some commands.Sub
+    else if bytes_eq word (codes "props") then Some commands.Props
     else if bytes_eq word (codes "rights") then Some commands.Rights
     else if bytes_eq word (codes "hold") then Some commands.Hold
     else if bytes_eq word (codes "flow") then Some commands.Flow
@@ -103,6 +104,9 @@ read_line words = option_and_then (λ four. both read_of (channel_of four.0) (fo
 abbrev pub sub_line : List (List ℕ) → Option Line
 sub_line words = option_map lines.Subscription (option_and_then name_of (one_word words))
 
+abbrev pub props_line : List (List ℕ) → Option Line
+props_line words = option_map lines.Properties (option_and_then name_of (one_word words))
+
 abbrev pub rights_line : List (List ℕ) → Option Line
 rights_line words = option_map (λ channel. lines.Rights channel.0 channel.1) (option_and_then channel_of (two_words words))
 
@@ -122,6 +126,7 @@ command_line commands.Edit = edit_line
 command_line commands.Asks = asks_line
 command_line commands.Read = read_line
 command_line commands.Sub = sub_line
+command_line commands.Props = props_line
 command_line commands.Rights = rights_line
 command_line commands.Hold = hold_line
 command_line commands.Flow = flow_line

@@ -78,6 +78,11 @@ abbrev pub subscription_line : Option (List ℕ) → List ℕ
 subscription_line (Some text) = codes "sub " ++ text ++ 10 ∷ []
 subscription_line None = codes "sub -\n"
 
+-- the line of the subscription to a variable's properties, if there is one
+abbrev pub props_line : Option ℕ → List ℕ
+props_line (Some id) = codes "props " ++ decimal id ++ 10 ∷ []
+props_line None = codes "props -\n"
+
 -- the line of the rights on a channel, if there is such a channel
 abbrev pub rights_line : Option ℕ → List ℕ
 rights_line (Some rights) = codes "rights " ++ decimal rights ++ 10 ∷ []

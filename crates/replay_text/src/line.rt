@@ -1,7 +1,7 @@
 //! What a line of a script asks for.
 ghost use Rattle.std.specs.Prelude.{◌≡◌, true, IsTrue, ◌↔◌};
 ghost use Rattle.std.specs.List.{slice_split};
-ghost use Rattle.replay_text.specs.Lines.{IsRead, line_of, words_line, command_line, is_skipped, open_line, opening, dest_line, lost_line, hold_line, flow_line, client_line, server_line, found_line, search_line, sweep_line, edit_line, asks_line, channel_of, read_line as reading_line, sub_line, rights_line, drain_line};
+ghost use Rattle.replay_text.specs.Lines.{IsRead, line_of, words_line, command_line, is_skipped, open_line, opening, dest_line, lost_line, hold_line, flow_line, client_line, server_line, found_line, search_line, sweep_line, edit_line, asks_line, channel_of, read_line as reading_line, sub_line, props_line, rights_line, drain_line};
 ghost use Rattle.replay_text.specs.Words.{is_blank};
 
 use crate::command::Command;
@@ -52,6 +52,8 @@ pub enum Line {
     },
     /// What is subscribed to upstream for this variable?
     Subscription(Name),
+    /// And for its properties?
+    Properties(Name),
     /// What may a client do with its channel?
     Rights {
         session: u32,
@@ -110,6 +112,7 @@ fn read_command(alloc: Global, command: Command, words: Words) -> Result<Line, L
         Command::Asks => asks(words).ok_or(LineFault::Bad),
         Command::Read => read(words).ok_or(LineFault::Bad),
         Command::Sub => subscription(alloc, words),
+        Command::Props => properties(alloc, words),
         Command::Rights => rights(words).ok_or(LineFault::Bad),
         Command::Hold => hold(words).ok_or(LineFault::Bad),
         Command::Flow => flow(words).ok_or(LineFault::Bad),
@@ -241,6 +244,13 @@ fn subscription(alloc: Global, words: Words) -> Result<Line, LineFault>
 {
     let word = words.one().ok_or(LineFault::Bad)?;
     Ok(Line::Subscription(name(alloc, word)?))
+}
+
+fn properties(alloc: Global, words: Words) -> Result<Line, LineFault>
+    ensures { IsRead result (props_line words.entry) }
+{
+    let word = words.one().ok_or(LineFault::Bad)?;
+    Ok(Line::Properties(name(alloc, word)?))
 }
 
 fn rights(words: Words) -> Option<Line>

@@ -3,7 +3,7 @@ ghost use Rattle.std.specs.Prelude.{◌++◌, OnOk, flat_map};
 ghost use Rattle.std.specs.Io.KnownBytes.{Appends};
 ghost use Rattle.std.specs.Option.{option_map};
 ghost use Rattle.hex.specs.Hex.{encode_lower};
-ghost use Rattle.replay_text.specs.Output.{dest_text, message_line, shut_line, end_line, asks_line, after_blank, reading_line, value_line, bytes_text, subscription_line, subscription_text, rights_line, reply_line, cause_line, refused_line, refused_groups_line};
+ghost use Rattle.replay_text.specs.Output.{dest_text, message_line, shut_line, end_line, asks_line, after_blank, reading_line, value_line, bytes_text, subscription_line, subscription_text, props_line, rights_line, reply_line, cause_line, refused_line, refused_groups_line};
 
 use ca_header::FrameFault;
 use gateway_state::{Dest, Reading, Sub};
@@ -99,6 +99,16 @@ pub fn write_subscription<W: Write>(out: &mut W, subscription: Option<Sub>) -> i
     match subscription {
         Some(sub) => writeln!(out, "sub {} {} {}", sub.id, sub.mask, sub.count),
         None => out.write_all(b"sub -\n"),
+    }
+}
+
+/// Writes the line of the subscription to a variable's properties: its ID, or `-` where there is none.
+pub fn write_props<W: Write>(out: &mut W, id: Option<u32>) -> io::Result<()>
+    ensures ok { OnOk result (Appends (W.contents out.old) (W.contents out.new) (props_line id)) }
+{
+    match id {
+        Some(id) => writeln!(out, "props {id}"),
+        None => out.write_all(b"props -\n"),
     }
 }
 

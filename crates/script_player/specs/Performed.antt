@@ -6,14 +6,14 @@ use Rattle.std.specs.Io.KnownBytes.{Appends}
 use Rattle.gateway_calls.specs.Searching.{IsSearched}
 use Rattle.gateway_state.specs.Answer.{reading}
 use Rattle.gateway_state.specs.Gateway.{Gateway}
-use Rattle.gateway_state.specs.Interest.{subscription_of}
+use Rattle.gateway_state.specs.Interest.{property_subscription_of, subscription_of}
 use Rattle.gateway_state.specs.Rights.{rights_asked}
 use Rattle.gateway_state.specs.Step.{run, step}
 use Rattle.gateway_state.specs.Variables.{asks}
 use Rattle.gateway_state.specs.declared.event.Dest.TheVariants.{Session, Upstream}
 use Rattle.gateway_state.specs.declared.event.Event.TheVariants as events
 use Rattle.pv_search.specs.declared.answering.SearchAnswer.{SearchAnswer}
-use Rattle.replay_text.specs.Output.{asks_line, reading_line, reply_line, rights_line, subscription_line, subscription_text}
+use Rattle.replay_text.specs.Output.{asks_line, props_line, reading_line, reply_line, rights_line, subscription_line, subscription_text}
 use Rattle.replay_text.specs.declared.line.Line.{Line}
 use Rattle.replay_text.specs.declared.line.Line.TheVariants as lines
 use Rattle.rule_desk.specs.Edit.{IsDeskFault, IsPolicyOf}
@@ -76,6 +76,7 @@ IsDone lines.Asks files None = IsAnswered (λ w. asks_line (asks w))
 IsDone (lines.Read session sid dtype count) files None = IsAnswered (λ w. reading_line (reading w session sid dtype count))
 IsDone (lines.Subscription name) files None =
     IsAnswered (λ w. subscription_line (option_map (λ sub. subscription_text sub.id sub.mask sub.count) (subscription_of w name)))
+IsDone (lines.Properties name) files None = IsAnswered (λ w. props_line (property_subscription_of w name))
 IsDone (lines.Rights session sid) files None = IsAnswered (λ w. rights_line (rights_asked w session sid))
 IsDone (lines.Hold dest) files None = Becomes (λ p. record p { held = insert_key dest_cmp p.held dest }) silent
 IsDone (lines.Flow dest) files None = Becomes (λ p. record p { held = remove_key (is_dest dest) p.held }) silent

@@ -25,8 +25,8 @@ use gateway_calls::GatewayCalls;
 use gateway_state::{Dest, Event};
 use pv_name::{Host, Name};
 use replay_text::{
-    Line, write_asks, write_end, write_message, write_reading, write_refused, write_refused_groups,
-    write_reply, write_rights, write_shut, write_subscription,
+    Line, write_asks, write_end, write_message, write_props, write_reading, write_refused,
+    write_refused_groups, write_reply, write_rights, write_shut, write_subscription,
 };
 use rule_desk::{Desk, DeskFault};
 use std::alloc::Global;
@@ -139,6 +139,9 @@ impl<G: GatewayCalls + Drop> Player<G> {
             } => write_reading(out, &self.gate.read(session, sid, dtype, count)?)?,
             Line::Subscription(name) => {
                 write_subscription(out, self.gate.subscription(&name)?)?;
+            }
+            Line::Properties(name) => {
+                write_props(out, self.gate.property_subscription(&name)?)?;
             }
             Line::Rights { session, sid } => {
                 write_rights(out, self.gate.rights(session, sid)?)?;

@@ -1,1 +1,2 @@
 pub mod Concerned
+pub mod Described

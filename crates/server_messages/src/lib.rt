@@ -2,8 +2,9 @@
 //!
 //! `hear_server` takes the rows of the gateway, the number of a server's connection and a message
 //! that came over it. It leaves the rows that `server_said` makes of the old ones: channels are made,
-//! refused or dropped, rights are kept, and an update under a present subscription becomes the last
-//! message, owed to those whom it concerns; how a write ended is told to the client that waits for it.
+//! refused or dropped, rights are kept, and an update under a present subscription is kept as the
+//! variable's value or as its properties, owed to those whom it concerns; how a write ended is told to
+//! the client that waits for it.
 //! Any other message is ignored. `find_at` makes a link for a variable that is wanted and has none
 //! (`found`). What follows for clients isn't told here; `hear_server` answers what was touched
 //! (`reply_touches`). A refusal leaves the rows half done; it says that numbers are used up only where
@@ -11,6 +12,7 @@
 #![tactic(auto)]
 
 mod channels;
+mod describe;
 mod found;
 mod hear;
 mod update;

@@ -1,19 +1,20 @@
 //! Updates.
-ghost use Rattle.std.specs.Prelude.{◌≡◌, ◌≤◌, ◌+◌, ◌*◌, length, fold, OnOk, IfOk};
+ghost use Rattle.std.specs.Prelude.{◌≡◌, ◌≤◌, ◌+◌, ◌*◌, true, length, filter, fold, OnOk, IfOk};
 ghost use Rattle.std.specs.List.{find};
 ghost use Rattle.gateway_rows.specs.Own.{own_over, subs_on};
 ghost use Rattle.link_table.specs.Links.{has_subscription};
-ghost use Rattle.gateway_state.specs.Servers.{has_other_alarm, is_value, read_failed, subject_of, updated, with_cached};
+ghost use Rattle.gateway_state.specs.Servers.{concerns, fails_without, has_other_alarm, held_with, is_told, is_value, read_failed, subject_of, updated, with_held};
 ghost use Rattle.gateway_state.specs.Updates.{concerned, is_concerned};
 ghost use Rattle.touched_rows.specs.Touches.{update_touches};
 
+use crate::describe::{concerned_by_properties, is_description};
 use bytes::Bytes;
 use ca_message::ToClient;
 use ca_message::codes::{ECA_GETFAIL, ECA_NORMAL};
 use channel_table::{ClientSub, Visits, WaitingRead};
 use dbr_layout::View;
-use gateway_rows::{Rows, time_of};
-use gateway_state::{ALARM_EVENTS, LastMessage, LastValue, VALUE_EVENTS};
+use gateway_rows::{Rows, native_in, needs_by_number, time_of};
+use gateway_state::{ALARM_EVENTS, Native, VALUE_EVENTS};
 use link_table::{Link, LinkState, Subject};
 use pv_name::Name;
 use std::alloc::{AllocError, Global};
@@ -37,11 +38,33 @@ fn fail_read(rows: &mut Rows, read: WaitingRead) -> Result<(), AllocError>
     rows.tell(read.session, &said)
 }
 
-fn fail_reads(rows: &mut Rows, reads: Vec<WaitingRead>) -> Result<(), AllocError>
-    ensures { OnOk result (rows.new ≡ fold read_failed rows.old reads.items) }
+/// Whether a read of a variable of this native type can't be had where a server fails to tell a
+/// subject: without values none can, without properties none that needs them.
+fn fails_without(subject: Subject, native: Option<Native>, read: &WaitingRead) -> bool
+    ensures { result ≡ fails_without subject native read.now }
+{
+    match subject {
+        Subject::Values => true,
+        Subject::Properties => match native {
+            Some(native) => needs_by_number(native.dtype, read.dtype),
+            None => false,
+        },
+    }
+}
+
+/// None of these reads can be had that fail without the subject.
+fn fail_reads(
+    rows: &mut Rows,
+    reads: Vec<WaitingRead>,
+    subject: Subject,
+    native: Option<Native>,
+) -> Result<(), AllocError>
+    ensures { OnOk result (rows.new ≡ fold read_failed rows.old (filter (fails_without subject native) reads.items)) }
 {
     for read in &reads {
-        fail_read(rows, *read)?;
+        if fails_without(subject, native, read) {
+            fail_read(rows, *read)?;
+        }
     }
     Ok(())
 }
@@ -57,22 +80,38 @@ fn to_keep(alloc: Global, payload: Bytes) -> Result<Bytes, AllocError>
     }
 }
 
-/// Keeps a link's last message.
-fn keep_value(rows: &mut Rows, row: LastMessage) -> Result<(), AllocError>
-    ensures { OnOk result (rows.new ≡ with_cached row rows.old) }
+/// What is held of a link changes by an update that counts.
+fn keep(
+    rows: &mut Rows,
+    subject: Subject,
+    native: u16,
+    server: u32,
+    cid: u32,
+    dtype: u16,
+    count: u32,
+    payload: Bytes,
+    asked_with: u32,
+) -> Result<(), AllocError>
+    requires { is_told subject native asked_with dtype count payload ≡ true }
+    ensures { OnOk result (rows.new ≡ with_held server cid (held_with subject dtype count payload asked_with) rows.old) }
 {
-    rows.cache.put(row)
+    match subject {
+        Subject::Values => rows
+            .cache
+            .put_value(server, cid, dtype, count, payload, asked_with),
+        Subject::Properties => rows.cache.put_properties(server, cid, dtype, payload),
+    }
 }
 
-/// The subscriptions to a variable that an update of it concerns.
+/// The subscriptions to a variable that a value of it concerns.
 #[tactic(auto, using(crate::proofs::Concerned::concerned_are_on))]
-fn concerned(
+fn concerned_by_value(
     rows: &Rows,
     visits: &mut Visits,
     name: &Name,
     differs: bool,
 ) -> Result<Vec<ClientSub>, AllocError>
-    ensures found { IfOk result (λ subs. subs.items ≡ concerned rows.now name.now differs) }
+    ensures found { IfOk result (λ subs. subs.items ≡ concerned rows.now name.now (is_concerned differs)) }
     ensures bound { OnOk result (visits.new ≤ visits.old + subs_on rows.now name.now) }
     ensures fewer { IfOk result (λ subs. length subs.items ≤ subs_on rows.now name.now) }
     ensures no_less { visits.old ≤ visits.new }
@@ -86,7 +125,31 @@ fn concerned(
     Ok(subs)
 }
 
-/// Whether the alarm of an update differs from that of a link's last message, or there is none.
+/// The subscriptions to a link's variable that an update concerns.
+fn concerned(
+    rows: &Rows,
+    visits: &mut Visits,
+    subject: Subject,
+    link: &Link,
+    dtype: u16,
+    count: u32,
+    payload: &[u8],
+) -> Result<Vec<ClientSub>, AllocError>
+    ensures found { IfOk result (λ subs. subs.items ≡ concerned rows.now link.now.name (concerns subject rows.now link.now.cid dtype count payload.now)) }
+    ensures bound { OnOk result (visits.new ≤ visits.old + subs_on rows.now link.now.name) }
+    ensures fewer { IfOk result (λ subs. length subs.items ≤ subs_on rows.now link.now.name) }
+    ensures no_less { visits.old ≤ visits.new }
+{
+    match subject {
+        Subject::Values => {
+            let differs = has_other_alarm(rows, link.cid, dtype, count, payload);
+            concerned_by_value(rows, visits, &link.name, differs)
+        }
+        Subject::Properties => concerned_by_properties(rows, visits, &link.name),
+    }
+}
+
+/// Whether the alarm of an update differs from that of the value that is held, or none is held.
 fn has_other_alarm(rows: &Rows, cid: u32, dtype: u16, count: u32, payload: &[u8]) -> bool
     ensures { result ≡ has_other_alarm rows.now cid dtype count payload.now }
 {
@@ -110,6 +173,7 @@ fn subject_of(id: u32, link: &Link) -> Subject
 }
 
 /// An update came under a subscription's ID.
+#[tactic(auto, using(crate::proofs::Concerned::failing_are_waiting))]
 pub(crate) fn update(
     rows: &mut Rows,
     visits: &mut Visits,
@@ -128,44 +192,60 @@ pub(crate) fn update(
     let Some(link) = rows.upstream.by_sub(server, id) else {
         return Ok(Touched::Nothing);
     };
-    match subject_of(id, link) {
-        Subject::Values => {}
-        Subject::Properties => return Ok(Touched::Nothing),
-    }
+    let subject = subject_of(id, link);
     if status != ECA_NORMAL {
+        let native = native_in(link.state);
         let reads = rows.reads_for(visits, &link.name)?;
-        fail_reads(rows, reads)?;
+        fail_reads(rows, reads, subject, native)?;
         return Ok(Touched::Nothing);
     }
     let LinkState::Connected { dtype: native, .. } = link.state else {
         return Ok(Touched::Nothing);
     };
-    let Some(subscription) = link.subscriptions.values else {
+    let Some(subscription) = link.subscriptions.at(subject) else {
         return Ok(Touched::Nothing);
     };
-    if !is_value(native, subscription.count, dtype, count, &payload) {
+    let asked_with = subscription.count;
+    if !is_told(subject, native, asked_with, dtype, count, &payload) {
         return Ok(Touched::Nothing);
     }
     let touched = Touched::Value(link.name.copy()?);
     let (server, cid) = (link.server, link.cid);
-    let differs = has_other_alarm(rows, cid, dtype, count, &payload);
-    let owed = concerned(rows, visits, &link.name, differs)?;
+    let owed = concerned(rows, visits, subject, link, dtype, count, &payload)?;
     rows.owe_all(visits, &owed);
     let payload = to_keep(rows.alloc, payload)?;
-    let held = LastValue::new(dtype, count, payload, subscription.count);
-    keep_value(rows, LastMessage { server, cid, held })?;
+    keep(
+        rows, subject, native, server, cid, dtype, count, payload, asked_with,
+    )?;
     Ok(touched)
 }
 
-/// Whether an update counts as the last message.
+/// Whether an update counts, of a variable of this native type.
+fn is_told(
+    subject: Subject,
+    native: u16,
+    asked_with: u32,
+    dtype: u16,
+    count: u32,
+    payload: &[u8],
+) -> bool
+    ensures { result ≡ is_told subject native asked_with dtype count payload.now }
+{
+    match subject {
+        Subject::Values => is_value(native, asked_with, dtype, count, payload),
+        Subject::Properties => is_description(native, dtype, count, payload),
+    }
+}
+
+/// Whether an update counts as a value.
 fn is_value(native: u16, asked_with: u32, dtype: u16, count: u32, payload: &[u8]) -> bool
     ensures { result ≡ is_value native asked_with dtype count payload.now }
 {
     dtype == time_of(native) && count <= asked_with && View::new(dtype, count, payload).is_ok()
 }
 
-/// Whether an update concerns a subscription: it asks for values or for the log, or for alarms and
-/// the alarm is another.
+/// Whether a value concerns a subscription: it asks for values or for the log, or for alarms and the
+/// alarm is another.
 fn is_concerned(sub: &ClientSub, differs: bool) -> bool
     ensures { result ≡ is_concerned differs sub.now }
 {

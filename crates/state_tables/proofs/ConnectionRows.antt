@@ -16,7 +16,7 @@ use Rattle.gateway_state.specs.declared.connections.Connection.{Connection}
 use Rattle.state_tables.specs.ConnectionKeys.{key_of, connection_key, AreKeyed}
 use Rattle.gateway_state.specs.Connections.{same_dest, is_to, is_not_to}
 
-and_true : (b : Bool) → (b && true) ≡ b
+pub and_true : (b : Bool) → (b && true) ≡ b
 and_true true = refl
 and_true false = refl
 

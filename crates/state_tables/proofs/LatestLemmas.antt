@@ -1,148 +1,96 @@
--- Last messages under the CIDs of their links.
-use Rattle.std.proofs.Common.{◌≡◌, ℕ, ◌+◌, ◌≤◌, List, [], ◌∷◌, ◌++◌, Bool, true, false, not, cond, ◌&&◌, ◌==◌, Some, None, is_some, map, refl, sym, ap, ◌∙◌, arith}
+-- What links were told last, each row under the CID of its link.
+use Rattle.std.proofs.Common.{◌≡◌, ℕ, List, [], ◌∷◌, ◌++◌, Bool, true, false, not, cond, ◌||◌, ◌==◌, Some, None, is_some, map, refl, sym, ap, ◌∙◌}
 use Rattle.std.specs.Cmp.{nat_eq_equiv}
-use Rattle.std.specs.Prelude.{slice_get}
+use Rattle.std.specs.Prelude.{Result, Ok, Err, OnOk, OnErr}
 use Rattle.std.specs.List.{find, filter, list_any}
 use Rattle.std.specs.Option.{option_map}
-use Rattle.std.proofs.lemmas.Bool.{false≢true, or_parts, eqb-true, eqb-false, eq-eqb}
-use Rattle.std.proofs.lemmas.List.{map-append}
-use Rattle.std.proofs.lemmas.List.Elements.{filter-append}
+use Rattle.std.proofs.lemmas.Bool.{false≢true, or_parts}
+use Rattle.rows.specs.Rows.{change_first}
 use Rattle.row_index.specs.declared.key.Key.{Key}
-use Rattle.row_index.specs.Rows.{has_key, lacks_key, is_owned_by, put_at, row_of, value_at}
-use Rattle.gateway_state.specs.declared.cached.LastMessage.{LastMessage}
-use Rattle.gateway_state.specs.CachedRows.{is_cached_of, is_cached_elsewhere, with_row}
+use Rattle.row_index.specs.Rows.{same_key, has_key, lacks_key, row_of, value_at, HasKeysApart}
+use Rattle.channel_table.specs.Indexes.{changed_by, IsApart}
+use Rattle.channel_table.proofs.Keyed.{entry_found, entry_absent, keyed_again, rows_apart, rows_changed, rows_less, rows_more, under_change, under_less, under_more, value_at_keyed}
+use Rattle.channel_table.proofs.Lists.{found_where_any, unfound_is_absent}
 use Rattle.link_table.specs.LinkIndex.{key}
-use Rattle.state_tables.specs.LatestRows.{AreApart, AreLatest}
+use Rattle.value_cache.specs.Held.{Held}
+use Rattle.gateway_state.specs.declared.cached.LastMessage.{LastMessage}
+use Rattle.gateway_state.specs.CachedRows.{is_cached_of, is_cached_elsewhere, put_row}
+use Rattle.state_tables.specs.LatestRows.{AreApart, AreLatest, latest_key, unchanged, untold, with_held}
+use Rattle.state_tables.proofs.ConnectionRows.{and_true}
 
--- an entry of a CID has the row of that CID
-is_its_row : (cid : ℕ) (entry : Key × LastMessage) → entry.0.owner ≡ entry.1.cid → is_owned_by cid entry ≡ is_cached_of cid entry.1
-is_its_row cid entry h = ap (λ o. o == cid) h
+-- the row that has a key is that of the link
+has_key_of : (cid : ℕ) (k : Key) → k ≡ key cid 0 → (λ (row : LastMessage). same_key (latest_key row) k) ≡ is_cached_of cid
+has_key_of cid k is = rw is (λ i row. and_true (row.cid == cid) i)
 
--- the first entry of a CID has the row that is found
-pub first_owned : (cid : ℕ) (entries : List (Key × LastMessage)) → AreLatest entries → slice_get (map row_of (filter (is_owned_by cid) entries)) 0 ≡ find (is_cached_of cid) (map row_of entries)
-first_owned cid [] latest = refl
-first_owned cid (entry ∷ later) latest =
-    let rest = filter (is_owned_by cid) later in
-    let same = is_its_row cid entry latest.0 in
-    elim (is_owned_by cid entry) as (λ t. is_owned_by cid entry ≡ t → slice_get (map row_of (cond t (entry ∷ rest) rest)) 0 ≡ cond (is_cached_of cid entry.1) (Some entry.1) (find (is_cached_of cid) (map row_of later)))
-    [ true ↦ λ h. rw (sym same ∙ h) refl | false ↦ λ h. rw (sym same ∙ h) (first_owned cid later latest.3) ] refl
+-- What holds of rows that are each under the CID of its link.
+module _ (entries : List (Key × LastMessage)) (under : AreLatest entries) (cid : ℕ) (k : Key) (is_key : k ≡ key cid 0) where
+  pub row_found : value_at k entries ≡ find (is_cached_of cid) (map row_of entries)
+  row_found = entry_found latest_key entries under k ∙ ap (λ p. find p (map row_of entries)) (has_key_of cid k is_key)
 
--- a CID that no entry has has none with a number
-unowned : (cid id : ℕ) (entries : List (Key × LastMessage)) → list_any (is_owned_by cid) entries ≡ false → value_at (key cid id) entries ≡ None
-unowned cid id [] none = refl
-unowned cid id (entry ∷ later) none =
-    let parts = or_parts (is_owned_by cid entry) (list_any (is_owned_by cid) later) none in
-    rw parts.0 (unowned cid id later parts.1)
+  pub there_if_found : is_some (value_at k entries) ≡ list_any (is_cached_of cid) (map row_of entries)
+  there_if_found = ap is_some row_found ∙ found_where_any (is_cached_of cid) (map row_of entries)
 
--- a CID whose entry has one number has none with another
-pub other_is_free : (cid i j : ℕ) (entries : List (Key × LastMessage)) → AreLatest entries → (i ≡ j → ⊥) → is_some (value_at (key cid i) entries) ≡ true → value_at (key cid j) entries ≡ None
-other_is_free cid i j [] latest apart there = absurd (false≢true there)
-other_is_free cid i j (entry ∷ later) latest apart there =
-    elim (entry.0.owner == cid) as (λ t. entry.0.owner == cid ≡ t → is_some (option_map row_of (cond (t && entry.0.id == i) (Some entry) (find (has_key (key cid i)) later))) ≡ true → option_map row_of (cond (t && entry.0.id == j) (Some entry) (find (has_key (key cid j)) later)) ≡ None) [
-      | true ↦ λ h.
-          let own : list_any (is_owned_by cid) later ≡ false = ap (λ o. list_any (is_owned_by o) later) (sym (eqb-true entry.0.owner cid h)) ∙ latest.2 in
-          elim (entry.0.id == i) as (λ t. entry.0.id == i ≡ t → is_some (option_map row_of (cond t (Some entry) (find (has_key (key cid i)) later))) ≡ true → option_map row_of (cond (entry.0.id == j) (Some entry) (find (has_key (key cid j)) later)) ≡ None) [
-            | true ↦ λ here _.
-                let is : entry.0.id ≡ i = eqb-true entry.0.id i here in
-                elim (entry.0.id == j) as (λ t. entry.0.id == j ≡ t → option_map row_of (cond t (Some entry) (find (has_key (key cid j)) later)) ≡ None)
-                [ true ↦ λ both. absurd (apart (sym is ∙ eqb-true entry.0.id j both)) | false ↦ λ _. unowned cid j later own ] refl
-            | false ↦ λ _ behind. absurd (false≢true (sym (ap is_some (unowned cid i later own)) ∙ behind))
-          ] refl
-      | false ↦ λ h behind. other_is_free cid i j later latest.3 apart behind
-    ] refl there
+  pub none_found : list_any (is_cached_of cid) (map row_of entries) ≡ false → value_at k entries ≡ None
+  none_found none = entry_absent latest_key entries under k (ap (λ p. list_any p (map row_of entries)) (has_key_of cid k is_key) ∙ none)
 
-fails_first : (p : Key × LastMessage → Bool) (entry : Key × LastMessage) (later : List (Key × LastMessage)) → option_map row_of (find p (entry ∷ later)) ≡ None → (p entry ≡ false) × (option_map row_of (find p later) ≡ None)
-fails_first p entry later e =
-    elim (p entry) as (λ t. option_map row_of (cond t (Some entry) (find p later)) ≡ None → (t ≡ false) × (option_map row_of (find p later) ≡ None)) [ true ↦ λ h. cc | false ↦ λ h. (refl, h) ] e
+  pub latest_less : (new : List (Key × LastMessage)) → new ≡ filter (lacks_key k) entries → AreLatest new
+  latest_less new is = keyed_again latest_key new (filter (λ row. not (same_key (latest_key row) k)) (map row_of entries)) (under_less latest_key entries under k new is)
 
--- where one of the two numbers is free, the other is that of the CID's entry
-only_one : (cid old new : ℕ) (entry : Key × LastMessage) → old + new ≡ 1 → entry.0.id ≤ 1 → has_key (key cid new) entry ≡ false → has_key (key cid old) entry ≡ is_owned_by cid entry
-only_one cid old new entry two small free =
-    elim (entry.0.owner == cid) as (λ t. (t && entry.0.id == new) ≡ false → (t && entry.0.id == old) ≡ t) [
-      | true ↦ λ h.
-          let not_new = eqb-false entry.0.id new h in
-          let is : entry.0.id ≡ old = omega arith in
-          eq-eqb entry.0.id old is
-      | false ↦ λ h. refl
-    ] free
+  pub rows_left : (new : List (Key × LastMessage)) → new ≡ filter (lacks_key k) entries → map row_of new ≡ filter (is_cached_elsewhere cid) (map row_of entries)
+  rows_left new is =
+      rows_less latest_key entries under k new is
+      ∙ ap (λ (p : LastMessage → Bool). filter (λ row. not (p row)) (map row_of entries)) (has_key_of cid k is_key)
 
--- so that the rows of others are left without it
-pub left_without : (cid old new : ℕ) (entries : List (Key × LastMessage)) → old + new ≡ 1 → AreLatest entries → value_at (key cid new) entries ≡ None → (map row_of (filter (lacks_key (key cid old)) entries) ≡ filter (is_cached_elsewhere cid) (map row_of entries)) × (list_any (is_owned_by cid) (filter (lacks_key (key cid old)) entries) ≡ false)
-left_without cid old new [] two latest free = (refl, refl)
-left_without cid old new (entry ∷ later) two latest free =
-    let parts = fails_first (has_key (key cid new)) entry later free in
-    let owned = only_one cid old new entry two latest.1 parts.0 in
-    let same = owned ∙ is_its_row cid entry latest.0 in
-    let rest = filter (lacks_key (key cid old)) later in
-    let behind = left_without cid old new later two latest.3 parts.1 in (
-      elim (has_key (key cid old) entry) as (λ t. has_key (key cid old) entry ≡ t → map row_of (cond (not t) (entry ∷ rest) rest) ≡ cond (not (is_cached_of cid entry.1)) (entry.1 ∷ filter (is_cached_elsewhere cid) (map row_of later)) (filter (is_cached_elsewhere cid) (map row_of later)))
-          [ true ↦ λ h. rw (sym same ∙ h) behind.0 | false ↦ λ h. rw (sym same ∙ h) (ap (λ xs. entry.1 ∷ xs) behind.0) ] refl,
-      elim (has_key (key cid old) entry) as (λ t. has_key (key cid old) entry ≡ t → list_any (is_owned_by cid) (cond (not t) (entry ∷ rest) rest) ≡ false)
-          [ true ↦ λ h. behind.1 | false ↦ λ h. rw (sym owned ∙ h) behind.1 ] refl,
-    )
+  -- one of them with something else held
+  module _ (f : Held → Held) (new : List (Key × LastMessage)) (is : new ≡ change_first (has_key k) (changed_by (with_held f)) entries) where
+    pub latest_changed : AreLatest new
+    latest_changed =
+        keyed_again latest_key new (change_first (λ row. same_key (latest_key row) k) (with_held f) (map row_of entries))
+        (under_change latest_key entries under k (with_held f) new (λ row. refl) is)
 
-unowned_still : (cid : ℕ) (q : Key × LastMessage → Bool) (entries : List (Key × LastMessage)) → list_any (is_owned_by cid) entries ≡ false → list_any (is_owned_by cid) (filter q entries) ≡ false
-unowned_still cid q [] none = none
-unowned_still cid q (entry ∷ later) none =
-    let parts = or_parts (is_owned_by cid entry) (list_any (is_owned_by cid) later) none in
-    let rest = unowned_still cid q later parts.1 in
-    elim (q entry) as (λ t. list_any (is_owned_by cid) (cond t (entry ∷ filter q later) (filter q later)) ≡ false) [ true ↦ rw parts.0 rest | false ↦ rest ]
+    pub rows_with : map row_of new ≡ change_first (is_cached_of cid) (with_held f) (map row_of entries)
+    rows_with =
+        rows_changed latest_key entries under k (with_held f) new (λ row. refl) is
+        ∙ ap (λ p. change_first p (with_held f) (map row_of entries)) (has_key_of cid k is_key)
 
--- some of them
-pub latest_with_fewer : (q : Key × LastMessage → Bool) (entries : List (Key × LastMessage)) → AreLatest entries → AreLatest (filter q entries)
-latest_with_fewer q [] latest = tt
-latest_with_fewer q (entry ∷ later) latest =
-    let rest = latest_with_fewer q later latest.3 in
-    elim (q entry) as (λ t. AreLatest (cond t (entry ∷ filter q later) (filter q later)))
-    [ true ↦ (latest.0, latest.1, unowned_still entry.0.owner q later latest.2, rest) | false ↦ rest ]
+-- one more, unless that is refused
+module _ (entries : List (Key × LastMessage)) (under : AreLatest entries) (row : LastMessage) (k : Key) (is_key : k ≡ latest_key row) (new : List (Key × LastMessage)) where
+  pub latest_more : {T E : Type 0} (r : Result T E) → OnOk r (new ≡ entries ++ (k, row) ∷ []) → OnErr r (new ≡ entries) → AreLatest new
+  latest_more (Ok _) ok err = keyed_again latest_key new (map row_of entries ++ row ∷ []) (under_more latest_key entries under row new (ok ∙ ap (λ j. entries ++ (j, row) ∷ []) is_key))
+  latest_more (Err _) ok err = keyed_again latest_key new (map row_of entries) (err ∙ under)
 
-unowned_more : (owner cid id : ℕ) (row : LastMessage) (entries : List (Key × LastMessage)) → list_any (is_owned_by owner) entries ≡ false → (cid == owner) ≡ false → list_any (is_owned_by owner) (entries ++ (key cid id, row) ∷ []) ≡ false
-unowned_more owner cid id row [] none apart = rw apart refl
-unowned_more owner cid id row (entry ∷ later) none apart =
-    let parts = or_parts (is_owned_by owner entry) (list_any (is_owned_by owner) later) none in
-    rw parts.0 (unowned_more owner cid id row later parts.1 apart)
+  pub rows_and_one : {T E : Type 0} (r : Result T E) → OnOk r (new ≡ entries ++ (k, row) ∷ []) → OnOk r (map row_of new ≡ map row_of entries ++ row ∷ [])
+  rows_and_one (Ok _) ok = rows_more latest_key entries under row new (ok ∙ ap (λ j. entries ++ (j, row) ∷ []) is_key)
+  rows_and_one (Err _) ok = tt
 
--- and one of a CID that has none
-pub latest_with_more : (cid id : ℕ) (row : LastMessage) (entries : List (Key × LastMessage)) → cid ≡ row.cid → id ≤ 1 → AreLatest entries → list_any (is_owned_by cid) entries ≡ false → AreLatest (entries ++ (key cid id, row) ∷ [])
-latest_with_more cid id row [] its small latest none = (its, small, refl, tt)
-latest_with_more cid id row (entry ∷ later) its small latest none =
-    let parts = or_parts (is_owned_by cid entry) (list_any (is_owned_by cid) later) none in
-    let apart : (cid == entry.0.owner) ≡ false = nat_eq_equiv.symm cid entry.0.owner ∙ parts.0 in
-    (latest.0, latest.1, unowned_more entry.0.owner cid id row later latest.2 apart, latest_with_more cid id row later its small latest.3 parts.1)
+links_apart : (rows : List LastMessage) → IsApart latest_key rows → AreApart rows
+links_apart [] apart = tt
+links_apart (row ∷ rows) apart =
+    let test = has_key_of row.cid (latest_key row) refl in
+    let none : find (λ (r : LastMessage). same_key (latest_key r) (latest_key row)) rows ≡ None = sym (value_at_keyed latest_key (latest_key row) rows) ∙ apart.0 in
+    (unfound_is_absent (is_cached_of row.cid) rows (sym (ap (λ p. find p rows) test) ∙ none), links_apart rows apart.1)
 
-two_keys : (cid old new : ℕ) (row : LastMessage) → old + new ≡ 1 → lacks_key (key cid old) (key cid new, row) ≡ true
-two_keys cid old new row two =
-    elim (new == old) as (λ t. new == old ≡ t → not (cid == cid && t) ≡ true)
-    [ true ↦ λ h. (let is : new ≡ old = eqb-true new old h in absurd (omega arith)) | false ↦ λ h. rw (nat_eq_equiv.refl cid) refl ] refl
+-- keys that are apart are those of different links
+pub latest_apart : (entries : List (Key × LastMessage)) → AreLatest entries → HasKeysApart entries → AreApart (map row_of entries)
+latest_apart entries under apart = links_apart (map row_of entries) (rows_apart latest_key entries under apart)
 
--- a row in place of the one of its CID: it is the last one then
-pub put_entries : (old new : ℕ) (row : LastMessage) (entries : List (Key × LastMessage)) → old + new ≡ 1 → AreLatest entries → value_at (key row.cid new) entries ≡ None → AreLatest (filter (lacks_key (key row.cid old)) (entries ++ (key row.cid new, row) ∷ [])) × (map row_of (filter (lacks_key (key row.cid old)) (entries ++ (key row.cid new, row) ∷ [])) ≡ with_row row (map row_of entries))
-put_entries old new row entries two latest free =
-    let q = lacks_key (key row.cid old) in
-    let kept = two_keys row.cid old new row two in
-    let split : filter q (entries ++ (key row.cid new, row) ∷ []) ≡ filter q entries ++ (key row.cid new, row) ∷ [] =
-    filter-append q entries ((key row.cid new, row) ∷ []) ∙ ap (λ t. filter q entries ++ cond t ((key row.cid new, row) ∷ []) []) kept in
-    let left = left_without row.cid old new entries two latest free in (
-      rw split (latest_with_more row.cid new row (filter q entries) refl (omega arith) (latest_with_fewer q entries latest) left.1),
-      ap (map row_of) split ∙ map-append row_of (filter q entries) ((key row.cid new, row) ∷ []) ∙ ap (λ xs. xs ++ row ∷ []) left.0,
-    )
+-- a row that is there is all that is made
+pub made_already : (server cid : ℕ) (rows : List LastMessage) → list_any (is_cached_of cid) rows ≡ true → put_row server cid unchanged rows ≡ rows
+made_already server cid [] there = absurd (false≢true there)
+made_already server cid (row ∷ rows) there =
+    elim (is_cached_of cid row) as (λ t. (t || list_any (is_cached_of cid) rows) ≡ true → cond t (row ∷ rows) (row ∷ put_row server cid unchanged rows) ≡ row ∷ rows)
+    [ true ↦ λ h. refl | false ↦ λ h. ap (λ xs. row ∷ xs) (made_already server cid rows h) ] there
 
-unowned_rows : (cid : ℕ) (entries : List (Key × LastMessage)) → AreLatest entries → list_any (is_owned_by cid) entries ≡ false → list_any (is_cached_of cid) (map row_of entries) ≡ false
-unowned_rows cid [] latest none = refl
-unowned_rows cid (entry ∷ later) latest none =
-    let parts = or_parts (is_owned_by cid entry) (list_any (is_owned_by cid) later) none in
-    rw (sym (is_its_row cid entry latest.0) ∙ parts.0) (unowned_rows cid later latest.3 parts.1)
+-- else it is a last one
+pub made_last : (server cid : ℕ) (rows : List LastMessage) → list_any (is_cached_of cid) rows ≡ false → put_row server cid unchanged rows ≡ rows ++ untold server cid ∷ []
+made_last server cid [] none = refl
+made_last server cid (row ∷ rows) none =
+    let parts = or_parts (is_cached_of cid row) (list_any (is_cached_of cid) rows) none in
+    rw parts.0 (ap (λ xs. row ∷ xs) (made_last server cid rows parts.1))
 
--- rows of entries that stand alone under their CIDs are of different links
-pub latest_apart : (entries : List (Key × LastMessage)) → AreLatest entries → AreApart (map row_of entries)
-latest_apart [] latest = tt
-latest_apart (entry ∷ later) latest =
-    let none : list_any (is_owned_by entry.1.cid) later ≡ false = ap (λ o. list_any (is_owned_by o) later) (sym latest.0) ∙ latest.2 in
-    (unowned_rows entry.1.cid later latest.3 none, latest_apart later latest.3)
-
--- a row that is put where it is changes nothing
-pub put_again : (k : Key) (entries : List (Key × LastMessage)) (row : LastMessage) → value_at k entries ≡ Some row → put_at k entries row ≡ entries
-put_again k [] row e = refl
-put_again k (entry ∷ entries) row e =
-    elim (has_key k entry) as (λ t. option_map row_of (cond t (Some entry) (find (has_key k) entries)) ≡ Some row → cond t ((entry.0, row) ∷ entries) (entry ∷ put_at k entries row) ≡ entry ∷ entries)
-    [ true ↦ λ h. let here : entry.1 ≡ row = cc in ap (λ v. (entry.0, v) ∷ entries) (sym here) | false ↦ λ h. ap (λ rest. entry ∷ rest) (put_again k entries row h) ] e
+-- and then it is changed where it stands
+pub made_and_changed : (server cid : ℕ) (f : Held → Held) (rows : List LastMessage) → change_first (is_cached_of cid) (with_held f) (put_row server cid unchanged rows) ≡ put_row server cid f rows
+made_and_changed server cid f [] = rw (nat_eq_equiv.refl cid) refl
+made_and_changed server cid f (row ∷ rows) =
+    elim (is_cached_of cid row) as (λ t. is_cached_of cid row ≡ t → change_first (is_cached_of cid) (with_held f) (cond t (row ∷ rows) (row ∷ put_row server cid unchanged rows)) ≡ cond t (with_held f row ∷ rows) (row ∷ put_row server cid f rows))
+    [ true ↦ λ h. rw h refl | false ↦ λ h. rw h (ap (λ xs. row ∷ xs) (made_and_changed server cid f rows)) ] refl

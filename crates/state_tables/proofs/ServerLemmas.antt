@@ -1,19 +1,20 @@
 -- The servers of last messages, and that these are listed under them.
 use Rattle.std.proofs.Common.{◌≡◌, ℕ, ◌<◌, List, [], ◌∷◌, ◌++◌, true, false, not, cond, ◌&&◌, ◌||◌, ◌==◌, Option, Some, None, is_some, length, refl, sym, ap, ◌∙◌}
 use Rattle.std.specs.Cmp.{nat_eq_equiv}
-use Rattle.std.specs.Prelude.{Result, Ok, Err, OnOk, OnErr}
 use Rattle.std.specs.List.{find, filter, list_any}
-use Rattle.std.proofs.lemmas.Bool.{false≢true, eqb-true, ne_eqb}
+use Rattle.std.proofs.lemmas.Bool.{eqb-true}
+use Rattle.rows.specs.Rows.{change_first}
 use Rattle.row_index.specs.declared.key.Key.{Key}
 use Rattle.row_index.specs.Rows.{lacks_key, is_owned_by, value_at}
-use Rattle.channel_table.proofs.Lists.{absent_is_unfound, found_where_any}
+use Rattle.channel_table.proofs.Lists.{absent_is_unfound, found_changed, found_where_any}
 use Rattle.link_table.proofs.OwnerLemmas.{one_less, others_are_all}
 use Rattle.link_table.proofs.ValueLemmas.{find_among_fewer, find_at_end, find_left_out, find_not_at_end}
 use Rattle.link_table.specs.LinkIndex.{key}
+use Rattle.value_cache.specs.Held.{Held}
 use Rattle.gateway_state.specs.declared.cached.LastMessage.{LastMessage}
-use Rattle.gateway_state.specs.CachedRows.{is_cached_of, is_cached_elsewhere, is_cached_by_another, with_row}
-use Rattle.state_tables.specs.LatestRows.{AreApart, AreListed, is_listed, is_server, server_in, server_of}
-use Rattle.state_tables.proofs.ListedLemmas.{ids_with_fewer, ids_with_more, listed_with_fewer, listed_with_more, unowned}
+use Rattle.gateway_state.specs.CachedRows.{is_cached_of, is_cached_elsewhere, is_cached_by_another}
+use Rattle.state_tables.specs.LatestRows.{AreApart, AreListed, is_listed, is_server, server_in, server_of, with_held}
+use Rattle.state_tables.proofs.ListedLemmas.{ids_with_fewer, ids_with_more, listed_with_fewer, listed_with_more, none_from_test, unowned}
 
 -- a row of one link isn't of another
 other_link : (cid c : ℕ) → cid == c ≡ false → (row : LastMessage) → is_cached_of c row ≡ true → is_cached_of cid row ≡ false
@@ -31,41 +32,20 @@ server_without cid c rows =
       | false ↦ λ h. ap server_in (find_among_fewer (is_cached_of c) (is_cached_of cid) (other_link cid c h) rows)
     ] refl
 
--- and once a row is in place of the one of its link
-pub server_with : (row : LastMessage) (c : ℕ) (rows : List LastMessage) → server_of c (with_row row rows) ≡ cond (row.cid == c) (Some row.server) (server_of c rows)
-server_with row c rows =
-    let left = filter (is_cached_elsewhere row.cid) rows in
-    elim (row.cid == c) as (λ t. row.cid == c ≡ t → server_of c (left ++ row ∷ []) ≡ cond t (Some row.server) (server_of c rows)) [
-      | true ↦ λ h.
-          let is : row.cid ≡ c = eqb-true row.cid c h in
-          let none : find (is_cached_of c) left ≡ None = ap (λ x. find (is_cached_of c) (filter (is_cached_elsewhere x) rows)) is ∙ find_left_out (is_cached_of c) rows in
-          ap server_in (find_at_end (is_cached_of c) row h left none)
-      | false ↦ λ h. ap server_in (find_not_at_end (is_cached_of c) row h left ∙ find_among_fewer (is_cached_of c) (is_cached_of row.cid) (other_link row.cid c h) rows)
+-- and once a link that had no row has one
+server_with : (row : LastMessage) (c : ℕ) (rows : List LastMessage) → find (is_cached_of row.cid) rows ≡ None → server_of c (rows ++ row ∷ []) ≡ cond (row.cid == c) (Some row.server) (server_of c rows)
+server_with row c rows none =
+    elim (row.cid == c) as (λ t. row.cid == c ≡ t → server_of c (rows ++ row ∷ []) ≡ cond t (Some row.server) (server_of c rows)) [
+      | true ↦ λ h. ap server_in (find_at_end (is_cached_of c) row h rows (ap (λ x. find (is_cached_of x) rows) (sym (eqb-true row.cid c h)) ∙ none))
+      | false ↦ λ h. ap server_in (find_not_at_end (is_cached_of c) row h rows)
     ] refl
 
--- rows are listed where that is so of the link whose message is new, and of all others
-with_this : (row : LastMessage) (rows : List LastMessage) (listed : List (Key × ℕ))
-    → ((server : ℕ) → is_listed server row.cid listed ≡ (row.server == server))
-    → ((server cid : ℕ) → row.cid == cid ≡ false → is_listed server cid listed ≡ is_server server (server_of cid rows))
-    → (server cid : ℕ) → is_listed server cid listed ≡ is_server server (server_of cid (with_row row rows))
-with_this row rows listed here others server cid =
-    elim (row.cid == cid) as (λ t. row.cid == cid ≡ t → is_listed server cid listed ≡ is_server server (cond t (Some row.server) (server_of cid rows))) [
-      | true ↦ λ h. let is : row.cid ≡ cid = eqb-true row.cid cid h in ap (λ x. is_listed server x listed) (sym is) ∙ here server
-      | false ↦ λ h. others server cid h
-    ] refl ∙ ap (is_server server) (sym (server_with row cid rows))
-
-the_server : (server : ℕ) (o : Option ℕ) → is_server server o ≡ true → o ≡ Some server
-the_server server None e = cc
-the_server server (Some other) e = ap Some (eqb-true other server e)
-
--- a message in place of one of the same server's link
-pub listed_in_place : (row : LastMessage) (rows : List LastMessage) (listed : List (Key × ℕ)) → is_listed row.server row.cid listed ≡ true → AreListed rows listed → AreListed (with_row row rows) listed
-listed_in_place row rows listed there are =
-    let is = the_server row.server (server_of row.cid rows) (sym (are.exact row.server row.cid) ∙ there) in
-    record {
-      ids = are.ids;
-      exact = with_this row rows listed (λ server. are.exact server row.cid ∙ ap (is_server server) is) (λ server cid other. are.exact server cid);
-    }
+-- a row that is changed is of the same server
+pub listed_changed : (cid : ℕ) (f : Held → Held) (rows : List LastMessage) (listed : List (Key × ℕ)) → AreListed rows listed → AreListed (change_first (is_cached_of cid) (with_held f) rows) listed
+listed_changed cid f rows listed are = record {
+  ids = are.ids;
+  exact = λ server c. are.exact server c ∙ ap (is_server server) (sym (found_changed (is_cached_of cid) (with_held f) (is_cached_of c) server_in (λ row. refl) (λ row. refl) rows));
+}
 
 -- a key with another ID isn't listed with it
 beside : (server other : ℕ) (row_cid cid : ℕ) → row_cid == cid ≡ false → (server == other && cid == row_cid) ≡ false
@@ -73,58 +53,34 @@ beside server other row_cid cid apart =
     ap (λ t. server == other && t) (nat_eq_equiv.symm cid row_cid ∙ apart)
     ∙ elim (server == other) as (λ s. (s && false) ≡ false) [ true ↦ refl | false ↦ refl ]
 
--- a message of a link that had none
-pub listed_new : (row : LastMessage) (rows : List LastMessage) (listed : List (Key × ℕ)) → value_at (key row.server row.cid) listed ≡ None → server_of row.cid rows ≡ None → AreListed rows listed → AreListed (with_row row rows) (listed ++ (key row.server row.cid, row.cid) ∷ [])
-listed_new row rows listed new none are = record {
-  ids = ids_with_more row.server row.cid listed are.ids;
-  exact = with_this row rows (listed ++ (key row.server row.cid, row.cid) ∷ [])
-      (λ server.
-      listed_with_more (key server row.cid) row.server row.cid listed new
-      ∙ ap (λ t. (server == row.server && t) || is_listed server row.cid listed) (nat_eq_equiv.refl row.cid)
-      ∙ ap (λ t. (server == row.server && true) || t) (are.exact server row.cid ∙ ap (is_server server) none)
-      ∙ elim (server == row.server) as (λ t. ((t && true) || false) ≡ t) [ true ↦ refl | false ↦ refl ]
-      ∙ nat_eq_equiv.symm server row.server)
-      (λ server cid other.
-      listed_with_more (key server cid) row.server row.cid listed new
-      ∙ ap (λ t. t || is_listed server cid listed) (beside server row.server row.cid cid other)
-      ∙ are.exact server cid);
-}
+-- nothing is listed of a link without a row
+pub unlisted : (server cid : ℕ) (rows : List LastMessage) (listed : List (Key × ℕ)) → find (is_cached_of cid) rows ≡ None → AreListed rows listed → value_at (key server cid) listed ≡ None
+unlisted server cid rows listed none are =
+    none_from_test (value_at (key server cid) listed) (are.exact server cid ∙ ap (λ o. is_server server (server_in o)) none)
 
-moved_here : (server before now : ℕ) → (before ≡ now → ⊥) → (not (server == before && true) && ((server == now && true) || (before == server))) ≡ (now == server)
-moved_here server before now apart =
-    elim (server == before) as (λ t. server == before ≡ t → (not (t && true) && ((server == now && true) || (before == server))) ≡ (now == server)) [
-      | true ↦ λ h.
-          let is : server ≡ before = eqb-true server before h in
-          sym (ap (λ x. now == x) is ∙ ne_eqb now before (λ e. apart (sym e)))
-      | false ↦ λ h.
-          ap (λ t. (server == now && true) || t) (nat_eq_equiv.symm before server ∙ h)
-          ∙ elim (server == now) as (λ t. ((t && true) || false) ≡ t) [ true ↦ refl | false ↦ refl ]
-          ∙ nat_eq_equiv.symm server now
-    ] refl
-
--- a message in place of one of another server's link, whose entry goes
-pub listed_moved : (before : ℕ) (row : LastMessage) (rows : List LastMessage) (listed : List (Key × ℕ)) → value_at (key row.server row.cid) listed ≡ None → server_of row.cid rows ≡ Some before → AreListed rows listed
-    → AreListed (with_row row rows) (filter (lacks_key (key before row.cid)) (listed ++ (key row.server row.cid, row.cid) ∷ []))
-listed_moved before row rows listed new is are =
+-- the row of a link that had none
+pub listed_new : (row : LastMessage) (rows : List LastMessage) (listed : List (Key × ℕ)) → find (is_cached_of row.cid) rows ≡ None → AreListed rows listed → AreListed (rows ++ row ∷ []) (listed ++ (key row.server row.cid, row.cid) ∷ [])
+listed_new row rows listed none are =
+    let new = unlisted row.server row.cid rows listed none are in
     let more = listed ++ (key row.server row.cid, row.cid) ∷ [] in
-    let apart : before ≡ row.server → ⊥ = λ e.
-    false≢true (sym (ap is_some new) ∙ are.exact row.server row.cid ∙ ap (is_server row.server) is ∙ ap (λ x. x == row.server) e ∙ nat_eq_equiv.refl row.server)
-    in
     record {
-      ids = ids_with_fewer (lacks_key (key before row.cid)) more (ids_with_more row.server row.cid listed are.ids);
-      exact = with_this row rows (filter (lacks_key (key before row.cid)) more)
-          (λ server.
-          listed_with_fewer (key server row.cid) (key before row.cid) more
-          ∙ ap (λ t. not (server == before && row.cid == row.cid) && t) (listed_with_more (key server row.cid) row.server row.cid listed new)
-          ∙ ap (λ t. not (server == before && t) && ((server == row.server && t) || is_listed server row.cid listed)) (nat_eq_equiv.refl row.cid)
-          ∙ ap (λ t. not (server == before && true) && ((server == row.server && true) || t)) (are.exact server row.cid ∙ ap (is_server server) is)
-          ∙ moved_here server before row.server apart)
-          (λ server cid other.
-          listed_with_fewer (key server cid) (key before row.cid) more
-          ∙ ap (λ t. not t && is_listed server cid more) (beside server before row.cid cid other)
-          ∙ listed_with_more (key server cid) row.server row.cid listed new
-          ∙ ap (λ t. t || is_listed server cid listed) (beside server row.server row.cid cid other)
-          ∙ are.exact server cid);
+      ids = ids_with_more row.server row.cid listed are.ids;
+      exact = λ server cid.
+          elim (row.cid == cid) as (λ t. row.cid == cid ≡ t → is_listed server cid more ≡ is_server server (cond t (Some row.server) (server_of cid rows))) [
+            | true ↦ λ h.
+                let is : row.cid ≡ cid = eqb-true row.cid cid h in
+                ap (λ x. is_listed server x more) (sym is)
+                ∙ listed_with_more (key server row.cid) row.server row.cid listed new
+                ∙ ap (λ t. (server == row.server && t) || is_listed server row.cid listed) (nat_eq_equiv.refl row.cid)
+                ∙ ap (λ t. (server == row.server && true) || t) (are.exact server row.cid ∙ ap (λ o. is_server server (server_in o)) none)
+                ∙ elim (server == row.server) as (λ t. ((t && true) || false) ≡ t) [ true ↦ refl | false ↦ refl ]
+                ∙ nat_eq_equiv.symm server row.server
+            | false ↦ λ h.
+                listed_with_more (key server cid) row.server row.cid listed new
+                ∙ ap (λ t. t || is_listed server cid listed) (beside server row.server row.cid cid h)
+                ∙ are.exact server cid
+          ] refl
+          ∙ ap (is_server server) (sym (server_with row cid rows none));
     }
 
 gone_here : (server before : ℕ) → (not (server == before && true) && (before == server)) ≡ false
@@ -197,8 +153,3 @@ none_by server (row ∷ rows) apart none =
 pub none_listed : (server : ℕ) (rows : List LastMessage) (listed : List (Key × ℕ)) → AreApart rows → AreListed rows listed → list_any (is_owned_by server) listed ≡ false → filter (is_cached_by_another server) rows ≡ rows
 none_listed server rows listed apart are none =
     none_by server rows apart (λ cid. sym (are.exact server cid) ∙ unowned server cid listed none)
-
--- whether a message was kept or not in place of one of the same server's link, the rows are listed
-pub listed_either : {E : Type 0} (result : Result (Unit {0}) E) (row : LastMessage) (rows rows' : List LastMessage) (listed : List (Key × ℕ)) → OnOk result (rows' ≡ with_row row rows) → OnErr result (rows' ≡ rows) → is_listed row.server row.cid listed ≡ true → AreListed rows listed → AreListed rows' listed
-listed_either (Ok done) row rows rows' listed put same there are = rw put (listed_in_place row rows listed there are)
-listed_either (Err refused) row rows rows' listed put same there are = rw same are

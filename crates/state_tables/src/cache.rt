@@ -1,22 +1,27 @@
-//! The last messages of variables.
-ghost use Rattle.std.specs.Prelude.{◌≡◌, ◌<◌, [], true, false, length, OnOk, OnErr, IfSome, IsNone, IsTrue, IsFalse};
+//! What links were told last.
+ghost use Rattle.std.specs.Prelude.{◌≡◌, ◌<◌, [], true, false, length, IsOk, OnOk, OnErr, IfSome, IsNone, IsTrue, IsFalse};
 ghost use Rattle.std.specs.List.{find, filter, list_any};
 ghost use Rattle.std.specs.Option.{option_copied};
+ghost use Rattle.rows.specs.Rows.{change_first};
 ghost use Rattle.row_index.specs.Rows.{is_owned_by};
-ghost use Rattle.gateway_state.specs.CachedRows.{is_cached_of, is_cached_elsewhere, is_cached_by_another, with_row};
-ghost use Rattle.state_tables.specs.LatestRows.{HoldIds, is_listed};
+ghost use Rattle.dbr_layout.specs.View.{shown};
+ghost use Rattle.value_cache.specs.Held.{with_properties, with_value};
+ghost use Rattle.value_cache.specs.Message.{TellsProperties};
+ghost use Rattle.gateway_state.specs.CachedRows.{is_cached_of, is_cached_elsewhere, is_cached_by_another, put_row, without_told};
+ghost use Rattle.state_tables.specs.LatestRows.{HoldIds, is_listed, unchanged};
 
 use crate::latest::Latest;
+use bytes::Bytes;
 use gateway_state::LastMessage;
 use row_index::{Key, RowMap};
 use std::alloc::{AllocError, Global};
 use std::marker::Model;
 
-/// The last messages that are kept, at most one of a link.
+/// What links were told last, in one row of a link.
 #[derive(Drop)]
 pub struct Cache {
     latest: Latest,
-    /// The CIDs of the messages under their servers, and no others.
+    /// The CIDs of the rows under their servers, and no others.
     listed: RowMap<u32>,
 }
 
@@ -43,35 +48,74 @@ impl Cache {
         }
     }
 
-    /// A link's last message.
+    /// What a link was told last.
     pub fn get(&self, cid: u32) -> Option<&LastMessage>
         ensures { option_copied result ≡ find (is_cached_of cid) self.now }
     {
         self.latest.get(cid)
     }
 
-    /// Keeps a message in place of the one that its link had.
-    pub fn put(&mut self, row: LastMessage) -> Result<(), AllocError>
-        ensures ok { OnOk result (self.new ≡ with_row row self.old) }
+    /// A link was told a value, of so many elements of a type, by the count that was asked for. The
+    /// properties that it was told stay. Only a link's first row takes memory.
+    pub fn put_value(
+        &mut self,
+        server: u32,
+        cid: u32,
+        dtype: u16,
+        count: u32,
+        payload: Bytes,
+        asked_with: u32,
+    ) -> Result<(), AllocError>
+        requires { IsOk (shown dtype count payload) }
+        ensures ok { OnOk result (self.new ≡ put_row server cid (with_value dtype count payload asked_with) self.old) }
         ensures err { OnErr result (self.new ≡ self.old) }
     {
-        let key = Key {
-            owner: row.server,
-            id: row.cid,
-        };
-        if self.listed.contains(key) {
-            return self.latest.put(row);
+        self.make_row(server, cid)?;
+        self.latest
+            .put_value(cid, dtype, count, payload, asked_with);
+        Ok(())
+    }
+
+    /// A link was told properties, in a type. The value that it was told stays. Only a link's first
+    /// row takes memory.
+    pub fn put_properties(
+        &mut self,
+        server: u32,
+        cid: u32,
+        dtype: u16,
+        payload: Bytes,
+    ) -> Result<(), AllocError>
+        requires { TellsProperties dtype payload }
+        ensures ok { OnOk result (self.new ≡ put_row server cid (with_properties dtype payload) self.old) }
+        ensures err { OnErr result (self.new ≡ self.old) }
+    {
+        self.make_row(server, cid)?;
+        self.latest.put_properties(cid, dtype, payload);
+        Ok(())
+    }
+
+    /// Forgets the properties that a link was told.
+    pub fn drop_properties(&mut self, cid: u32)
+        ensures { self.new ≡ change_first (is_cached_of cid) without_told self.old }
+    {
+        self.latest.drop_properties(cid);
+    }
+
+    // Sees to it that a link has a row.
+    fn make_row(&mut self, server: u32, cid: u32) -> Result<(), AllocError>
+        ensures ok { OnOk result (self.new ≡ put_row server cid unchanged self.old) }
+        ensures err { OnErr result (self.new ≡ self.old) }
+    {
+        if self.latest.has(cid) {
+            return Ok(());
         }
-        let before = self.latest.server_of(key.id);
-        self.listed.add(key, key.id)?;
-        match self.latest.put(row) {
-            Ok(()) => {
-                // The link had one of another server.
-                if let Some(owner) = before {
-                    self.listed.remove(Key { owner, id: key.id });
-                }
-                Ok(())
-            }
+        let key = Key {
+            owner: server,
+            id: cid,
+        };
+        self.listed.add(key, cid)?;
+        match self.latest.add(server, cid) {
+            Ok(()) => Ok(()),
             Err(e) => {
                 self.listed.remove(key);
                 Err(e)
@@ -79,8 +123,8 @@ impl Cache {
         }
     }
 
-    /// Keeps what is answered from a link's last message under a type and a count, so that answers
-    /// share it. The messages are as before, also at an error.
+    /// Keeps what is answered from a link's row under a type and a count, so that answers share it. The
+    /// rows are as before, also at an error.
     pub fn keep(
         &mut self,
         alloc: Global,
@@ -93,7 +137,7 @@ impl Cache {
         self.latest.keep(alloc, cid, dtype, count)
     }
 
-    /// Forgets a link's last message.
+    /// Forgets what a link was told.
     pub fn remove(&mut self, cid: u32)
         ensures { self.new ≡ filter (is_cached_elsewhere cid) self.old }
     {
@@ -103,14 +147,14 @@ impl Cache {
         }
     }
 
-    /// Forgets the last messages of a server's links.
+    /// Forgets what a server's links were told.
     pub fn remove_by(&mut self, server: u32)
         ensures { self.new ≡ filter (is_cached_by_another server) self.old }
     {
         while self.remove_one(server) {}
     }
 
-    // Forgets one of the messages of a server's links, if there is any.
+    // Forgets one of the rows of a server's links, if there is any.
     fn remove_one(&mut self, server: u32) -> bool
         ensures others { filter (is_cached_by_another server) self.new ≡ filter (is_cached_by_another server) self.old }
         ensures one { IsTrue result → length self.new < length self.old }

@@ -1,22 +1,26 @@
-//! Last messages, found by the CIDs of their links.
-ghost use Rattle.std.specs.Prelude.{◌≡◌, ◌≤◌, [], None, OnOk, OnErr};
-ghost use Rattle.std.specs.List.{find, filter};
+//! What links were told last, found by their CIDs.
+ghost use Rattle.std.specs.Prelude.{◌≡◌, ◌∷◌, ◌++◌, [], false, IsOk, OnOk, OnErr};
+ghost use Rattle.std.specs.List.{find, filter, list_any};
 ghost use Rattle.std.specs.Option.{option_copied};
-ghost use Rattle.row_index.specs.Rows.{value_at};
-ghost use Rattle.gateway_state.specs.CachedRows.{is_cached_of, is_cached_elsewhere, with_row};
+ghost use Rattle.rows.specs.Rows.{change_first};
+ghost use Rattle.row_index.specs.Rows.{has_key};
+ghost use Rattle.channel_table.specs.Indexes.{changed_by};
+ghost use Rattle.dbr_layout.specs.View.{shown};
+ghost use Rattle.value_cache.specs.Held.{with_properties, with_value, without_properties};
+ghost use Rattle.value_cache.specs.Message.{TellsProperties};
+ghost use Rattle.gateway_state.specs.CachedRows.{is_cached_of, is_cached_elsewhere, without_told};
 ghost use Rattle.link_table.specs.LinkIndex.{key};
-ghost use Rattle.state_tables.specs.LatestRows.{server_of, AreApart, AreLatest};
+ghost use Rattle.state_tables.specs.LatestRows.{server_of, untold, with_held, AreApart};
 
-use gateway_state::LastMessage;
+use bytes::Bytes;
+use gateway_state::{LastMessage, LastValue};
 use row_index::{Key, RowMap};
 use std::alloc::{AllocError, Global};
 use std::marker::Model;
 
-/// At most one message of a link, in the order in which they came.
+/// At most one row of a link, in the order in which they came.
 #[derive(Drop)]
 pub(crate) struct Latest {
-    /// A message stands under its link's CID, with 0 or 1: so the next one can be added beside it
-    /// before it goes.
     rows: RowMap<LastMessage>,
 }
 
@@ -45,10 +49,17 @@ impl Latest {
     pub(crate) fn get(&self, cid: u32) -> Option<&LastMessage>
         ensures { option_copied result ≡ find (is_cached_of cid) self.now }
     {
-        self.rows.of(cid, 0)
+        self.rows.get(key(cid))
     }
 
-    /// The server of a link's message.
+    /// Whether a link has a row.
+    pub(crate) fn has(&self, cid: u32) -> bool
+        ensures { result ≡ list_any (is_cached_of cid) self.now }
+    {
+        self.rows.contains(key(cid))
+    }
+
+    /// The server of a link's row.
     pub(crate) fn server_of(&self, cid: u32) -> Option<u32>
         ensures { result ≡ server_of cid self.now }
     {
@@ -58,22 +69,51 @@ impl Latest {
         }
     }
 
-    /// Keeps a message in place of the one that its link had. At an error that one is kept.
-    pub(crate) fn put(&mut self, row: LastMessage) -> Result<(), AllocError>
-        ensures ok { OnOk result (self.new ≡ with_row row self.old) }
+    /// Adds a row for a link, to which nothing was told.
+    pub(crate) fn add(&mut self, server: u32, cid: u32) -> Result<(), AllocError>
+        requires new { list_any (is_cached_of cid) self.old ≡ false }
+        ensures ok { OnOk result (self.new ≡ self.old ++ untold server cid ∷ []) }
         ensures err { OnErr result (self.new ≡ self.old) }
     {
-        let cid = row.cid;
-        let id = free_id(&self.rows, cid);
-        self.rows.add(Key { owner: cid, id }, row)?;
-        self.rows.remove(Key {
-            owner: cid,
-            id: 1 - id,
-        });
-        Ok(())
+        let row = LastMessage {
+            server,
+            cid,
+            held: LastValue::empty(),
+        };
+        self.rows.add(key(cid), row)
     }
 
-    /// Keeps what is answered from a link's message under a type and a count.
+    /// A link was told a value, where it has a row.
+    pub(crate) fn put_value(
+        &mut self,
+        cid: u32,
+        dtype: u16,
+        count: u32,
+        payload: Bytes,
+        asked_with: u32,
+    )
+        requires { IsOk (shown dtype count payload) }
+        ensures { self.new ≡ change_first (is_cached_of cid) (with_held (with_value dtype count payload asked_with)) self.old }
+    {
+        put_value(&mut self.rows, key(cid), dtype, count, payload, asked_with);
+    }
+
+    /// A link was told properties, where it has a row.
+    pub(crate) fn put_properties(&mut self, cid: u32, dtype: u16, payload: Bytes)
+        requires { TellsProperties dtype payload }
+        ensures { self.new ≡ change_first (is_cached_of cid) (with_held (with_properties dtype payload)) self.old }
+    {
+        put_properties(&mut self.rows, key(cid), dtype, payload);
+    }
+
+    /// Forgets the properties that a link was told.
+    pub(crate) fn drop_properties(&mut self, cid: u32)
+        ensures { self.new ≡ change_first (is_cached_of cid) without_told self.old }
+    {
+        drop_properties(&mut self.rows, key(cid));
+    }
+
+    /// Keeps what is answered from a link's row under a type and a count.
     pub(crate) fn keep(
         &mut self,
         alloc: Global,
@@ -83,50 +123,67 @@ impl Latest {
     ) -> Result<(), AllocError>
         ensures { self.new ≡ self.old }
     {
-        let free = free_id(&self.rows, cid);
-        keep(
-            alloc,
-            &mut self.rows,
-            Key {
-                owner: cid,
-                id: 1 - free,
-            },
-            dtype,
-            count,
-        )
+        keep(alloc, &mut self.rows, key(cid), dtype, count)
     }
 
     pub(crate) fn remove(&mut self, cid: u32)
         ensures { self.new ≡ filter (is_cached_elsewhere cid) self.old }
     {
-        let free = free_id(&self.rows, cid);
-        self.rows.remove(Key {
-            owner: cid,
-            id: 1 - free,
-        });
+        self.rows.remove(key(cid));
     }
 
-    /// Does nothing. Its contract is a law: no two messages have the same CID.
+    /// Does nothing. Its contract is a law: no two rows have the same CID.
     pub(crate) fn has_cids_apart(&self)
         ensures { AreApart self.now }
     {
-        let _ = &self.rows;
+        self.rows.has_keys_apart();
     }
 }
 
-/// The number of the two under which a link has no message.
-fn free_id(rows: &RowMap<LastMessage>, cid: u32) -> u32
-    requires { AreLatest rows.now }
-    ensures two { result ≤ 1 }
-    ensures free { value_at (key cid result) rows.now ≡ None }
+/// A link has one row at most, so a CID is the whole key.
+fn key(cid: u32) -> Key
+    ensures { result ≡ key cid 0 }
 {
-    if rows.contains(Key { owner: cid, id: 0 }) {
-        1
-    } else {
-        0
+    Key { owner: cid, id: 0 }
+}
+
+#[tactic(auto, using(crate::proofs::ConnectionRows::unfound_unchanged))]
+fn put_value(
+    rows: &mut RowMap<LastMessage>,
+    key: Key,
+    dtype: u16,
+    count: u32,
+    payload: Bytes,
+    asked_with: u32,
+)
+    requires { IsOk (shown dtype count payload) }
+    ensures { rows.new ≡ change_first (has_key key) (changed_by (with_held (with_value dtype count payload asked_with))) rows.old }
+{
+    if let Some(row) = rows.get_mut(key) {
+        row.held.put(dtype, count, payload, asked_with);
     }
 }
 
+#[tactic(auto, using(crate::proofs::ConnectionRows::unfound_unchanged))]
+fn put_properties(rows: &mut RowMap<LastMessage>, key: Key, dtype: u16, payload: Bytes)
+    requires { TellsProperties dtype payload }
+    ensures { rows.new ≡ change_first (has_key key) (changed_by (with_held (with_properties dtype payload))) rows.old }
+{
+    if let Some(row) = rows.get_mut(key) {
+        row.held.put_properties(dtype, payload);
+    }
+}
+
+#[tactic(auto, using(crate::proofs::ConnectionRows::unfound_unchanged))]
+fn drop_properties(rows: &mut RowMap<LastMessage>, key: Key)
+    ensures { rows.new ≡ change_first (has_key key) (changed_by (with_held without_properties)) rows.old }
+{
+    if let Some(row) = rows.get_mut(key) {
+        row.held.drop_properties();
+    }
+}
+
+#[tactic(auto, using(crate::proofs::ConnectionRows::written_again))]
 fn keep(
     alloc: Global,
     rows: &mut RowMap<LastMessage>,

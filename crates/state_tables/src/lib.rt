@@ -2,8 +2,8 @@
 //! by an index, under clauses that speak of whole lists of rows.
 //!
 //! - [`Connections`] are the connections that stand, each found by its number.
-//! - [`Cache`] keeps at most one last message of a link, found by its CID. `remove_by` takes the messages
-//!   of a server's links and walks no others.
+//! - [`Cache`] keeps what each link was told last, its value and its properties, in one row, found by its
+//!   CID and changed where it stands. `remove_by` takes the rows of a server's links and walks no others.
 //! - [`Searches`] are the policy that holds and the searches that are remembered under it, with the real
 //!   names that these lead to, and with what asked names were found to lead to.
 //!

@@ -8,6 +8,7 @@ pub mod Created
 pub mod Drained
 pub mod Failed
 pub mod Found
+pub mod HeldRows
 pub mod LessGiven
 pub mod LinkChanged
 pub mod LinksQuiet

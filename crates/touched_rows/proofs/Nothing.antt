@@ -1,5 +1,5 @@
 -- Events that nothing follows from: they leave a settled state settled.
-use Rattle.std.proofs.Common.{◌≡◌, ℕ, List, [], ◌∷◌, None}
+use Rattle.std.proofs.Common.{◌≡◌, ℕ, List, [], ◌∷◌, Bool, ◌&&◌, None}
 use Rattle.std.specs.Prelude.{filter}
 use Rattle.std.specs.List.{fold}
 use Rattle.ca_message.specs.declared.codes.TheConstants.{ECA_GETFAIL}
@@ -74,6 +74,7 @@ settled_all_failed : (reads : List WaitingRead) (w : Gateway) → IsSettled w �
 settled_all_failed [] w settled = settled
 settled_all_failed (read ∷ reads) w settled = settled_all_failed reads (read_failed w read) (settled_read_failed read w settled)
 
-pub nothing_after_failure : (w : Gateway) (name : List ℕ) → IsSettled w → consequences (reads_failed w name) ≡ reads_failed w name
-nothing_after_failure w name settled =
-    settled_stays (reads_failed w name) (settled_all_failed (filter (waits_for w name) w.clients.reads) w settled)
+-- whichever of those that wait for a variable they are
+pub nothing_after_failure : (fails : WaitingRead → Bool) (w : Gateway) (name : List ℕ) → IsSettled w → consequences (reads_failed fails w name) ≡ reads_failed fails w name
+nothing_after_failure fails w name settled =
+    settled_stays (reads_failed fails w name) (settled_all_failed (filter (λ read. waits_for w name read && fails read) w.clients.reads) w settled)

@@ -34,7 +34,7 @@ use Rattle.gateway_state.specs.Answer.{cached_as}
 use Rattle.gateway_state.specs.CachedRows.{is_cached_elsewhere, is_cached_of}
 use Rattle.gateway_state.specs.Connections.{given, is_to, marked_now}
 use Rattle.gateway_state.specs.Gateway.{Gateway}
-use Rattle.gateway_state.specs.Interest.{interest_of, is_for, minor_of, wanted_for}
+use Rattle.gateway_state.specs.Interest.{is_for, minor_of, wanted_for}
 use Rattle.gateway_state.specs.Notices.{cancelled, forgotten, interest_notices, link_told, notices_between, read_told, subject_notices, subscribed, with_subscription_of, without_read}
 use Rattle.gateway_state.specs.Resolution.{rights_left}
 use Rattle.gateway_state.specs.Rights.{lead_in, link_rights}
@@ -43,6 +43,7 @@ use Rattle.gateway_state.specs.Updates.{is_paused, is_taking, update_told, with_
 use Rattle.gateway_state.specs.Variables.{link_of, without_cached}
 use Rattle.touched_rows.proofs.Blanked.{found_blanked}
 use Rattle.touched_rows.proofs.Connections.{HasNoMoreRoom, no_more_room_given, no_more_room_marked, takes}
+use Rattle.touched_rows.proofs.HeldRows.{less_told}
 use Rattle.touched_rows.proofs.LessGiven.{GivesNoMore, bare, gives_no_more, gives_the_same}
 
 -- ---- messages
@@ -171,7 +172,13 @@ less_without_cached cid w = record {
 -- without what a link was told of a subject
 pub less_forgotten : (subject : Subject) (cid : ℕ) (w : Gateway) → GivesNoMore w (forgotten subject cid w)
 less_forgotten Values cid w = less_without_cached cid w
-less_forgotten Properties cid w = gives_the_same w
+less_forgotten Properties cid w = record {
+  channels = λ session sid. refl;
+  rights = λ c. refl;
+  links = λ name. refl;
+  values = λ of native dtype count none. less_told cid of native dtype count w.cache none;
+  sessions = λ number open_to. open_to;
+}
 
 -- the notice drops no link
 abbrev pub keeps_links : LinkNotice → Bool

@@ -6,19 +6,21 @@ use Rattle.ca_message.specs.declared.codes.TheConstants.{ECA_NORMAL}
 use Rattle.ca_message.specs.declared.reply.ReplyFault.{ReplyFault}
 use Rattle.ca_message.specs.declared.reply.ServerReply.{ServerReply}
 use Rattle.ca_message.specs.declared.reply.ServerReply.TheVariants as says
+use Rattle.channel_table.specs.declared.reads.WaitingRead.{WaitingRead}
+use Rattle.channel_table.specs.declared.subs.ClientSub.{ClientSub}
 use Rattle.link_table.specs.declared.links.Subject.{Subject}
-use Rattle.link_table.specs.declared.links.Subject.TheVariants.{Values, Properties}
 use Rattle.link_table.specs.declared.links.Link.{Link}
 use Rattle.link_table.specs.declared.links.LinkState.{LinkState}
 use Rattle.link_table.specs.declared.links.LinkState.TheVariants.{Creating, Connected, Unusable}
 use Rattle.link_table.specs.declared.links.Subscription.{Subscription}
-use Rattle.link_table.specs.Links.{has_subscription, is_link}
+use Rattle.link_table.specs.Links.{has_subscription, is_link, sub_at}
 use Rattle.link_table.specs.Writes.{is_write}
-use Rattle.value_cache.specs.Held.{held_after}
-use Rattle.gateway_state.specs.declared.cached.LastMessage.{LastMessage}
+use Rattle.value_cache.specs.Held.{Held}
+use Rattle.gateway_state.specs.Answer.{native_in}
+use Rattle.gateway_state.specs.CachedRows.{put_row}
 use Rattle.gateway_state.specs.Gateway.{Gateway}
 use Rattle.gateway_state.specs.Connections.{given, is_to}
-use Rattle.gateway_state.specs.Servers.{answered_creating, channel_made, channel_returned, concerned_owed, created_for, has_other_alarm, is_usable, is_value, reads_failed, replied, rights_given, rights_said, subject_of, updated, updated_by, updated_link, updated_under, with_cached, with_link_state}
+use Rattle.gateway_state.specs.Servers.{answered_creating, channel_made, channel_returned, concerned_owed, concerns, created_for, fails_without, held_with, is_told, is_usable, reads_failed, replied, rights_given, rights_said, subject_of, updated, updated_by, updated_link, updated_under, with_held, with_link_state}
 use Rattle.gateway_state.specs.Step.{consequences}
 use Rattle.gateway_state.specs.Telling.{outgoing_upstream, sent}
 use Rattle.gateway_state.specs.Variables.{is_creating}
@@ -33,6 +35,7 @@ use Rattle.touched_rows.specs.Touched.{interest_told}
 use Rattle.touched_rows.proofs.Connecting.{told_after_connecting}
 use Rattle.touched_rows.proofs.Connections.{no_more_room_given}
 use Rattle.touched_rows.proofs.Failed.{nothing_after_refusal}
+use Rattle.touched_rows.proofs.HeldRows.{put_beside}
 use Rattle.touched_rows.proofs.LinkChanged.{told_after_dropping, told_after_rights}
 use Rattle.touched_rows.proofs.Nothing.{nothing_after_failure, nothing_after_reply}
 use Rattle.touched_rows.proofs.Searched.{nothing_after_server_version}
@@ -45,30 +48,33 @@ module _ (w : Gateway) (tidy : IsTidy w) where
       → consequences (updated w server id status dtype count payload) ≡ follows (update_touches w server id status dtype count payload) (updated w server id status dtype count payload)
   told_update server id status dtype count payload = by (find (has_subscription server id) w.upstream.links) refl
     where
-      value : (link : Link) → find (has_subscription server id) w.upstream.links ≡ Some link → (state : LinkState) (sub : Option Subscription)
-          → consequences (updated_link link state sub dtype count payload w) ≡ follows (value_touches link state sub dtype count payload) (updated_link link state sub dtype count payload w)
-      value link is (Connected sid native native_count) (Some sub) =
-          let row : LastMessage = record { server = link.server; cid = link.cid; held = held_after dtype count payload sub.count } in
-          let after : Gateway = with_cached row (concerned_owed link.name (has_other_alarm w link.cid dtype count payload) w) in
-          elim (is_value native sub.count dtype count payload) as (λ t. consequences (cond t after w) ≡ follows (cond t (Value link.name) Nothing) (cond t after w)) [
+      value : (link : Link) → find (has_subscription server id) w.upstream.links ≡ Some link → (subject : Subject) (state : LinkState) (sub : Option Subscription)
+          → consequences (updated_link subject link state sub dtype count payload w)
+          ≡ follows (value_touches subject link state sub dtype count payload) (updated_link subject link state sub dtype count payload w)
+      value link is subject (Connected sid native native_count) (Some sub) =
+          let change : Held → Held = held_with subject dtype count payload sub.count in
+          let passes : ClientSub → Bool = concerns subject w link.cid dtype count payload in
+          let after : Gateway = with_held link.server link.cid change (concerned_owed link.name passes w) in
+          elim (is_told subject native sub.count dtype count payload) as (λ t. consequences (cond t after w) ≡ follows (cond t (Value link.name) Nothing) (cond t after w)) [
             | true ↦
-                told_after_update w tidy.settled tidy.order tidy.subs_apart server id link is (held_after dtype count payload sub.count) (has_other_alarm w link.cid dtype count payload)
+                told_after_update w tidy.settled tidy.order tidy.subs_apart server id link is (put_row link.server link.cid change)
+                (λ other differ. put_beside link.server link.cid change other w.cache differ) passes
             | false ↦ settled_stays w tidy.settled
           ]
-      value link is (Connected sid native native_count) None = settled_stays w tidy.settled
-      value link is Creating sub = settled_stays w tidy.settled
-      value link is Unusable sub = settled_stays w tidy.settled
+      value link is subject (Connected sid native native_count) None = settled_stays w tidy.settled
+      value link is subject Creating sub = settled_stays w tidy.settled
+      value link is subject Unusable sub = settled_stays w tidy.settled
 
       under : (link : Link) → find (has_subscription server id) w.upstream.links ≡ Some link → (subject : Subject)
           → consequences (updated_under subject status dtype count payload link w) ≡ follows (update_touches_under subject status dtype count payload link) (updated_under subject status dtype count payload link w)
-      under link is Values =
-          let sub : Option Subscription = link.subscriptions.values in
-          let after : Gateway = updated_link link link.state sub dtype count payload w in
+      under link is subject =
+          let sub : Option Subscription = sub_at subject link.subscriptions in
+          let fails : WaitingRead → Bool = fails_without subject (native_in link.state) in
+          let after : Gateway = updated_link subject link link.state sub dtype count payload w in
           elim (eqb status ECA_NORMAL)
-          as (λ t. consequences (cond t after (reads_failed w link.name))
-          ≡ follows (cond t (value_touches link link.state sub dtype count payload) Nothing) (cond t after (reads_failed w link.name)))
-          [ true ↦ value link is link.state sub | false ↦ nothing_after_failure w link.name tidy.settled ]
-      under link is Properties = settled_stays w tidy.settled
+          as (λ t. consequences (cond t after (reads_failed fails w link.name))
+          ≡ follows (cond t (value_touches subject link link.state sub dtype count payload) Nothing) (cond t after (reads_failed fails w link.name)))
+          [ true ↦ value link is subject link.state sub | false ↦ nothing_after_failure fails w link.name tidy.settled ]
 
       by : (found : Option Link) → find (has_subscription server id) w.upstream.links ≡ found
           → consequences (updated_by id status dtype count payload found w) ≡ follows (update_touches_over id status dtype count payload found) (updated_by id status dtype count payload found w)

@@ -1,11 +1,9 @@
--- An update that is accepted is told to the readers of its variable alone.
-use Rattle.std.proofs.Common.{◌≡◌, ℕ, List, [], ◌∷◌, ◌++◌, Bool, true, false, cond, eqb, ◌&&◌, Option, Some, None, refl, sym, ap, subst, ◌∙◌}
+-- An update that counts is told to the readers of its variable alone.
+use Rattle.std.proofs.Common.{◌≡◌, ℕ, List, ◌++◌, Bool, true, false, cond, eqb, ◌&&◌, Option, Some, None, refl, sym, ap, subst, ◌∙◌}
 use Rattle.std.specs.Prelude.{bytes_eq, filter, filter_map, flat_map, map}
 use Rattle.std.specs.List.{find, fold}
-use Rattle.std.specs.Option.{option_or}
-use Rattle.std.proofs.lemmas.Bool.{eq-eqb, eqb-true, true≢false}
+use Rattle.std.proofs.lemmas.Bool.{eqb-true, true≢false}
 use Rattle.std.proofs.lemmas.List.Elements.{All-map, All-weaker}
-use Rattle.std.proofs.lemmas.List.Folds.{find-append}
 use Rattle.std.proofs.lemmas.Slice.Eq.{bytes_eq-Decides}
 use Rattle.ca_message.specs.declared.codes.TheConstants.{ECA_NORDACCESS}
 use Rattle.channel_table.specs.declared.channels.Channel.{Channel}
@@ -15,8 +13,6 @@ use Rattle.channel_table.specs.Subs.{with_owed}
 use Rattle.link_table.specs.declared.links.Link.{Link}
 use Rattle.link_table.specs.Links.{has_subscription, is_named}
 use Rattle.mask_merge.specs.declared.want.Ask.{Ask}
-use Rattle.mask_merge.specs.declared.want.Want.{Want}
-use Rattle.value_cache.specs.Held.{Held}
 use Rattle.gateway_state.specs.declared.cached.LastMessage.{LastMessage}
 use Rattle.gateway_state.specs.declared.connections.Connection.{Connection}
 use Rattle.gateway_state.specs.declared.notice.ReadNotice.{ReadNotice}
@@ -24,15 +20,15 @@ use Rattle.gateway_state.specs.declared.notice.ReadNotice.TheVariants.{Refused}
 use Rattle.gateway_state.specs.declared.notice.UpdateNotice.{UpdateNotice}
 use Rattle.gateway_state.specs.declared.reading.Native.{Native}
 use Rattle.gateway_state.specs.Answer.{cached_as, native_in}
-use Rattle.gateway_state.specs.CachedRows.{is_cached_elsewhere, is_cached_of, with_row}
+use Rattle.gateway_state.specs.CachedRows.{is_cached_of}
 use Rattle.gateway_state.specs.Gateway.{Gateway}
 use Rattle.gateway_state.specs.Interest.{is_reader, reader_ask, readers}
 use Rattle.gateway_state.specs.Notices.{answered_by, answered_natively, answered_over, link_notices, notice_on, read_notice, read_told, reads_told}
 use Rattle.gateway_state.specs.Rights.{channel_of, may_read, rights_of}
-use Rattle.gateway_state.specs.Servers.{concerned_owed, waits_for, with_cached}
+use Rattle.gateway_state.specs.Servers.{concerned_owed, waits_for}
 use Rattle.gateway_state.specs.Settled.{AreInOrder, HasSubsApart, IsSettled, cid_of}
 use Rattle.gateway_state.specs.Step.{consequences}
-use Rattle.gateway_state.specs.Updates.{concerned, is_concerned, is_open_to, is_sub_to, update_by, update_natively, update_notice, update_notices, update_on, update_over, update_told, updates_told}
+use Rattle.gateway_state.specs.Updates.{concerned, is_open_to, is_sub_to, update_by, update_natively, update_notice, update_notices, update_on, update_over, update_told, updates_told}
 use Rattle.gateway_state.specs.Variables.{is_channel_on, link_of}
 use Rattle.gateway_state.proofs.LinkNotices.{link_notices_alike}
 use Rattle.gateway_state.proofs.SettledMeaning.{none_told}
@@ -43,34 +39,20 @@ use Rattle.touched_rows.proofs.Numbered.{same_number}
 use Rattle.touched_rows.proofs.Owing.{none_withheld, owed_where, owing_each, asks_alike}
 use Rattle.touched_rows.proofs.Passes.{from_reads}
 use Rattle.touched_rows.proofs.Shapes.{reads_told_shape, with_reads}
-use Rattle.touched_rows.proofs.Tellings.{found_elsewhere, less_reads_told}
+use Rattle.touched_rows.proofs.Tellings.{less_reads_told}
 use Rattle.touched_rows.proofs.TouchedAlone.{found_passes, touched_alone}
-
--- ---- last messages of other links
-
-or_none : (found : Option LastMessage) → option_or found None ≡ found
-or_none None = refl
-or_none (Some row) = refl
-
--- another link's last message is found as before
-found_beside : (row : LastMessage) (cid : ℕ) (rows : List LastMessage) → eqb cid row.cid ≡ false → find (is_cached_of cid) (with_row row rows) ≡ find (is_cached_of cid) rows
-found_beside row cid rows differ =
-    find-append (is_cached_of cid) (filter (is_cached_elsewhere row.cid) rows) (row ∷ [])
-    ∙ ap (λ (t : Bool). option_or (find (is_cached_of cid) (filter (is_cached_elsewhere row.cid) rows)) (cond t (Some row) None)) other
-    ∙ or_none (find (is_cached_of cid) (filter (is_cached_elsewhere row.cid) rows)) ∙ found_elsewhere cid row.cid rows differ
-  where
-    other : is_cached_of cid row ≡ false
-    other = elim (is_cached_of cid row) as (λ t. is_cached_of cid row ≡ t → t ≡ false) [
-      | true ↦ λ is. absurd (true≢false (sym (eq-eqb cid row.cid (sym (eqb-true row.cid cid is))) ∙ differ))
-      | false ↦ λ is. refl
-    ] refl
 
 -- ---- the state after the update came
 
-module _ (w : Gateway) (test : ClientSub → Bool) (row : LastMessage) where
-  -- with some subscriptions owed an update, and a new last message
+-- with what is held changed
+abbrev with_cache : (List LastMessage → List LastMessage) → Gateway → Gateway
+with_cache change w = record w { cache = change w.cache }
+
+module _ (w : Gateway) (test : ClientSub → Bool) (change : List LastMessage → List LastMessage) (cid : ℕ)
+    (others : (other : ℕ) → eqb other cid ≡ false → find (is_cached_of other) (change w.cache) ≡ find (is_cached_of other) w.cache) where
+  -- and some subscriptions owed an update
   abbrev x : Gateway
-  x = record w { cache = with_row row w.cache; clients = record w.clients { subs = map (owed_where test) w.clients.subs } }
+  x = record w { cache = change w.cache; clients = record w.clients { subs = map (owed_where test) w.clients.subs } }
 
   asks_same : (name : List ℕ) → readers x name ≡ readers w name
   asks_same name =
@@ -79,10 +61,10 @@ module _ (w : Gateway) (test : ClientSub → Bool) (row : LastMessage) where
   links_same : link_notices x ≡ link_notices w
   links_same = λ i. flat_map (λ link. link_notices_alike x w asks_same (λ server. refl) (λ name. refl) link i) w.upstream.links
 
-  -- what is read over a link that isn't this row's
+  -- what is read over a link of which what is held stays
   abbrev IsBeside : Option Link → Type 0
   IsBeside None = Unit {0}
-  IsBeside (Some link) = eqb link.cid row.cid ≡ false
+  IsBeside (Some link) = eqb link.cid cid ≡ false
 
   answered_beside : (read : WaitingRead) (link : Option Link) → IsBeside link → answered_over x read link ≡ answered_over w read link
   answered_beside read None beside = refl
@@ -91,7 +73,7 @@ module _ (w : Gateway) (test : ClientSub → Bool) (row : LastMessage) where
       by : (native : Option Native) → answered_natively x read link native ≡ answered_natively w read link native
       by None = refl
       by (Some native) =
-          ap (λ (found : Option LastMessage). answered_by read (cached_as native.count read.dtype read.count found)) (found_beside row link.cid w.cache beside)
+          ap (λ (found : Option LastMessage). answered_by read (cached_as native.count read.dtype read.count found)) (others link.cid beside)
 
   updated_beside : (sub : ClientSub) (link : Option Link) → IsBeside link → update_over x sub link ≡ update_over w sub link
   updated_beside sub None beside = refl
@@ -100,26 +82,24 @@ module _ (w : Gateway) (test : ClientSub → Bool) (row : LastMessage) where
       by : (native : Option Native) → update_natively x sub link native ≡ update_natively w sub link native
       by None = refl
       by (Some native) =
-          ap (λ (found : Option LastMessage). update_by sub (cached_as native.count sub.dtype sub.count found)) (found_beside row link.cid w.cache beside)
+          ap (λ (found : Option LastMessage). update_by sub (cached_as native.count sub.dtype sub.count found)) (others link.cid beside)
 
 -- ---- the update
 
 module _ (w : Gateway) (settled : IsSettled w) (order : AreInOrder w) (apart : HasSubsApart w) (server id : ℕ) (link : Link)
-    (found : find (has_subscription server id) w.upstream.links ≡ Some link) (held : Option Held) (differs : Bool) where
-  abbrev row : LastMessage
-  row = record { server = link.server; cid = link.cid; held = held }
-
+    (found : find (has_subscription server id) w.upstream.links ≡ Some link) (change : List LastMessage → List LastMessage)
+    (others : (other : ℕ) → eqb other link.cid ≡ false → find (is_cached_of other) (change w.cache) ≡ find (is_cached_of other) w.cache) (passes : ClientSub → Bool) where
   abbrev test : ClientSub → Bool
-  test sub = is_sub_to w link.name sub && is_concerned differs sub
+  test sub = is_sub_to w link.name sub && passes sub
 
   abbrev y : Gateway
-  y = x w test row
+  y = x w test change link.cid others
 
-  -- links of other names have other last messages
-  beside : (name : List ℕ) → bytes_eq name link.name ≡ false → IsBeside w test row (link_of w name)
+  -- of links of other names what is held stays
+  beside : (name : List ℕ) → bytes_eq name link.name ≡ false → IsBeside w test change link.cid others (link_of w name)
   beside name other = by (link_of w name) refl
     where
-      by : (over : Option Link) → link_of w name ≡ over → IsBeside w test row over
+      by : (over : Option Link) → link_of w name ≡ over → IsBeside w test change link.cid others over
       by None is = tt
       by (Some l) is = elim (eqb l.cid link.cid) as (λ t. eqb l.cid link.cid ≡ t → t ≡ false) [
         | true ↦ λ same.
@@ -136,7 +116,7 @@ module _ (w : Gateway) (settled : IsSettled w) (order : AreInOrder w) (apart : H
       by None other none = refl
       by (Some c) other none =
           ap (λ (answer : Option ReadNotice). cond (may_read (rights_of w c)) answer (Some (Refused read ECA_NORDACCESS)))
-          (answered_beside w test row read (link_of w c.real) (beside c.real other))
+          (answered_beside w test change link.cid others read (link_of w c.real) (beside c.real other))
           ∙ none
 
   update_beside : (sub : ClientSub) → is_sub_to w link.name sub ≡ false → update_notice w sub ≡ None → update_notice y sub ≡ None
@@ -147,7 +127,7 @@ module _ (w : Gateway) (settled : IsSettled w) (order : AreInOrder w) (apart : H
       by : (on : Option Channel) → is_channel_on link.name on ≡ false → update_on y sub on ≡ update_on w sub on
       by None other = refl
       by (Some c) other =
-          ap (λ (said : Option UpdateNotice). cond (may_read (rights_of w c)) said None) (updated_beside w test row sub (link_of w c.real) (beside c.real other))
+          ap (λ (said : Option UpdateNotice). cond (may_read (rights_of w c)) said None) (updated_beside w test change link.cid others sub (link_of w c.real) (beside c.real other))
 
   reads_alone : reads_told y ≡ reads_told_on link.name y
   reads_alone =
@@ -162,9 +142,9 @@ module _ (w : Gateway) (settled : IsSettled w) (order : AreInOrder w) (apart : H
     z = with_reads y connections reads
 
     owed_beside : (sub : ClientSub) → update_notice w sub ≡ None → is_sub_to w link.name (owed_where test sub) ≡ false → update_notice z (owed_where test sub) ≡ None
-    owed_beside sub none other = by (is_sub_to w link.name sub) (is_concerned differs sub) refl refl other
+    owed_beside sub none other = by (is_sub_to w link.name sub) (passes sub) refl refl other
       where
-        by : (to concerns : Bool) → is_sub_to w link.name sub ≡ to → is_concerned differs sub ≡ concerns → is_sub_to w link.name (cond (to && concerns) (with_owed true sub) sub) ≡ false
+        by : (to concerns : Bool) → is_sub_to w link.name sub ≡ to → passes sub ≡ concerns → is_sub_to w link.name (cond (to && concerns) (with_owed true sub) sub) ≡ false
             → update_notice z (cond (to && concerns) (with_owed true sub) sub) ≡ None
         by false concerns is is_so other = update_stays y z less sub (update_beside sub is none)
         by true true is is_so other = absurd (true≢false (sym is ∙ other))
@@ -190,15 +170,15 @@ module _ (w : Gateway) (settled : IsSettled w) (order : AreInOrder w) (apart : H
 
   told_alone : consequences y ≡ updates_told_on link.name (reads_told_on link.name y)
   told_alone =
-      from_reads y settled.channels (none_withheld w test w.clients.subs settled.held_back) (links_same w test row ∙ settled.links) ∙ ap updates_told reads_alone ∙ updates_after
+      from_reads y settled.channels (none_withheld w test w.clients.subs settled.held_back) (links_same w test change link.cid others ∙ settled.links) ∙ ap updates_told reads_alone ∙ updates_after
 
   -- such is the state that an update makes
-  made : with_cached row (concerned_owed link.name differs w) ≡ y
+  made : with_cache change (concerned_owed link.name passes w) ≡ y
   made =
-      ap (with_cached row) (owing_changed (concerned w link.name differs) w)
-      ∙ ap (λ (subs : List ClientSub). with_cached row (with_subs w subs)) (owing_each test w.clients.subs apart)
+      ap (with_cache change) (owing_changed (concerned w link.name passes) w)
+      ∙ ap (λ (subs : List ClientSub). with_cache change (with_subs w subs)) (owing_each test w.clients.subs apart)
 
-  pub told_after_update : consequences (with_cached row (concerned_owed link.name differs w))
-      ≡ updates_told_on link.name (reads_told_on link.name (with_cached row (concerned_owed link.name differs w)))
+  pub told_after_update : consequences (with_cache change (concerned_owed link.name passes w))
+      ≡ updates_told_on link.name (reads_told_on link.name (with_cache change (concerned_owed link.name passes w)))
   told_after_update =
       subst (λ (v : Gateway). consequences v ≡ updates_told_on link.name (reads_told_on link.name v)) (sym made) told_alone

@@ -18,9 +18,8 @@ use Rattle.link_table.specs.declared.links.Link.{Link}
 use Rattle.link_table.specs.declared.links.LinkState.{LinkState}
 use Rattle.link_table.specs.declared.links.LinkState.TheVariants.{Creating, Connected, Unusable}
 use Rattle.link_table.specs.declared.links.Subject.{Subject}
-use Rattle.link_table.specs.declared.links.Subject.TheVariants.{Values, Properties}
 use Rattle.link_table.specs.declared.links.Subscription.{Subscription}
-use Rattle.link_table.specs.Links.{has_subscription, is_link, is_of}
+use Rattle.link_table.specs.Links.{has_subscription, is_link, is_of, sub_at}
 use Rattle.gateway_state.specs.declared.event.Dest.{Dest}
 use Rattle.gateway_state.specs.declared.event.Dest.TheVariants as dests
 use Rattle.gateway_state.specs.declared.event.Event.{Event}
@@ -32,8 +31,9 @@ use Rattle.gateway_state.specs.declared.notice.SubVerdict.TheVariants as subs
 use Rattle.gateway_state.specs.Asked.{acts}
 use Rattle.gateway_state.specs.Clients.{read_verdict}
 use Rattle.gateway_state.specs.Gateway.{Gateway}
+use Rattle.gateway_state.specs.Quantities.{Code, Count, Dtype, Ioid, ServerNumber, SessionNumber, Sid, SubId}
 use Rattle.gateway_state.specs.Rights.{channel_of}
-use Rattle.gateway_state.specs.Servers.{is_value, subject_of}
+use Rattle.gateway_state.specs.Servers.{is_told, subject_of}
 use Rattle.gateway_state.specs.Settled.{HasLinksApart}
 use Rattle.gateway_state.specs.Step.{consequences}
 use Rattle.gateway_state.specs.Subscribing.{is_on_sid, new_sub, sub_of, sub_verdict}
@@ -81,7 +81,7 @@ IsReady (SubscriptionTo name sub) w = KnowRights w
 
 -- CLIENTS' MESSAGES
 
-abbrev pub new_read : ℕ → ℕ → ℕ → ℕ → ℕ → WaitingRead
+abbrev pub new_read : SessionNumber → Sid → Ioid → Dtype → Count → WaitingRead
 new_read number sid ioid dtype count = record { session = number; sid = sid; dtype = dtype; count = count; ioid = ioid }
 
 -- a read that is accepted
@@ -148,25 +148,27 @@ request_touches w number (Err fault) = Nothing
 
 -- SERVERS' MESSAGES
 
-abbrev pub value_touches : Link → LinkState → Option Subscription → ℕ → ℕ → List ℕ → Touched
-value_touches link (Connected sid native native_count) (Some sub) dtype count payload =
-    if is_value native sub.count dtype count payload then Value link.name else Nothing
-value_touches link (Connected sid native native_count) None dtype count payload = Nothing
-value_touches link Creating sub dtype count payload = Nothing
-value_touches link Unusable sub dtype count payload = Nothing
+-- whatever the subject, what counts may answer reads of the variable and is told to its subscriptions
+abbrev pub value_touches : Subject → Link → LinkState → Option Subscription → Dtype → Count → List ℕ → Touched
+value_touches subject link (Connected sid native native_count) (Some sub) dtype count payload =
+    if is_told subject native sub.count dtype count payload then Value link.name else Nothing
+value_touches subject link (Connected sid native native_count) None dtype count payload = Nothing
+value_touches subject link Creating sub dtype count payload = Nothing
+value_touches subject link Unusable sub dtype count payload = Nothing
 
-abbrev pub update_touches_under : Subject → ℕ → ℕ → ℕ → List ℕ → Link → Touched
-update_touches_under Values status dtype count payload link =
-    if status == ECA_NORMAL then value_touches link link.state link.subscriptions.values dtype count payload else Nothing
-update_touches_under Properties status dtype count payload link = Nothing
+abbrev pub update_touches_under : Subject → Code → Dtype → Count → List ℕ → Link → Touched
+update_touches_under subject status dtype count payload link =
+    if status == ECA_NORMAL
+    then value_touches subject link link.state (sub_at subject link.subscriptions) dtype count payload
+    else Nothing
 
-abbrev pub update_touches_over : ℕ → ℕ → ℕ → ℕ → List ℕ → Option Link → Touched
+abbrev pub update_touches_over : SubId → Code → Dtype → Count → List ℕ → Option Link → Touched
 update_touches_over id status dtype count payload None = Nothing
 update_touches_over id status dtype count payload (Some link) =
     update_touches_under (subject_of id link) status dtype count payload link
 
--- an update that is accepted
-abbrev pub update_touches : Gateway → ℕ → ℕ → ℕ → ℕ → ℕ → List ℕ → Touched
+-- an update that counts
+abbrev pub update_touches : Gateway → ServerNumber → SubId → Code → Dtype → Count → List ℕ → Touched
 update_touches w server id status dtype count payload =
     update_touches_over id status dtype count payload (find (has_subscription server id) w.upstream.links)
 

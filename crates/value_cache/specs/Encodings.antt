@@ -16,6 +16,6 @@ abbrev pub is_of : ℕ → ℕ → Encoding → Bool
 is_of dtype count e = e.dtype == dtype && e.count == count
 
 -- each is what its type and count are answered
-abbrev pub AreAnswers : Option Held → List Encoding → Type 0
+abbrev pub AreAnswers : Held → List Encoding → Type 0
 AreAnswers held [] = Unit {0}
 AreAnswers held (e ∷ later) = (answer e.dtype e.count held ≡ Some (e.given, e.payload)) × AreAnswers held later

@@ -1,15 +1,15 @@
--- What is kept beside a variable's last message: its encodings under several types and counts.
-use Rattle.std.specs.Prelude.{ℕ, List, ◌∷◌, [], ◌++◌, length, ◌-◌, drop, Bool, ◌&&◌, ◌==◌, is_some, if◌then◌else◌, Option}
+-- What is kept beside what a variable told last: its encodings under several types and counts.
+use Rattle.std.specs.Prelude.{ℕ, List, ◌∷◌, [], ◌++◌, length, ◌-◌, drop, Bool, ◌&&◌, ◌==◌, is_some, if◌then◌else◌}
 use Rattle.std.specs.List.{list_any}
 use Rattle.value_cache.specs.Held.{Held, answer}
 
--- what is held of the message, and the types and counts whose encodings are kept, in the order of keeping
+-- what is held, and the types and counts whose encodings are kept, in the order of keeping
 pub record Keeping : Type 0 where
-  pub held : Option Held
+  pub held : Held
   pub kept : List (ℕ × ℕ)
 
 -- this is held, and nothing is kept beside it
-abbrev pub fresh : Option Held → Keeping
+abbrev pub fresh : Held → Keeping
 fresh held = record { held = held; kept = [] }
 
 abbrev pub is_pair : ℕ → ℕ → ℕ × ℕ → Bool

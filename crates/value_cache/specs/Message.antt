@@ -1,27 +1,47 @@
--- What a message that is kept as it came means.
-use Rattle.std.specs.Prelude.{List, map, Option, Some, None, IsOk}
+-- What messages that are kept as they came mean.
+use Rattle.std.specs.Prelude.{◌≡◌, ℕ, true, List, map, is_some, Option, Some, None, IsOk}
+use Rattle.dbr_layout.specs.Properties.{Properties}
 use Rattle.dbr_layout.specs.View.{shown}
+use Rattle.value_cache.specs.declared.cached.Described.{Described}
 use Rattle.value_cache.specs.declared.cached.Message.{Message}
 use Rattle.value_cache.specs.declared.encodings.Encoding.{Encoding}
 use Rattle.value_cache.specs.Encodings.{AreAnswers, pair_of}
-use Rattle.value_cache.specs.Held.{Held, held_after}
+use Rattle.value_cache.specs.Held.{Held, Value, properties_in, value_of}
 use Rattle.value_cache.specs.Kept.{Keeping}
 
--- what is held where this is kept
-abbrev pub held_in : Option Message → Option Held
-held_in None = None
-held_in (Some m) = held_after m.dtype m.count m.payload m.asked_with
+-- the value in the message that is kept
+abbrev pub value_in : Option Message → Option Value
+value_in None = None
+value_in (Some m) = value_of (shown m.dtype m.count m.payload) m.asked_with
+
+-- the properties in the one that tells them
+abbrev pub told_in : Option Described → Option Properties
+told_in None = None
+told_in (Some d) = properties_in (shown d.dtype 0 d.payload)
+
+-- what is held where these are kept
+abbrev pub held_in : Option Message → Option Described → Held
+held_in last described = record { value = value_in last; properties = told_in described }
 
 -- what is kept can be viewed
 abbrev pub IsReadable : Option Message → Type 0
 IsReadable None = Unit {0}
 IsReadable (Some m) = IsOk (shown m.dtype m.count m.payload)
 
--- with these encodings beside it
-abbrev pub keeping_in : Option Message → List Encoding → Keeping
-keeping_in last kept = record { held = held_in last; kept = map pair_of kept }
+-- the bytes tell properties of a variable, in the type with this number
+abbrev pub TellsProperties : ℕ → List ℕ → Type 0
+TellsProperties dtype payload = is_some (properties_in (shown dtype 0 payload)) ≡ true
 
--- and the encodings are its own
-pub record IsSound (last : Option Message) (kept : List Encoding) : Type 0 where
+abbrev pub IsTold : Option Described → Type 0
+IsTold None = Unit {0}
+IsTold (Some d) = TellsProperties d.dtype d.payload
+
+-- with these encodings beside them
+abbrev pub keeping_in : Option Message → Option Described → List Encoding → Keeping
+keeping_in last described kept = record { held = held_in last described; kept = map pair_of kept }
+
+-- and the encodings are their own
+pub record IsSound (last : Option Message) (described : Option Described) (kept : List Encoding) : Type 0 where
   pub readable : IsReadable last
-  pub answers : AreAnswers (held_in last) kept
+  pub told : IsTold described
+  pub answers : AreAnswers (held_in last described) kept

@@ -1,11 +1,13 @@
-//! What is kept of a variable's last message.
-ghost use Rattle.std.specs.Prelude.{◌≡◌, ◌≤◌, length, IsOk, IfOk, IsSome, OnOk, OnErr, Some, None, option_map};
-ghost use Rattle.value_cache.specs.Held.{answer, given};
-ghost use Rattle.value_cache.specs.Message.{IsReadable, held_in};
+//! What is kept of what a variable told last.
+ghost use Rattle.std.specs.Prelude.{◌≡◌, ◌≤◌, ◌||◌, not, length, IsOk, IfOk, IsSome, OnOk, OnErr, Option, Some};
+ghost use Rattle.std.specs.Option.{option_copied, option_map};
+ghost use Rattle.std.specs.Ordering.{int_eq};
+ghost use Rattle.value_cache.specs.Held.{answer, are_told, covers_by, given, needs_by};
+ghost use Rattle.value_cache.specs.Message.{IsReadable, IsTold, held_in, told_in, value_in};
 
 use crate::encodings::{Encoding, Encodings};
 use bytes::Bytes;
-use dbr_layout::{Converted, LayoutFault, View};
+use dbr_layout::{Base, Converted, Dbr, LayoutFault, Props, View, needs};
 use std::alloc::{AllocError, Global};
 use std::marker::Model;
 
@@ -18,11 +20,19 @@ struct Message {
     asked_with: u32,
 }
 
-/// The last message of a variable, if there is one. It is kept as it came, and beside it the
-/// encodings that several readers share.
+/// A message that tells properties, as it came. Its value isn't looked at.
+#[derive(Debug, Drop)]
+struct Described {
+    dtype: u16,
+    payload: Bytes,
+}
+
+/// The last value of a variable and its properties, each if it was told. The messages are kept as they
+/// came, and beside them the encodings that several readers share.
 #[derive(Debug, Drop)]
 pub struct Cached {
     last: Option<Message>,
+    described: Option<Described>,
     kept: Encodings,
 }
 
@@ -32,47 +42,69 @@ impl Model for Cached {
 
     ghost Value = { Keeping };
 
-    ghost view = { λ c. keeping_in c.last c.kept };
+    ghost view = { λ c. keeping_in c.last c.described c.kept };
 
-    ghost invariant = { λ c. IsSound c.last c.kept };
+    ghost invariant = { λ c. IsSound c.last c.described c.kept };
 }
 
 impl Cached {
     ghost use Rattle.dbr_layout.specs.View.{shown};
-    ghost use Rattle.value_cache.specs.Held.{alarm_differs, covers, held_after};
+    ghost use Rattle.value_cache.specs.Held.{alarm_differs, covers, nothing, with_properties, with_value, without_properties, without_value};
     ghost use Rattle.value_cache.specs.Kept.{fresh, keeping};
+    ghost use Rattle.value_cache.specs.Message.{TellsProperties};
 
     /// Nothing is held.
     pub fn empty() -> Cached
-        ensures { result ≡ fresh None }
+        ensures { result ≡ fresh nothing }
     {
         Cached {
             last: None,
+            described: None,
             kept: Encodings::none(),
         }
     }
 
-    /// Holds a message of `count` elements of the type with the number `dtype` in place of the one
-    /// before. `asked_with` is the count that was asked for when it came. No encoding of the one
-    /// before is kept.
+    /// Holds a message of `count` elements of the type with the number `dtype` in place of the value
+    /// before. `asked_with` is the count that was asked for when it came. The properties stay. No
+    /// encoding is kept.
     pub fn put(&mut self, dtype: u16, count: u32, payload: Bytes, asked_with: u32)
         requires { IsOk (shown dtype count payload) }
-        ensures { self.new ≡ fresh (held_after dtype count payload asked_with) }
+        ensures { self.new ≡ fresh (with_value dtype count payload asked_with self.old.held) }
     {
-        self.kept = Encodings::none();
-        self.last = Some(Message {
+        let message = Message {
             dtype,
             count,
             payload,
             asked_with,
-        });
+        };
+        self.last = Some(message);
+        self.kept = Encodings::none();
     }
 
-    /// Forgets what is held, and its encodings.
-    pub fn drop_value(&mut self)
-        ensures { self.new ≡ fresh None }
+    /// Holds the properties that a message of the CTRL type with the number `dtype` tells in place of
+    /// those before. The value stays. No encoding is kept.
+    pub fn put_properties(&mut self, dtype: u16, payload: Bytes)
+        requires { TellsProperties dtype payload }
+        ensures { self.new ≡ fresh (with_properties dtype payload self.old.held) }
     {
-        *self = Cached::empty();
+        self.described = Some(Described { dtype, payload });
+        self.kept = Encodings::none();
+    }
+
+    /// Forgets the value, and all encodings. The properties stay.
+    pub fn drop_value(&mut self)
+        ensures { self.new ≡ fresh (without_value self.old.held) }
+    {
+        self.last = None;
+        self.kept = Encodings::none();
+    }
+
+    /// Forgets the properties, and all encodings. The value stays.
+    pub fn drop_properties(&mut self)
+        ensures { self.new ≡ fresh (without_properties self.old.held) }
+    {
+        self.described = None;
+        self.kept = Encodings::none();
     }
 
     /// Keeps what is answered under the type with the number `dtype` and a count, so that answers
@@ -86,7 +118,7 @@ impl Cached {
         if self.kept.get(dtype, count).is_some() {
             return Ok(());
         }
-        match encoded(alloc, &self.last, dtype, count)? {
+        match encoded(alloc, &self.last, &self.described, dtype, count)? {
             Some((given, payload)) => self.kept.add(
                 alloc,
                 Encoding {
@@ -108,13 +140,14 @@ impl Cached {
         self.kept.len()
     }
 
-    /// Whether what is held can answer a read of so many elements: no more than were asked for when
-    /// it came. The caller gives the native count in place of 0.
-    pub fn covers(&self, count: u32) -> bool
-        ensures { result ≡ covers count self.now.held }
+    /// Whether what is held can answer a read of so many elements of the type with the number `dtype`:
+    /// no more than were asked for when the value came, and properties of its base are there where the
+    /// type needs them. The caller gives the native count in place of 0.
+    pub fn covers(&self, dtype: u16, count: u32) -> bool
+        ensures { result ≡ covers dtype count self.now.held }
     {
         match &self.last {
-            Some(message) => count <= message.asked_with,
+            Some(message) => is_covered(message, &self.described, dtype, count),
             None => false,
         }
     }
@@ -125,16 +158,16 @@ impl Cached {
         ensures { result ≡ alarm_differs new.now self.now.held }
     {
         match self.view() {
-            Some(old) => old.status() != new.status() || old.severity() != new.severity(),
+            Some(old) => differ(&old, new),
             None => true,
         }
     }
 
     /// What a read of `count` elements of the type with the number `dtype` is given: how many
     /// elements these are, and their payload. A count of 0 asks for those that are there. There is
-    /// no answer where nothing is held, where the type isn't had from it, or where the payload
-    /// would be too large. Whether the count is covered isn't asked here. Where the encoding is kept,
-    /// its payload is shared.
+    /// no answer where no value is held, where the type isn't had from it, where the type needs
+    /// properties and none of the value's base are held, or where the payload would be too large.
+    /// Whether the count is covered isn't asked here. Where the encoding is kept, its payload is shared.
     pub fn answer(
         &self,
         alloc: Global,
@@ -146,23 +179,81 @@ impl Cached {
     {
         match self.kept.get(dtype, count) {
             Some(encoding) => shared(encoding),
-            None => encoded(alloc, &self.last, dtype, count),
+            None => encoded(alloc, &self.last, &self.described, dtype, count),
         }
     }
 
     fn view(&self) -> Option<View<'_>>
-        ensures { result ≡ option_map (λ held. held.shown) self.now.held }
+        ensures { result ≡ option_map (λ value. value.shown) self.now.held.value }
     {
         view_of(&self.last)
     }
 }
 
+// Two views have different alarms.
+fn differ(old: &View<'_>, new: &View<'_>) -> bool
+    ensures { result ≡ (not (int_eq old.now.parts.status new.now.parts.status)
+        || not (int_eq old.now.parts.severity new.now.parts.severity)) }
+{
+    old.status() != new.status() || old.severity() != new.severity()
+}
+
+fn is_covered(message: &Message, described: &Option<Described>, dtype: u16, count: u32) -> bool
+    requires { IsTold described.now }
+    ensures { result ≡ covers_by dtype count (told_in described.now) (value_in (Some message.now)) }
+{
+    match View::new(message.dtype, message.count, &message.payload) {
+        Ok(view) => count <= message.asked_with && is_enough(view.dbr(), described, dtype),
+        Err(_) => false,
+    }
+}
+
+// Properties of the base are there, where the type needs them.
+fn is_enough(native: Dbr, described: &Option<Described>, dtype: u16) -> bool
+    requires { IsTold described.now }
+    ensures { result ≡ (not (needs_by native.base dtype) || are_told native.base (told_in described.now)) }
+{
+    !needs_by(native, dtype) || are_told(native.base, described)
+}
+
+fn needs_by(native: Dbr, dtype: u16) -> bool
+    ensures { result ≡ needs_by native.base dtype }
+{
+    match Dbr::of(dtype) {
+        Some(asked) => needs(native, asked),
+        None => false,
+    }
+}
+
+fn are_told(base: Base, described: &Option<Described>) -> bool
+    requires { IsTold described.now }
+    ensures { result ≡ are_told base (told_in described.now) }
+{
+    match props_of(described) {
+        Some(props) => props.base() == base,
+        None => false,
+    }
+}
+
 fn view_of(last: &Option<Message>) -> Option<View<'_>>
     requires { IsReadable last.now }
-    ensures { result ≡ option_map (λ held. held.shown) (held_in last.now) }
+    ensures { result ≡ option_map (λ value. value.shown) (value_in last.now) }
 {
     match last {
         Some(message) => View::new(message.dtype, message.count, &message.payload).ok(),
+        None => None,
+    }
+}
+
+fn props_of(described: &Option<Described>) -> Option<Props<'_>>
+    requires { IsTold described.now }
+    ensures { result ≡ told_in described.now }
+{
+    match described {
+        Some(told) => match View::new(told.dtype, 0, &told.payload) {
+            Ok(view) => Props::of(&view),
+            Err(_) => None,
+        },
         None => None,
     }
 }
@@ -173,19 +264,21 @@ fn shared(encoding: &Encoding) -> Result<Option<(u32, Bytes)>, AllocError>
     Ok(Some((encoding.given, encoding.payload.clone()?)))
 }
 
-// What is answered of a message, laid out afresh.
+// What is answered of a message and of properties, laid out afresh.
 fn encoded(
     alloc: Global,
     last: &Option<Message>,
+    described: &Option<Described>,
     dtype: u16,
     count: u32,
 ) -> Result<Option<(u32, Bytes)>, AllocError>
-    requires { IsReadable last.now }
-    ensures ok { IfOk result (λ given. given ≡ answer dtype count (held_in last.now)) }
-    ensures err { OnErr result (IsSome (answer dtype count (held_in last.now))) }
+    requires readable { IsReadable last.now }
+    requires told { IsTold described.now }
+    ensures ok { IfOk result (λ given. given ≡ answer dtype count (held_in last.now described.now)) }
+    ensures err { OnErr result (IsSome (answer dtype count (held_in last.now described.now))) }
 {
     match view_of(last) {
-        Some(view) => given(alloc, &view, dtype, count),
+        Some(view) => given(alloc, &view, props_of(described).as_ref(), dtype, count),
         None => Ok(None),
     }
 }
@@ -195,15 +288,21 @@ fn encoded(
 fn given(
     alloc: Global,
     view: &View<'_>,
+    props: Option<&Props<'_>>,
     dtype: u16,
     count: u32,
 ) -> Result<Option<(u32, Bytes)>, AllocError>
-    ensures ok { IfOk result (λ answer. answer ≡ given dtype count view.now) }
-    ensures err { OnErr result (IsSome (given dtype count view.now)) }
+    ensures ok { IfOk result (λ answer. answer ≡ given dtype count (option_copied props.entry) view.now) }
+    ensures err { OnErr result (IsSome (given dtype count (option_copied props.entry) view.now)) }
 {
-    match Converted::write(alloc, view, dtype, count) {
+    match Converted::write(alloc, view, props, dtype, count) {
         Ok(payload) => Ok(Some((view.given(count), payload))),
         Err(LayoutFault::OutOfMemory) => Err(AllocError),
-        Err(LayoutFault::BadType | LayoutFault::Short | LayoutFault::TooLarge) => Ok(None),
+        Err(
+            LayoutFault::BadType
+            | LayoutFault::Short
+            | LayoutFault::NoProperties
+            | LayoutFault::TooLarge,
+        ) => Ok(None),
     }
 }

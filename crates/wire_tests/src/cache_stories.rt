@@ -39,20 +39,20 @@ forget
 ask 19 0
 > none
 # As many are covered as were asked for.
-covers 0
+covers 5 0
 > false
 hold 19 3 10: 00070001 3b9aca00 00000005 00000001 fffffffe 00000003
-covers 10
+covers 5 10
 > true
-covers 11
+covers 5 11
 > false
 hold 19 1 5: 00000000 3b9aca01 00000000 0000002a
-covers 5
+covers 5 5
 > true
-covers 6
+covers 5 6
 > false
 forget
-covers 1
+covers 5 1
 > false
 # Another alarm has another status or another severity.
 alarm 19 2: 00070001 3b9aca00 00000005 00000001 fffffffe 00000003

@@ -24,10 +24,13 @@ view 11 3: 00010002 ee010203
 > Sts Char 3 3 9 alarm 1 2 stamp 0 0
 > elements 010203
 # Other types are refused, and missing elements are.
+of 35 0: 00000000 3b9aca00 00000000 0000002a
+> type not served
+of 65535 9
+> type not served
 of 21 0: 00000000 3b9aca00 00000000 0000002a
-> type not served
 of 34 9
-> type not served
+> too short for its elements
 of 19 0: 00000000 3b9aca00 00000000
 of 19 0: 00000000 3b9aca00 000000
 > too short for its elements
@@ -116,6 +119,9 @@ of 3 1: ffff
 as 5 1
 > 8 bytes 0000ffff 00000000
 as 0 1
+> no properties are there
+describe 31: 00*422
+as 0 1
 > 40 bytes 36353533 35 00*35
 of 3 0
 as 17 0
@@ -172,7 +178,13 @@ as 6 1
 > type not served
 as 1 4294967295
 > type not served
-as 21 1
+as 22 1
+> type not served
+as 27 1
+> type not served
+as 31 1
+> type not served
+as 35 1
 > type not served
 as 65535 1
 > type not served

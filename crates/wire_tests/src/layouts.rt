@@ -5,12 +5,15 @@
 //! - `type FIRST LAST`: the types with these numbers;
 //! - `size TYPE COUNT`: the size of a payload with so many elements;
 //! - `conversions`: for each base the bases to which it is converted;
+//! - `needs TYPE`: the types that need properties of a variable of this one;
 //! - `view TYPE COUNT: BYTES`: what the bytes show: the type, how many elements there are and how many
 //!   a request for 0 and for 9 is given, the alarm, the stamp and the elements;
 //! - `of TYPE COUNT: BYTES`: the same, but answered only if the bytes are refused;
-//! - `as TYPE COUNT`: what was viewed last, as a payload of another type.
+//! - `describe TYPE: BYTES`: the properties that these bytes tell are at hand from now on; answered only
+//!   if they tell none, or are refused;
+//! - `as TYPE COUNT`: what was viewed last, as a payload of another type, with the properties at hand.
 use crate::words::{Call, Told};
-use dbr_layout::{Base, Converted, Dbr, Form, LayoutFault, View, converts};
+use dbr_layout::{Base, Converted, Dbr, Form, LayoutFault, Props, View, converts, needs};
 use std::alloc::Global;
 
 const FORMS: [Form; 5] = [Form::Plain, Form::Sts, Form::Time, Form::Gr, Form::Ctrl];
@@ -25,12 +28,14 @@ const BASES: [Base; 7] = [
     Base::Double,
 ];
 
-/// A payload that is viewed.
+/// A payload that is viewed, and one that tells properties.
 #[derive(Drop)]
 pub(crate) struct Viewed {
     dtype: u16,
     count: u32,
     bytes: Vec<u8>,
+    told_by: u16,
+    telling: Vec<u8>,
 }
 
 impl Viewed {
@@ -39,6 +44,8 @@ impl Viewed {
             dtype: 0,
             count: 0,
             bytes: Vec::new(alloc),
+            told_by: 0,
+            telling: Vec::new(alloc),
         }
     }
 
@@ -50,6 +57,20 @@ impl Viewed {
             told.line(&"out of memory");
         }
     }
+
+    fn describe(&mut self, call: &Call, told: &mut Told) {
+        self.told_by = call.short(0);
+        self.telling.clear();
+        if self.telling.extend_from_slice(&call.bytes).is_err() {
+            told.line(&"out of memory");
+        }
+        match View::new(self.told_by, 0, &self.telling) {
+            Ok(view) => if Props::of(&view).is_none() {
+                told.line(&"tells no properties");
+            },
+            Err(fault) => told.line(&fault),
+        }
+    }
 }
 
 pub(crate) fn call(viewed: &mut Viewed, verb: &str, call: &Call, told: &mut Told) {
@@ -58,6 +79,8 @@ pub(crate) fn call(viewed: &mut Viewed, verb: &str, call: &Call, told: &mut Told
         "type" => types_of(call.short(0), call.short(1), told),
         "size" => size(call.short(0), call.number(1), told),
         "conversions" => conversions(call.alloc, told),
+        "needs" => needed(call.short(0), told),
+        "describe" => viewed.describe(call, told),
         "as" => write_as(viewed, call, told),
         _ => {
             viewed.put(call, told);
@@ -104,6 +127,17 @@ fn size(dtype: u16, count: u32, told: &mut Told) {
     }
 }
 
+fn needed(dtype: u16, told: &mut Told) {
+    for number in 0..=34 {
+        if let (Some(native), Some(asked)) = (Dbr::of(dtype), Dbr::of(number)) {
+            if needs(native, asked) {
+                told.word(&number);
+            }
+        }
+    }
+    told.end();
+}
+
 fn conversions(alloc: Global, told: &mut Told) {
     for base in BASES {
         told.name(&base);
@@ -117,19 +151,32 @@ fn conversions(alloc: Global, told: &mut Told) {
 
 /// Tells the second base if the first is converted to it, and if it is told otherwise than done.
 fn conversion(alloc: Global, from: Base, to: Base, told: &mut Told) {
-    let form = Form::Time;
-    let (from, asked) = (Dbr { base: from, form }, Dbr { base: to, form });
-    let Ok(view) = View::new(from.number(), 1, &[0; 56]) else {
+    let (native, asked) = (time_of(from), time_of(to));
+    let Ok(view) = View::new(native.number(), 1, &[0; 56]) else {
         return told.word(&"no view");
     };
+    let Ok(telling) = View::new(ctrl_of(from).number(), 0, &[0; 422]) else {
+        return told.word(&"no view");
+    };
+    let props = Props::of(&telling);
     match (
-        converts(from, asked),
-        Converted::write(alloc, &view, asked.number(), 1),
+        converts(native, asked),
+        Converted::write(alloc, &view, props.as_ref(), asked.number(), 1),
     ) {
         (true, Ok(_)) => told.name(&to),
         (false, Err(LayoutFault::BadType)) => {}
         (_, _) => told.word(&"otherwise"),
     }
+}
+
+fn time_of(base: Base) -> Dbr {
+    let form = Form::Time;
+    Dbr { base, form }
+}
+
+fn ctrl_of(base: Base) -> Dbr {
+    let form = Form::Ctrl;
+    Dbr { base, form }
 }
 
 fn view(viewed: &Viewed, whole: bool, told: &mut Told) {
@@ -162,7 +209,12 @@ fn write_as(viewed: &Viewed, call: &Call, told: &mut Told) {
         Ok(view) => view,
         Err(fault) => return told.line(&fault),
     };
-    match Converted::write(call.alloc, &view, call.short(0), call.number(1)) {
+    let props = match View::new(viewed.told_by, 0, &viewed.telling) {
+        Ok(telling) => Props::of(&telling),
+        Err(_) => None,
+    };
+    let (dtype, count) = (call.short(0), call.number(1));
+    match Converted::write(call.alloc, &view, props.as_ref(), dtype, count) {
         Ok(payload) => {
             told.word(&payload.len());
             told.word(&"bytes");

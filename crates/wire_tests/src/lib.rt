@@ -1,11 +1,11 @@
-//! Tests of what stands on the wire: headers, streams, messages, search datagrams, DBR types, last
-//! messages, outboxes. They stand apart so that each crate they test is proved once, and not a second
+//! Tests of what stands on the wire: headers, streams, messages, search datagrams, DBR types, what
+//! is held of a variable, outboxes. They stand apart so that each crate they test is proved once, and not a second
 //! time with its tests.
 //!
 //! A test is a story, which is a text. Its lines are calls: one word for what is called, then numbers,
 //! and behind a colon bytes. Behind `> ` stands what a call answers; behind `>16 ` what it answers 16
-//! times, with `; ` between lines. Lines that begin with `# ` are titles, and at each an empty intake,
-//! outbox and last message stand ready. Bytes are hexadecimal digits with blanks between them, and
+//! times, with `; ` between lines. Lines that begin with `# ` are titles, and at each an empty intake
+//! and outbox stand ready, and nothing is held. Bytes are hexadecimal digits with blanks between them, and
 //! `00*24` is 24 times that. An answer of many bytes is told with the last ones in this form.
 //!
 //! The functions that make the calls return no error. What they tell would show one, and each way out
@@ -24,6 +24,8 @@ mod header_stories;
 #[cfg(test)]
 mod headers;
 #[cfg(test)]
+mod held_stories;
+#[cfg(test)]
 mod layout_stories;
 #[cfg(test)]
 mod layouts;
@@ -36,6 +38,8 @@ mod outbox_stories;
 #[cfg(test)]
 mod outboxes;
 #[cfg(test)]
+mod property_stories;
+#[cfg(test)]
 mod readings;
 #[cfg(test)]
 mod search_stories;
@@ -47,6 +51,8 @@ mod sent_stories;
 mod streams;
 #[cfg(test)]
 mod tell;
+#[cfg(test)]
+mod telling_stories;
 #[cfg(test)]
 mod to_clients;
 #[cfg(test)]

@@ -36,7 +36,15 @@ impl Wire {
             "feed" | "take" | "drip" | "cut" | "refusals" => {
                 streams::call(&mut self.intake, verb, call, told);
             }
-            "hold" | "ask" | "keep" | "shares" | "covers" | "alarm" | "forget" => {
+            "hold"
+            | "ask"
+            | "keep"
+            | "shares"
+            | "covers"
+            | "alarm"
+            | "forget"
+            | "describe-held"
+            | "forget-properties" => {
                 caches::call(&mut self.cached, verb, call, told);
             }
             "append" | "mark" | "length" | "front" | "empty" => {

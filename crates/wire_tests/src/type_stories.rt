@@ -31,26 +31,35 @@ types
 > 18 Time Char 15 1 served
 > 19 Time Long 12 4 served
 > 20 Time Double 16 8 served
-> 21 Gr String 4 40 not served
-> 22 Gr Short 24 2 not served
-> 23 Gr Float 40 4 not served
-> 24 Gr Enum 422 2 not served
-> 25 Gr Char 19 1 not served
-> 26 Gr Long 36 4 not served
-> 27 Gr Double 64 8 not served
-> 28 Ctrl String 4 40 not served
-> 29 Ctrl Short 28 2 not served
-> 30 Ctrl Float 48 4 not served
-> 31 Ctrl Enum 422 2 not served
-> 32 Ctrl Char 21 1 not served
-> 33 Ctrl Long 44 4 not served
-> 34 Ctrl Double 80 8 not served
+> 21 Gr String 4 40 served
+> 22 Gr Short 24 2 served
+> 23 Gr Float 40 4 served
+> 24 Gr Enum 422 2 served
+> 25 Gr Char 19 1 served
+> 26 Gr Long 36 4 served
+> 27 Gr Double 64 8 served
+> 28 Ctrl String 4 40 served
+> 29 Ctrl Short 28 2 served
+> 30 Ctrl Float 48 4 served
+> 31 Ctrl Enum 422 2 served
+> 32 Ctrl Char 21 1 served
+> 33 Ctrl Long 44 4 served
+> 34 Ctrl Double 80 8 served
 type 19 19
 > Time Long
-type 21 60
+type 35 74
 >40 none
 type 65535 65535
 > none
+# What needs properties of the variable, by its type: GR and CTRL, and of an ENUM texts.
+needs 0
+> 22 23 24 25 26 27 29 30 31 32 33 34
+needs 3
+> 0 7 14 21 22 23 24 25 26 27 28 29 30 31 32 33 34
+needs 17
+> 0 7 14 21 22 23 24 25 26 27 28 29 30 31 32 33 34
+needs 20
+> 22 23 24 25 26 27 29 30 31 32 33 34
 # Sizes end at the limit.
 size 5 0
 > 0
@@ -79,6 +88,14 @@ size 0 4294967295
 size 11 1048571
 > 1048576
 size 11 1048572
+> none
+size 33 262133
+> 1048576
+size 33 262134
+> none
+size 26 262135
+> 1048576
+size 26 262136
 > none
 size 20 131070
 > 1048576

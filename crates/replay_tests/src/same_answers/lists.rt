@@ -9,31 +9,44 @@ use std::test::Fail;
 /// So many lists are compared by a test.
 const LISTS: u64 = 250;
 
+/// So many kinds of lines are counted.
+const KINDS: usize = 31;
+
 /// The beginnings of lines that have to be printed, and how often at least by the lists of a
 /// test: some half of what was seen.
-const LEAST: [(&[u8], usize); 22] = [
-    (b"s? 00010008", 700),
-    (b"s? 00010010", 150),
-    (b"s? 00010000", 350),
-    (b"s? 000f00", 1700),
+const LEAST: [(&[u8], usize); KINDS] = [
+    (b"s? 00010008", 500),
+    (b"s? 00010010", 90),
+    (b"s? 00010000", 200),
+    (b"s? 000f00", 1500),
     (b"s? 000f0000", 800),
-    (b"s? 0013", 700),
-    (b"s? 0016", 2000),
-    (b"s? 0012", 1100),
+    (b"s? 0013", 400),
+    (b"s? 0016", 1400),
+    (b"s? 0012", 1000),
     (b"s? 001a", 1200),
-    (b"s? 001b", 250),
-    (b"s? 000c", 100),
-    (b"s? 000b", 3000),
-    (b"u? 0001", 800),
+    (b"s? 001b", 350),
+    (b"s? 000c", 80),
+    (b"s? 000b", 4000),
+    (b"u? 0001", 1000),
     (b"u? 0002", 600),
-    (b"u? 0004", 200),
-    (b"u? 0013", 600),
+    (b"u? 0004", 130),
+    (b"u? 0013", 400),
     (b"u? 000c", 600),
     (b"shut", 70),
-    (b"value", 40),
-    (b"rights ?", 400),
-    (b"sub ? ", 100),
-    (b"reply 0", 500),
+    (b"value", 30),
+    (b"rights ?", 350),
+    (b"sub ? ", 80),
+    (b"reply 0", 380),
+    // Properties: subscriptions to them, answers and updates of types that tell them, and questions.
+    (b"u? 00010010001f", 100),
+    (b"u? 000100100021", 130),
+    (b"u? 000100100022", 25),
+    (b"u? 00020000002", 80),
+    (b"s? 000f????001f????00000001", 20),
+    (b"s? 000f????002?????00000001", 30),
+    (b"s? 0001????001f????00000001", 40),
+    (b"s? 0001????002?????00000001", 55),
+    (b"props ", 370),
 ];
 
 /// A list, and what the two gateways print of it.
@@ -63,7 +76,12 @@ impl List {
 
 /// Asserts that both gateways print the same of a list, and counts what that is. A list of which they
 /// don't is shown, to be given to `pvgate replay` with and without `--plain`.
-fn compare(rt: &impl Abort, alloc: Global, seed: u64, seen: &mut [usize; 22]) -> Result<(), Fail> {
+fn compare(
+    rt: &impl Abort,
+    alloc: Global,
+    seed: u64,
+    seen: &mut [usize; KINDS],
+) -> Result<(), Fail> {
     let mut list = List::new(alloc);
     let is_same = list.tell(alloc, seed)?;
     assert!(rt; is_same, "list {seed}:\n{}", str::from_utf8(&list.script)?);
@@ -73,7 +91,7 @@ fn compare(rt: &impl Abort, alloc: Global, seed: u64, seen: &mut [usize; 22]) ->
     Ok(())
 }
 
-fn is_enough(seen: &[usize; 22]) -> bool {
+fn is_enough(seen: &[usize; KINDS]) -> bool {
     for (sum, (_, least)) in seen.iter().zip(LEAST) {
         if *sum < least {
             return false;
@@ -84,7 +102,7 @@ fn is_enough(seen: &[usize; 22]) -> bool {
 
 /// Compares the lists of a test, from this seed on, and asserts that they came to something.
 fn compare_from(rt: &impl Abort, alloc: Global, first: u64) -> Result<(), Fail> {
-    let mut seen = [0; 22];
+    let mut seen = [0; KINDS];
     for place in 0..LISTS {
         compare(rt, alloc, first.saturating_add(place), &mut seen)?;
     }

@@ -103,6 +103,10 @@ sub T1
 > Ok(Subscription(Name { text: \"T1\" }))
 sub -
 > Ok(Subscription(Name { text: \"-\" }))
+props T1
+> Ok(Properties(Name { text: \"T1\" }))
+props props
+> Ok(Properties(Name { text: \"props\" }))
 rights s1 2
 > Ok(Rights { session: 1, sid: 2 })
 rights s0 04294967295
@@ -126,7 +130,8 @@ close s1
 search h 00 00
 edit0 0
 Sweep
-ask",
+ask
+prop",
     );
 }
 
@@ -188,6 +193,9 @@ read s1 2 5 3 4
 sub
 sub\x20
 sub T1 T2
+props
+props\x20
+props T1 T2
 rights s1
 rights s1\x20
 rights s1 2 3",
@@ -229,6 +237,7 @@ read s1 +2 5 3
 read s1 2 -5 3
 read s1 2 5 3\r
 sub T1\r
+props T1\r
 rights u1 2
 rights s1 x
 rights s1 4294967296

@@ -4,8 +4,8 @@ use gateway_state::{Dest, Reading, Sub};
 use pv_name::Name;
 use pvlist::RuleCause;
 use replay_text::{
-    Line, read_line, write_asks, write_end, write_message, write_reading, write_refused,
-    write_refused_groups, write_rights, write_subscription,
+    Line, read_line, write_asks, write_end, write_message, write_props, write_reading,
+    write_refused, write_refused_groups, write_rights, write_subscription,
 };
 use std::alloc::Global;
 use std::io;
@@ -95,7 +95,7 @@ fn what_a_read_is_answered_is_a_line(rt: HostRuntime) {
 }
 
 #[test]
-fn a_subscription_and_rights_are_lines(rt: HostRuntime) {
+fn subscriptions_and_rights_are_lines(rt: HostRuntime) {
     let mut out = Vec::new(rt.alloc());
     let subscription = Sub {
         id: 4294967294,
@@ -106,10 +106,20 @@ fn a_subscription_and_rights_are_lines(rt: HostRuntime) {
     for told in [Some(subscription), None] {
         is_whole &= write_subscription(&mut out, told).is_ok();
     }
+    for id in [Some(4294967294), None] {
+        is_whole &= write_props(&mut out, id).is_ok();
+    }
     for rights in [Some(3), Some(0), None] {
         is_whole &= write_rights(&mut out, rights).is_ok();
     }
-    let want = b"sub 4294967294 5 20\nsub -\nrights 3\nrights 0\nrights -\n";
+    let want = b"sub 4294967294 5 20
+sub -
+props 4294967294
+props -
+rights 3
+rights 0
+rights -
+";
     is_written(&rt, is_whole, &out, want);
 }
 

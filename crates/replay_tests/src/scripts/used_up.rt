@@ -69,6 +69,20 @@ asks
 lost s1
 ";
 
+/// It reads a LONG with its limits, for which the gateway subscribes to values and to properties.
+const TWO_SUBJECTS: &str = "found T1 u1
+> u1 0012000800000000fffffffe0000000d5431000000000000
+server u1 0012000000050014fffffffe00000065
+server u1 0016000000000000fffffffe00000001
+client s1 0012000800000000000000070000000d5431000000000000
+> s1 00160000000000000000000700000001
+> s1 001200000005001400000007fffffffe
+client s1 000f000000210003fffffffe00000021
+> failed
+asks
+lost s1
+";
+
 /// It writes twice. The first write is answered, and its number isn't given out again.
 const TWO_WRITES: &str = "found T1 u1
 > u1 0012000800000000fffffffe0000000d5431000000000000
@@ -134,6 +148,11 @@ fn fails_when_its_channels_are_used_up(rt: HostRuntime) {
 #[test]
 fn fails_when_its_subscriptions_are_used_up(rt: HostRuntime) {
     fails(&rt, rt.alloc(), TWO_SUBSCRIPTIONS);
+}
+
+#[test]
+fn fails_when_no_number_is_left_for_properties(rt: HostRuntime) {
+    fails(&rt, rt.alloc(), TWO_SUBJECTS);
 }
 
 #[test]

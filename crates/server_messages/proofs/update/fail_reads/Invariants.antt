@@ -1,7 +1,9 @@
-use Rattle.std.proofs.Common.{◌≡◌, fold, drop}
-use Rattle.gateway_state.specs.Servers.{read_failed}
+use Rattle.std.proofs.Common.{◌≡◌, filter, fold, drop}
+use Rattle.gateway_state.specs.Servers.{fails_without, read_failed}
 use Rattle.server_messages.proofs.update.fail_reads.Given as goal
 
--- failing the reads that are left leads from here to where failing all leads
+-- failing those that are left leads from here to where failing all leads
 abbrev pub invariant-loop-read : goal.invariant-loop-read
-invariant-loop-read l = fold read_failed l.rows (drop l.read-index l.read-items) ≡ fold read_failed l.fn.rows l.read-items
+invariant-loop-read l =
+    let fails = fails_without l.subject l.native in
+    fold read_failed l.rows (filter fails (drop l.read-index l.read-items)) ≡ fold read_failed l.fn.rows (filter fails l.read-items)

@@ -1,0 +1,11 @@
+use Rattle.std.proofs.Common.{ap}
+use Rattle.value_cache.specs.Held.{Held, without_properties}
+use Rattle.gateway_state.specs.declared.cached.LastMessage.{LastMessage}
+use Rattle.state_tables.specs.LatestRows.{with_held}
+use Rattle.state_tables.proofs.ConnectionRows.{written_is_changed}
+use Rattle.state_tables.proofs.latest.drop_properties.Goals as goal
+
+pub returns-in-Some : goal.returns-in-Some
+returns-in-Some c =
+    let row : LastMessage = c.in-Some.row.now in
+    written_is_changed c.args.key (with_held (without_properties)) c.args.rows.now row _ c.in-Some.ensures.value (ap (λ (held : Held). record row { held = held }) c.drop_properties.ensures)
