@@ -1,11 +1,14 @@
 #!/usr/bin/env python3
 """Runs the built server with the client library of EPICS base (libca 4.13.5, by ctypes): `clients.py [PROGRAM]`.
 
-Where Debian's packages libca4.13.5 and libcom3.17.6 aren't installed it says so and ends with 0. Prints each check that
-failed, and a last line with the counts; the status is 1 where one failed.
+Where Debian's packages libca4.13.5 and libcom3.17.6 aren't installed it says so and ends with 0. pyepics is run too where
+it is installed. Prints each check that failed, and a last line with the counts; the status is 1 where one failed.
 """
+import importlib.util
+import json
 import os
 import socket
+import subprocess
 import sys
 import threading
 import traceback
@@ -19,14 +22,27 @@ import served  # noqa: E402  (sets the path to examples/)
 import ca_wire as ca  # noqa: E402
 from served import libca  # noqa: E402
 from served.room import Room, variable  # noqa: E402
-from served.values import NATIVE, WIDER  # noqa: E402
+from served.values import FORMS, NATIVE, PROPERTIES, WIDER  # noqa: E402
 
 MANY = 1000
 
+# What pyepics tells of channels: their properties by type, and an ENUM as text.
+PYEPICS = """
+import json, sys, epics
+told = {}
+for name in sys.argv[1:]:
+    pv = epics.PV(name, connection_timeout=60)
+    told[name] = {k: v for k, v in (pv.get_ctrlvars(timeout=60) or {}).items() if isinstance(v, (int, float, str, list, tuple))}
+    told[name]["text"] = pv.get(as_string=True, timeout=60)
+print(json.dumps(told, default=str))
+"""
+PYEPICS_LIMITS = ("upper_disp_limit", "lower_disp_limit", "upper_alarm_limit", "upper_warning_limit", "lower_warning_limit",
+                  "lower_alarm_limit", "upper_ctrl_limit", "lower_ctrl_limit")
+
 
 def variables():
-    every = [variable(ca.NAMES[base], base, values) for base, values in NATIVE.items()]
-    single = [variable(f"ONE:{ca.NAMES[base]}", base, values[:1]) for base, values in NATIVE.items()]
+    every = [variable(ca.NAMES[base], base, values, properties=PROPERTIES[base]) for base, values in NATIVE.items()]
+    single = [variable(f"ONE:{ca.NAMES[base]}", base, values[:1], properties=PROPERTIES[base]) for base, values in NATIVE.items()]
     return [*every, *single, variable("V", values=[1]), variable("LARGE", ca.LONG, range(200_000)),
             *(variable(f"N{it:04}", values=[it]) for it in range(MANY))]
 
@@ -48,22 +64,31 @@ def getting(room, up, channels):
     for base, values in NATIVE.items():
         name = ca.NAMES[base]
         up.give(name, values, status=3, severity=2)
-        for form in (0, ca.STS, ca.TIME):
+        for form in FORMS:
             for count in (1, 2, 3):
-                wanted = ca.payload_of(base + form, up.variables[name].value._replace(values=values[:count]))
+                wanted = ca.payload_of(base + form, up.variables[name].value._replace(values=values[:count]), PROPERTIES[base])
                 room.equal(f"get {count} of {name} in form {form}", channels[name].get(base + form, count)[:3], (ca.NORMAL, count, wanted))
         for asked in NATIVE:
             if asked != base:
-                status, _, payload, _ = channels[name].get(asked, 3)
-                good = (base, asked) in WIDER
-                room.equal(f"get {name} as {ca.NAMES[asked]}", status, ca.NORMAL if good else ca.BADTYPE)
-                if good:
-                    room.equal(f"values of {name} as {ca.NAMES[asked]}", ca.values_in(asked, 3, payload), ca.as_type(asked, values))
+                getting_as(room, up.variables[name], channels[name], asked)
         single = channels[f"ONE:{name}"]
         room.equal(f"get one {name}", ca.values_in(base, 1, single.get(base, 1)[2]), values[:1])
     large = channels["LARGE"].get(ca.LONG, 200_000)
     room.equal("get 200,000 elements", large[:2], (ca.NORMAL, 200_000))
     room.check("each of them", ca.values_in(ca.LONG, 200_000, large[2]) == list(range(200_000)))
+
+
+def getting_as(room, own, channel, asked):
+    """Values in another base, in each form; units and limits come along where that base has them."""
+    for form in FORMS:
+        label = f"{own.name} as {ca.NAMES[asked]} in form {form}"
+        status, _, payload, _ = channel.get(asked + form, 3)
+        good = (own.base, asked) in WIDER
+        room.equal(f"get {label}", status, ca.NORMAL if good else ca.BADTYPE)
+        if good:
+            properties = ca.Properties() if own.base == ca.ENUM else own.properties
+            wanted = ca.payload_of(asked + form, own.value._replace(values=own.as_type(asked, own.value.values)), properties)
+            room.equal(f"what came of {label}", payload, wanted)
 
 
 def putting(room, up, channels):
@@ -86,6 +111,62 @@ def putting(room, up, channels):
     large = list(range(200_000, 0, -1))
     room.equal("put 200,000 elements", channels["LARGE"].put(ca.LONG, large), ca.NORMAL)
     room.eventually("and read them", lambda: ca.values_in(ca.LONG, 200_000, channels["LARGE"].get(ca.LONG, 200_000)[2]) == large)
+
+
+def states(room, up, channels):
+    """What caput does with an ENUM and a text: it reads the texts, and writes one of them."""
+    channel, texts = channels["ONE:ENUM"], PROPERTIES[ca.ENUM].states
+    status, _, payload, _ = channel.get(ca.GR + ca.ENUM, 1)
+    found = [payload[at:at + ca.STATE_TEXT].split(b"\0")[0].decode() for at in range(6, 6 + ca.STATES * ca.STATE_TEXT, ca.STATE_TEXT)]
+    room.equal("the texts of states", (status, tuple(found[:len(texts)])), (ca.NORMAL, texts))
+    for text in ("ON", "OFF"):
+        room.equal(f"put {text}", channel.put(ca.STRING, [text]), ca.NORMAL)
+        room.equal(f"{text} comes as text", up.writes[-1][:3], ("ONE:ENUM", ca.STRING, 1))
+        room.eventually(f"and {text} is read", lambda: ca.values_in(ca.STRING, 1, channel.get(ca.STRING, 1)[2]) == [text])
+    room.equal("its number", ca.values_in(ca.ENUM, 1, channel.get(ca.ENUM, 1)[2]), [0])
+
+
+def describing(room, up, channels):
+    """A subscription with PROPERTY is told new properties with the value that stands; one without isn't told of them."""
+    channel = channels["ONE:DOUBLE"]
+    own, dtype = up.variables["ONE:DOUBLE"], ca.CTRL + ca.DOUBLE
+    told, silent = channel.watch(dtype, 1, ca.PROPERTY), channel.watch(dtype, 1, ca.VALUE)
+    for seen in (told, silent):
+        wanted = ca.payload_of(dtype, own.value, own.properties)
+        room.eventually("it begins with value and properties", lambda: seen.seen and seen.seen[-1][2] == wanted)
+    many = len(silent.seen)
+    new = PROPERTIES[ca.DOUBLE]._replace(units="A", precision=4)
+    up.tell_properties("ONE:DOUBLE", new)
+    room.eventually("new properties are told", lambda: told.seen[-1][2] == ca.payload_of(dtype, own.value, new))
+    up.give("ONE:DOUBLE", [4.5])
+    room.eventually("and come with the next value", lambda: silent.seen[-1][2] == ca.payload_of(dtype, own.value, new))
+    room.equal("once", len(silent.seen), many + 1)
+    for seen in (told, silent):
+        seen.clear()
+    up.tell_properties("ONE:DOUBLE", PROPERTIES[ca.DOUBLE])
+
+
+def pyepics(room, up, server):
+    """get_ctrlvars of each type, as pyepics tells it, and what it gives of an ENUM as text."""
+    names = [f"ONE:{ca.NAMES[base]}" for base in NATIVE]
+    here = {"EPICS_CA_ADDR_LIST": f"{server.address[0]}:{server.address[1]}", "EPICS_CA_AUTO_ADDR_LIST": "NO"}
+    done = subprocess.run([sys.executable, "-c", PYEPICS, *names], env=os.environ | here, capture_output=True, timeout=120, check=False)
+    told = json.loads(done.stdout) if done.returncode == 0 else {}
+    room.check("pyepics ran", told, done.stderr.decode()[-400:])
+    for base, name in zip(NATIVE, names):
+        own, seen = up.variables[name].properties, told.get(name, {})
+        if base == ca.ENUM:
+            room.equal("enum_strs in pyepics", tuple(seen.get("enum_strs", ())), own.states)
+            room.equal("an ENUM as text in pyepics", seen.get("text"), own.states[up.variables[name].value.values[0]])
+        elif base != ca.STRING:
+            room.equal(f"units of {name} in pyepics", seen.get("units"), own.units)
+            limits = [seen.get(it, float("nan")) for it in PYEPICS_LIMITS]
+            if base == ca.CHAR:  # which pyepics has with a sign
+                limits = [it % 256 for it in limits]
+            close = all(abs(a - b) <= 1e-6 * abs(b) for a, b in zip(limits, own.limits))
+            room.check(f"limits of {name} in pyepics", close, limits)
+        if base in (ca.FLOAT, ca.DOUBLE):
+            room.equal(f"precision of {name} in pyepics", seen.get("precision"), own.precision)
 
 
 def monitoring(room, up, channels):
@@ -189,6 +270,10 @@ def run(room, repeater):
     channels = connecting(room, up, server, library)
     getting(room, up, channels)
     putting(room, up, channels)
+    states(room, up, channels)
+    describing(room, up, channels)
+    if importlib.util.find_spec("epics"):
+        pyepics(room, up, server)
     monitoring(room, up, channels)
     rights(room, up, server, channels)
     reconnecting(room, up, server, channels)

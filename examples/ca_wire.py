@@ -18,14 +18,18 @@ NORMAL, BADTYPE, GETFAIL, PUTFAIL, BADCOUNT, NORDACCESS, NOWTACCESS, BADCHID = 1
 STRING, SHORT, FLOAT, ENUM, CHAR, LONG, DOUBLE = range(7)
 NAMES = ("STRING", "SHORT", "FLOAT", "ENUM", "CHAR", "LONG", "DOUBLE")
 LETTERS = ("40s", "h", "f", "H", "B", "i", "d")  # of an element, as struct has them
-STS_OFFSETS = (4, 4, 4, 4, 5, 4, 8)
-TIME_OFFSETS = (12, 14, 12, 14, 15, 12, 16)
-STS, TIME = 7, 14  # what the forms add to a type's number
-VALUE, LOG, ALARM = 1, 2, 4  # the bits of an event mask
+OFFSETS = ((0, 0, 0, 0, 0, 0, 0), (4, 4, 4, 4, 5, 4, 8), (12, 14, 12, 14, 15, 12, 16),
+           (4, 24, 40, 422, 19, 36, 64), (4, 28, 48, 422, 21, 44, 80))  # of the elements, by form
+STS, TIME, GR, CTRL = 7, 14, 21, 28  # what the forms add to a type's number
+STATES, STATE_TEXT = 16, 26  # the most texts of states, and the bytes of each
+VALUE, LOG, ALARM, PROPERTY = 1, 2, 4, 8  # the bits of an event mask
 EPOCH = 631_152_000  # the first second of 1990, from which time stamps count
 
 Message = namedtuple("Message", "command dtype count p1 p2 payload")
 Value = namedtuple("Value", "values status severity stamp")
+# What a variable has beside its value. Limits: upper and lower display, upper alarm, upper warning, lower warning,
+# lower alarm, upper and lower control.
+Properties = namedtuple("Properties", "units precision limits states", defaults=("", 0, (0,) * 8, ()))
 
 
 def message(command, payload=b"", dtype=0, count=0, p1=0, p2=0):
@@ -93,8 +97,35 @@ class Frames:
 
 
 def value_offset(dtype):
-    """Where the elements begin in a payload of this type, which is plain, STS or TIME."""
-    return (0, STS_OFFSETS[dtype % 7], TIME_OFFSETS[dtype % 7])[dtype // 7]
+    """Where the elements begin in a payload of this type."""
+    return OFFSETS[dtype // 7][dtype % 7]
+
+
+def front_letters(dtype):
+    """What stands before the elements, as struct has it."""
+    base, form = dtype % 7, dtype // 7
+    if form < 3 or base == STRING:
+        return ("", "hh", "hhII", "hh", "hh")[form]
+    if base == ENUM:
+        return f"hhh{STATES * STATE_TEXT}s"
+    precision = "hxx" if base in (FLOAT, DOUBLE) else ""
+    return f"hh{precision}8s{6 if dtype < CTRL else 8}{LETTERS[base]}"
+
+
+def front_of(dtype, value, properties):
+    """The fields that `front_letters` has letters for."""
+    base, form = dtype % 7, dtype // 7
+    fields = [value.status, value.severity] if form else []
+    if form == 2:
+        seconds = max(0, value.stamp - EPOCH)
+        fields += [int(seconds), int(seconds % 1 * 1e9)]
+    if form < 3 or base == STRING:
+        return fields
+    if base == ENUM:
+        texts = (it.encode()[:STATE_TEXT].ljust(STATE_TEXT, b"\0") for it in properties.states)
+        return [*fields, len(properties.states), b"".join(texts)]
+    precision = [properties.precision] if base in (FLOAT, DOUBLE) else []
+    return [*fields, *precision, properties.units.encode(), *properties.limits[:6 if dtype < CTRL else 8]]
 
 
 def elements(base, values):
@@ -113,23 +144,18 @@ def values_in(base, count, payload):
     return list(struct.unpack_from(f">{count}{LETTERS[base]}", payload))
 
 
-def payload_of(dtype, value):
-    """The payload of a plain, STS or TIME type with this value."""
-    front = b""
-    if dtype >= STS:
-        front = struct.pack(">hh", value.status, value.severity)
-    if dtype >= TIME:
-        seconds = max(0, value.stamp - EPOCH)
-        front += struct.pack(">II", int(seconds), int(seconds % 1 * 1e9))
+def payload_of(dtype, value, properties=Properties()):
+    """The payload of a type with this value."""
+    front = struct.pack(">" + front_letters(dtype), *front_of(dtype, value, properties))
     return front.ljust(value_offset(dtype), b"\0") + elements(dtype % 7, value.values)
 
 
 def value_of(dtype, count, payload):
-    """What `payload_of` wrote."""
+    """The value that `payload_of` wrote."""
     status = severity = stamp = 0
     if dtype >= STS:
         status, severity = struct.unpack_from(">hh", payload)
-    if dtype >= TIME:
+    if dtype // 7 == 2:
         seconds, parts = struct.unpack_from(">II", payload, 4)
         stamp = EPOCH + seconds + parts / 1e9
     return Value(values_in(dtype % 7, count, payload[value_offset(dtype):]), status, severity, stamp)

@@ -20,8 +20,8 @@ FULL = 1 << 20  # bytes that wait for a client; beyond them it gets the latest v
 class Variable:
     """A named value; `change` makes the next values out of a count of seconds, or is None."""
 
-    def __init__(self, name, base, values, count=None, rights=3, change=None, period=1.0):
-        self.name, self.base, self.rights = name, base, rights
+    def __init__(self, name, base, values, count=None, rights=3, change=None, period=1.0, properties=ca.Properties()):
+        self.name, self.base, self.rights, self.properties = name, base, rights, properties
         self.count = len(values) if count is None else count
         self.change, self.period, self.due = change, period, 0.0
         self.subscriptions = {}
@@ -31,8 +31,22 @@ class Variable:
         """The payload and the number of elements, of which 0 asks for all that are there."""
         values = self.value.values if count == 0 else (self.value.values + self.filling(count))[:count]
         if dtype % 7 != self.base:
-            values = ca.as_type(dtype % 7, values)
-        return ca.payload_of(dtype, self.value._replace(values=values)), len(values)
+            values = self.as_type(dtype % 7, values)
+        return ca.payload_of(dtype, self.value._replace(values=values), self.properties), len(values)
+
+    def as_type(self, base, values):
+        """Values in another plain type; a state is the text that it has, if it has one."""
+        states = self.properties.states
+        if self.base == ca.ENUM and base == ca.STRING:
+            return [states[it] if it < len(states) else str(it) for it in values]
+        return ca.as_type(base, values)
+
+    def read_as(self, base, values):
+        """Values that are written in some plain type; ValueError where they can't be had."""
+        states = list(self.properties.states)
+        if self.base == ca.ENUM and base == ca.STRING:
+            values = [states.index(it) if it in states else it for it in values]
+        return ca.as_type(self.base, values)
 
     def filling(self, count):
         return ["" if self.base == ca.STRING else 0] * max(0, count - len(self.value.values))
@@ -173,6 +187,14 @@ class Ioc:
             if subscription.mask & (ca.VALUE | ca.LOG | alarm):
                 subscription.client.owe(subscription)
 
+    def describe(self, name, properties):
+        """Gives a variable other properties and tells who subscribed to these."""
+        variable = self.variables[name]
+        variable.properties = properties
+        for subscription in list(variable.subscriptions):
+            if subscription.mask & ca.PROPERTY:
+                subscription.client.owe(subscription)
+
     def opened(self, client, cid, sid, variable):
         """A channel was made; there to be overridden."""
 
@@ -181,7 +203,7 @@ class Ioc:
         if not variable.rights & 2:
             return ca.NOWTACCESS
         try:
-            values = ca.as_type(variable.base, ca.values_in(it.dtype, it.count, it.payload))
+            values = variable.read_as(it.dtype, ca.values_in(it.dtype, it.count, it.payload))
         except ValueError:
             return ca.PUTFAIL
         self.set(variable.name, values)
@@ -275,15 +297,16 @@ def site():
     """The variables of a small machine."""
     start = time.time()
     return [
-        Variable("S01:DCCT:CURRENT", ca.DOUBLE, [0.0], rights=1, change=lambda now: [float(int(now - start))]),
-        Variable("S01:MAG:Q1:SP", ca.DOUBLE, [12.5]),
-        Variable("S01:VAC:V1:OPEN", ca.ENUM, [0]),
+        Variable("S01:DCCT:CURRENT", ca.DOUBLE, [0.0], rights=1, change=lambda now: [float(int(now - start))],
+                 properties=ca.Properties("mA", 1, (500.0, 0.0, 450.0, 400.0, 10.0, 5.0, 500.0, 0.0))),
+        Variable("S01:MAG:Q1:SP", ca.DOUBLE, [12.5], properties=ca.Properties("A", 2, (20.0, -20.0, 0, 0, 0, 0, 20.0, -20.0))),
+        Variable("S01:VAC:V1:OPEN", ca.ENUM, [0], properties=ca.Properties(states=("CLOSED", "OPEN"))),
         Variable("LOG:OPERATOR", ca.STRING, ["nobody"]),
         Variable("S01:BPM:H:POS", ca.LONG, [0] * 8, rights=1, period=0.5,
                  change=lambda now: [int(1000 * math.sin(now + it)) for it in range(8)]),
         Variable("S01:BPM:WAVE", ca.DOUBLE, [0.0] * 500, rights=1, period=2.0,
                  change=lambda now: [round(math.sin(now + it / 50), 4) for it in range(500)]),
-        Variable("S01:ILK:DOOR", ca.ENUM, [1], rights=1),
+        Variable("S01:ILK:DOOR", ca.ENUM, [1], rights=1, properties=ca.Properties(states=("SHUT", "OPEN"))),
         Variable("S01:CAM:1", ca.CHAR, [0] * 64, rights=1),
     ]
 

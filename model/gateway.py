@@ -3,30 +3,22 @@ import struct
 
 import values
 import wire
+from codes import (
+    ECA_ALLOCMEM, ECA_BADCHID, ECA_BADCOUNT, ECA_BADMASK, ECA_BADTYPE, ECA_GETFAIL, ECA_INTERNAL,
+    ECA_NORDACCESS, ECA_NOWTACCESS, ECA_PUTFAIL, ECA_TOLARGE, TEXTS,
+)
 from rows import (
-    ALARM, LOG, LOWEST_MINOR, MESSAGES_WAIT, MINOR, MOST_CHANNELS, MOST_LINKS, MOST_READS,
-    MOST_SEARCHES, MOST_SERVERS, MOST_SESSIONS, MOST_SUBS, MOST_WRITES, UPDATES_WAIT, VALUE,
+    ALARM, LOWEST_MINOR, MESSAGES_WAIT, MINOR, MOST_CHANNELS, MOST_LINKS, MOST_READS,
+    MOST_SEARCHES, MOST_SERVERS, MOST_SESSIONS, MOST_SUBS, MOST_WRITES, PROPERTIES, PROPERTY,
+    SERVED_EVENTS, UPDATES_WAIT, VALUE, VALUES,
     Channel, Link, Outbox, Session, Subscription, Upstream, Waiting,
 )
 from rules import resolved
-from wire import Message, message
-
-ECA_NORMAL, ECA_ALLOCMEM, ECA_TOLARGE, ECA_BADTYPE, ECA_INTERNAL = 1, 48, 72, 114, 142
-ECA_GETFAIL, ECA_PUTFAIL, ECA_BADCOUNT, ECA_BADMASK = 152, 160, 176, 330
-ECA_NORDACCESS, ECA_NOWTACCESS, ECA_BADCHID = 368, 376, 410
-TEXTS = {
-    ECA_ALLOCMEM: b"limit reached",
-    ECA_TOLARGE: b"value too large",
-    ECA_BADTYPE: b"type not served",
-    ECA_INTERNAL: b"request not understood",
-    ECA_BADCOUNT: b"bad element count",
-    ECA_BADMASK: b"bad event mask",
-    ECA_NOWTACCESS: b"no write access",
-    ECA_BADCHID: b"unknown channel",
-}
+from servers import Servers
+from wire import message
 
 
-class Gateway:
+class Gateway(Servers):
     """Its state, by lists. Connections are ("s", number) and ("u", number)."""
 
     def __init__(self):
@@ -99,25 +91,35 @@ class Gateway:
         missing = (name for name in self.wanted() if self.link(name) is None)
         return sorted(missing, key=str.encode)
 
-    def want(self, link):
-        """What the readers of a link's variable want together: events and count, or None."""
+    def readers(self, link):
+        """The channels and the subscriptions that read a link's variable."""
         if link.state != "connected":
-            return None
-        wants = [(VALUE | ALARM, c.reach) for c in self.channels
-                 if c.real == link.name and c.reach and self.may_read(c)]
-        for sub in self.subs:
-            channel = self.channel(sub.session, sub.sid)
-            if channel.real == link.name and self.may_read(channel):
-                wants.append((sub.mask & 7, sub.count or link.count))
-        if not wants:
+            return [], []
+        readable = [c for c in self.channels if c.real == link.name and self.may_read(c)]
+        owners = {(c.session, c.sid) for c in readable}
+        subs = [sub for sub in self.subs if (sub.session, sub.sid) in owners]
+        return [c for c in readable if c.reach], subs
+
+    def want(self, link, subject):
+        """What the readers of a link's variable want together: events and count, or None."""
+        channels, subs = self.readers(link)
+        if subject == PROPERTIES:
+            wanted = any(c.needs_properties for c in channels) or any(
+                sub.mask & PROPERTY or values.needs_properties(link.native, sub.dtype)
+                for sub in subs)
+            return (PROPERTY, 1) if wanted else None
+        if not channels and not subs:
             return None
         mask = VALUE | ALARM
-        for events, _ in wants:
-            mask |= events
-        return mask, max(count for _, count in wants)
+        for sub in subs:
+            mask |= sub.mask & ~PROPERTY & SERVED_EVENTS
+        counts = [c.reach for c in channels] + [sub.count or link.count for sub in subs]
+        return mask, max(counts)
 
-    def covers(self, link, count):
-        return link.last is not None and (count or link.count) <= link.last.asked_with
+    def covers(self, link, dtype, count):
+        if link.last is None or (count or link.count) > link.last.asked_with:
+            return False
+        return link.properties is not None or not values.needs_properties(link.native, dtype)
 
     def refusal(self, link, dtype, count):
         """Why a value of this type and count can't be given over a link."""
@@ -221,26 +223,30 @@ class Gateway:
 
     def tell_links(self):
         for link in sorted(self.links, key=lambda link: link.cid):
-            want, present = self.want(link), link.upstream
-            if want != (present and (present.mask, present.count)):
-                self.subscribe(link, want)
+            for subject in (VALUES, PROPERTIES):
+                want, present = self.want(link, subject), link.upstream.get(subject)
+                if want != (present and (present.mask, present.count)):
+                    self.subscribe(link, subject, want)
             if link.name not in self.wanted():
                 if link.state == "connected":
                     self.ask(link.server, wire.CLEAR_CHANNEL, 0, 0, link.sid, link.cid)
                 self.links.remove(link)
 
-    def subscribe(self, link, want):
-        dtype, present = values.time_type(link.native), link.upstream
+    def subscribe(self, link, subject, want):
+        dtype, present = values.type_for(subject, link.native), link.upstream.pop(subject, None)
         if present:
             self.ask(link.server, wire.EVENT_CANCEL, dtype, present.sent, link.sid, present.id)
         if want is None:
-            link.upstream = link.last = None
+            link.properties = None
+            if subject == VALUES:
+                link.last = None
             return
         mask, count = want
-        sent = 0 if count == link.count and self.servers[link.server] >= MINOR else count
-        link.upstream = Upstream(self.number("sub"), mask, count, sent)
+        whole = subject == VALUES and count == link.count and self.servers[link.server] >= MINOR
+        sent, number = 0 if whole else count, self.number("sub")
+        link.upstream[subject] = Upstream(number, mask, count, sent)
         events = bytes(12) + struct.pack(">HH", mask, 0)
-        self.ask(link.server, wire.EVENT_ADD, dtype, sent, link.sid, link.upstream.id, events)
+        self.ask(link.server, wire.EVENT_ADD, dtype, sent, link.sid, number, events)
 
     def answer_reads(self):
         for read in sorted(self.reads, key=lambda read: read.session):
@@ -248,9 +254,9 @@ class Gateway:
             link = self.link(channel.real)
             if not self.may_read(channel):
                 self.refuse_read(read, ECA_NORDACCESS)
-            elif self.covers(link, read.count):
+            elif self.covers(link, read.dtype, read.count):
                 self.reads.remove(read)
-                count, value = values.laid_out(link.last, link.native, read.dtype, read.count)
+                count, value = values.laid_out(link, read.dtype, read.count)
                 self.tell(read.session, wire.READ_NOTIFY, read.dtype, count, 1, read.ioid, value)
 
     def refuse_read(self, read, code):
@@ -263,9 +269,10 @@ class Gateway:
             link = self.link(channel.real)
             takes = not self.sessions[sub.session].paused and not box.marked
             takes = takes and len(box.messages) < UPDATES_WAIT
-            if sub.owed and takes and self.may_read(channel) and self.covers(link, sub.count):
+            given = takes and self.may_read(channel) and self.covers(link, sub.dtype, sub.count)
+            if sub.owed and given:
                 sub.owed = False
-                count, value = values.laid_out(link.last, link.native, sub.dtype, sub.count)
+                count, value = values.laid_out(link, sub.dtype, sub.count)
                 self.tell(sub.session, wire.EVENT_ADD, sub.dtype, count, 1, sub.id, value)
 
     # Clients' messages.
@@ -340,7 +347,7 @@ class Gateway:
         code = self.refusal(self.link(channel.real), request.dtype, request.count)
         if any(sub.id == request.p2 for sub in own):
             code = ECA_INTERNAL
-        elif code is None and not mask & 7:
+        elif code is None and not mask & SERVED_EVENTS:
             code = ECA_BADMASK
         elif code is None and len(own) >= MOST_SUBS:
             code = ECA_ALLOCMEM
@@ -368,13 +375,16 @@ class Gateway:
         read = Waiting(session, channel.sid, request.dtype, request.count, request.p2)
         code = self.read_refusal(channel, request.dtype, request.count)
         waiting = sum(other.session == session for other in self.reads)
-        if code is None and not self.covers(link, request.count) and waiting >= MOST_READS:
+        covered = code or self.covers(link, request.dtype, request.count)
+        if not covered and waiting >= MOST_READS:
             code = ECA_GETFAIL
         self.reads.append(read)
         if code:
             self.refuse_read(read, code)
         else:
             channel.reach = max(channel.reach, request.count or link.count)
+            needs = values.needs_properties(link.native, request.dtype)
+            channel.needs_properties = channel.needs_properties or needs
 
     # Writes.
 
@@ -414,67 +424,3 @@ class Gateway:
         write = Waiting(session, channel.sid, dtype, count, request.p2, link.server, number)
         self.writes.append(write)
         self.ask(link.server, wire.WRITE_NOTIFY, dtype, count, link.sid, number, value)
-
-    # Servers' messages.
-
-    def server(self, server, reply: Message):
-        if not self.acts(("u", server)):
-            return
-        link = self.link_at(server, reply.p1)
-        if reply.command == wire.VERSION:
-            self.servers[server] = reply.count
-        elif reply.command == wire.EVENT_ADD:
-            self.update(server, reply)
-        elif reply.command == wire.CREATE_CHAN:
-            self.channel_made(server, link, reply)
-        elif reply.command == wire.WRITE_NOTIFY:
-            self.write_over(server, reply)
-        elif reply.command == wire.ACCESS_RIGHTS and link:
-            link.rights = reply.p2 & 3
-        elif reply.command == wire.CREATE_CH_FAIL and link and link.state == "creating":
-            self.links.remove(link)
-        elif reply.command == wire.SERVER_DISCONN and link:
-            self.links.remove(link)
-
-    def channel_made(self, server, link, reply):
-        usable = reply.dtype <= values.DOUBLE and reply.count >= 1
-        usable = usable and values.fits(values.time_type(reply.dtype), reply.count)
-        if link and link.state != "creating":
-            return
-        if link and usable:
-            link.state, link.sid = "connected", reply.p2
-            link.native, link.count = reply.dtype, reply.count
-            return
-        if link:
-            link.state = "unusable"
-        self.ask(server, wire.CLEAR_CHANNEL, 0, 0, reply.p2, reply.p1)
-
-    def update(self, server, reply):
-        link = next((x for x in self.links
-                     if x.server == server and x.upstream and x.upstream.id == reply.p2), None)
-        if link is None:
-            return
-        if reply.p1 != ECA_NORMAL:
-            for read in list(self.reads):
-                if self.channel(read.session, read.sid).real == link.name:
-                    self.refuse_read(read, ECA_GETFAIL)
-            return
-        dtype, count, asked = values.time_type(link.native), reply.count, link.upstream.count
-        long_enough = len(reply.payload) >= values.size_of(dtype, count)
-        if reply.dtype != dtype or count > asked or not long_enough:
-            return
-        before, link.last = link.last, values.read_update(link.native, count, reply.payload, asked)
-        after = (link.last.status, link.last.severity)
-        other_alarm = before is None or (before.status, before.severity) != after
-        for sub in self.subs:
-            concerned = sub.mask & (VALUE | LOG) or (sub.mask & ALARM and other_alarm)
-            if concerned and self.channel(sub.session, sub.sid).real == link.name:
-                sub.owed = True
-
-    def write_over(self, server, reply):
-        named = (server, reply.p2)
-        write = next((w for w in self.writes if (w.server, w.id) == named), None)
-        if write:
-            self.writes.remove(write)
-            over = write.dtype, write.count, reply.p1, write.ioid
-            self.tell(write.session, wire.WRITE_NOTIFY, *over)

@@ -3,11 +3,15 @@ import struct
 
 import values
 import wire
+from rows import PROPERTIES, VALUES
 from wire import message
 
 NAMES = ["T1", "T2", "A:SET", "A:SP", "B"]
 HOSTS = ["lab7", "LAB7", "10.0.0.5", "desk1"]
-TYPES = [5] * 5 + [19, 19, 12, 0, 14, 4, 1, 3, 6, 2, 20, 21, 7]
+TYPES = [5] * 6 + [19, 19, 12, 0, 0, 14, 4, 1, 3, 6, 2, 20, 7, 35]
+TYPES += [33, 33, 26, 26, 31, 24, 28, 21, 22, 27, 29, 30, 34]
+BASES = [values.LONG] * 5 + [values.ENUM] * 3 + [
+    values.STRING, values.SHORT, values.CHAR, values.DOUBLE, values.FLOAT]
 COUNTS = [1] * 4 + [0, 2, 3, 4, 5, 20]
 SIDS = [1, 1, 1, 2, 2, 3, 4, 9]
 RULES = [
@@ -29,12 +33,24 @@ class Scripts:
     def __init__(self, source):
         self.source = source
         self.lines = []
+        self.base = self.pick(BASES)
 
     def pick(self, *choices):
         return self.source.choice(choices[0] if len(choices) == 1 else choices)
 
     def chance(self, part):
         return self.source.random() < part
+
+    def native(self):
+        """The base of a variable, which is mostly that of the script."""
+        return self.base if self.chance(0.8) else self.pick(BASES)
+
+    def type(self):
+        """A type that may be asked for: mostly one that the script's base is had as."""
+        if self.chance(0.3):
+            return self.pick(TYPES)
+        bases = [base for base in range(7) if values.converts(self.base, base)]
+        return self.pick(bases) + 7 * self.pick(0, 0, 1, 2, 2, 3, 4, 4)
 
     def bytes(self, count):
         return bytes(self.source.randrange(256) for _ in range(count))
@@ -46,7 +62,7 @@ class Scripts:
         self.begin()
         kinds = [self.client_line] * 40 + [self.server_line] * 28 + [self.found] * 6
         kinds += [self.search] * 5 + [self.edit] * 4 + [self.question] * 8
-        kinds += [self.connection] * 6 + [self.flow] * 3
+        kinds += [self.connection] * 4 + [self.flow] * 3 + [self.meet] * 3
         for _ in range(self.source.randint(5, 60)):
             self.pick(kinds)()
         return "\n".join(self.lines) + "\n"
@@ -62,17 +78,26 @@ class Scripts:
             self.serve("T1", 1, 1)
         if self.chance(0.5):
             self.serve("T2", self.pick(1, 2), 2)
+        if self.chance(0.8):
+            self.meet()
 
     def serve(self, name, server, cid):
         """A name is wanted, found and connected, and channels are made on it."""
         create = message(wire.CREATE_CHAN, 0, 0, 7, 13, text(name)).hex()
         made = message(wire.ACCESS_RIGHTS, 0, 0, cid, 3)
-        made += message(wire.CREATE_CHAN, 5, self.pick(1, 3), cid, 100 + cid)
-        self.add("client", self.session(), create)
+        made += message(wire.CREATE_CHAN, self.native(), self.pick(1, 3), cid, 100 + cid)
+        self.add("client", self.pick("s1", "s1", "s1", "s2"), create)
         self.add("found", name, f"u{server}")
         self.add("server", f"u{server}", made.hex())
         for _ in range(2):
             self.add("client", self.session(), create)
+
+    def meet(self):
+        """A client asks, and a server tells what it may have been asked."""
+        for _ in range(self.source.randint(1, 6)):
+            self.client_line()
+            self.add("client", self.session(), self.pick(self.event_add, self.read_notify)().hex())
+            self.add("server", f"u{self.pick(1, 1, 1, 2)}", self.updates().hex())
 
     def session(self):
         return f"s{self.pick(1, 1, 1, 2, 2, 3)}"
@@ -104,13 +129,13 @@ class Scripts:
         return message(wire.CREATE_CHAN, 0, 0, self.pick(7, 8, 9), 13, name)
 
     def event_add(self):
-        events = bytes(12) + struct.pack(">HH", self.pick(1, 1, 4, 5, 2, 7, 8, 0), 0)
+        events = bytes(12) + struct.pack(">HH", self.pick(1, 1, 4, 5, 2, 7, 8, 9, 15, 24, 0), 0)
         payload = events if self.chance(0.95) else bytes(8)
-        dtype, count, sid = self.pick(TYPES), self.pick(COUNTS), self.pick(SIDS)
+        dtype, count, sid = self.type(), self.pick(COUNTS), self.pick(SIDS)
         return message(wire.EVENT_ADD, dtype, count, sid, self.pick(31, 32, 33, 34), payload)
 
     def read_notify(self):
-        dtype, count, sid = self.pick(TYPES), self.pick(COUNTS), self.pick(SIDS)
+        dtype, count, sid = self.type(), self.pick(COUNTS), self.pick(SIDS)
         return message(wire.READ_NOTIFY, dtype, count, sid, self.pick(21, 22))
 
     def on_channel(self):
@@ -138,7 +163,8 @@ class Scripts:
         cid = self.pick(1, 1, 2, 2, 3, 4, 5, 9)
         rights, minor = self.pick(3, 3, 3, 1, 0, 2, 7), self.pick(13, 12, 0)
         ioid = self.pick(1, 2, 3)
-        kinds = [self.update] * 30 + [lambda: self.made(cid)] * 30
+        kinds = [self.update] * 20 + [self.description] * 10 + [self.updates] * 20
+        kinds += [lambda: self.made(cid)] * 25
         kinds += [lambda: message(wire.ACCESS_RIGHTS, 0, 0, cid, rights)] * 20
         kinds += [lambda: message(wire.CREATE_CH_FAIL, 0, 0, cid, 0)] * 4
         kinds += [lambda: message(wire.SERVER_DISCONN, 0, 0, cid, 0)] * 4
@@ -148,20 +174,44 @@ class Scripts:
         return self.pick(kinds)()
 
     def made(self, cid):
-        dtype, count = self.pick(5, 5, 5, 5, 0, 1, 3, 4, 6, 7), self.pick(1, 1, 3, 20, 0)
+        dtype = self.native() if self.chance(0.95) else 7
+        count = self.pick(1, 1, 3, 20, 0)
         return message(wire.CREATE_CHAN, dtype, count, cid, self.pick(101, 102, 103))
 
-    def update(self):
-        dtype = self.pick(19, 19, 19, 19, 14, 15, 17, 18, 20, 5)
-        count, base = self.pick(1, 1, 1, 0, 2, 3, 20), values.base_and_form(dtype)[0]
+    def updates(self):
+        """Both kinds under each of the first IDs: those that don't count are passed over."""
+        return b"".join(
+            self.update(number) + self.description(number) for number in range(1, self.pick(3, 6, 9)))
+
+    def update(self, number=None):
+        base, count = self.native(), self.pick(1, 1, 1, 0, 2, 3, 20)
+        dtype = values.type_for(VALUES, base) if self.chance(0.95) else base
         alarm = self.pick(0, 0, 3), self.pick(0, 0, 1)
         fields = struct.pack(">HHII", *alarm, self.pick(5, 1000), 7)
         value = self.bytes(values.ELEMENT[base] * count)
         payload = fields.ljust(values.OFFSET[values.TIME][base], b"\0") + value
         if self.chance(0.05):
             payload = payload[:8]
-        status, sub = self.pick(1, 1, 1, 1, 1, 152), self.pick(1, 1, 2, 3, 4, 5, 6)
+        status, sub = self.pick(1, 1, 1, 1, 1, 152), number or self.pick(1, 1, 2, 3, 4, 5, 6)
         return message(wire.EVENT_ADD, dtype, count, status, sub, payload)
+
+    def description(self, number=None):
+        """What a server tells of properties, mostly in a CTRL type."""
+        base, count = self.native(), self.pick(1, 1, 1, 0, 0, 2)
+        dtype = values.type_for(PROPERTIES, base) if self.chance(0.95) else base + 21
+        payload = bytes(4) + self.bytes(values.size_of(dtype, count) - 4)
+        if base == values.ENUM:
+            states = struct.pack(">H", self.pick(2, 2, 3, 16, 17, 0, 65_535))
+            texts = b"".join(self.text_of_state() for _ in range(values.STATES))
+            payload = bytes(4) + states + texts + self.bytes(values.ELEMENT[base] * count)
+        if self.chance(0.05):
+            payload = payload[:8]
+        status, sub = self.pick(1, 1, 1, 1, 1, 1, 152), number or self.pick(1, 2, 2, 2, 3, 4, 5, 6)
+        return message(wire.EVENT_ADD, dtype, count, status, sub, payload)
+
+    def text_of_state(self):
+        text = self.pick(b"OFF", b"ON", b"", b"x" * 30, b"A\0B")
+        return text.ljust(values.STATE_TEXT, b"\0")[:values.STATE_TEXT]
 
     def found(self):
         self.add("found", self.pick(NAMES), self.server())
@@ -192,9 +242,10 @@ class Scripts:
         self.lines += rules + groups
 
     def question(self):
-        read = self.session(), self.pick(SIDS), self.pick(TYPES), self.pick(COUNTS)
+        read = self.session(), self.pick(SIDS), self.type(), self.pick(COUNTS)
         self.pick([
             lambda: self.add("asks"), lambda: self.add("sub", self.pick(NAMES)),
+            lambda: self.add("props", self.pick("T1", "T2", *NAMES)),
             lambda: self.add("rights", self.session(), self.pick(SIDS)),
             lambda: self.add("read", *read),
         ])()

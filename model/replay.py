@@ -7,6 +7,7 @@ import rules
 import values
 import wire
 from gateway import Gateway
+from rows import PROPERTIES, VALUES
 from wire import framed, is_word, message
 
 GOOD, BAD_INPUT = 0, 2
@@ -87,7 +88,8 @@ class Replay:
                 ("lost", 2): self.lost, ("client", 3): self.client, ("server", 3): self.server,
                 ("found", 3): self.found, ("search", 3): self.search, ("sweep", 1): self.sweep,
                 ("edit", 3): self.edit, ("asks", 1): self.asks, ("read", 5): self.read,
-                ("sub", 2): self.subscription, ("rights", 3): self.rights,
+                ("sub", 2): self.subscription, ("props", 2): self.properties,
+                ("rights", 3): self.rights,
                 ("hold", 2): self.hold, ("flow", 2): self.flow, ("drain", 3): self.drain,
             }.get((words[0], len(words)))
             if perform is None or "" in words:
@@ -190,15 +192,22 @@ class Replay:
         link = self.gateway.link(channel.real)
         if code:
             return f"refused {code}"
-        if not self.gateway.covers(link, count):
+        if not self.gateway.covers(link, dtype, count):
             return "waits"
-        given, value = values.laid_out(link.last, link.native, dtype, count)
+        given, value = values.laid_out(link, dtype, count)
         return f"value {given} {hexadecimal(wire.filled(value))}"
 
-    def subscription(self, asked):
+    def upstream(self, asked, subject):
         link = self.gateway.link(name(asked))
-        sub = link.upstream if link else None
+        return link.upstream.get(subject) if link else None
+
+    def subscription(self, asked):
+        sub = self.upstream(asked, VALUES)
         self.printed.append(f"sub {sub.id} {sub.mask} {sub.count}" if sub else "sub -")
+
+    def properties(self, asked):
+        sub = self.upstream(asked, PROPERTIES)
+        self.printed.append(f"props {sub.id}" if sub else "props -")
 
     def rights(self, at, sid):
         channel = self.gateway.channel(dest(at, "s")[1], number(sid, U32))

@@ -1,10 +1,10 @@
 """What a gateway knows of its clients, servers and variables, and its limits."""
 from dataclasses import dataclass, field
-from typing import Optional
+from typing import Any
 
-import values
-
-VALUE, LOG, ALARM = 1, 2, 4
+VALUE, LOG, ALARM, PROPERTY = 1, 2, 4, 8
+SERVED_EVENTS = VALUE | LOG | ALARM | PROPERTY
+VALUES, PROPERTIES = "values", "properties"
 MINOR, LOWEST_MINOR = 13, 9
 MOST_SESSIONS, MOST_SERVERS, MOST_LINKS = 1_024, 16, 65_536
 MOST_CHANNELS, MOST_SUBS, MOST_READS, MOST_WRITES = 4_096, 8_192, 256, 256
@@ -27,6 +27,7 @@ class Channel:
     real: str
     rights: int
     reach: int = 0
+    needs_properties: bool = False
 
 
 @dataclass(eq=False)
@@ -54,7 +55,7 @@ class Waiting:
 
 @dataclass
 class Upstream:
-    """The subscription of a link: what is asked for, and the count as it was sent."""
+    """A subscription of a link: what is asked for, and the count as it was sent."""
     id: int
     mask: int
     count: int
@@ -63,6 +64,7 @@ class Upstream:
 
 @dataclass(eq=False)
 class Link:
+    """A variable on a server: its subscriptions there by their subject, and what they told last."""
     cid: int
     server: int
     name: str
@@ -71,8 +73,9 @@ class Link:
     sid: int = 0
     native: int = 0
     count: int = 0
-    upstream: Optional[Upstream] = None
-    last: Optional[values.LastMessage] = None
+    upstream: dict = field(default_factory=dict)
+    last: Any = None
+    properties: Any = None
 
 
 @dataclass

@@ -28,7 +28,7 @@ STATUSES = {1: "NORMAL", 48: "ALLOCMEM", 72: "TOLARGE", 114: "BADTYPE", 142: "IN
             330: "BADMASK", 368: "NORDACCESS", 376: "NOWTACCESS", 410: "BADCHID"}
 FORMS = ("", "STS_", "TIME_", "GR_", "CTRL_")
 RIGHTS = ("none", "read", "write alone", "read, write")
-MASKS = ((ca.VALUE, "VALUE"), (ca.LOG, "LOG"), (ca.ALARM, "ALARM"), (8, "PROPERTY"))
+MASKS = ((ca.VALUE, "VALUE"), (ca.LOG, "LOG"), (ca.ALARM, "ALARM"), (ca.PROPERTY, "PROPERTY"))
 NOBODY = 0xFFFFFFFF
 SHOWN = 10  # so many values of an array are shown
 
@@ -56,14 +56,14 @@ def type_of(it):
 
 def value(it):
     """The values of a payload, with what its type says of them."""
-    if it.dtype >= 3 * len(ca.NAMES) or len(it.payload) < ca.value_offset(it.dtype):
+    if it.dtype >= len(FORMS) * len(ca.NAMES) or len(it.payload) < ca.value_offset(it.dtype):
         return f"{type_of(it)} and {len(it.payload)} bytes"
     found = ca.value_of(it.dtype, min(it.count, len(it.payload)), it.payload)
     texts = [repr(each) if it.dtype % 7 == ca.STRING else f"{each:g}" if isinstance(each, float) else str(each) for each in found.values[:SHOWN]]
     words = [type_of(it), *texts, *([".."] if len(found.values) > SHOWN else [])]
     if it.dtype >= ca.STS:
         words.append(f"alarm {found.status} severity {found.severity}")
-    if it.dtype >= ca.TIME:
+    if ca.TIME <= it.dtype < ca.GR:
         words.append("at " + time.strftime("%Y-%m-%d %H:%M:%S", time.gmtime(found.stamp)) + f"{found.stamp % 1:.3f}"[1:] + " UTC")
     return " ".join(words)
 

@@ -28,7 +28,7 @@ FORMS = {
     b"server": [(SERVER, is_hexadecimal)], b"found": [(is_name, SERVER)], b"search": [(is_name, is_hexadecimal)], b"sweep": [()],
     b"edit": [(number(SIZE), number(SIZE))], b"hold": [(EITHER,)], b"flow": [(EITHER,)], b"drain": [(EITHER, number(SIZE))],
     b"asks": [()], b"read": [(CLIENT, number(NUMBER32), number(NUMBER16), number(NUMBER32))], b"sub": [(is_name,)],
-    b"rights": [(CLIENT, number(NUMBER32))],
+    b"props": [(is_name,)], b"rights": [(CLIENT, number(NUMBER32))],
 }
 
 

@@ -5,7 +5,8 @@ from served.room import variable
 
 def chained(room):
     many = [variable(f"N{it}", values=[it]) for it in range(100)]
-    up = room.upstream(variable("V", values=[1, 2, 3]), variable("W", ca.STRING, ["a"]), *many)
+    states = variable("S", ca.ENUM, [1], properties=ca.Properties(states=("OFF", "ON")))
+    up = room.upstream(variable("V", values=[1, 2, 3]), variable("W", ca.STRING, ["a"]), states, *many)
     inner = room.server(up, rules=".* ALLOW ops\n", groups="ops WRITE\n")
     outer = room.server(inner)
     near, one, two = room.client(inner), room.client(outer), room.client(outer)
@@ -15,6 +16,8 @@ def chained(room):
     room.equal("get", (one.values(first), two.values(second, ca.TIME + ca.LONG, 2), near.values(close)), ([1, 2, 3], [1, 2], [1, 2, 3]))
     text = one.open("W")
     room.equal("a text", one.values(text), ["a"])
+    room.equal("a state by its text", one.values(one.open("S"), ca.STRING), ["ON"])
+    room.equal("one subscription to properties at the server", [it[:2] for it in up.subscriptions("S") if it[0] == ca.PROPERTY], [(ca.PROPERTY, ca.CTRL + ca.ENUM)])
     watched = ((one, one.watch(first)), (two, two.watch(second, ca.STRING)), (near, near.watch(close)))
     room.equal("monitor", [it.update(own) for it, own in watched], [[1, 2, 3], ["1", "2", "3"], [1, 2, 3]])
     room.equal("put", (one.write(first, [4, 5, 6]), up.writes[-1][:3]), (ca.NORMAL, ("V", ca.LONG, 3)))

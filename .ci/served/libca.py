@@ -51,7 +51,7 @@ def bytes_in(dtype, count, place):
     base, offset = dtype % 7, ca.value_offset(dtype)
     size = struct.calcsize(ca.LETTERS[base])
     raw = ctypes.string_at(place, offset + size * count)
-    letters = ("", "hh", "hhII")[dtype // 7]
+    letters = ca.front_letters(dtype)
     front = struct.pack(f">{letters}", *struct.unpack_from(f"={letters}", raw))
     if base == ca.STRING:
         # What follows a text's NUL is nobody's.

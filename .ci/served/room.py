@@ -175,6 +175,6 @@ class Room:
         shutil.rmtree(self.folder)
 
 
-def variable(name, base=ca.LONG, values=(0,), count=None, rights=3):
+def variable(name, base=ca.LONG, values=(0,), count=None, rights=3, properties=ca.Properties()):
     from ioc import Variable
-    return Variable(name, base, list(values), count, rights)
+    return Variable(name, base, list(values), count, rights, properties=properties)

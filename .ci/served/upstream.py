@@ -78,6 +78,9 @@ class Upstream(Ioc):
     def give(self, name, values, status=0, severity=0):
         self.do(lambda: self.set(name, values, status, severity))
 
+    def tell_properties(self, name, properties):
+        self.do(lambda: self.describe(name, properties))
+
     def subscriptions(self, name):
         """Mask, type and count of each subscription of a variable."""
         return self.do(lambda: [(it.mask, it.asked.dtype, it.asked.count) for it in self.variables[name].subscriptions])

@@ -6,12 +6,18 @@ from served.room import variable
 
 NATIVE = {ca.STRING: ["a", "", "x" * 39], ca.SHORT: [-7, 0, 32767], ca.FLOAT: [0.5, -2.25, 0.0], ca.ENUM: [0, 1, 65535],
           ca.CHAR: [1, 2, 255], ca.LONG: [-7, 5, 1 << 30], ca.DOUBLE: [0.1, -1e300, 0.0]}
+PROPERTIES = {ca.STRING: ca.Properties(), ca.SHORT: ca.Properties("mm", 0, (100, -100, 90, 80, -80, -90, 100, -100)),
+              ca.FLOAT: ca.Properties("V", 3, (10.5, -10.5, 9.0, 8.0, -8.0, -9.0, 10.0, -10.0)),
+              ca.ENUM: ca.Properties(states=("OFF", "ON", "x" * 26)), ca.CHAR: ca.Properties("count", 0, (255, 0, 250, 240, 10, 5, 255, 1)),
+              ca.LONG: ca.Properties("Hz", 0, (1 << 30, -5, 9, 8, -8, -9, 7, -7)),
+              ca.DOUBLE: ca.Properties("mA", -1, (1e300, -1e300, 0.5, 0.25, -0.25, -0.5, 1e3, -1e3))}
+FORMS = (0, ca.STS, ca.TIME, ca.GR, ca.CTRL)
 WIDER = {(ca.CHAR, ca.SHORT), (ca.CHAR, ca.LONG), (ca.SHORT, ca.LONG), (ca.ENUM, ca.LONG),
          (ca.CHAR, ca.STRING), (ca.SHORT, ca.STRING), (ca.LONG, ca.STRING), (ca.ENUM, ca.STRING)}
 
 
 def of_each_type():
-    return [variable(ca.NAMES[base], base, values) for base, values in NATIVE.items()]
+    return [variable(ca.NAMES[base], base, values, properties=PROPERTIES[base]) for base, values in NATIVE.items()]
 
 
 def creating(room):
@@ -66,17 +72,18 @@ def reading(room):
         up.give(ca.NAMES[base], values, status=3, severity=2)
     for base, values in NATIVE.items():
         channel, name = channels[base], ca.NAMES[base]
-        for form in (0, ca.STS, ca.TIME):
+        for form in FORMS:
             reply = client.read(channel, base + form)
-            wanted = ca.payload_of(base + form, up.variables[name].value)
+            wanted = ca.payload_of(base + form, up.variables[name].value, PROPERTIES[base])
             room.equal(f"{name} read in form {form}", reply[:4], (ca.READ_NOTIFY, base + form, 3, 1))
             room.equal(f"payload of {name} in form {form}", reply.payload[:len(wanted)], wanted)
         room.equal(f"two of {name}", client.values(channel, count=2), values[:2])
         room.equal(f"four of {name}", client.values(channel, count=4), ca.BADCOUNT)
         for asked in NATIVE:
-            wanted = ca.as_type(asked, values) if asked == base or (base, asked) in WIDER else ca.BADTYPE
-            room.equal(f"{name} as {ca.NAMES[asked]}", client.values(channel, asked), wanted)
-        for dtype in (21 + base, 28 + base, 35, 36, 0xFFFF):
+            wanted = up.variables[name].as_type(asked, values) if asked == base or (base, asked) in WIDER else ca.BADTYPE
+            for form in FORMS:
+                room.equal(f"{name} as {ca.NAMES[asked]} in form {form}", client.values(channel, asked + form), wanted)
+        for dtype in (35, 36, 0xFFFF):
             room.equal(f"{name} as type {dtype}", client.read(channel, dtype).p1, ca.BADTYPE)
     without_right(room, up, client, channels[ca.LONG])
     after_updates(room, up, client)
@@ -140,6 +147,7 @@ def watching(room):
     room.equal("LOG", second.updates_until(log, [5, 6, 7, 8])[-2:], [[1, 2, 3, 4], [5, 6, 7, 8]])
     room.equal("two elements as text", second.updates_until(some, ["5", "6"])[-2:], [["1", "2"], ["5", "6"]])
     pausing(room, up, first, value)
+    describing(room, up, first)
     cancelling(room, up, first, second, (one, two), (value, alarm, log, some))
     refused_subscriptions(room, first, one)
 
@@ -154,6 +162,21 @@ def pausing(room, up, client, own):
     room.check("nothing comes while events are off", seen == [0.5] and not any(it.command == ca.EVENT_ADD for it in client.inbox))
     client.send(ca.message(ca.EVENTS_ON))
     room.equal("the latest value comes once", client.updates_until(own, [13] * 4), [[13] * 4])
+
+
+def describing(room, up, client):
+    """A subscription to properties makes one upstream of its own, which goes with it."""
+    channel = client.open("W")
+    own = client.watch(channel, ca.CTRL + ca.DOUBLE, mask=ca.PROPERTY)
+    reply = client.answer(ca.EVENT_ADD, "p2", own)
+    room.equal("properties begin with the value", reply.payload, ca.payload_of(ca.CTRL + ca.DOUBLE, up.variables["W"].value))
+    room.eventually("a subscription upstream to each", lambda: sorted(it[0] for it in up.subscriptions("W")) == [5, 8])
+    new = ca.Properties("mA", 2, (9.0, 1.0, 8.0, 7.0, 3.0, 2.0, 9.5, 0.5))
+    up.tell_properties("W", new)
+    reply = client.answer(ca.EVENT_ADD, "p2", own)
+    room.equal("new properties are told", reply.payload, ca.payload_of(ca.CTRL + ca.DOUBLE, up.variables["W"].value, new))
+    client.send(ca.message(ca.EVENT_CANCEL, b"", ca.CTRL + ca.DOUBLE, 0, channel.sid, own))
+    room.eventually("and the subscription goes", lambda: [it[0] for it in up.subscriptions("W")] == [5])
 
 
 def cancelling(room, up, first, second, channels, owns):
@@ -177,7 +200,7 @@ def cancelling(room, up, first, second, channels, owns):
 
 
 def refused_subscriptions(room, client, channel):
-    for label, code, fields in (("no mask", 330, {"mask": 0}), ("PROPERTY alone", 330, {"mask": 8}), ("type", 114, {"dtype": ca.DOUBLE}),
+    for label, code, fields in (("no mask", 330, {"mask": 0}), ("mask of other bits", 330, {"mask": 0xFFF0}), ("type", 114, {"dtype": ca.DOUBLE}),
                                 ("count", 176, {"count": 5})):
         client.watch(channel, **fields)
         room.equal(f"a subscription refused for its {label}", client.error(), code)
