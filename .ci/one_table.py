@@ -10,7 +10,7 @@ import glob
 import re
 import sys
 
-# how a value of the type is made, under its own name or another, and the files whose code may make one
+# how a value of the type is made, under its own name or another, and the files whose code may make one, once each
 MAKERS = {
     r"\bTable::new\b|<(\w+::)*Table>::|\bTable as\b": ["crates/gateway_rows/src/state.rt"],
     r"\bRows::new\b|<(\w+::)*Rows>::|\bRows as\b": ["crates/gateway_core/src/engine.rt", "crates/plain_gate/src/gate.rt"],
@@ -29,7 +29,7 @@ def main():
     files = [it for it in sorted(glob.glob("crates/*/src/**/*.rt", recursive=True)) if "_tests/" not in it]
     faults = 0
     for made, homes in MAKERS.items():
-        found = [it for it in files if any(re.search(made, line) for line in code_of(it))]
+        found = [it for it in files for line in code_of(it) if re.search(made, line)]
         if found != homes:
             faults += 1
             print(f"{made} stands in {', '.join(found)}; it may stand in {', '.join(homes)}")
