@@ -1,15 +1,16 @@
 # make                                    proves and builds the program
 # make check                              passes the whole gate
 # make install [DESTDIR=] [PREFIX=]       installs the built program with its manual page, units, samples and completion
-# make dist                               an archive of these, out/pvgate-VERSION-linux-x86_64.tar.gz
+# make dist [OUT=]                        an archive of these, out/pvgate-VERSION-linux-x86_64.tar.gz
 
 PREFIX = /usr/local
 DESTDIR =
+OUT = out
 PROGRAM = crates/pvgate/out/pvgate
 
 TO = $(DESTDIR)$(PREFIX)
 UNITS = $(wildcard packaging/*.service packaging/*.socket packaging/*.timer)
-SAMPLES = $(wildcard examples/site.* examples/*.replay examples/*.explained examples/*.py)
+SAMPLES = $(wildcard examples/site.* examples/*.replay examples/*.printed examples/*.explained examples/*.py)
 
 .PHONY: build check install dist
 
@@ -37,6 +38,6 @@ install:
 
 dist:
 	@test -x $(PROGRAM) || { echo "$(PROGRAM) is not built: run make first" >&2; exit 1; }
-	name=pvgate-$$($(PROGRAM) --version | cut -d' ' -f2)-linux-x86_64 && rm -rf out/$$name && \
-	$(MAKE) install DESTDIR=out/$$name && \
-	tar -C out --sort=name --owner=0 --group=0 --numeric-owner -czf out/$$name.tar.gz $$name && rm -r out/$$name
+	name=pvgate-$$($(PROGRAM) --version | cut -d' ' -f2)-linux-x86_64 && rm -rf $(OUT)/$$name && \
+	$(MAKE) install DESTDIR=$(OUT)/$$name && \
+	tar -C $(OUT) --sort=name --owner=0 --group=0 --numeric-owner -czf $(OUT)/$$name.tar.gz $$name && rm -r $(OUT)/$$name

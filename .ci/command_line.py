@@ -4,11 +4,16 @@
 Run at the top of the repository, once `pvgate` is built. No contract speaks of the command line, so these runs do.
 """
 import os
+import re
 import subprocess
 import sys
 import tempfile
 
 PROGRAM = os.path.abspath(os.environ.get("PVGATE", "crates/pvgate/out/pvgate"))
+
+# The kit that the documents say all is proved with.
+with open("docs/PROOF.md") as file:
+    KIT = re.search(r"^(rattle-kit-\S+) logic \w+$", file.read(), re.M).group(1)
 
 # On which `serve` listens, and its UPSTREAM, where nobody answers.
 SITE = ["127.0.0.1:0", "127.0.0.1:1"]
@@ -20,9 +25,16 @@ FILES = {
     "empty": b"",
     "no-verb": b"A ALLOW\n# x\nB GRANT\n",
     "no-utf-8": b".* ALLOW\n\xff\n",
+    "plain": b"(.*):SET ALIAS \\1:SP ops\n",
+    "choice": b".* ALLOW\n(A|B):ILK DENY\nC|D DENY\n",
     "groups": b"ops READ\n",
     "no-rights": b"ops NONE\n",
     "bad-groups": b"ops MAYBE\n",
+    "strange": b"A ALLOW\n\t~A\x01 \xc3\xa9\x7f\r\n",
+    "long": b"A" * 2000 + b"\n",
+    "longest": b"A" * 199 + b"\xc3\xa9 B\n",
+    "shorter": b"A" * 198 + b" B\n",
+    "unended": b"ops READ\n\nops WRITE\r",
 }
 
 OK = b"ok 3 rows ALLOW, DENY\n"
@@ -45,10 +57,17 @@ CHECKS = [
     ("no-verb --name A", b"line 3: NoVerb\n", 1),
     ("rules --groups bad-groups", b"groups line 1: BadGroup\n", 1),
     ("no-verb --groups bad-groups", b"line 3: NoVerb\n", 1),
+    ("plain --name A:SET", b"line 1: BadReference\n", 1),
+    ("plain --name A:SET --plain-groups", b"ok 1 rows ALLOW, DENY\nadmitted A:SP ops write\n", 0),
+    ("rules --plain-groups", b"line 1: BadReference\n", 1),
+    ("choice --name B:ILK", OK + b"admitted B:ILK - write\n", 0),
+    ("choice --name B:ILK --plain-groups", OK + b"refused\n", 0),
+    ("rules --plain-groups --plain-groups", b"", 2),
+    ("rules --plain-groups yes", b"", 2),
     ("rules --name A/B", OK + b"refused\n", 0),
-    ("rules --name " + "A" * 128, b"", 2),
+    ("rules --name " + "A" * 256, b"", 2),
     ("rules --host " + "A" * 128, b"", 2),
-    ("missing --name " + "A" * 128, b"", 2),
+    ("missing --name " + "A" * 256, b"", 2),
     ("rules --groups", b"", 2),
     ("rules rules", b"", 2),
     ("--name A", b"", 2),
@@ -72,6 +91,17 @@ SERVE_REFUSALS = [
     ("127.0.0.1:0" + " 127.0.0.1:1" * 17, b"", 2),
     ("127.0.0.1:0 127.0.0.1:1 --rules", b"", 2),
     ("127.0.0.1:0 127.0.0.1:1 --port 1", b"", 2),
+    ("127.0.0.1:0 127.0.0.1:1 --most-waiting", b"", 2),
+    ("127.0.0.1:0 127.0.0.1:1 --most-waiting 0", b"", 2),
+    ("127.0.0.1:0 127.0.0.1:1 --most-waiting 1.5", b"", 2),
+    ("127.0.0.1:0 127.0.0.1:1 --most-waiting 4294967296", b"", 2),
+    ("127.0.0.1:0 127.0.0.1:1 --most-waiting +1", b"", 2),
+    *((f"127.0.0.1:0 127.0.0.1:1 {option}{value}", b"", 2) for option in ("--reconnect", "--sweep")
+      for value in ("", " 0", " 86401", " 4294967297", " 1.5", " +1", " ten", " 10s", f" 10 {option} 10")),
+    *((f"127.0.0.1:0 127.0.0.1:1 --log{value}", b"", 2) for value in ("", " trace", " INFO", " off", " 3", " info,debug", " info --log info")),
+    *((f"127.0.0.1:0 127.0.0.1:1 --status{value}", b"", 2) for value in ("", " 127.0.0.1", " localhost:0", " 127.0.0.1:0 --status 127.0.0.1:0")),
+    ("127.0.0.1:0 127.0.0.1:1 --status 192.0.2.1:0", b"", 3),
+    ("127.0.0.1:0 127.0.0.1:1 --status 192.0.2.1:0 --rules no-verb", b"line 3: NoVerb\n", 1),
     ("127.0.0.1 127.0.0.1:1 --rules missing", b"", 2),
     ("127.0.0.1:0 127.0.0.1:1 --rules missing", b"", 3),
     ("127.0.0.1:0 127.0.0.1:1 --rules no-utf-8", b"", 3),
@@ -80,8 +110,56 @@ SERVE_REFUSALS = [
     ("127.0.0.1:0 127.0.0.1:1 --rules no-verb", b"line 3: NoVerb\n", 1),
     ("127.0.0.1:0 127.0.0.1:1 --rules rules --groups bad-groups", b"groups line 1: BadGroup\n", 1),
     ("127.0.0.1:0 127.0.0.1:1 --rules no-verb --groups bad-groups", b"line 3: NoVerb\n", 1),
+    ("127.0.0.1:0 127.0.0.1:1 --rules plain", b"line 1: BadReference\n", 1),
+    ("127.0.0.1:0 127.0.0.1:1 --rules rules --plain-groups", b"line 1: BadReference\n", 1),
     ("192.0.2.1:0 127.0.0.1:1 --rules no-verb", b"line 3: NoVerb\n", 1),
     ("192.0.2.1:0 127.0.0.1:1 --rules rules", b"", 3),
+]
+
+# Arguments that have a rule file read, orders, and the lines of which a note is written to standard error. It changes
+# nothing else of what is printed, as the runs above show.
+NOTES = [
+    ("check-rules rules", b"", []),
+    ("check-rules no-verb", b"", []),
+    ("check-rules plain", b"", [1]),
+    ("check-rules plain --plain-groups", b"", []),
+    ("check-rules choice", b"", [2]),
+    ("check-rules choice --plain-groups", b"", []),
+    ("check-rules choice --groups bad-groups", b"", [2]),
+    ("serve 127.0.0.1:0 127.0.0.1:1", b"", []),
+    ("serve 127.0.0.1:0 127.0.0.1:1 --rules plain", b"", [1]),
+    ("serve 127.0.0.1:0 127.0.0.1:1 --rules choice", b"", [2]),
+    ("serve 127.0.0.1:0 127.0.0.1:1 --rules choice", b"reload\n", [2, 2]),
+    ("serve 127.0.0.1:0 127.0.0.1:1 --rules choice --plain-groups", b"reload\n", []),
+]
+
+# Options of `serve` that are good.
+SERVE_OPTIONS = [
+    "--most-waiting 1", "--reconnect 1", "--reconnect 86400", "--sweep 1", "--sweep 86400", "--sweep 007 --reconnect 10",
+    "--log error", "--log warn", "--log info", "--log debug", "--log debug --reconnect 1 --sweep 1 --rules rules",
+    "--status 127.0.0.1:0", "--status [::1]:0 --log error",
+]
+
+# Arguments of `check-rules`, and all that it writes to standard error.
+NOTE = "note: line 1: ( ) | stand for themselves here; --plain-groups reads them as groups"
+SAID = [
+    ("rules", []),
+    ("no-verb", ["line 3: says: B GRANT"]),
+    ("no-verb --name A --groups bad-groups", ["line 3: says: B GRANT"]),
+    ("rules --groups bad-groups", ["groups line 1: says: ops MAYBE"]),
+    ("plain", [NOTE, "line 1: says: (.*):SET ALIAS \\1:SP ops"]),
+    ("rules --plain-groups", ["line 1: says: \\(.*\\):SET ALIAS \\1:SP ops"]),
+    ("strange", ["line 2: says: \\x09~A\\x01 \\xc3\\xa9\\x7f"]),
+    ("long", ["line 1: says: " + "A" * 200]),
+    ("longest", ["line 1: says: " + "A" * 199 + "\\"]),
+    ("shorter", ["line 1: says: " + "A" * 198 + " B"]),
+    ("rules --groups unended", ["groups line 3: says: ops WRITE\\x0d"]),
+]
+
+# Names and hosts that the two rule files of the examples, one in each syntax, answer alike.
+ASKED = [
+    "S01:DCCT:CURRENT", "BEAM:CURRENT", "S01:MAG:Q1 --host lab7", "S02:MAG:Q1 --host lab7", "S01:MAG:Q1:SET",
+    "S02:MAG:Q1:SET --host guest", "S01:HPOS", "S02:VPOS", "S02:XPOS", "S01:(H|V)POS", "S01:CAM:1", "S01:ILK:DOOR", "LOG:1",
 ]
 
 # A script, what is printed of it, and the status.
@@ -118,7 +196,7 @@ def others():
     yield "no argument", [], {}, b"", 2
     yield "an unknown program", ["server"], {}, b"", 2
     yield "an argument too many", ["replay", "x"], {}, b"", 2
-    yield "--version", ["--version"], {}, b"pvgate 0.1.0\n", 0
+    yield "--version", ["--version"], {}, f"pvgate 0.1.0 (proved with {KIT})\n".encode(), 0
     yield "an argument that is no UTF-8", [b"check-rules", b"\xff"], {}, b"", 2
 
 
@@ -180,11 +258,49 @@ def serving():
     yield not missing
 
 
+def options():
+    """Options of `serve` with which it listens until the end of input, and prints nothing else."""
+    for line in SERVE_OPTIONS:
+        yield listened(f"serve {line}", run(["serve", *SITE, *line.split()], stdout=subprocess.PIPE), b"", 0)
+
+
+def said():
+    """What a faulty line said is told on standard error, behind the note, and nothing else."""
+    for line, lines in SAID:
+        ran = run(["check-rules", *line.split()], stdout=subprocess.PIPE)
+        wanted = "".join(f"{it}\n" for it in lines).encode()
+        if ran.stderr != wanted:
+            print(f"check-rules {line}: told {ran.stderr!r}, not {wanted!r}")
+        yield ran.stderr == wanted
+
+
 def helps():
     """Help goes to standard output, and names what it helps with."""
     for words, word in ((["--help"], b"check-rules"), (["replay", "--help"], b"--plain"), (["check-rules", "--help"], b"--groups"), (["serve", "--help"], b"UPSTREAM")):
         ran = run(words, stdout=subprocess.PIPE)
         yield told(" ".join(words), ran, ran.stdout if word in ran.stdout else b"help with " + word, 0)
+
+
+def notes():
+    """What is noted of a rule file is a line of standard error for each time that it is read, of its first such row."""
+    for words, orders, lines in NOTES:
+        ran = run(words.split(), stdout=subprocess.PIPE, input=orders)
+        noted = [line for line in ran.stderr.decode().splitlines() if "note:" in line]
+        wanted = [f"note: line {line}: ( ) | stand for themselves here; --plain-groups reads them as groups" for line in lines]
+        if noted != wanted:
+            print(f"{words}: noted {noted}, not {wanted}")
+        yield noted == wanted
+
+
+def example_rules(root):
+    """The rule files of the examples are good, each in its own syntax, need no note there and answer the same."""
+    groups = ["--groups", f"{root}/examples/site.groups"]
+    for asked in ASKED:
+        asked = ["--name", *asked.split()]
+        first = run(["check-rules", f"{root}/examples/site.pvlist", *groups, *asked], stdout=subprocess.PIPE)
+        other = run(["check-rules", f"{root}/examples/plain.pvlist", "--plain-groups", *groups, *asked], stdout=subprocess.PIPE)
+        yield told(f"site.pvlist {asked}", first, first.stdout if first.stdout.startswith(b"ok 11 rows") else b"ok 11 rows", 0)
+        yield told(f"plain.pvlist {asked}", other, first.stdout, 0) and first.stderr == other.stderr == b""
 
 
 def examples(root):
@@ -209,7 +325,7 @@ def main():
                 file.write(text)
         cases = [*checks(), *replays(), *serve_refusals(), *others()]
         done = [told(label, run(words, stdout=subprocess.PIPE, **streams), printed, status) for label, words, streams, printed, status in cases]
-        done += [*full_streams(), *serving(), *helps(), *examples(root)]
+        done += [*full_streams(), *serving(), *options(), *said(), *helps(), *notes(), *example_rules(root), *examples(root)]
         os.chdir(root)
     print(f"command lines: {sum(done)} passed, {len(done) - sum(done)} failed")
     return 0 if all(done) else 1

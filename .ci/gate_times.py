@@ -8,9 +8,9 @@
 
 proof: the proof of a crate and the build of its program; seed: what its must-fail edits begin from; edits: the edits' own
 tries; tests: the proof of its tests, and the runs of tests and program. What belongs to no crate is in the row `others`.
-The processes below the command are looked at twice a second; what one used after the last look is known from the time
-that its parent was told, so the total is exact, and each part within a second or so a process.
-The status is the command's, or 0.
+The processes below the command are looked at every two seconds; what one used after the last look is known from the time
+that its parent was told, so the total is exact, and each part within some seconds a process. `.ci/run` keeps the times of its
+own run so, and prints the table at its end. The status is the command's, or 0.
 """
 import argparse
 import json
@@ -23,7 +23,7 @@ import time
 
 KINDS = ("proof", "seed", "edits", "tests")
 OTHERS = ("others", "proof")
-LOOK, WRITE = 0.5, 5.0
+LOOK, WRITE = 2.0, 2.0
 TICKS = os.sysconf("SC_CLK_TCK")
 
 

@@ -13,7 +13,8 @@ is cut inside a message is answered as one that is cut before it.
 the seed, the commit's hash if not given: each script gets the same time, and of the wide ones, those with many messages in a line
 or many lines, there are two. --all does everything, or goes through all scripts, wide or not, as far as a given budget goes. Of
 many messages or lines only some are damaged, but with --every. WORDs choose scripts whose names contain one. --list counts. --only
-shows one damaged script with what both gateways print. The status is 1 where one isn't as it must be.
+shows one damaged script with what both gateways print. The last line counts the scripts that did as they must, undamaged and
+damaged, and those that didn't; the status is 1 where one didn't.
 """
 import argparse
 import os
@@ -179,17 +180,18 @@ def main():
     began, program = time.monotonic(), Program(path)
     chosen = chosen if given.all else part_of(chosen, given.seed)
     faults = [fault for fault in (undamaged(program, script) for script in chosen) if fault]
-    budget, found = given.budget or (None if given.all else EACH_JOB * given.jobs), len(faults)
+    budget, tried, found = given.budget or (None if given.all else EACH_JOB * given.jobs), len(chosen), len(faults)
     if not faults:
         print(f"hostile: seed {given.seed}, {'everything' if budget is None else f'{budget:.0f} s of a processor'}", flush=True)
         done = shares.work_by(lambda: pieces(Program(path), chosen, given.every), given.jobs, budget, given.seed)
         faults, found = done.faults, done.counts["faults"]
+        tried += sum(done.counts[family] for family in FAMILIES)
         counts = ", ".join(f"{family} {done.counts[family]:,}" for family in FAMILIES)
         print(f"hostile: {len(chosen)} scripts damaged: {counts}; {done.spent:.0f} s of a processor, {time.monotonic() - began:.0f} s")
     for fault in faults:
         print(fault)
-    print(f"hostile: {found} not as they must be")
-    return 1 if faults else 0
+    print(f"hostile: {tried - found} passed, {found} failed")
+    return 1 if found else 0
 
 
 def pieces(program, chosen, every):

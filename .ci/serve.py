@@ -20,13 +20,17 @@ LONGEST = 280
 sys.dont_write_bytecode = True
 sys.path.insert(0, os.path.join(ROOT, ".ci"))
 import served  # noqa: E402  (sets the path to examples/)
-from served import chain, crowds, damage, lines, rules, samples, servers, values  # noqa: E402
+from served import (chain, crowds, damage, idlers, lines, packaged, repeating, reports, rules, samples, servers, values,  # noqa: E402
+                    waiting)
 from served.room import Room  # noqa: E402
 
 # The long ones first.
-STORIES = [crowds.thousand, crowds.never_reading, crowds.quitting, damage.damaged, samples.examples, crowds.descriptors, servers.losing,
-           servers.several, servers.unanswered, values.creating, values.reading, values.watching, values.writing, rules.rights, rules.hosts,
-           lines.ordering, lines.starting, lines.remembering, chain.chained]
+STORIES = [crowds.thousand, crowds.never_reading, crowds.quitting, idlers.announcing, idlers.idling, idlers.coming,
+           damage.damaged, repeating.reconnecting, repeating.sweeping, samples.examples, crowds.descriptors,
+           servers.losing, servers.several, servers.unanswered, values.creating, values.reading, values.watching,
+           values.writing, rules.rights, rules.hosts, lines.ordering, lines.starting, lines.remembering,
+           chain.chained, packaged.packaged, repeating.unrepeated, repeating.levels, reports.reporting,
+           reports.reporting_nowhere, waiting.waiting_too_much, waiting.waiting_little]
 
 
 def tell(program, name):

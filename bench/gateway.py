@@ -222,7 +222,7 @@ def beside_waiting(times):
 
 def need_program():
     if not os.access(PROGRAM, os.X_OK):
-        sys.exit("build pvgate first: ./pvgate --help")
+        sys.exit("build pvgate first: ./pvgate --build")
 
 
 def main():

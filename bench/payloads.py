@@ -13,7 +13,8 @@ import time
 import gateway
 from gateway import connected, create, fastest, memory, message, subscribe, update
 
-MOST = 262_140  # LONG elements of an update of 1 MiB
+LARGE = 262_140  # LONG elements of an update of 1 MiB
+MOST = 4_194_300  # of one of 16 MiB, the most that there may be
 
 
 def readers(many, count):
@@ -50,11 +51,13 @@ def main():
     times = int(sys.argv[1]) if len(sys.argv) > 1 else 3
     one, many = (handing_out(readers, 10_000, 200, times) for readers in (1, 100))
     print(f"an update of 10000 elements: {one / 200 * 1e6:8.1f} us to 1 client, {many / 200 * 1e6:8.1f} us to 100: {many / one:5.2f} times")
-    one, ten = (handing_out(readers, MOST, 20, times) for readers in (1, 10))
-    size = 9 * 20 * 4 * MOST
-    print(f"updates of 1 MiB to 9 clients more: {size / max(ten - one, 1e-6) / 1e9:8.2f} GB/s, a plain copy {size / copying(size) / 1e9:8.2f} GB/s")
-    before = memory(list(readers(1_000, MOST)))
-    after = memory([*readers(1_000, MOST), "server u1 " + update(1, 42, MOST)])
+    for name, count, updates in (("1 MiB", LARGE, 20), ("16 MiB", MOST, 4)):
+        one, ten = (handing_out(readers, count, updates, times) for readers in (1, 10))
+        size = 9 * updates * 4 * count
+        copied = size / copying(size) / 1e9
+        print(f"updates of {name} to 9 clients more: {size / max(ten - one, 1e-6) / 1e9:8.2f} GB/s, a plain copy {copied:8.2f} GB/s")
+    before = memory(list(readers(1_000, LARGE)))
+    after = memory([*readers(1_000, LARGE), "server u1 " + update(1, 42, LARGE)])
     print(f"the same update of 1 MiB waiting for 1000 clients: {(after - before) / 1024:8.2f} MiB more")
 
 

@@ -16,8 +16,8 @@ PROGRAM = os.path.join(ROOT, "crates", "pvgate", "out", "pvgate")
 
 OPEN = "open s1 10.0.0.5\n"
 ECHO = "0017" + "0" * 28
-MAX_PAYLOAD = 1_048_576
-LARGE_ECHO = "0017ffff" + "0" * 24 + f"{MAX_PAYLOAD:08x}" + "0" * 8 + "5a" * MAX_PAYLOAD
+LARGE = 1_048_576  # bytes of a large payload
+LARGE_ECHO = "0017ffff" + "0" * 24 + f"{LARGE:08x}" + "0" * 8 + "5a" * LARGE
 
 
 def echoes(lines, messages):
@@ -72,7 +72,7 @@ def measure(name, script, messages, times):
 def main():
     times = int(sys.argv[1]) if len(sys.argv) > 1 else 3
     if not os.access(PROGRAM, os.X_OK):
-        sys.exit("build pvgate first: ./pvgate --help")
+        sys.exit("build pvgate first: ./pvgate --build")
     start = measure("a session alone", echoes(0, 0), 0, times)
     one = measure("ECHO, 16,000 in 1 line", echoes(1, 16_000), 16_000, times) - start
     many = measure("ECHO, 16,000 in 1,000 lines each", echoes(1_000, 16_000), 16_000_000, times) - start

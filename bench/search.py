@@ -40,7 +40,7 @@ def served(count):
     wanted = "client s1 " + "".join(create(8, name) for name in names(count)) + "\n"
     yield "open s1 10.0.0.5\nopen u1\n" + wanted
     for number, name in enumerate(names(count)):
-        yield from connected(number + 1, name)
+        yield "".join(f"{line}\n" for line in connected(number + 1, name))
     yield wanted + "sweep\n"
 
 
@@ -79,14 +79,12 @@ def main():
     most = int(sys.argv[1]) if len(sys.argv) > 1 else 400
     times = int(sys.argv[2]) if len(sys.argv) > 2 else 3
     if not os.access(PROGRAM, os.X_OK):
-        sys.exit("build pvgate first: ./pvgate --help")
+        sys.exit("build pvgate first: ./pvgate --build")
     for how, counts, setup in (("remembered", (100, 4_096), remembered), ("connected", (100, most), served)):
         for count in counts:
             script = "".join(setup(count))
             for searched in (1, 20, 100):
-                # Where names are connected, an event looks at each pair of them.
-                work = searched * count * (1 if how == "remembered" else count)
-                often = max(1, (10_000_000 if how == "remembered" else 160_000_000) // work)
+                often = max(1, 10_000_000 // (searched * count))
                 micros = cost(script, search(names(searched)), often, times)
                 print(f"{count:6} names {how:10} a search of {searched:3} names {micros:12.1f} us", flush=True)
 

@@ -2,8 +2,8 @@
 """Compares the program with this model on generated scripts and rule files.
 
 Run by hand, from anywhere: model/compare.py [SCRIPTS] [FILES] [SEED]. So many scripts are replayed
-by both (1,000 if not given) and so many rule files checked (1,000), from one seed (1). What is
-printed and the status must be equal. Each difference is printed, and its script is left in a file;
+by both (1,000 if not given) and so many rule files checked (1,000), in either syntax, from one seed
+(1). What is printed and the status must be equal. Each difference is printed, and its script is left in a file;
 after five the run ends. The model was written from the protocol's tables and the rules of the
 gateway, by an author who knew the definitions of the crates.
 """
@@ -49,10 +49,10 @@ def compare_scripts(count, seed):
     print(f"{count} scripts, {differences} differences")
 
 
-def checked(rule_text, group_text, name, host):
+def checked(rule_text, group_text, name, host, plain):
     """What `check-rules` prints, and its status."""
     try:
-        read = rules.read_rules(rule_text)
+        read = rules.read_rules(rule_text, plain)
     except rules.Fault as fault:
         return f"line {fault.line}: {fault.cause}\n", 1
     try:
@@ -82,7 +82,10 @@ def compare_rules(count, seed):
                         file.write(text)
             if texts[1] is not None:
                 arguments += ["--groups", f"{room}/groups"]
-            want, got = checked(*texts, name, host), program(*arguments)
+            plain = files.chance(0.5)
+            if plain:
+                arguments.append("--plain-groups")
+            want, got = checked(*texts, name, host, plain), program(*arguments)
             if got != want:
                 difference(repr(texts), got, want)
                 differences += 1

@@ -311,7 +311,7 @@ class Gateway(Servers):
         elif request.command == wire.CREATE_CHAN:
             self.create_channel(session, request)
         elif request.command == wire.HOST_NAME:
-            host = wire.nul_ended(request.payload)
+            host = wire.nul_ended(request.payload, wire.is_word)
             if host and not row.host_fixed:
                 row.host = host
         elif request.command == wire.ECHO:
@@ -326,7 +326,7 @@ class Gateway(Servers):
     def create_channel(self, session, request):
         row = self.sessions[session]
         row.host_fixed = True
-        name = wire.nul_ended(request.payload)
+        name = wire.nul_ended(request.payload, wire.is_name)
         lead = resolved(self.rules, row.host, name) if name else None
         full = sum(c.session == session for c in self.channels) >= MOST_CHANNELS
         link = self.link(lead[0]) if lead else None

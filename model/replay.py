@@ -8,7 +8,7 @@ import values
 import wire
 from gateway import Gateway
 from rows import PROPERTIES, VALUES
-from wire import framed, is_word, message
+from wire import framed, is_name, is_word, message
 
 GOOD, BAD_INPUT = 0, 2
 U32, USIZE = 2**32 - 1, 2**64 - 1
@@ -39,8 +39,14 @@ def data(word):
     return bytes.fromhex(word)
 
 
-def name(word):
+def host_named(word):
     if not is_word(word):
+        raise BadLine
+    return word
+
+
+def name(word):
+    if not is_name(word):
         raise BadLine
     return word
 
@@ -105,7 +111,7 @@ class Replay:
 
     def open_session(self, at, host):
         session = dest(at, "s")
-        self.gateway.step("opened", session[1], name(host))
+        self.gateway.step("opened", session[1], host_named(host))
         self.begin(session)
 
     def open_server(self, at):
@@ -142,8 +148,8 @@ class Replay:
         self.gateway.step("found", name(asked), dest(at, "u")[1])
 
     def search(self, host, datagram):
-        name(host)
-        asked = [(wire.nul_ended(said.payload), said.p1) for said in framed(data(datagram))[0]
+        host_named(host)
+        asked = [(wire.nul_ended(said.payload, is_name), said.p1) for said in framed(data(datagram))[0]
                  if said.command == wire.SEARCH]
         asked = [(searched, cid) for searched, cid in asked if searched]
         replies = [message(wire.SEARCH, PORT, 0, wire.NO_CHANNEL, cid, b"\0\x0d")

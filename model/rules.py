@@ -3,7 +3,7 @@ import re
 from dataclasses import dataclass, field
 from typing import Optional
 
-from wire import is_word
+from wire import is_name, is_word
 
 ALLOW_DENY, DENY_ALLOW = "ALLOW, DENY", "DENY, ALLOW"
 RIGHTS = {"NONE": 0, "READ": 1, "WRITE": 3}
@@ -77,30 +77,33 @@ def bracket_at(pattern, at):
     return "[" + negation + bracket(pattern[start:end]) + "]", end + 1
 
 
-def translated(pattern):
-    """A pattern as a regular expression, and how many groups it opens."""
+def translated(pattern, plain=False):
+    """A pattern as a regular expression, and how many groups it opens. In the plain syntax `(`, `)` and `|` make groups
+    without a backslash, and stand for themselves after one; in the escaped syntax it is the other way round."""
     out, groups, at = "", 0, 0
+    bare, escaped = ("{}]", SPECIAL | set("()|")) if plain else ("()|{}]", SPECIAL)
     while at < len(pattern):
         char, after = pattern[at], pattern[at + 1:at + 2]
         if char == "\\":
             if not after or not 33 <= ord(after) <= 126 or after.isalnum():
                 raise Refused("BadPattern")
-            groups += after == "("
-            out += after if after in "()|" else "\\" + after if after in SPECIAL else after
+            groups += after == "(" and not plain
+            out += "\\" + after if after in escaped else after
             at += 2
         elif char == "[":
             text, at = bracket_at(pattern, at)
             out += text
         elif 33 <= ord(char) <= 126:
-            out += "\\" + char if char in "()|{}]" else char
+            groups += char == "(" and plain
+            out += "\\" + char if char in bare else char
             at += 1
         else:
             raise Refused("BadPattern")
     return "^(?:" + out + ")$", groups
 
 
-def compiled(pattern):
-    text, groups = translated(pattern)
+def compiled(pattern, plain):
+    text, groups = translated(pattern, plain)
     try:
         return re.compile(text), groups
     except re.error:
@@ -148,14 +151,14 @@ def is_real(text, groups):
     return all(digit in "123456789" and digit and int(digit) <= groups for digit in references)
 
 
-def row_of(line, found):
+def row_of(line, found, plain):
     verb = found[1].upper()
     if verb == "DENY":
         hosts = listed_hosts(line)
-        return Row(compiled(found[0])[0], verb, hosts=hosts)
+        return Row(compiled(found[0], plain)[0], verb, hosts=hosts)
     rest = found[2:] if verb == "ALLOW" else found[3:]
     group = group_of(rest)
-    pattern, groups = compiled(found[0])
+    pattern, groups = compiled(found[0], plain)
     if verb == "ALLOW":
         return Row(pattern, verb, group=group)
     if len(found) < 3 or not is_real(found[2], groups):
@@ -173,7 +176,7 @@ def meaningful(text):
             yield number, line, words(line)
 
 
-def read_rules(text):
+def read_rules(text, plain=False):
     rules = Rules(ALLOW_DENY, [])
     for number, line, found in meaningful(text):
         try:
@@ -184,7 +187,7 @@ def read_rules(text):
                 raise Refused("NoVerb")
             if len(rules.rows) >= MOST_ROWS:
                 raise Refused("TooManyLines")
-            rules.rows.append(row_of(line, found))
+            rules.rows.append(row_of(line, found, plain))
         except Refused as refused:
             raise Fault(number, str(refused)) from None
     return rules
@@ -229,4 +232,4 @@ def resolved(rules, host, name):
         return None
     row, match = deciding
     real = name if row.verb == "ALLOW" else real_name(row, match)
-    return (real, row.group) if is_word(real) else None
+    return (real, row.group) if is_name(real) else None

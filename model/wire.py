@@ -2,7 +2,8 @@
 import struct
 from typing import NamedTuple, Optional
 
-MAX_PAYLOAD = 1_048_576
+MAX_PAYLOAD = 16_777_216
+MOST_OF_NAME, MOST_OF_WORD = 255, 127
 VERSION, EVENT_ADD, EVENT_CANCEL, WRITE = 0, 1, 2, 4
 SEARCH, EVENTS_OFF, EVENTS_ON, ERROR, CLEAR_CHANNEL = 6, 8, 9, 11, 12
 READ_NOTIFY, CREATE_CHAN, WRITE_NOTIFY, CLIENT_NAME, HOST_NAME = 15, 18, 19, 20, 21
@@ -76,15 +77,20 @@ def framed(data):
         data = data[read[1]:]
 
 
-def is_word(text):
-    """Whether a text is a name, a host or a group."""
+def is_word(text, most=MOST_OF_WORD):
+    """Whether a text is a host or a group, or with another limit a name."""
     data = text.encode()
-    return 1 <= len(data) <= 127 and all(33 <= byte <= 126 for byte in data)
+    return 1 <= len(data) <= most and all(33 <= byte <= 126 for byte in data)
 
 
-def nul_ended(payload) -> Optional[str]:
-    """The name or host up to the first NUL of a payload, if it is one."""
+def is_name(text):
+    """Whether a text is the name of a variable."""
+    return is_word(text, MOST_OF_NAME)
+
+
+def nul_ended(payload, is_read) -> Optional[str]:
+    """The name or the host up to the first NUL of a payload, if it is one."""
     text, nul, _ = payload.partition(b"\0")
     if not nul or not all(33 <= byte <= 126 for byte in text):
         return None
-    return text.decode() if is_word(text.decode()) else None
+    return text.decode() if is_read(text.decode()) else None

@@ -15,7 +15,7 @@ def output(program, *words):
 
 
 def version(program):
-    return output(program, "--version").split()[-1]
+    return output(program, "--version").split()[1]
 
 
 def commands(program):

@@ -12,8 +12,8 @@ def connection(kinds):
     return lambda word: word[:1] in kinds and len(word) > 1 and number(NUMBER32)(word[1:])
 
 
-def is_name(word):
-    return 1 <= len(word) <= 127 and all(33 <= byte <= 126 for byte in word)
+def of_printable(most):
+    return lambda word: 1 <= len(word) <= most and all(33 <= byte <= 126 for byte in word)
 
 
 def is_hexadecimal(word):
@@ -21,14 +21,15 @@ def is_hexadecimal(word):
 
 
 CLIENT, SERVER, EITHER = connection((b"s",)), connection((b"u",)), connection((b"s", b"u"))
+NAME, HOST = of_printable(255), of_printable(127)
 
 # What the words behind a command have to be; `open` has two forms.
 FORMS = {
-    b"open": [(CLIENT, is_name), (SERVER,)], b"lost": [(EITHER,)], b"client": [(CLIENT, is_hexadecimal)],
-    b"server": [(SERVER, is_hexadecimal)], b"found": [(is_name, SERVER)], b"search": [(is_name, is_hexadecimal)], b"sweep": [()],
+    b"open": [(CLIENT, HOST), (SERVER,)], b"lost": [(EITHER,)], b"client": [(CLIENT, is_hexadecimal)],
+    b"server": [(SERVER, is_hexadecimal)], b"found": [(NAME, SERVER)], b"search": [(HOST, is_hexadecimal)], b"sweep": [()],
     b"edit": [(number(SIZE), number(SIZE))], b"hold": [(EITHER,)], b"flow": [(EITHER,)], b"drain": [(EITHER, number(SIZE))],
-    b"asks": [()], b"read": [(CLIENT, number(NUMBER32), number(NUMBER16), number(NUMBER32))], b"sub": [(is_name,)],
-    b"props": [(is_name,)], b"rights": [(CLIENT, number(NUMBER32))],
+    b"asks": [()], b"read": [(CLIENT, number(NUMBER32), number(NUMBER16), number(NUMBER32))], b"sub": [(NAME,)],
+    b"props": [(NAME,)], b"rights": [(CLIENT, number(NUMBER32))],
 }
 
 

@@ -1,4 +1,5 @@
-"""Divides work between processes, in an order that a seed gives, until a budget of processor time is used.
+"""Divides work between processes, in an order that a seed gives, until a budget of processor time is used, or a little more time than
+it would take on an idle machine is over.
 
 Each piece of work has a number of parts. The pieces get equal shares of the time, so that a dear one doesn't take it all; what
 one doesn't use, as all its parts are done, is the others'. A piece has a name, a family under which its parts are counted, their count,
@@ -11,11 +12,13 @@ import resource
 import signal
 import subprocess
 import sys
+import time
 from collections import Counter, namedtuple
 from math import gcd
 
 FORK = multiprocessing.get_context("fork")
 TOLD = 25  # faults that one process keeps
+LONGER = 1.25  # so much longer than on an idle machine it may take
 
 Done = namedtuple("Done", "counts faults spent")
 
@@ -55,10 +58,10 @@ class Order:
 
 def work_through(pieces, at, of, budget, seed):
     """The part of one process."""
-    began, counts, faults = processor(), Counter(), []
+    began, until, counts, faults = processor(), time.monotonic() + LONGER * (budget or 0), Counter(), []
     orders = [Order(piece.count, f"{seed} {piece.name}", at, of) for piece in pieces]
     waiting = [(0.0, number) for number in range(len(pieces))]
-    while waiting and (budget is None or processor() - began < budget):
+    while waiting and (budget is None or processor() - began < budget and time.monotonic() < until):
         spent, number = heapq.heappop(waiting)
         before, part = processor(), orders[number].take()
         if part is None:

@@ -158,6 +158,7 @@ def never_reading(room):
     flood.stop()
     up.give("V", [-1] * 50)
     room.equal("the last value comes", reader.updates_until(own, [-1])[-1], [-1])
+    room.check("who never reads isn't cut off for that", not server.has_logged(f"127.0.0.1:{lazy.socket.getsockname()[1]})", "cut off"))
     echoes(room, server, lazy)
     room.check("the reader goes on", reader.echo())
     room.equal("quit", server.quit(), 0)

@@ -3,6 +3,7 @@ import os
 import random
 import socket
 import struct
+import subprocess
 import time
 
 import ca_wire as ca
@@ -21,6 +22,7 @@ def damaged(room):
     cut_streams(room, server)
     half_closed(room, server)
     datagrams(room, server, good)
+    three_searches(room, server)
     from_the_server(room, up, server, good, channel)
     up.give("V", [2])
     room.equal("the client that was there saw nothing of it", good.updates_until(own, [2]), [[1], [2]])
@@ -35,7 +37,7 @@ def faulty_streams(room, server):
             ("a size of 5", "8", struct.pack(">HHHHII", 23, 5, 0, 0, 0, 0)),
             ("a size of FFFF with a count", "8", struct.pack(">HHHHII", 23, 0xFFFF, 0, 5, 0, 0)),
             ("an extended size that is no multiple of 8", "8", struct.pack(">HHHHIIII", 23, 0xFFFF, 0, 0, 0, 0, 12, 1)),
-            ("an extended size over the limit", "1048576", struct.pack(">HHHHIIII", 23, 0xFFFF, 0, 0, 0, 0, 1_048_584, 1)),
+            ("an extended size over the limit", "16777216", struct.pack(">HHHHIIII", 23, 0xFFFF, 0, 0, 0, 0, 16_777_224, 1)),
             ("version 8", "version", ca.message(ca.VERSION, count=8))):
         client = room.client(server)
         room.check(f"before {label}", client.echo())
@@ -96,6 +98,50 @@ def datagrams(room, server, good):
     good.asker.sendto(b"".join(ca.search("V", it) for it in range(many)), server.address)
     replies = good.replies(60)
     room.check("a reply to 2,700 searches", replies is not None and [it.p2 for it in replies[1:]] == list(range(many)))
+
+
+# A gateway that serves V once it is searched for, as a script.
+SERVING = f"""open u1
+server u1 {ca.message(ca.VERSION, count=ca.MINOR).hex()}
+search 10.0.0.9 {ca.search("V", 1).hex()}
+found V u1
+server u1 {(ca.message(ca.ACCESS_RIGHTS, p1=1, p2=3) + ca.message(ca.CREATE_CHAN, b"", ca.LONG, 1, 1, 1)).hex()}
+"""
+
+
+def replayed(room, datagrams):
+    """What a script's gateway replies to each of them; its port is 5064."""
+    lines = "".join(f"search 10.0.0.9 {it.hex() or '-'}\n" for it in datagrams)
+    ran = subprocess.run([room.program, "replay"], input=(SERVING + lines).encode(), capture_output=True, check=True)
+    return [ca.Frames().feed(bytes.fromhex(it.split(b" ")[1].decode().replace("-", "")))
+            for it in ran.stdout.splitlines() if it.startswith(b"reply ")][1:]
+
+
+def three_searches(room, server):
+    """A datagram with three searches, cut at each place, and with each byte 00 and FF, is answered as a script says."""
+    whole = ca.message(ca.VERSION, count=ca.MINOR) + ca.search("V", 17) + ca.search("U", 18) + ca.search("V", 19)
+    damaged = [whole[:at] for at in range(len(whole) + 1)]
+    damaged += [whole[:at] + byte + whole[at + 1:] for at in range(len(whole)) for byte in (b"\0", b"\xff")]
+    wanted = replayed(room, damaged)
+    room.check("a script replies to some", [it.p2 for it in wanted[len(whole)]] == [0, 17, 19] and [] in wanted and len(wanted) == len(damaged))
+    with socket.socket(socket.AF_INET, socket.SOCK_DGRAM) as sender:
+        sender.settimeout(10)
+        seen = [replies(sender, server, it, 100_000 + at) for at, it in enumerate(damaged)]
+    own = [[it._replace(dtype=server.address[1]) if it.command == ca.SEARCH else it for it in reply] for reply in wanted]
+    wrong = [at for at, (one, other) in enumerate(zip(seen, own)) if one != other]
+    room.check(f"{len(damaged)} damaged datagrams", not wrong, f"{wrong[:5]}: {[(seen[at], own[at]) for at in wrong[:1]]}")
+
+
+def replies(sender, server, datagram, number):
+    """The messages that a datagram is answered with: those before the answer to a search that follows it."""
+    sender.sendto(datagram, server.address)
+    sender.sendto(ca.message(ca.VERSION, count=ca.MINOR) + ca.search("V", number), server.address)
+    got = []
+    while True:
+        reply = ca.Frames().feed(sender.recv(1 << 16))
+        if reply[-1].p2 == number:
+            return got
+        got += reply
 
 
 def from_the_server(room, up, server, good, channel):

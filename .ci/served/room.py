@@ -36,11 +36,11 @@ def text_of(address):
 class Server:
     """The gateway, running."""
 
-    def __init__(self, words, most_files=None):
+    def __init__(self, words, most_files=None, stdin=subprocess.PIPE):
         def limited():
             if most_files is not None:
                 resource.setrlimit(resource.RLIMIT_NOFILE, (most_files, most_files))
-        self.process = subprocess.Popen(words, stdin=subprocess.PIPE, stdout=subprocess.PIPE, stderr=subprocess.PIPE, preexec_fn=limited)
+        self.process = subprocess.Popen(words, stdin=stdin, stdout=subprocess.PIPE, stderr=subprocess.PIPE, preexec_fn=limited)
         self.printed, self.logged = [], []
         self.readers = [threading.Thread(target=self.collect, args=it, daemon=True)
                         for it in ((self.process.stdout, self.printed), (self.process.stderr, self.logged))]
@@ -93,7 +93,8 @@ class Server:
             self.process.wait()
         for stream in (self.process.stdin, self.process.stdout, self.process.stderr):
             try:
-                stream.close()
+                if stream is not None:
+                    stream.close()
             except OSError:
                 pass
 
@@ -142,18 +143,19 @@ class Room:
         self.started.append(it.stop)
         return it
 
-    def words(self, listen, upstreams, rules=None, groups=None):
-        words = [self.program, "serve", listen, *upstreams]
+    def words(self, listen, upstreams, rules=None, groups=None, options=()):
+        words = [self.program, "serve", listen, *upstreams, *options]
         for option, name, text in (("--rules", "rules", rules), ("--groups", "groups", groups)):
             if text is not None:
                 words += [option, self.file(name, text)]
         return words
 
-    def server(self, *upstreams, rules=None, groups=None, most_files=None):
+    def server(self, *upstreams, rules=None, groups=None, most_files=None, options=()):
         """A gateway before these upstreams, listening."""
         for _ in range(5):
             address = ("127.0.0.1", free_port())
-            it = Server(self.words(text_of(address), [text_of(up.address) for up in upstreams], rules, groups), most_files)
+            words = self.words(text_of(address), [text_of(up.address) for up in upstreams], rules, groups, options)
+            it = Server(words, most_files)
             it.address = address
             self.started.append(it.kill)
             if self.wait(lambda: it.printed or it.process.poll() is not None):

@@ -35,7 +35,7 @@ def creating(room):
     room.check("a second channel of the name has a SID of its own", client.open("T1").sid not in (channel.sid, other.sid))
     room.equal("one channel upstream for each name", len(up.channels), 2)
     room.check("a name that no server has fails", client.try_open("T3") is None)
-    room.check("a name of 128 letters fails", client.try_open("T" * 128) is None)
+    room.check("a name of 256 letters fails", client.try_open("T" * 256) is None)
     room.check("ECHO", client.echo() and client.echo(bytes(range(8))) and client.echo(bytes(70_000)))
     client.send(ca.message(ca.ECHO, b"12345678", 1, 70_000, 2, 3))
     room.equal("ECHO with a large count", client.take(), ca.Message(ca.ECHO, 1, 70_000, 2, 3, b"12345678"))

@@ -7,7 +7,7 @@ use Rattle.gateway_state.specs.declared.config.Config.{Config}
 use Rattle.gateway_state.specs.declared.event.Dest.{Dest}
 use Rattle.gateway_state.specs.declared.event.Event.{Event}
 use Rattle.rule_desk.specs.declared.policy.Policy.{Policy}
-use Rattle.board_rings.specs.Lines.{is_line, with_free}
+use Rattle.board_rings.specs.Attachments.{is_attachment_of, with_free}
 use Rattle.board_rings.specs.Rings.{Ring}
 use Rattle.board_rings.specs.declared.inbound.Inbound.{Inbound}
 use Rattle.board_history.specs.Board.{BoardState}
@@ -18,7 +18,7 @@ use Rattle.board_history.specs.declared.entry.Entry.{Entry}
 use Rattle.board_history.specs.declared.entry.Entry.TheVariants.{Pumped, Desked, Sent, Attached, Retired}
 use Rattle.board_history.proofs.OnRun.{attached, desk_failed, desked, looked, new_board, pump_failed, pumped, retired, send_failed, sent}
 
-pub new_has_history : (config : Config) (policy : Policy) → HasHistory (record { rows = Some (initial config policy); lines = [] })
+pub new_has_history : (config : Config) (policy : Policy) → HasHistory (record { rows = Some (initial config policy); attachments = [] })
 new_has_history config policy = record { config = config; policy = policy; history = []; on_run = new_board config policy }
 
 -- the history with an entry more
@@ -62,6 +62,6 @@ retired_has_history dest old new had retires =
     goes_on_by (Retired dest) old new had (retired had.config had.policy had.history old new had.on_run dest retires)
 
 pub looked_has_history : (dest : Dest) (found : ℕ) (old new : BoardState) → HasHistory old
-    → new.rows ≡ old.rows → new.lines ≡ change_first (is_line dest) (with_free found) old.lines → HasHistory new
-looked_has_history dest found old new had rows lines =
-    stays old new had (looked had.config had.policy had.history old new had.on_run dest found rows lines)
+    → new.rows ≡ old.rows → new.attachments ≡ change_first (is_attachment_of dest) (with_free found) old.attachments → HasHistory new
+looked_has_history dest found old new had rows attachments =
+    stays old new had (looked had.config had.policy had.history old new had.on_run dest found rows attachments)

@@ -1,5 +1,5 @@
 pub mod Goes
 pub mod Histories
-pub mod Lines
+pub mod Attachments
 pub mod OnRun
 mod WorkedHistories

@@ -16,18 +16,18 @@ use Rattle.gateway_state.specs.declared.event.Dest.{Dest}
 use Rattle.gateway_state.specs.declared.event.Event.{Event}
 use Rattle.gateway_state.specs.declared.event.Event.TheVariants.{Drain}
 use Rattle.rule_desk.specs.declared.policy.Policy.{Policy}
-use Rattle.board_rings.proofs.LineOrder.{changed_in_order, rest_in_order}
-use Rattle.board_rings.specs.Lines.{are_in_order, is_attached, is_line, is_not_line, line_of, new_line, with_free, with_received}
-use Rattle.board_rings.specs.Rings.{LineState, Ring}
+use Rattle.board_rings.proofs.AttachmentOrder.{changed_in_order, rest_in_order}
+use Rattle.board_rings.specs.Attachments.{are_in_order, is_attached, is_attachment_of, is_not_attachment_of, attachment_of, new_attachment, with_free, with_received}
+use Rattle.board_rings.specs.Rings.{AttachmentState, Ring}
 use Rattle.board_rings.specs.declared.inbound.Inbound.{Inbound}
 use Rattle.board_history.specs.Board.{BoardState}
 use Rattle.board_history.specs.Calls.{Attaches, DeskFails, Desks, PumpFails, Pumps, Retires, SendFails, Sends, uses_up, with_sent}
-use Rattle.board_history.specs.History.{IsLineOf, IsOnRun, Refused, events_of, is_attached_in, item_event, pushed_by, pushed_in, received_by, received_in, refused_of}
+use Rattle.board_history.specs.History.{IsAttachmentOf, IsOnRun, Refused, events_of, is_attached_in, item_event, pushed_by, pushed_in, received_by, received_in, refused_of}
 use Rattle.board_history.specs.declared.entry.TheConstants.{MOST_SENT}
 use Rattle.board_history.specs.declared.entry.Entry.{Entry}
 use Rattle.board_history.specs.declared.entry.Entry.TheVariants.{Pumped, Desked, Sent, Attached, Retired}
 use Rattle.board_history.proofs.Histories.{attached_more, may_follow_more, pushed_more, received_more, run_more, run_more_out}
-use Rattle.board_history.proofs.Lines.{attached_after_change, attached_where_found, line_after_change, line_left, same_dest_is}
+use Rattle.board_history.proofs.Attachments.{attached_after_change, attached_where_found, attachment_after_change, attachment_left, same_dest_is}
 
 -- ROWS
 
@@ -101,36 +101,36 @@ module _ (config : Config) (policy : Policy) (history : List Entry) where
   abbrev reached : Gateway
   reached = run (initial config policy) (events_of history)
 
-  -- a connection's line, once the history went on
-  line_more : (entry : Entry) (refused : Option Refused) (dest : Dest) (line : LineState)
-      → line.ends.received ≡ received_by (received_in history dest) entry dest ++ refused_of refused dest
-      → line.ends.pushed ≡ pushed_by (pushed_in (initial config policy) history dest) reached entry dest
-      → IsLineOf config policy (history ++ entry ∷ []) refused dest line
-  line_more entry refused dest line received pushed = record {
+  -- a connection's attachment, once the history went on
+  attachment_more : (entry : Entry) (refused : Option Refused) (dest : Dest) (attachment : AttachmentState)
+      → attachment.ends.received ≡ received_by (received_in history dest) entry dest ++ refused_of refused dest
+      → attachment.ends.pushed ≡ pushed_by (pushed_in (initial config policy) history dest) reached entry dest
+      → IsAttachmentOf config policy (history ++ entry ∷ []) refused dest attachment
+  attachment_more entry refused dest attachment received pushed = record {
     received = received ∙ ap (λ (items : List Inbound). items ++ refused_of refused dest) (sym (received_more [] history entry dest));
     pushed = pushed ∙ sym (pushed_more [] (initial config policy) history entry dest);
   }
 
-  -- a connection's line on which the history goes on elsewhere
-  line_stays : (entry : Entry) (refused more : Option Refused) (dest : Dest) (line : LineState)
+  -- a connection's attachment on which the history goes on elsewhere
+  attachment_stays : (entry : Entry) (refused more : Option Refused) (dest : Dest) (attachment : AttachmentState)
       → received_by (received_in history dest) entry dest ≡ received_in history dest
       → pushed_by (pushed_in (initial config policy) history dest) reached entry dest ≡ pushed_in (initial config policy) history dest
       → refused_of more dest ≡ refused_of refused dest
-      → IsLineOf config policy history refused dest line → IsLineOf config policy (history ++ entry ∷ []) more dest line
-  line_stays entry refused more dest line items messages rest was =
-      line_more entry more dest line
+      → IsAttachmentOf config policy history refused dest attachment → IsAttachmentOf config policy (history ++ entry ∷ []) more dest attachment
+  attachment_stays entry refused more dest attachment items messages rest was =
+      attachment_more entry more dest attachment
       (was.received
       ∙ ap (λ (last : List Inbound). received_in history dest ++ last) (sym rest)
       ∙ ap (λ (all : List Inbound). all ++ refused_of more dest) (sym items))
       (was.pushed ∙ sym messages)
 
   module _ (old new : BoardState) (on_run : IsOnRun old config policy history) where
-    attached_in_history : (dest : Dest) (is : Bool) → is_attached dest old.lines ≡ is → is_attached_in history dest ≡ is
-    attached_in_history dest is e = sym (on_run.attached dest) ∙ attached_where_found dest old.lines ∙ e
+    attached_in_history : (dest : Dest) (is : Bool) → is_attached dest old.attachments ≡ is → is_attached_in history dest ≡ is
+    attached_in_history dest is e = sym (on_run.attached dest) ∙ attached_where_found dest old.attachments ∙ e
 
-    -- where rows stood, a line received what the history says
-    received_alone : (dest : Dest) (line : LineState) → IsSome old.rows → IsLineOf config policy history on_run.refused dest line → line.ends.received ≡ received_in history dest
-    received_alone dest line stands was =
+    -- where rows stood, an attachment received what the history says
+    received_alone : (dest : Dest) (attachment : AttachmentState) → IsSome old.rows → IsAttachmentOf config policy history on_run.refused dest attachment → attachment.ends.received ≡ received_in history dest
+    received_alone dest attachment stands was =
         was.received ∙ ap (λ (refused : Option Refused). received_in history dest ++ refused_of refused dest) (on_run.none_refused stands)
         ∙ append-nil (received_in history dest)
 
@@ -156,47 +156,47 @@ module _ (config : Config) (policy : Policy) (history : List Entry) where
     defined_more entry event in_range more =
         more ∙ ap (λ (b : Bool). b || is_past_numbers (step reached event)) on_run.defined ∙ step_defined event reached old.rows on_run.rows in_range
 
-    -- One line changed, and no other.
-    module _ (f : LineState → LineState) (keeps : (line : LineState) → (f line).dest ≡ line.dest) (dest : Dest) (changed : new.lines ≡ change_first (is_line dest) f old.lines) where
-      ordered_changed : are_in_order new.lines ≡ true
-      ordered_changed = ap are_in_order changed ∙ changed_in_order (is_line dest) f keeps old.lines ∙ on_run.ordered
+    -- One attachment changed, and no other.
+    module _ (f : AttachmentState → AttachmentState) (keeps : (attachment : AttachmentState) → (f attachment).dest ≡ attachment.dest) (dest : Dest) (changed : new.attachments ≡ change_first (is_attachment_of dest) f old.attachments) where
+      ordered_changed : are_in_order new.attachments ≡ true
+      ordered_changed = ap are_in_order changed ∙ changed_in_order (is_attachment_of dest) f keeps old.attachments ∙ on_run.ordered
 
-      attached_changed : (at : Dest) → is_some (line_of at new.lines) ≡ is_attached_in history at
+      attached_changed : (at : Dest) → is_some (attachment_of at new.attachments) ≡ is_attached_in history at
       attached_changed at =
-          ap (λ (lines : List LineState). is_some (line_of at lines)) changed ∙ attached_after_change f keeps dest at old.lines ∙ on_run.attached at
+          ap (λ (attachments : List AttachmentState). is_some (attachment_of at attachments)) changed ∙ attached_after_change f keeps dest at old.attachments ∙ on_run.attached at
 
-      lines_changed : (after : List Entry) (refused : Option Refused)
-          → ((at : Dest) → same_dest dest at ≡ true → (line : LineState) → IsLineOf config policy history on_run.refused at line → IsLineOf config policy after refused at (f line))
-          → ((at : Dest) → same_dest dest at ≡ false → (line : LineState) → IsLineOf config policy history on_run.refused at line → IsLineOf config policy after refused at line)
-          → (at : Dest) → ForSome (line_of at new.lines) (IsLineOf config policy after refused at)
-      lines_changed after refused own other at =
-          subst (λ (lines : List LineState). ForSome (line_of at lines) (IsLineOf config policy after refused at)) (sym changed)
-          (line_after_change f keeps (IsLineOf config policy history on_run.refused at) (IsLineOf config policy after refused at) dest at old.lines (on_run.lines at) (own at) (other at))
+      attachments_changed : (after : List Entry) (refused : Option Refused)
+          → ((at : Dest) → same_dest dest at ≡ true → (attachment : AttachmentState) → IsAttachmentOf config policy history on_run.refused at attachment → IsAttachmentOf config policy after refused at (f attachment))
+          → ((at : Dest) → same_dest dest at ≡ false → (attachment : AttachmentState) → IsAttachmentOf config policy history on_run.refused at attachment → IsAttachmentOf config policy after refused at attachment)
+          → (at : Dest) → ForSome (attachment_of at new.attachments) (IsAttachmentOf config policy after refused at)
+      attachments_changed after refused own other at =
+          subst (λ (attachments : List AttachmentState). ForSome (attachment_of at attachments) (IsAttachmentOf config policy after refused at)) (sym changed)
+          (attachment_after_change f keeps (IsAttachmentOf config policy history on_run.refused at) (IsAttachmentOf config policy after refused at) dest at old.attachments (on_run.attachments at) (own at) (other at))
 
     pub pumped : (dest : Dest) (item : Inbound) → Pumps dest item old new → IsOnRun new config policy (history ++ Pumped dest item ∷ [])
     pumped dest item pumps = record {
       defined = defined_more (Pumped dest item) (item_event dest item) pumps.in_range (run_more_out (initial config policy) history (Pumped dest item));
-      ordered = ordered_changed (with_received item pumps.seen) (λ _. refl) dest pumps.lines;
+      ordered = ordered_changed (with_received item pumps.seen) (λ _. refl) dest pumps.attachments;
       entries = may_follow_more [] history (Pumped dest item) on_run.entries (attached_in_history dest true pumps.attached);
       rows = rows_more (Pumped dest item) (item_event dest item) pumps.rows (run_more (initial config policy) history (Pumped dest item));
       refused = None;
       none_refused = λ _. refl;
-      attached = λ at. attached_changed (with_received item pumps.seen) (λ _. refl) dest pumps.lines at ∙ sym (attached_more false history (Pumped dest item) at);
-      lines = lines_changed (with_received item pumps.seen) (λ _. refl) dest pumps.lines (history ++ Pumped dest item ∷ []) None own other;
+      attached = λ at. attached_changed (with_received item pumps.seen) (λ _. refl) dest pumps.attachments at ∙ sym (attached_more false history (Pumped dest item) at);
+      attachments = attachments_changed (with_received item pumps.seen) (λ _. refl) dest pumps.attachments (history ++ Pumped dest item ∷ []) None own other;
     }
       where
-        own : (at : Dest) → same_dest dest at ≡ true → (line : LineState) → IsLineOf config policy history on_run.refused at line
-            → IsLineOf config policy (history ++ Pumped dest item ∷ []) None at (with_received item pumps.seen line)
-        own at same line was =
-            line_more (Pumped dest item) None at (with_received item pumps.seen line)
-            (ap (λ (items : List Inbound). items ++ item ∷ []) (received_alone at line pumps.stands was)
+        own : (at : Dest) → same_dest dest at ≡ true → (attachment : AttachmentState) → IsAttachmentOf config policy history on_run.refused at attachment
+            → IsAttachmentOf config policy (history ++ Pumped dest item ∷ []) None at (with_received item pumps.seen attachment)
+        own at same attachment was =
+            attachment_more (Pumped dest item) None at (with_received item pumps.seen attachment)
+            (ap (λ (items : List Inbound). items ++ item ∷ []) (received_alone at attachment pumps.stands was)
             ∙ sym (append-nil (received_in history at ++ item ∷ []))
             ∙ ap (λ (b : Bool). cond b (received_in history at ++ item ∷ []) (received_in history at) ++ []) (sym same)) was.pushed
 
-        other : (at : Dest) → same_dest dest at ≡ false → (line : LineState) → IsLineOf config policy history on_run.refused at line
-            → IsLineOf config policy (history ++ Pumped dest item ∷ []) None at line
-        other at differs line was =
-            line_stays (Pumped dest item) on_run.refused None at line
+        other : (at : Dest) → same_dest dest at ≡ false → (attachment : AttachmentState) → IsAttachmentOf config policy history on_run.refused at attachment
+            → IsAttachmentOf config policy (history ++ Pumped dest item ∷ []) None at attachment
+        other at differs attachment was =
+            attachment_stays (Pumped dest item) on_run.refused None at attachment
             (ap (λ (b : Bool). cond b (received_in history at ++ item ∷ []) (received_in history at)) differs) refl
             (sym (ap (λ (refused : Option Refused). refused_of refused at) (on_run.none_refused pumps.stands))) was
 
@@ -204,28 +204,28 @@ module _ (config : Config) (policy : Policy) (history : List Entry) where
     pump_failed dest item pumps = record {
       entries = on_run.entries;
       defined = on_run.defined;
-      ordered = ordered_changed (with_received item pumps.seen) (λ _. refl) dest pumps.lines;
+      ordered = ordered_changed (with_received item pumps.seen) (λ _. refl) dest pumps.attachments;
       rows = none_runs new.rows (λ w. w ≡ reached) pumps.rows;
       refused = Some (record { dest = dest; item = item });
       none_refused = none_is_left new.rows pumps.rows;
-      attached = attached_changed (with_received item pumps.seen) (λ _. refl) dest pumps.lines;
-      lines = lines_changed (with_received item pumps.seen) (λ _. refl) dest pumps.lines history (Some (record { dest = dest; item = item })) own other;
+      attached = attached_changed (with_received item pumps.seen) (λ _. refl) dest pumps.attachments;
+      attachments = attachments_changed (with_received item pumps.seen) (λ _. refl) dest pumps.attachments history (Some (record { dest = dest; item = item })) own other;
     }
       where
-        own : (at : Dest) → same_dest dest at ≡ true → (line : LineState) → IsLineOf config policy history on_run.refused at line
-            → IsLineOf config policy history (Some (record { dest = dest; item = item })) at (with_received item pumps.seen line)
-        own at same line was = record {
+        own : (at : Dest) → same_dest dest at ≡ true → (attachment : AttachmentState) → IsAttachmentOf config policy history on_run.refused at attachment
+            → IsAttachmentOf config policy history (Some (record { dest = dest; item = item })) at (with_received item pumps.seen attachment)
+        own at same attachment was = record {
           received =
-              ap (λ (items : List Inbound). items ++ item ∷ []) (received_alone at line pumps.stands was)
+              ap (λ (items : List Inbound). items ++ item ∷ []) (received_alone at attachment pumps.stands was)
               ∙ ap (λ (b : Bool). received_in history at ++ cond b (item ∷ []) []) (sym same);
           pushed = was.pushed;
         }
 
-        other : (at : Dest) → same_dest dest at ≡ false → (line : LineState) → IsLineOf config policy history on_run.refused at line
-            → IsLineOf config policy history (Some (record { dest = dest; item = item })) at line
-        other at differs line was = record {
+        other : (at : Dest) → same_dest dest at ≡ false → (attachment : AttachmentState) → IsAttachmentOf config policy history on_run.refused at attachment
+            → IsAttachmentOf config policy history (Some (record { dest = dest; item = item })) at attachment
+        other at differs attachment was = record {
           received =
-              received_alone at line pumps.stands was
+              received_alone at attachment pumps.stands was
               ∙ sym (append-nil (received_in history at))
               ∙ ap (λ (b : Bool). received_in history at ++ cond b (item ∷ []) []) (sym differs);
           pushed = was.pushed;
@@ -234,34 +234,34 @@ module _ (config : Config) (policy : Policy) (history : List Entry) where
     pub desked : (event : Event) → Desks event old new → IsOnRun new config policy (history ++ Desked event ∷ [])
     desked event desks = record {
       defined = defined_more (Desked event) event desks.in_range (run_more_out (initial config policy) history (Desked event));
-      ordered = ap are_in_order desks.lines ∙ on_run.ordered;
+      ordered = ap are_in_order desks.attachments ∙ on_run.ordered;
       entries = may_follow_more [] history (Desked event) on_run.entries desks.here;
       rows = rows_more (Desked event) event desks.rows (run_more (initial config policy) history (Desked event));
       refused = on_run.refused;
       none_refused = λ _. on_run.none_refused desks.stands;
       attached = λ at.
-          ap (λ (lines : List LineState). is_some (line_of at lines)) desks.lines ∙ on_run.attached at ∙ sym (attached_more false history (Desked event) at);
-      lines = λ at line found.
-          line_stays (Desked event) on_run.refused on_run.refused at line refl refl refl
-          (on_run.lines at line (sym (ap (λ (lines : List LineState). line_of at lines) desks.lines) ∙ found));
+          ap (λ (attachments : List AttachmentState). is_some (attachment_of at attachments)) desks.attachments ∙ on_run.attached at ∙ sym (attached_more false history (Desked event) at);
+      attachments = λ at attachment found.
+          attachment_stays (Desked event) on_run.refused on_run.refused at attachment refl refl refl
+          (on_run.attachments at attachment (sym (ap (λ (attachments : List AttachmentState). attachment_of at attachments) desks.attachments) ∙ found));
     }
 
     pub desk_failed : DeskFails old new → IsOnRun new config policy history
     desk_failed desks = record {
       entries = on_run.entries;
       defined = on_run.defined;
-      ordered = ap are_in_order desks.lines ∙ on_run.ordered;
+      ordered = ap are_in_order desks.attachments ∙ on_run.ordered;
       rows = none_runs new.rows (λ w. w ≡ reached) desks.rows;
       refused = on_run.refused;
       none_refused = none_is_left new.rows desks.rows;
-      attached = λ at. ap (λ (lines : List LineState). is_some (line_of at lines)) desks.lines ∙ on_run.attached at;
-      lines = λ at line found. on_run.lines at line (sym (ap (λ (lines : List LineState). line_of at lines) desks.lines) ∙ found);
+      attached = λ at. ap (λ (attachments : List AttachmentState). is_some (attachment_of at attachments)) desks.attachments ∙ on_run.attached at;
+      attachments = λ at attachment found. on_run.attachments at attachment (sym (ap (λ (attachments : List AttachmentState). attachment_of at attachments) desks.attachments) ∙ found);
     }
 
     pub sent : (dest : Dest) (found : ℕ) (outs : List Out) → Sends dest found outs old new → IsOnRun new config policy (history ++ Sent dest (min MOST_SENT found) ∷ [])
     sent dest found outs sends = record {
       defined = defined_more (Sent dest (min MOST_SENT found)) (Drain dest (min MOST_SENT found)) sends.in_range (run_more_out (initial config policy) history (Sent dest (min MOST_SENT found)));
-      ordered = ordered_changed (with_sent found outs) (λ _. refl) dest sends.lines;
+      ordered = ordered_changed (with_sent found outs) (λ _. refl) dest sends.attachments;
       entries =
           may_follow_more [] history (Sent dest (min MOST_SENT found)) on_run.entries
           (and_from (is_attached_in history dest) (nat_lt 0 (min MOST_SENT found) && nat_le (min MOST_SENT found) MOST_SENT) (attached_in_history dest true sends.attached)
@@ -270,22 +270,22 @@ module _ (config : Config) (policy : Policy) (history : List Entry) where
       rows = rows_more (Sent dest (min MOST_SENT found)) (Drain dest (min MOST_SENT found)) sends.rows (run_more (initial config policy) history (Sent dest (min MOST_SENT found)));
       refused = on_run.refused;
       none_refused = λ _. on_run.none_refused sends.stands;
-      attached = λ at. attached_changed (with_sent found outs) (λ _. refl) dest sends.lines at ∙ sym (attached_more false history (Sent dest (min MOST_SENT found)) at);
-      lines = lines_changed (with_sent found outs) (λ _. refl) dest sends.lines (history ++ Sent dest (min MOST_SENT found) ∷ []) on_run.refused own other;
+      attached = λ at. attached_changed (with_sent found outs) (λ _. refl) dest sends.attachments at ∙ sym (attached_more false history (Sent dest (min MOST_SENT found)) at);
+      attachments = attachments_changed (with_sent found outs) (λ _. refl) dest sends.attachments (history ++ Sent dest (min MOST_SENT found) ∷ []) on_run.refused own other;
     }
       where
-        own : (at : Dest) → same_dest dest at ≡ true → (line : LineState) → IsLineOf config policy history on_run.refused at line
-            → IsLineOf config policy (history ++ Sent dest (min MOST_SENT found) ∷ []) on_run.refused at (with_sent found outs line)
-        own at same line was =
-            line_more (Sent dest (min MOST_SENT found)) on_run.refused at (with_sent found outs line) was.received
+        own : (at : Dest) → same_dest dest at ≡ true → (attachment : AttachmentState) → IsAttachmentOf config policy history on_run.refused at attachment
+            → IsAttachmentOf config policy (history ++ Sent dest (min MOST_SENT found) ∷ []) on_run.refused at (with_sent found outs attachment)
+        own at same attachment was =
+            attachment_more (Sent dest (min MOST_SENT found)) on_run.refused at (with_sent found outs attachment) was.received
             (ap (λ (messages : List Out). messages ++ outs) was.pushed
             ∙ ap (λ (messages : List Out). pushed_in (initial config policy) history at ++ messages) (taken_from (Drain dest (min MOST_SENT found)) dest outs reached old.rows on_run.rows sends.taken)
             ∙ ap (λ (d : Dest). pushed_in (initial config policy) history at ++ taken reached (Drain dest (min MOST_SENT found)) d) (same_dest_is dest at same))
 
-        other : (at : Dest) → same_dest dest at ≡ false → (line : LineState) → IsLineOf config policy history on_run.refused at line
-            → IsLineOf config policy (history ++ Sent dest (min MOST_SENT found) ∷ []) on_run.refused at line
-        other at differs line was =
-            line_stays (Sent dest (min MOST_SENT found)) on_run.refused on_run.refused at line refl
+        other : (at : Dest) → same_dest dest at ≡ false → (attachment : AttachmentState) → IsAttachmentOf config policy history on_run.refused at attachment
+            → IsAttachmentOf config policy (history ++ Sent dest (min MOST_SENT found) ∷ []) on_run.refused at attachment
+        other at differs attachment was =
+            attachment_stays (Sent dest (min MOST_SENT found)) on_run.refused on_run.refused at attachment refl
             (ap (λ (messages : List Out). pushed_in (initial config policy) history at ++ messages) (taken_of_other reached dest at (min MOST_SENT found) differs)
             ∙ append-nil (pushed_in (initial config policy) history at))
             refl was
@@ -294,85 +294,85 @@ module _ (config : Config) (policy : Policy) (history : List Entry) where
     send_failed dest found sends = record {
       entries = on_run.entries;
       defined = on_run.defined;
-      ordered = ordered_changed (with_free found) (λ _. refl) dest sends.lines;
+      ordered = ordered_changed (with_free found) (λ _. refl) dest sends.attachments;
       rows = none_runs new.rows (λ w. w ≡ reached) sends.rows;
       refused = on_run.refused;
       none_refused = none_is_left new.rows sends.rows;
-      attached = attached_changed (with_free found) (λ _. refl) dest sends.lines;
-      lines = lines_changed (with_free found) (λ _. refl) dest sends.lines history on_run.refused
-          (λ at same line was. record { received = was.received; pushed = was.pushed }) (λ at differs line was. was);
+      attached = attached_changed (with_free found) (λ _. refl) dest sends.attachments;
+      attachments = attachments_changed (with_free found) (λ _. refl) dest sends.attachments history on_run.refused
+          (λ at same attachment was. record { received = was.received; pushed = was.pushed }) (λ at differs attachment was. was);
     }
 
-    pub looked : (dest : Dest) (found : ℕ) → new.rows ≡ old.rows → new.lines ≡ change_first (is_line dest) (with_free found) old.lines → IsOnRun new config policy history
-    looked dest found rows lines = record {
+    pub looked : (dest : Dest) (found : ℕ) → new.rows ≡ old.rows → new.attachments ≡ change_first (is_attachment_of dest) (with_free found) old.attachments → IsOnRun new config policy history
+    looked dest found rows attachments = record {
       entries = on_run.entries;
       defined = on_run.defined;
-      ordered = ordered_changed (with_free found) (λ _. refl) dest lines;
+      ordered = ordered_changed (with_free found) (λ _. refl) dest attachments;
       rows = λ w h. on_run.rows w (sym rows ∙ h);
       refused = on_run.refused;
       none_refused = none_yet on_run.refused (λ none. none) rows;
-      attached = attached_changed (with_free found) (λ _. refl) dest lines;
-      lines = lines_changed (with_free found) (λ _. refl) dest lines history on_run.refused
-          (λ at same line was. record { received = was.received; pushed = was.pushed }) (λ at differs line was. was);
+      attached = attached_changed (with_free found) (λ _. refl) dest attachments;
+      attachments = attachments_changed (with_free found) (λ _. refl) dest attachments history on_run.refused
+          (λ at same attachment was. record { received = was.received; pushed = was.pushed }) (λ at differs attachment was. was);
     }
 
     pub attached : (dest : Dest) (in_ring out_ring : Ring) (free : ℕ) → Attaches dest in_ring out_ring free old new → IsOnRun new config policy (history ++ Attached dest ∷ [])
     attached dest in_ring out_ring free attaches = record {
       defined = run_more_out (initial config policy) history (Attached dest) ∙ or_none on_run.defined;
-      ordered = attaches.lines.ordered;
+      ordered = attaches.attachments.ordered;
       entries = may_follow_more [] history (Attached dest) on_run.entries (ap not (attached_in_history dest false attaches.apart));
       rows = rows_stay (Attached dest) attaches.rows (run_more (initial config policy) history (Attached dest));
       refused = refused_but on_run.refused dest;
       none_refused = none_yet (refused_but on_run.refused dest) (ap (λ (refused : Option Refused). refused_but refused dest)) attaches.rows;
-      attached = λ at. ap is_some (attaches.lines.found at) ∙ there at (same_dest dest at) refl ∙ sym (attached_more false history (Attached dest) at);
-      lines = λ at line found. by at line (same_dest dest at) refl (sym (attaches.lines.found at) ∙ found);
+      attached = λ at. ap is_some (attaches.attachments.found at) ∙ there at (same_dest dest at) refl ∙ sym (attached_more false history (Attached dest) at);
+      attachments = λ at attachment found. by at attachment (same_dest dest at) refl (sym (attaches.attachments.found at) ∙ found);
     }
       where
         there : (at : Dest) (same : Bool) → same_dest dest at ≡ same
-            → is_some (cond same (Some (new_line dest in_ring out_ring free)) (line_of at old.lines)) ≡ cond same true (is_attached_in history at)
+            → is_some (cond same (Some (new_attachment dest in_ring out_ring free)) (attachment_of at old.attachments)) ≡ cond same true (is_attached_in history at)
         there at true same = refl
         there at false differs = on_run.attached at
 
-        by : (at : Dest) (line : LineState) (same : Bool) → same_dest dest at ≡ same
-            → cond same (Some (new_line dest in_ring out_ring free)) (line_of at old.lines) ≡ Some line
-            → IsLineOf config policy (history ++ Attached dest ∷ []) (refused_but on_run.refused dest) at line
-        by at line true same found =
-            let here : new_line dest in_ring out_ring free ≡ line = cc in
-            subst (IsLineOf config policy (history ++ Attached dest ∷ []) (refused_but on_run.refused dest) at) here
-            (line_more (Attached dest) (refused_but on_run.refused dest) at (new_line dest in_ring out_ring free)
+        by : (at : Dest) (attachment : AttachmentState) (same : Bool) → same_dest dest at ≡ same
+            → cond same (Some (new_attachment dest in_ring out_ring free)) (attachment_of at old.attachments) ≡ Some attachment
+            → IsAttachmentOf config policy (history ++ Attached dest ∷ []) (refused_but on_run.refused dest) at attachment
+        by at attachment true same found =
+            let here : new_attachment dest in_ring out_ring free ≡ attachment = cc in
+            subst (IsAttachmentOf config policy (history ++ Attached dest ∷ []) (refused_but on_run.refused dest) at) here
+            (attachment_more (Attached dest) (refused_but on_run.refused dest) at (new_attachment dest in_ring out_ring free)
             (sym (refused_but_own on_run.refused dest at same) ∙ ap (λ (b : Bool). cond b [] (received_in history at) ++ refused_of (refused_but on_run.refused dest) at) (sym same))
             (ap (λ (b : Bool). cond b [] (pushed_in (initial config policy) history at)) (sym same)))
-        by at line false differs found =
-            line_stays (Attached dest) on_run.refused (refused_but on_run.refused dest) at line
+        by at attachment false differs found =
+            attachment_stays (Attached dest) on_run.refused (refused_but on_run.refused dest) at attachment
             (ap (λ (b : Bool). cond b [] (received_in history at)) differs) (ap (λ (b : Bool). cond b [] (pushed_in (initial config policy) history at)) differs)
-            (refused_but_other on_run.refused dest at differs) (on_run.lines at line found)
+            (refused_but_other on_run.refused dest at differs) (on_run.attachments at attachment found)
 
     pub retired : (dest : Dest) → Retires dest old new → IsOnRun new config policy (history ++ Retired dest ∷ [])
     retired dest retires = record {
       defined = run_more_out (initial config policy) history (Retired dest) ∙ or_none on_run.defined;
-      ordered = ap are_in_order retires.lines ∙ rest_in_order (is_not_line dest) old.lines on_run.ordered;
+      ordered = ap are_in_order retires.attachments ∙ rest_in_order (is_not_attachment_of dest) old.attachments on_run.ordered;
       entries = may_follow_more [] history (Retired dest) on_run.entries (attached_in_history dest true retires.attached);
       rows = rows_stay (Retired dest) retires.rows (run_more (initial config policy) history (Retired dest));
       refused = on_run.refused;
       none_refused = none_yet on_run.refused (λ none. none) retires.rows;
       attached = λ at. ap is_some (left at) ∙ there at (same_dest dest at) refl ∙ sym (attached_more false history (Retired dest) at);
-      lines = λ at line found. by at line (same_dest dest at) refl (sym (left at) ∙ found);
+      attachments = λ at attachment found. by at attachment (same_dest dest at) refl (sym (left at) ∙ found);
     }
       where
-        left : (at : Dest) → line_of at new.lines ≡ cond (same_dest dest at) None (line_of at old.lines)
-        left at = ap (λ (lines : List LineState). line_of at lines) retires.lines ∙ line_left dest at old.lines
+        left : (at : Dest) → attachment_of at new.attachments ≡ cond (same_dest dest at) None (attachment_of at old.attachments)
+        left at = ap (λ (attachments : List AttachmentState). attachment_of at attachments) retires.attachments ∙ attachment_left dest at old.attachments
 
-        there : (at : Dest) (same : Bool) → same_dest dest at ≡ same → is_some (cond same None (line_of at old.lines)) ≡ cond same false (is_attached_in history at)
+        there : (at : Dest) (same : Bool) → same_dest dest at ≡ same → is_some (cond same None (attachment_of at old.attachments)) ≡ cond same false (is_attached_in history at)
         there at true same = refl
         there at false differs = on_run.attached at
 
-        by : (at : Dest) (line : LineState) (same : Bool) → same_dest dest at ≡ same → cond same None (line_of at old.lines) ≡ Some line
-            → IsLineOf config policy (history ++ Retired dest ∷ []) on_run.refused at line
-        by at line true same found = absurd (let wrong : None ≡ Some line = found in cc)
-        by at line false differs found = line_stays (Retired dest) on_run.refused on_run.refused at line refl refl refl (on_run.lines at line found)
+        by : (at : Dest) (attachment : AttachmentState) (same : Bool) → same_dest dest at ≡ same → cond same None (attachment_of at old.attachments) ≡ Some attachment
+            → IsAttachmentOf config policy (history ++ Retired dest ∷ []) on_run.refused at attachment
+        by at attachment true same found = absurd (let wrong : None ≡ Some attachment = found in cc)
+        by at attachment false differs found = attachment_stays (Retired dest) on_run.refused on_run.refused at attachment refl refl refl (on_run.attachments at attachment found)
 
 -- a board to which nothing happened yet
-pub new_board : (config : Config) (policy : Policy) → let board : BoardState = record { rows = Some (initial config policy); lines = [] } in IsOnRun board config policy []
+pub new_board : (config : Config) (policy : Policy) → let board : BoardState = record { rows = Some (initial config policy); attachments = [] } in IsOnRun board config policy []
 unfolding run runs_out
 new_board config policy = record {
   entries = refl;
@@ -382,5 +382,5 @@ new_board config policy = record {
   refused = None;
   none_refused = λ _. refl;
   attached = λ _. refl;
-  lines = λ at line e. absurd (let wrong : None ≡ Some line = e in cc);
+  attachments = λ at attachment e. absurd (let wrong : None ≡ Some attachment = e in cc);
 }

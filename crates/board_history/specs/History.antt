@@ -12,8 +12,8 @@ use Rattle.gateway_state.specs.declared.event.Dest.TheVariants.{Session, Upstrea
 use Rattle.gateway_state.specs.declared.event.Event.{Event}
 use Rattle.gateway_state.specs.declared.event.Event.TheVariants as events
 use Rattle.rule_desk.specs.declared.policy.Policy.{Policy}
-use Rattle.board_rings.specs.Lines.{are_in_order, line_of}
-use Rattle.board_rings.specs.Rings.{LineState}
+use Rattle.board_rings.specs.Attachments.{are_in_order, attachment_of}
+use Rattle.board_rings.specs.Rings.{AttachmentState}
 use Rattle.board_rings.specs.declared.inbound.Inbound.{Inbound}
 use Rattle.board_rings.specs.declared.inbound.Inbound.TheVariants.{Message, Gone}
 use Rattle.board_history.specs.Board.{BoardState}
@@ -126,25 +126,25 @@ abbrev pub refused_of : Option Refused → Dest → List Inbound
 refused_of None dest = []
 refused_of (Some refused) dest = if same_dest refused.dest dest then refused.item ∷ [] else []
 
--- what a connection's line says is what the history says of it. On a board that failed one connection's
--- line may have one item more
-pub record IsLineOf (config : Config) (policy : Policy) (history : List Entry) (refused : Option Refused) (dest : Dest) (line : LineState) : Type 0 where
-  pub received : line.ends.received ≡ received_in history dest ++ refused_of refused dest
-  pub pushed : line.ends.pushed ≡ pushed_in (initial config policy) history dest
+-- what a connection's attachment says is what the history says of it. On a board that failed one connection's
+-- attachment may have one item more
+pub record IsAttachmentOf (config : Config) (policy : Policy) (history : List Entry) (refused : Option Refused) (dest : Dest) (attachment : AttachmentState) : Type 0 where
+  pub received : attachment.ends.received ≡ received_in history dest ++ refused_of refused dest
+  pub pushed : attachment.ends.pushed ≡ pushed_in (initial config policy) history dest
 
--- the board is where this history leads, from a gateway that began with this policy. Its lines stand in
+-- the board is where this history leads, from a gateway that began with this policy. Its attachments stand in
 -- order: clients first, each by rising number
 pub record IsOnRun (board : BoardState) (config : Config) (policy : Policy) (history : List Entry) : Type 0 where
   pub entries : may_follow_all [] history ≡ true
   -- no step gave out a number past the last one, so each is a defined one
   pub defined : runs_out (initial config policy) (events_of history) ≡ false
-  pub ordered : are_in_order board.lines ≡ true
+  pub ordered : are_in_order board.attachments ≡ true
   -- where no step was refused, the rows are those that the events run to
   pub rows : ForSome board.rows (λ w. w ≡ run (initial config policy) (events_of history))
   pub refused : Option Refused
   pub none_refused : IsSome board.rows → refused ≡ None
-  pub attached : (dest : Dest) → is_some (line_of dest board.lines) ≡ is_attached_in history dest
-  pub lines : (dest : Dest) → ForSome (line_of dest board.lines) (IsLineOf config policy history refused dest)
+  pub attached : (dest : Dest) → is_some (attachment_of dest board.attachments) ≡ is_attached_in history dest
+  pub attachments : (dest : Dest) → ForSome (attachment_of dest board.attachments) (IsAttachmentOf config policy history refused dest)
 
 -- some history leads to the board
 pub record HasHistory (board : BoardState) : Type 0 where

@@ -7,7 +7,7 @@ ghost use Rattle.gateway_state.specs.declared.config.Config.{Config};
 ghost use Rattle.gateway_state.specs.declared.event.Dest.{Dest};
 ghost use Rattle.gateway_state.specs.declared.event.Event.{Event};
 ghost use Rattle.rule_desk.specs.declared.policy.Policy.{Policy};
-ghost use Rattle.board_rings.specs.Lines.{is_line, with_free};
+ghost use Rattle.board_rings.specs.Attachments.{is_attachment_of, with_free};
 ghost use Rattle.board_rings.specs.Rings.{Ring};
 ghost use Rattle.board_rings.specs.declared.inbound.Inbound.{Inbound};
 ghost use Rattle.board_history.specs.Board.{BoardState};
@@ -24,7 +24,7 @@ pub fn numbers_are_these()
 
 /// A board to which nothing happened yet has the empty history.
 pub fn new_boards_have_no_history()
-    ensures { (config : Config) (policy : Policy) → let board : BoardState = record { rows = Some (initial config policy); lines = [] } in
+    ensures { (config : Config) (policy : Policy) → let board : BoardState = record { rows = Some (initial config policy); attachments = [] } in
         IsOnRun board config policy [] }
 {}
 
@@ -85,10 +85,10 @@ pub fn retires_go_on()
 {}
 
 /// A ring that nothing went through, and places that were looked at, are no history: what is said of a
-/// board depends on its rows, and on what its lines received and were pushed.
+/// board depends on its rows, and on what its attachments received and were pushed.
 pub fn places_are_no_history()
     ensures { (config : Config) (policy : Policy) (history : List Entry) (dest : Dest) (found : ℕ) (old new : BoardState)
         → IsOnRun old config policy history
-        → new.rows ≡ old.rows → new.lines ≡ change_first (is_line dest) (with_free found) old.lines
+        → new.rows ≡ old.rows → new.attachments ≡ change_first (is_attachment_of dest) (with_free found) old.attachments
         → IsOnRun new config policy history }
 {}

@@ -1,6 +1,6 @@
 //! What a board's history is, and that each call of the board goes on with it.
 //!
-//! A board has the gateway's rows and a line for each attached connection (`BoardState` in
+//! A board has the gateway's rows and an attachment for each attached connection (`BoardState` in
 //! `specs/Board.antt`). Its history is a list of entries (`Entry`): an item of a connection that was
 //! received and performed as an event, an event handed in at the desk, messages that were taken and sent
 //! on, a connection that was attached or retired. `IsOnRun` of `specs/History.antt` says what ties the

@@ -6,9 +6,9 @@ use Rattle.gateway_calls.specs.declared.fault.StepFault.TheVariants as steps
 use Rattle.gateway_state.specs.Gateway.{Gateway}
 use Rattle.gateway_state.specs.declared.event.Dest.{Dest}
 use Rattle.gateway_state.specs.declared.event.Event.{Event}
-use Rattle.board_rings.specs.Lines.{is_attached, is_line, is_not_line, new_line, IsWith}
-use Rattle.board_rings.specs.Rings.{InletState, LineState, OutletState}
-use Rattle.board_rings.specs.declared.line.TheConstants.{RING_SIZE}
+use Rattle.board_rings.specs.Attachments.{is_attached, is_attachment_of, is_not_attachment_of, new_attachment, IsWith}
+use Rattle.board_rings.specs.Rings.{InletState, AttachmentState, OutletState}
+use Rattle.board_rings.specs.declared.attachment.TheConstants.{RING_SIZE}
 use Rattle.board_history.specs.Board.{BoardState}
 use Rattle.board_history.specs.History.{HasHistory}
 use Rattle.board_history.proofs.Goes.{attached_has_history, desk_failed_has_history, desked_has_history, pump_failed_has_history, pumped_has_history, send_failed_has_history, retired_has_history, sent_has_history}
@@ -64,31 +64,31 @@ up_to_keeps calls old answer new p h = all_keep calls old p.0 new p.1.0 h
 
 round_on_keeps : (rows : Option Gateway) (old : BoardState) (answer : Result ℕ BoardFault) (new : BoardState) → IsRoundOn rows old answer new → HasHistory old → HasHistory new
 round_on_keeps None old answer new p h = subst HasHistory (sym p.1) h
-round_on_keeps (Some w) old answer new p h = up_to_keeps (round_calls old.lines) old answer new p h
+round_on_keeps (Some w) old answer new p h = up_to_keeps (round_calls old.attachments) old answer new p h
 
 pub round_keeps : (old : BoardState) (answer : Result ℕ BoardFault) (new : BoardState) → IsRound old answer new → HasHistory old → HasHistory new
 round_keeps old answer new p h = round_on_keeps old.rows old answer new p h
 
--- a connection that wasn't attached leaves all lines
-none_left_out : (dest : Dest) (lines : List LineState) → is_attached dest lines ≡ false → filter (is_not_line dest) lines ≡ lines
+-- a connection that wasn't attached leaves all attachments
+none_left_out : (dest : Dest) (attachments : List AttachmentState) → is_attached dest attachments ≡ false → filter (is_not_attachment_of dest) attachments ≡ attachments
 none_left_out dest [] none = refl
-none_left_out dest (line ∷ lines) none =
-    elim (is_line dest line) as (λ b. (b || list_any (is_line dest) lines) ≡ false → (if not b then line ∷ filter (is_not_line dest) lines else filter (is_not_line dest) lines) ≡ line ∷ lines)
-    [ true ↦ λ h. absurd cc | false ↦ λ h. ap (λ (ls : List LineState). line ∷ ls) (none_left_out dest lines h) ] none
+none_left_out dest (attachment ∷ attachments) none =
+    elim (is_attachment_of dest attachment) as (λ b. (b || list_any (is_attachment_of dest) attachments) ≡ false → (if not b then attachment ∷ filter (is_not_attachment_of dest) attachments else filter (is_not_attachment_of dest) attachments) ≡ attachment ∷ attachments)
+    [ true ↦ λ h. absurd cc | false ↦ λ h. ap (λ (ls : List AttachmentState). attachment ∷ ls) (none_left_out dest attachments h) ] none
 
-same_board : (old new : BoardState) → new.rows ≡ old.rows → new.lines ≡ old.lines → new ≡ old
-same_board old new rows lines = ap (λ (r : Option Gateway). record { rows = r; lines = new.lines }) rows ∙ ap (λ (ls : List LineState). record { rows = old.rows; lines = ls }) lines
+same_board : (old new : BoardState) → new.rows ≡ old.rows → new.attachments ≡ old.attachments → new ≡ old
+same_board old new rows attachments = ap (λ (r : Option Gateway). record { rows = r; attachments = new.attachments }) rows ∙ ap (λ (ls : List AttachmentState). record { rows = old.rows; attachments = ls }) attachments
 
-retire_by : (dest : Dest) (old new : BoardState) (there : Bool) → is_attached dest old.lines ≡ there → new.rows ≡ old.rows → new.lines ≡ filter (is_not_line dest) old.lines → HasHistory old → HasHistory new
-retire_by dest old new true there rows lines h = retired_has_history dest old new h (record { attached = there; rows = rows; lines = lines })
-retire_by dest old new false there rows lines h = subst HasHistory (sym (same_board old new rows (lines ∙ none_left_out dest old.lines there))) h
+retire_by : (dest : Dest) (old new : BoardState) (there : Bool) → is_attached dest old.attachments ≡ there → new.rows ≡ old.rows → new.attachments ≡ filter (is_not_attachment_of dest) old.attachments → HasHistory old → HasHistory new
+retire_by dest old new true there rows attachments h = retired_has_history dest old new h (record { attached = there; rows = rows; attachments = attachments })
+retire_by dest old new false there rows attachments h = subst HasHistory (sym (same_board old new rows (attachments ∙ none_left_out dest old.attachments there))) h
 
-pub retire_keeps : (dest : Dest) (old new : BoardState) → new.rows ≡ old.rows → new.lines ≡ filter (is_not_line dest) old.lines → HasHistory old → HasHistory new
-retire_keeps dest old new rows lines h = retire_by dest old new (is_attached dest old.lines) refl rows lines h
+pub retire_keeps : (dest : Dest) (old new : BoardState) → new.rows ≡ old.rows → new.attachments ≡ filter (is_not_attachment_of dest) old.attachments → HasHistory old → HasHistory new
+retire_keeps dest old new rows attachments h = retire_by dest old new (is_attached dest old.attachments) refl rows attachments h
 
-pub attach_keeps : {E : Type 0} (dest : Dest) (rows : Option Gateway) (lines left : List LineState) (result : Result (InletState × OutletState) E)
-    → IfOk result (λ ends. IsWith (new_line dest ends.0.ring ends.1.ring RING_SIZE) lines left) → OnErr result (left ≡ lines) → is_attached dest lines ≡ false
-    → HasHistory (record { rows = rows; lines = lines }) → HasHistory (record { rows = rows; lines = left })
-attach_keeps dest rows lines left (Ok ends) fine kept apart h =
-    attached_has_history dest ends.0.ring ends.1.ring RING_SIZE (record { rows = rows; lines = lines }) (record { rows = rows; lines = left }) h (record { apart = apart; rows = refl; lines = fine })
-attach_keeps dest rows lines left (Err refused) fine kept apart h = subst (λ (ls : List LineState). HasHistory (record { rows = rows; lines = ls })) (sym kept) h
+pub attach_keeps : {E : Type 0} (dest : Dest) (rows : Option Gateway) (attachments left : List AttachmentState) (result : Result (InletState × OutletState) E)
+    → IfOk result (λ ends. IsWith (new_attachment dest ends.0.ring ends.1.ring RING_SIZE) attachments left) → OnErr result (left ≡ attachments) → is_attached dest attachments ≡ false
+    → HasHistory (record { rows = rows; attachments = attachments }) → HasHistory (record { rows = rows; attachments = left })
+attach_keeps dest rows attachments left (Ok ends) fine kept apart h =
+    attached_has_history dest ends.0.ring ends.1.ring RING_SIZE (record { rows = rows; attachments = attachments }) (record { rows = rows; attachments = left }) h (record { apart = apart; rows = refl; attachments = fine })
+attach_keeps dest rows attachments left (Err refused) fine kept apart h = subst (λ (ls : List AttachmentState). HasHistory (record { rows = rows; attachments = ls })) (sym kept) h

@@ -10,8 +10,8 @@ use Rattle.gateway_state.specs.Gateway.{Gateway}
 use Rattle.gateway_state.specs.Step.{step, taken}
 use Rattle.gateway_state.specs.declared.event.Dest.{Dest}
 use Rattle.gateway_state.specs.declared.event.Event.TheVariants.{Drain}
-use Rattle.board_rings.specs.Lines.{is_attached, is_line, line_of, with_free, with_pushed, with_received, HasNoPlace, SeesNothing}
-use Rattle.board_rings.specs.Rings.{LineState}
+use Rattle.board_rings.specs.Attachments.{is_attached, is_attachment_of, attachment_of, with_free, with_pushed, with_received, HasNoPlace, SeesNothing}
+use Rattle.board_rings.specs.Rings.{AttachmentState}
 use Rattle.board_rings.specs.declared.inbound.Inbound.{Inbound}
 use Rattle.board_history.specs.Board.{BoardState}
 use Rattle.board_history.specs.Calls.{uses_up, with_sent}
@@ -22,55 +22,55 @@ use Rattle.board_moves.specs.Answers.{board_of, IsPump, IsSendOut}
 use Rattle.board_moves.specs.declared.fault.BoardFault.{BoardFault}
 use Rattle.board_moves.specs.declared.fault.BoardFault.TheVariants.{Step}
 
-pub pumped : (dest : Dest) (item : Inbound) (seen : ℕ) (rows after : Option Gateway) (lines left : List LineState) → IsSome rows → is_attached dest lines ≡ true
-    → after ≡ option_map (λ w. step w (item_event dest item)) rows → left ≡ change_first (is_line dest) (with_received item seen) lines
+pub pumped : (dest : Dest) (item : Inbound) (seen : ℕ) (rows after : Option Gateway) (attachments left : List AttachmentState) → IsSome rows → is_attached dest attachments ≡ true
+    → after ≡ option_map (λ w. step w (item_event dest item)) rows → left ≡ change_first (is_attachment_of dest) (with_received item seen) attachments
     → uses_up (item_event dest item) rows ≡ Some false
-    → IsPump dest (board_of rows lines) (Ok true) (board_of after left)
-pumped dest item seen rows after lines left stands on more moved fine =
-    (item, record { stands = stands; attached = on; in_range = fine; rows = more; seen = seen; lines = moved })
+    → IsPump dest (board_of rows attachments) (Ok true) (board_of after left)
+pumped dest item seen rows after attachments left stands on more moved fine =
+    (item, record { stands = stands; attached = on; in_range = fine; rows = more; seen = seen; attachments = moved })
 
-pub pump_refused : (dest : Dest) (item : Inbound) (seen : ℕ) (rows after : Option Gateway) (lines left : List LineState) → IsSome rows → is_attached dest lines ≡ true
-    → after ≡ None → left ≡ change_first (is_line dest) (with_received item seen) lines
-    → IsPump dest (board_of rows lines) (Err (Step steps.OutOfMemory)) (board_of after left)
-pump_refused dest item seen rows after lines left stands on none moved =
-    (item, record { stands = stands; attached = on; rows = none; seen = seen; lines = moved })
+pub pump_refused : (dest : Dest) (item : Inbound) (seen : ℕ) (rows after : Option Gateway) (attachments left : List AttachmentState) → IsSome rows → is_attached dest attachments ≡ true
+    → after ≡ None → left ≡ change_first (is_attachment_of dest) (with_received item seen) attachments
+    → IsPump dest (board_of rows attachments) (Err (Step steps.OutOfMemory)) (board_of after left)
+pump_refused dest item seen rows after attachments left stands on none moved =
+    (item, record { stands = stands; attached = on; rows = none; seen = seen; attachments = moved })
 
-pub pump_used_up : (dest : Dest) (item : Inbound) (seen : ℕ) (rows after : Option Gateway) (lines left : List LineState) → IsSome rows → is_attached dest lines ≡ true
-    → after ≡ None → left ≡ change_first (is_line dest) (with_received item seen) lines
+pub pump_used_up : (dest : Dest) (item : Inbound) (seen : ℕ) (rows after : Option Gateway) (attachments left : List AttachmentState) → IsSome rows → is_attached dest attachments ≡ true
+    → after ≡ None → left ≡ change_first (is_attachment_of dest) (with_received item seen) attachments
     → uses_up (item_event dest item) rows ≡ Some true
-    → IsPump dest (board_of rows lines) (Err (Step steps.NumbersUsedUp)) (board_of after left)
-pump_used_up dest item seen rows after lines left stands on none moved past =
-    (item, (record { stands = stands; attached = on; rows = none; seen = seen; lines = moved }, past))
+    → IsPump dest (board_of rows attachments) (Err (Step steps.NumbersUsedUp)) (board_of after left)
+pump_used_up dest item seen rows after attachments left stands on none moved past =
+    (item, (record { stands = stands; attached = on; rows = none; seen = seen; attachments = moved }, past))
 
 -- nothing was seen
-pub pumped_nothing : (dest : Dest) (rows : Option Gateway) (lines left : List LineState) → IsSome rows → left ≡ lines → SeesNothing dest lines
-    → IsPump dest (board_of rows lines) (Ok false) (board_of rows left)
-pumped_nothing dest rows lines left stands same nothing = (ap (board_of rows) same, λ _. (stands, nothing))
+pub pumped_nothing : (dest : Dest) (rows : Option Gateway) (attachments left : List AttachmentState) → IsSome rows → left ≡ attachments → SeesNothing dest attachments
+    → IsPump dest (board_of rows attachments) (Ok false) (board_of rows left)
+pumped_nothing dest rows attachments left stands same nothing = (ap (board_of rows) same, λ _. (stands, nothing))
 
 -- where it was asked first whether the gateway failed
-pub pumped_asked : (dest : Dest) (rows asked after : Option Gateway) (lines left : List LineState) (answer : Result Bool BoardFault) → asked ≡ rows
-    → IsPump dest (board_of asked lines) answer (board_of after left) → IsPump dest (board_of rows lines) answer (board_of after left)
-pumped_asked dest rows asked after lines left answer same pump =
-    subst (λ (r : Option Gateway). IsPump dest (board_of r lines) answer (board_of after left)) same pump
+pub pumped_asked : (dest : Dest) (rows asked after : Option Gateway) (attachments left : List AttachmentState) (answer : Result Bool BoardFault) → asked ≡ rows
+    → IsPump dest (board_of asked attachments) answer (board_of after left) → IsPump dest (board_of rows attachments) answer (board_of after left)
+pumped_asked dest rows asked after attachments left answer same pump =
+    subst (λ (r : Option Gateway). IsPump dest (board_of r attachments) answer (board_of after left)) same pump
 
 -- the same of a send-out
-pub sent_asked : (dest : Dest) (rows asked after : Option Gateway) (lines left : List LineState) (answer : Result ℕ BoardFault) → asked ≡ rows
-    → IsSendOut dest (board_of asked lines) answer (board_of after left) → IsSendOut dest (board_of rows lines) answer (board_of after left)
-sent_asked dest rows asked after lines left answer same send =
-    subst (λ (r : Option Gateway). IsSendOut dest (board_of r lines) answer (board_of after left)) same send
+pub sent_asked : (dest : Dest) (rows asked after : Option Gateway) (attachments left : List AttachmentState) (answer : Result ℕ BoardFault) → asked ≡ rows
+    → IsSendOut dest (board_of asked attachments) answer (board_of after left) → IsSendOut dest (board_of rows attachments) answer (board_of after left)
+sent_asked dest rows asked after attachments left answer same send =
+    subst (λ (r : Option Gateway). IsSendOut dest (board_of r attachments) answer (board_of after left)) same send
 
-pub send_refused : (dest : Dest) (found : ℕ) (rows after : Option Gateway) (lines left : List LineState) → IsSome rows → is_attached dest lines ≡ true
-    → after ≡ None → left ≡ change_first (is_line dest) (with_free found) lines
-    → IsSendOut dest (board_of rows lines) (Err (Step steps.OutOfMemory)) (board_of after left)
-send_refused dest found rows after lines left stands on none moved =
-    (found, record { stands = stands; attached = on; rows = none; lines = moved })
+pub send_refused : (dest : Dest) (found : ℕ) (rows after : Option Gateway) (attachments left : List AttachmentState) → IsSome rows → is_attached dest attachments ≡ true
+    → after ≡ None → left ≡ change_first (is_attachment_of dest) (with_free found) attachments
+    → IsSendOut dest (board_of rows attachments) (Err (Step steps.OutOfMemory)) (board_of after left)
+send_refused dest found rows after attachments left stands on none moved =
+    (found, record { stands = stands; attached = on; rows = none; attachments = moved })
 
-pub send_used_up : (dest : Dest) (found : ℕ) (rows after : Option Gateway) (lines left : List LineState) → IsSome rows → is_attached dest lines ≡ true
-    → after ≡ None → left ≡ change_first (is_line dest) (with_free found) lines
+pub send_used_up : (dest : Dest) (found : ℕ) (rows after : Option Gateway) (attachments left : List AttachmentState) → IsSome rows → is_attached dest attachments ≡ true
+    → after ≡ None → left ≡ change_first (is_attachment_of dest) (with_free found) attachments
     → uses_up (Drain dest (min MOST_SENT found)) rows ≡ Some true
-    → IsSendOut dest (board_of rows lines) (Err (Step steps.NumbersUsedUp)) (board_of after left)
-send_used_up dest found rows after lines left stands on none moved past =
-    (found, (record { stands = stands; attached = on; rows = none; lines = moved }, past))
+    → IsSendOut dest (board_of rows attachments) (Err (Step steps.NumbersUsedUp)) (board_of after left)
+send_used_up dest found rows after attachments left stands on none moved past =
+    (found, (record { stands = stands; attached = on; rows = none; attachments = moved }, past))
 
 -- a gateway that hasn't failed has rows
 pub has_rows : (failed : Bool) (rows : Option Gateway) → (IsTrue failed ↔ IsNone rows) → failed ≡ false → IsSome rows
@@ -83,44 +83,44 @@ steps_stand None after f is some = absurd cc
 steps_stand (Some w) after f is some = ap is_some is
 
 -- only an attached connection has places
-pub places_of_attached : (dest : Dest) (found : ℕ) (lines : List LineState) → (is_attached dest lines ≡ false → found ≡ 0) → 0 < found → is_attached dest lines ≡ true
-places_of_attached dest found lines none some = by (is_attached dest lines) refl
+pub places_of_attached : (dest : Dest) (found : ℕ) (attachments : List AttachmentState) → (is_attached dest attachments ≡ false → found ≡ 0) → 0 < found → is_attached dest attachments ≡ true
+places_of_attached dest found attachments none some = by (is_attached dest attachments) refl
   where
-    by : (b : Bool) → is_attached dest lines ≡ b → is_attached dest lines ≡ true
+    by : (b : Bool) → is_attached dest attachments ≡ b → is_attached dest attachments ≡ true
     by true is = is
     by false is = absurd (let zero_found = none is in omega arith)
 
 -- no message waits, and nothing changed
-pub sent_none : (dest : Dest) (rows asked : Option Gateway) (lines : List LineState) → asked ≡ rows → IsSome rows → Some 0 ≡ option_map (λ w. queued w dest) rows
-    → IsSendOut dest (board_of rows lines) (Ok 0) (board_of asked lines)
-sent_none dest rows asked lines same stands none =
-    inl (refl, record { same = ap (λ (r : Option Gateway). board_of r lines) same; stands = λ _. stands; idle = λ _. inr (sym none) })
+pub sent_none : (dest : Dest) (rows asked : Option Gateway) (attachments : List AttachmentState) → asked ≡ rows → IsSome rows → Some 0 ≡ option_map (λ w. queued w dest) rows
+    → IsSendOut dest (board_of rows attachments) (Ok 0) (board_of asked attachments)
+sent_none dest rows asked attachments same stands none =
+    inl (refl, record { same = ap (λ (r : Option Gateway). board_of r attachments) same; stands = λ _. stands; idle = λ _. inr (sym none) })
 
 -- no place was found, and nothing changed
-pub sent_nothing : (dest : Dest) (found : ℕ) (rows : Option Gateway) (lines left : List LineState) → IsSome rows → found ≡ 0
-    → left ≡ change_first (is_line dest) (with_free found) lines → ((line : LineState) → line_of dest lines ≡ Some line → line.free ≤ found)
-    → IsSendOut dest (board_of rows lines) (Ok 0) (board_of rows left)
-sent_nothing dest found rows lines left stands none looked more =
-    let none_known : (line : LineState) → line_of dest lines ≡ Some line → line.free ≤ 0 = λ line there. omega (arith, more line there, none) in
-    let kept : left ≡ lines = looked ∙ ap (λ (n : ℕ). change_first (is_line dest) (with_free n) lines) none ∙ none_free dest lines none_known in
+pub sent_nothing : (dest : Dest) (found : ℕ) (rows : Option Gateway) (attachments left : List AttachmentState) → IsSome rows → found ≡ 0
+    → left ≡ change_first (is_attachment_of dest) (with_free found) attachments → ((attachment : AttachmentState) → attachment_of dest attachments ≡ Some attachment → attachment.free ≤ found)
+    → IsSendOut dest (board_of rows attachments) (Ok 0) (board_of rows left)
+sent_nothing dest found rows attachments left stands none looked more =
+    let none_known : (attachment : AttachmentState) → attachment_of dest attachments ≡ Some attachment → attachment.free ≤ 0 = λ attachment there. omega (arith, more attachment there, none) in
+    let kept : left ≡ attachments = looked ∙ ap (λ (n : ℕ). change_first (is_attachment_of dest) (with_free n) attachments) none ∙ none_free dest attachments none_known in
     inl (
       refl,
       record {
         same = ap (board_of rows) kept;
         stands = λ _. stands;
-        idle = λ _. inl (λ line there. omega (arith, more line there, none));
+        idle = λ _. inl (λ attachment there. omega (arith, more attachment there, none));
       },
     )
 
 -- places were found, and messages pushed
-pub sent_out : (dest : Dest) (found asked_for count : ℕ) (outs : List Out) (rows after : Option Gateway) (lines looked left : List LineState) → IsSome rows
-    → is_attached dest lines ≡ true → 0 < found → asked_for ≡ min MOST_SENT found
+pub sent_out : (dest : Dest) (found asked_for count : ℕ) (outs : List Out) (rows after : Option Gateway) (attachments looked left : List AttachmentState) → IsSome rows
+    → is_attached dest attachments ≡ true → 0 < found → asked_for ≡ min MOST_SENT found
     → uses_up (Drain dest asked_for) rows ≡ Some false
     → Some outs ≡ option_map (λ w. taken w (Drain dest asked_for) dest) rows
     → after ≡ option_map (λ w. step w (Drain dest asked_for)) rows
-    → looked ≡ change_first (is_line dest) (with_free found) lines → left ≡ change_first (is_line dest) (with_pushed outs) looked → count ≡ length outs
-    → IsSendOut dest (board_of rows lines) (Ok count) (board_of after left)
-sent_out dest found asked_for count outs rows after lines looked left stands on some_free least fine took more room pushed counted =
+    → looked ≡ change_first (is_attachment_of dest) (with_free found) attachments → left ≡ change_first (is_attachment_of dest) (with_pushed outs) looked → count ≡ length outs
+    → IsSendOut dest (board_of rows attachments) (Ok count) (board_of after left)
+sent_out dest found asked_for count outs rows after attachments looked left stands on some_free least fine took more room pushed counted =
     inr (
       found,
       (
@@ -134,7 +134,7 @@ sent_out dest found asked_for count outs rows after lines looked left stands on 
             in_range = ap (λ (k : ℕ). uses_up (Drain dest k) rows) (sym least) ∙ fine;
             taken = took ∙ ap (λ (k : ℕ). option_map (λ w. taken w (Drain dest k) dest) rows) least;
             rows = more ∙ ap (λ (k : ℕ). option_map (λ w. step w (Drain dest k)) rows) least;
-            lines = pushed ∙ ap (change_first (is_line dest) (with_pushed outs)) room ∙ found_and_pushed dest found outs lines;
+            attachments = pushed ∙ ap (change_first (is_attachment_of dest) (with_pushed outs)) room ∙ found_and_pushed dest found outs attachments;
           },
         ),
       ),

@@ -7,7 +7,7 @@ use Rattle.std.proofs.lemmas.Option.{slice_get-map}
 use Rattle.std.proofs.Math.Numerals.{suc-eq-add-one}
 use Rattle.gateway_state.specs.Gateway.{Gateway}
 use Rattle.gateway_state.specs.declared.event.Dest.{Dest}
-use Rattle.board_rings.specs.Rings.{LineState}
+use Rattle.board_rings.specs.Rings.{AttachmentState}
 use Rattle.board_history.specs.Board.{BoardState}
 use Rattle.board_moves.proofs.Performed.{ended_then, one_done, one_refused, performed_then}
 use Rattle.board_moves.specs.Answers.{board_of}
@@ -33,23 +33,23 @@ split_next (y ∷ xs) zero x is = cc
 split_next (y ∷ xs) (suc n) x is = ap (λ ys. y ∷ ys) (split_next xs n x is)
 
 -- the call of a place is for the connection of that place
-call_at : (make : Dest → Call) (lines start : List LineState) (n : ℕ) (dest : Dest) → dests_of lines ≡ dests_of start → option_map (λ (line : LineState). line.dest) (slice_get lines n) ≡ Some dest
+call_at : (make : Dest → Call) (attachments start : List AttachmentState) (n : ℕ) (dest : Dest) → dests_of attachments ≡ dests_of start → option_map (λ (attachment : AttachmentState). attachment.dest) (slice_get attachments n) ≡ Some dest
     → slice_get (map make (dests_of start)) n ≡ Some (make dest)
-call_at make lines start n dest same there =
+call_at make attachments start n dest same there =
     slice_get-map make (dests_of start) n
     ∙ ap (λ (ds : List Dest). option_map make (slice_get ds n)) (sym same)
-    ∙ ap (option_map make) (slice_get-map (λ (line : LineState). line.dest) lines n ∙ there)
+    ∙ ap (option_map make) (slice_get-map (λ (attachment : AttachmentState). attachment.dest) attachments n ∙ there)
 
 pub none_performed : (calls : List Call) (start : BoardState) → IsPerformed calls 0 start start 0
 none_performed calls start = record { exact = 0; done = (refl, refl); told = refl }
 
-pub next_performed : (make : Dest → Call) (lines start_lines : List LineState) (n : ℕ) (dest : Dest) (start now next : BoardState) (moved count moved_now : ℕ)
-    → dests_of lines ≡ dests_of start_lines → option_map (λ (line : LineState). line.dest) (slice_get lines n) ≡ Some dest
-    → IsPerformed (map make (dests_of start_lines)) n start now moved → Performs (make dest) now (Ok count) next → moved_now ≡ min (moved + count) (2 ^ 64 - 1)
-    → IsPerformed (map make (dests_of start_lines)) (n + 1) start next moved_now
-next_performed make lines start_lines n dest start now next moved count moved_now same there so_far one told =
-    let calls = map make (dests_of start_lines) in
-    let at = call_at make lines start_lines n dest same there in
+pub next_performed : (make : Dest → Call) (attachments start_attachments : List AttachmentState) (n : ℕ) (dest : Dest) (start now next : BoardState) (moved count moved_now : ℕ)
+    → dests_of attachments ≡ dests_of start_attachments → option_map (λ (attachment : AttachmentState). attachment.dest) (slice_get attachments n) ≡ Some dest
+    → IsPerformed (map make (dests_of start_attachments)) n start now moved → Performs (make dest) now (Ok count) next → moved_now ≡ min (moved + count) (2 ^ 64 - 1)
+    → IsPerformed (map make (dests_of start_attachments)) (n + 1) start next moved_now
+next_performed make attachments start_attachments n dest start now next moved count moved_now same there so_far one told =
+    let calls = map make (dests_of start_attachments) in
+    let at = call_at make attachments start_attachments n dest same there in
     let done : PerformsAll (take n calls ++ make dest ∷ []) start (Ok (so_far.exact + count)) next = performed_then Performs (take n calls) (make dest ∷ []) start now so_far.exact (Ok count) next so_far.done (one_done Performs (make dest) now count next one) in
     record {
       exact = so_far.exact + count;
@@ -57,13 +57,13 @@ next_performed make lines start_lines n dest start now next moved count moved_no
       told = omega (arith, told, so_far.told);
     }
 
-pub next_refused : (make : Dest → Call) (lines start_lines : List LineState) (n : ℕ) (dest : Dest) (start now next : BoardState) (moved : ℕ) (fault : BoardFault)
-    → dests_of lines ≡ dests_of start_lines → option_map (λ (line : LineState). line.dest) (slice_get lines n) ≡ Some dest
-    → IsPerformed (map make (dests_of start_lines)) n start now moved → Performs (make dest) now (Err fault) next
-    → PerformsUpTo (map make (dests_of start_lines)) start (Err fault) next
-next_refused make lines start_lines n dest start now next moved fault same there so_far one =
-    let calls = map make (dests_of start_lines) in
-    let at = call_at make lines start_lines n dest same there in
+pub next_refused : (make : Dest → Call) (attachments start_attachments : List AttachmentState) (n : ℕ) (dest : Dest) (start now next : BoardState) (moved : ℕ) (fault : BoardFault)
+    → dests_of attachments ≡ dests_of start_attachments → option_map (λ (attachment : AttachmentState). attachment.dest) (slice_get attachments n) ≡ Some dest
+    → IsPerformed (map make (dests_of start_attachments)) n start now moved → Performs (make dest) now (Err fault) next
+    → PerformsUpTo (map make (dests_of start_attachments)) start (Err fault) next
+next_refused make attachments start_attachments n dest start now next moved fault same there so_far one =
+    let calls = map make (dests_of start_attachments) in
+    let at = call_at make attachments start_attachments n dest same there in
     let all : PerformsAll (take n calls ++ make dest ∷ drop (suc n) calls) start (Err fault) next =
     performed_then Performs (take n calls) (make dest ∷ drop (suc n) calls) start now so_far.exact (Err fault) next so_far.done (one_refused Performs (make dest) (drop (suc n) calls) now fault next one) in
     (Err fault, (subst (λ (cs : List Call). PerformsAll cs start (Err fault) next) (sym (split_next calls n (make dest) at)) all, refl))
@@ -73,24 +73,24 @@ past_end f [] n none = omega arith
 past_end f (x ∷ xs) zero none = absurd cc
 past_end f (x ∷ xs) (suc n) none = omega (arith, past_end f xs n none)
 
-pub all_performed : (make : Dest → Call) (lines start_lines : List LineState) (n : ℕ) (start now : BoardState) (moved : ℕ) → dests_of lines ≡ dests_of start_lines → length lines ≤ n
-    → IsPerformed (map make (dests_of start_lines)) n start now moved → PerformsUpTo (map make (dests_of start_lines)) start (Ok moved) now
-all_performed make lines start_lines n start now moved same enough so_far =
-    let calls = map make (dests_of start_lines) in
-    let line_dest = λ (line : LineState). line.dest in (
+pub all_performed : (make : Dest → Call) (attachments start_attachments : List AttachmentState) (n : ℕ) (start now : BoardState) (moved : ℕ) → dests_of attachments ≡ dests_of start_attachments → length attachments ≤ n
+    → IsPerformed (map make (dests_of start_attachments)) n start now moved → PerformsUpTo (map make (dests_of start_attachments)) start (Ok moved) now
+all_performed make attachments start_attachments n start now moved same enough so_far =
+    let calls = map make (dests_of start_attachments) in
+    let attachment_dest = λ (attachment : AttachmentState). attachment.dest in (
       Ok so_far.exact,
       (
         subst (λ (cs : List Call). PerformsAll cs start (Ok so_far.exact) now)
-            (take_all n calls (omega (arith, enough, ap length same, length-map (dests_of start_lines) make, length-map start_lines line_dest, length-map lines line_dest))) so_far.done,
+            (take_all n calls (omega (arith, enough, ap length same, length-map (dests_of start_attachments) make, length-map start_attachments attachment_dest, length-map attachments attachment_dest))) so_far.done,
         ap Ok so_far.told,
       ),
     )
 
-pub all_performed_there : (make : Dest → Call) (lines start_lines : List LineState) (n : ℕ) (start now : BoardState) (moved : ℕ) → dests_of lines ≡ dests_of start_lines
-    → option_map (λ (line : LineState). line.dest) (slice_get lines n) ≡ None
-    → IsPerformed (map make (dests_of start_lines)) n start now moved → PerformsUpTo (map make (dests_of start_lines)) start (Ok moved) now
-all_performed_there make lines start_lines n start now moved same none so_far =
-    all_performed make lines start_lines n start now moved same (past_end (λ (line : LineState). line.dest) lines n none) so_far
+pub all_performed_there : (make : Dest → Call) (attachments start_attachments : List AttachmentState) (n : ℕ) (start now : BoardState) (moved : ℕ) → dests_of attachments ≡ dests_of start_attachments
+    → option_map (λ (attachment : AttachmentState). attachment.dest) (slice_get attachments n) ≡ None
+    → IsPerformed (map make (dests_of start_attachments)) n start now moved → PerformsUpTo (map make (dests_of start_attachments)) start (Ok moved) now
+all_performed_there make attachments start_attachments n start now moved same none so_far =
+    all_performed make attachments start_attachments n start now moved same (past_end (λ (attachment : AttachmentState). attachment.dest) attachments n none) so_far
 
 -- WHOLE ROUNDS
 
@@ -135,40 +135,40 @@ all_follow calls others old between new count more total (exact, (all, told)) (r
       ),
     )
 
-round_on : (rows : Option Gateway) (old : BoardState) (answer : Result ℕ BoardFault) (new : BoardState) → IsSome rows → PerformsUpTo (round_calls old.lines) old answer new → IsRoundOn rows old answer new
+round_on : (rows : Option Gateway) (old : BoardState) (answer : Result ℕ BoardFault) (new : BoardState) → IsSome rows → PerformsUpTo (round_calls old.attachments) old answer new → IsRoundOn rows old answer new
 round_on None old answer new some all = absurd cc
 round_on (Some w) old answer new some all = all
 
 -- the round begins where the engine was asked whether it failed
-round_of : (engine asked after : Option Gateway) (lines left : List LineState) (answer : Result ℕ BoardFault) → IsSome engine → asked ≡ engine
-    → PerformsUpTo (round_calls lines) (board_of asked lines) answer (board_of after left) → IsRound (board_of engine lines) answer (board_of after left)
-round_of engine asked after lines left answer some same all =
-    round_on engine (board_of engine lines) answer (board_of after left) some
-    (subst (λ (rows : Option Gateway). PerformsUpTo (round_calls lines) (record { rows = rows; lines = lines }) answer (board_of after left)) same all)
+round_of : (engine asked after : Option Gateway) (attachments left : List AttachmentState) (answer : Result ℕ BoardFault) → IsSome engine → asked ≡ engine
+    → PerformsUpTo (round_calls attachments) (board_of asked attachments) answer (board_of after left) → IsRound (board_of engine attachments) answer (board_of after left)
+round_of engine asked after attachments left answer some same all =
+    round_on engine (board_of engine attachments) answer (board_of after left) some
+    (subst (λ (rows : Option Gateway). PerformsUpTo (round_calls attachments) (record { rows = rows; attachments = attachments }) answer (board_of after left)) same all)
 
-pub pumps_end : (engine asked after : Option Gateway) (lines left : List LineState) (fault : BoardFault) → IsSome engine → asked ≡ engine
-    → PerformsUpTo (map Pump (dests_of lines)) (board_of asked lines) (Err fault) (board_of after left) → IsRound (board_of engine lines) (Err fault) (board_of after left)
-pumps_end engine asked after lines left fault some same all =
-    round_of engine asked after lines left (Err fault) some same
-    (fault_ends (map Pump (dests_of lines)) (map SendOut (dests_of lines)) (board_of asked lines) (board_of after left) fault all)
+pub pumps_end : (engine asked after : Option Gateway) (attachments left : List AttachmentState) (fault : BoardFault) → IsSome engine → asked ≡ engine
+    → PerformsUpTo (map Pump (dests_of attachments)) (board_of asked attachments) (Err fault) (board_of after left) → IsRound (board_of engine attachments) (Err fault) (board_of after left)
+pumps_end engine asked after attachments left fault some same all =
+    round_of engine asked after attachments left (Err fault) some same
+    (fault_ends (map Pump (dests_of attachments)) (map SendOut (dests_of attachments)) (board_of asked attachments) (board_of after left) fault all)
 
-pub sends_end : (engine asked pumped after : Option Gateway) (lines between left : List LineState) (received : ℕ) (fault : BoardFault) → IsSome engine → asked ≡ engine → dests_of between ≡ dests_of lines
-    → PerformsUpTo (map Pump (dests_of lines)) (board_of asked lines) (Ok received) (board_of pumped between)
-    → PerformsUpTo (map SendOut (dests_of between)) (board_of pumped between) (Err fault) (board_of after left) → IsRound (board_of engine lines) (Err fault) (board_of after left)
-sends_end engine asked pumped after lines between left received fault some same dests all others =
-    round_of engine asked after lines left (Err fault) some same
+pub sends_end : (engine asked pumped after : Option Gateway) (attachments between left : List AttachmentState) (received : ℕ) (fault : BoardFault) → IsSome engine → asked ≡ engine → dests_of between ≡ dests_of attachments
+    → PerformsUpTo (map Pump (dests_of attachments)) (board_of asked attachments) (Ok received) (board_of pumped between)
+    → PerformsUpTo (map SendOut (dests_of between)) (board_of pumped between) (Err fault) (board_of after left) → IsRound (board_of engine attachments) (Err fault) (board_of after left)
+sends_end engine asked pumped after attachments between left received fault some same dests all others =
+    round_of engine asked after attachments left (Err fault) some same
     (
-    fault_follows (map Pump (dests_of lines)) (map SendOut (dests_of lines)) (board_of asked lines) (board_of pumped between) (board_of after left) received fault all
+    fault_follows (map Pump (dests_of attachments)) (map SendOut (dests_of attachments)) (board_of asked attachments) (board_of pumped between) (board_of after left) received fault all
     (subst (λ (ds : List Dest). PerformsUpTo (map SendOut ds) (board_of pumped between) (Err fault) (board_of after left)) dests others)
     )
 
-pub round_ends : (engine asked pumped after : Option Gateway) (lines between left : List LineState) (received sent total : ℕ) → IsSome engine → asked ≡ engine → dests_of between ≡ dests_of lines
-    → PerformsUpTo (map Pump (dests_of lines)) (board_of asked lines) (Ok received) (board_of pumped between)
+pub round_ends : (engine asked pumped after : Option Gateway) (attachments between left : List AttachmentState) (received sent total : ℕ) → IsSome engine → asked ≡ engine → dests_of between ≡ dests_of attachments
+    → PerformsUpTo (map Pump (dests_of attachments)) (board_of asked attachments) (Ok received) (board_of pumped between)
     → PerformsUpTo (map SendOut (dests_of between)) (board_of pumped between) (Ok sent) (board_of after left) → total ≡ min (received + sent) (2 ^ 64 - 1)
-    → IsRound (board_of engine lines) (Ok total) (board_of after left)
-round_ends engine asked pumped after lines between left received sent total some same dests all others is =
-    round_of engine asked after lines left (Ok total) some same
+    → IsRound (board_of engine attachments) (Ok total) (board_of after left)
+round_ends engine asked pumped after attachments between left received sent total some same dests all others is =
+    round_of engine asked after attachments left (Ok total) some same
     (
-    all_follow (map Pump (dests_of lines)) (map SendOut (dests_of lines)) (board_of asked lines) (board_of pumped between) (board_of after left) received sent total all
+    all_follow (map Pump (dests_of attachments)) (map SendOut (dests_of attachments)) (board_of asked attachments) (board_of pumped between) (board_of after left) received sent total all
     (subst (λ (ds : List Dest). PerformsUpTo (map SendOut ds) (board_of pumped between) (Ok sent) (board_of after left)) dests others) is
     )

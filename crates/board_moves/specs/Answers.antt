@@ -10,8 +10,8 @@ use Rattle.gateway_state.specs.declared.event.Dest.{Dest}
 use Rattle.gateway_state.specs.declared.event.Event.{Event}
 use Rattle.gateway_state.specs.declared.event.Event.TheVariants.{Drain}
 use Rattle.rule_desk.specs.declared.policy.Policy.{Policy}
-use Rattle.board_rings.specs.Lines.{is_attached, rings_of, HasNoPlace, SeesNothing}
-use Rattle.board_rings.specs.Rings.{EndsState, LineState}
+use Rattle.board_rings.specs.Attachments.{is_attached, rings_of, HasNoPlace, SeesNothing}
+use Rattle.board_rings.specs.Rings.{EndsState, AttachmentState}
 use Rattle.board_rings.specs.declared.inbound.Inbound.{Inbound}
 use Rattle.board_history.specs.Board.{BoardState}
 use Rattle.board_history.specs.Calls.{DeskFails, Desks, PumpFails, Pumps, SendFails, Sends, uses_up}
@@ -20,19 +20,19 @@ use Rattle.board_history.specs.declared.entry.TheConstants.{MOST_SENT}
 use Rattle.board_moves.specs.declared.fault.BoardFault.{BoardFault}
 use Rattle.board_moves.specs.declared.fault.BoardFault.TheVariants.{OutOfMemory, Attached, NotHere, Step}
 
--- a gateway's rows and lines as a board
-abbrev pub board_of : Option Gateway → List LineState → BoardState
-board_of rows lines = record { rows = rows; lines = lines }
+-- a gateway's rows and attachments as a board
+abbrev pub board_of : Option Gateway → List AttachmentState → BoardState
+board_of rows attachments = record { rows = rows; attachments = attachments }
 
 -- an item was received and its event performed; or none was seen, and nothing changed; or the step was
 -- refused. A board that has failed receives nothing
 abbrev pub IsPump : Dest → BoardState → Result Bool BoardFault → BoardState → Type 0
 IsPump dest old (Ok true) new = (item : Inbound) × Pumps dest item old new
-IsPump dest old (Ok false) new = (new ≡ old) × (is_attached dest old.lines ≡ true → IsSome old.rows × SeesNothing dest old.lines)
+IsPump dest old (Ok false) new = (new ≡ old) × (is_attached dest old.attachments ≡ true → IsSome old.rows × SeesNothing dest old.attachments)
 IsPump dest old (Err (Step steps.OutOfMemory)) new = (item : Inbound) × PumpFails dest item old new
 IsPump dest old (Err (Step steps.NumbersUsedUp)) new =
     (item : Inbound) × (PumpFails dest item old new × (uses_up (item_event dest item) old.rows ≡ Some true))
-IsPump dest old (Err (Step steps.Failed)) new = (new ≡ old) × ((is_attached dest old.lines ≡ true) × IsNone old.rows)
+IsPump dest old (Err (Step steps.Failed)) new = (new ≡ old) × ((is_attached dest old.attachments ≡ true) × IsNone old.rows)
 IsPump dest old (Err OutOfMemory) new = ⊥
 IsPump dest old (Err Attached) new = ⊥
 IsPump dest old (Err NotHere) new = ⊥
@@ -52,8 +52,8 @@ IsDesk event old (Err Attached) new = ⊥
 -- changed
 pub record SendsNothing (dest : Dest) (old new : BoardState) : Type 0 where
   pub same : new ≡ old
-  pub stands : is_attached dest old.lines ≡ true → IsSome old.rows
-  pub idle : is_attached dest old.lines ≡ true → HasNoPlace dest old.lines ⊎ (option_map (λ w. queued w dest) old.rows ≡ Some 0)
+  pub stands : is_attached dest old.attachments ≡ true → IsSome old.rows
+  pub idle : is_attached dest old.attachments ≡ true → HasNoPlace dest old.attachments ⊎ (option_map (λ w. queued w dest) old.rows ≡ Some 0)
 
 -- messages were taken and pushed, and so many there were; or there was no place, or no message; or the
 -- step was refused
@@ -64,7 +64,7 @@ IsSendOut dest old (Ok count) new =
 IsSendOut dest old (Err (Step steps.OutOfMemory)) new = (found : ℕ) × SendFails dest found old new
 IsSendOut dest old (Err (Step steps.NumbersUsedUp)) new =
     (found : ℕ) × (SendFails dest found old new × (uses_up (Drain dest (min MOST_SENT found)) old.rows ≡ Some true))
-IsSendOut dest old (Err (Step steps.Failed)) new = (new ≡ old) × ((is_attached dest old.lines ≡ true) × IsNone old.rows)
+IsSendOut dest old (Err (Step steps.Failed)) new = (new ≡ old) × ((is_attached dest old.attachments ≡ true) × IsNone old.rows)
 IsSendOut dest old (Err OutOfMemory) new = ⊥
 IsSendOut dest old (Err Attached) new = ⊥
 IsSendOut dest old (Err NotHere) new = ⊥
@@ -73,9 +73,9 @@ IsSendOut dest old (Err NotHere) new = ⊥
 abbrev pub IsNew : Option Gateway → Type 0
 IsNew rows = (config : Config) × ((policy : Policy) × (rows ≡ Some (initial config policy)))
 
-abbrev pub ends_of : LineState → EndsState
-ends_of line = line.ends
+abbrev pub ends_of : AttachmentState → EndsState
+ends_of attachment = attachment.ends
 
 -- every connection's rings are as before
-abbrev pub KeepsRings : List LineState → List LineState → Type 0
+abbrev pub KeepsRings : List AttachmentState → List AttachmentState → Type 0
 KeepsRings old new = (dest : Dest) → rings_of dest new ≡ rings_of dest old

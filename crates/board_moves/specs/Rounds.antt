@@ -3,7 +3,7 @@ use Rattle.std.specs.Prelude.{◌≡◌, ℕ, ◌+◌, ◌-◌, ◌^◌, List, [
 use Rattle.gateway_calls.specs.declared.fault.StepFault.TheVariants as steps
 use Rattle.gateway_state.specs.Gateway.{Gateway}
 use Rattle.gateway_state.specs.declared.event.Dest.{Dest}
-use Rattle.board_rings.specs.Rings.{LineState}
+use Rattle.board_rings.specs.Rings.{AttachmentState}
 use Rattle.board_history.specs.Board.{BoardState}
 use Rattle.board_moves.specs.Answers.{IsPump, IsSendOut}
 use Rattle.board_moves.specs.declared.rounds.Call.{Call}
@@ -41,11 +41,11 @@ abbrev pub PerformsAll : List Call → BoardState → Result ℕ BoardFault → 
 PerformsAll calls old answer new = InOrder Performs calls old answer new
 
 -- a pump for each attached connection, and then a send-out for each, clients first, by rising number
-abbrev pub dests_of : List LineState → List Dest
-dests_of lines = map (λ (line : LineState). line.dest) lines
+abbrev pub dests_of : List AttachmentState → List Dest
+dests_of attachments = map (λ (attachment : AttachmentState). attachment.dest) attachments
 
-abbrev pub round_calls : List LineState → List Call
-round_calls lines = map Pump (dests_of lines) ++ map SendOut (dests_of lines)
+abbrev pub round_calls : List AttachmentState → List Call
+round_calls attachments = map Pump (dests_of attachments) ++ map SendOut (dests_of attachments)
 
 -- how many items were moved, up to the largest number that can be told
 abbrev pub told_count : Result ℕ BoardFault → Result ℕ BoardFault
@@ -58,7 +58,7 @@ PerformsUpTo calls old answer new = (exact : Result ℕ BoardFault) × (Performs
 
 abbrev pub IsRoundOn : Option Gateway → BoardState → Result ℕ BoardFault → BoardState → Type 0
 IsRoundOn None old answer new = (answer ≡ Err (Step steps.Failed)) × (new ≡ old)
-IsRoundOn (Some w) old answer new = PerformsUpTo (round_calls old.lines) old answer new
+IsRoundOn (Some w) old answer new = PerformsUpTo (round_calls old.attachments) old answer new
 
 -- a round of all calls; on a board that has failed there is none
 abbrev pub IsRound : BoardState → Result ℕ BoardFault → BoardState → Type 0

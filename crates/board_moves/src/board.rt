@@ -2,33 +2,34 @@
 ghost use Rattle.std.specs.Prelude.{◌≡◌, ◌↔◌, ◌⊎◌, [], Some, IsSome, IsNone, IsOk, OnOk, OnErr, IfOk, IfSome, IsErrOf, filter, true, false};
 ghost use Rattle.std.specs.Option.{option_map};
 ghost use Rattle.gateway_calls.specs.Searching.{IsSearched};
-ghost use Rattle.gateway_state.specs.Asked.{stands, ends, queued};
+ghost use Rattle.gateway_state.specs.Asked.{stands, ends, queued, queued_bytes};
 ghost use Rattle.gateway_state.specs.Variables.{asks};
-ghost use Rattle.board_rings.specs.Lines.{are_in_order, is_attached, is_not_line, line_of};
-ghost use Rattle.board_rings.specs.declared.line.TheConstants.{RING_SIZE};
+ghost use Rattle.gateway_state.specs.RowCounts.{row_counts};
+ghost use Rattle.board_rings.specs.Attachments.{are_in_order, is_attached, is_not_attachment_of, attachment_of};
+ghost use Rattle.board_rings.specs.declared.attachment.TheConstants.{RING_SIZE};
 ghost use Rattle.board_history.specs.Calls.{Attaches};
 ghost use Rattle.board_history.specs.History.{HasHistory};
 ghost use Rattle.board_moves.specs.Answers.{ends_of, IsDesk, IsNew, IsPump, IsSendOut, KeepsRings};
 ghost use Rattle.board_moves.specs.Rounds.{IsRound};
 
 use crate::fault::BoardFault;
-use crate::news::News;
+use crate::news::{News, Traffic};
 use crate::{moves, rounds};
-use board_rings::{Ends, Inlet, Lines, Outlet};
+use board_rings::{Attachments, Ends, Inlet, Outlet};
 use gateway_calls::{AskFault, Failed, GatewayCalls};
-use gateway_state::{Dest, Event};
+use gateway_state::{Dest, Event, RowCounts};
 use pv_name::{Host, Name};
 use pv_search::SearchAnswer;
 use std::alloc::Global;
 use std::marker::Model;
 
-/// A gateway, and a line with two rings for each connection that is attached. A refused step leaves it
+/// A gateway, and an attachment with two rings for each connection that is attached. A refused step leaves it
 /// failed for good; then it still attaches and retires.
 #[derive(Drop)]
 pub struct Board<G: GatewayCalls + Drop> {
     alloc: Global,
     gate: G,
-    lines: Lines,
+    attachments: Attachments,
     // Whom the moves concern, for those that wait. It is no part of what contracts see.
     news: News,
 }
@@ -44,10 +45,10 @@ impl<G: GatewayCalls + Drop> Model for Board<G> {
 
     ghost coded = { Prim.hlevel (codes, the_policy.the_row.coded) };
 
-    ghost view = { λ b. board_of (G.state b.gate) b.lines };
+    ghost view = { λ b. board_of (G.state b.gate) b.attachments };
 
     // Whatever was called, some history leads to the board.
-    ghost invariant = { λ b. HasHistory (board_of (G.state b.gate) b.lines) };
+    ghost invariant = { λ b. HasHistory (board_of (G.state b.gate) b.attachments) };
 }
 
 impl<G: GatewayCalls + Drop> Board<G> {
@@ -55,20 +56,20 @@ impl<G: GatewayCalls + Drop> Board<G> {
     pub fn new(alloc: Global, gate: G) -> Board<G>
         requires new { IsNew (G.state gate) }
         ensures rows { result.rows ≡ G.state gate }
-        ensures lines { result.lines ≡ [] }
+        ensures attachments { result.attachments ≡ [] }
     {
         Board {
             alloc,
             gate,
-            lines: Lines::new(alloc),
+            attachments: Attachments::new(alloc),
             news: News::none(),
         }
     }
 
-    /// Does nothing. Its contract is a law: some history leads to the board, whose lines stand in order.
+    /// Does nothing. Its contract is a law: some history leads to the board, whose attachments stand in order.
     pub fn has_history(&mut self)
         ensures history { HasHistory self.old }
-        ensures ordered { are_in_order self.old.lines ≡ true }
+        ensures ordered { are_in_order self.old.attachments ≡ true }
         ensures same { self.new ≡ self.old }
     {
         let _gate = &self.gate;
@@ -79,14 +80,14 @@ impl<G: GatewayCalls + Drop> Board<G> {
     pub fn attach(&mut self, dest: Dest) -> Result<(Inlet, Outlet), BoardFault>
         ensures ok { IfOk result (λ r. Attaches dest r.0.ring r.1.ring RING_SIZE self.old self.new) }
         ensures empty { IfOk result (λ r. (r.0.offered ≡ []) × (r.0.free ≡ RING_SIZE) × (r.1.taken ≡ []) × (r.1.seen ≡ [])) }
-        ensures attached { IsErrOf result BoardFault.Attached ↔ (is_attached dest self.old.lines ≡ true) }
+        ensures attached { IsErrOf result BoardFault.Attached ↔ (is_attached dest self.old.attachments ≡ true) }
         ensures err { OnErr result (self.new ≡ self.old) }
         ensures cause { IsErrOf result BoardFault.Attached ⊎ IsErrOf result BoardFault.OutOfMemory ⊎ IsOk result }
     {
-        if self.lines.is_attached(dest) {
+        if self.attachments.is_attached(dest) {
             return Err(BoardFault::Attached);
         }
-        match self.lines.attach(self.alloc, dest) {
+        match self.attachments.attach(self.alloc, dest) {
             Ok(ends) => Ok(ends),
             Err(_) => Err(BoardFault::OutOfMemory),
         }
@@ -96,9 +97,9 @@ impl<G: GatewayCalls + Drop> Board<G> {
     #[tactic(auto, using(crate::proofs::Keeps::pump_keeps))]
     pub fn pump(&mut self, dest: Dest) -> Result<bool, BoardFault>
         ensures pump { IsPump dest self.old result self.new }
-        ensures rings { KeepsRings self.old.lines self.new.lines }
+        ensures rings { KeepsRings self.old.attachments self.new.attachments }
     {
-        moves::pump(&mut self.gate, &mut self.lines, &mut self.news, dest)
+        moves::pump(&mut self.gate, &mut self.attachments, &mut self.news, dest)
     }
 
     /// Performs an event that comes through no ring: any but a connection's messages and what takes
@@ -106,9 +107,9 @@ impl<G: GatewayCalls + Drop> Board<G> {
     #[tactic(auto, using(crate::proofs::Keeps::desk_keeps))]
     pub fn desk(&mut self, event: Event) -> Result<(), BoardFault>
         ensures desk { IsDesk event self.old result self.new }
-        ensures rings { KeepsRings self.old.lines self.new.lines }
+        ensures rings { KeepsRings self.old.attachments self.new.attachments }
     {
-        moves::desk(&mut self.gate, &self.lines, &mut self.news, event)
+        moves::desk(&mut self.gate, &self.attachments, &mut self.news, event)
     }
 
     /// Takes as many messages of a connection as places of its ring out are found free, up to 64, as one
@@ -116,9 +117,15 @@ impl<G: GatewayCalls + Drop> Board<G> {
     #[tactic(auto, using(crate::proofs::Keeps::send_out_keeps))]
     pub fn send_out(&mut self, dest: Dest) -> Result<usize, BoardFault>
         ensures sent { IsSendOut dest self.old result self.new }
-        ensures rings { KeepsRings self.old.lines self.new.lines }
+        ensures rings { KeepsRings self.old.attachments self.new.attachments }
     {
-        moves::send_out(&mut self.gate, &mut self.lines, &mut self.news, dest, 0)
+        moves::send_out(
+            &mut self.gate,
+            &mut self.attachments,
+            &mut self.news,
+            dest,
+            0,
+        )
     }
 
     /// Pumps each attached connection, then sends out to each, clients first, by rising number, up to the
@@ -126,19 +133,19 @@ impl<G: GatewayCalls + Drop> Board<G> {
     #[tactic(auto, using(crate::proofs::Keeps::round_keeps))]
     pub fn round(&mut self) -> Result<usize, BoardFault>
         ensures round { IsRound self.old result self.new }
-        ensures rings { KeepsRings self.old.lines self.new.lines }
+        ensures rings { KeepsRings self.old.attachments self.new.attachments }
     {
-        rounds::round(&mut self.gate, &mut self.lines, &mut self.news)
+        rounds::round(&mut self.gate, &mut self.attachments, &mut self.news)
     }
 
     /// Takes the board's ends of a connection's rings off, with all that went through them.
     #[tactic(auto, using(crate::proofs::Keeps::retire_keeps))]
     pub fn retire(&mut self, dest: Dest) -> Option<Ends>
-        ensures found { result ≡ option_map ends_of (line_of dest self.old.lines) }
+        ensures found { result ≡ option_map ends_of (attachment_of dest self.old.attachments) }
         ensures rows { self.new.rows ≡ self.old.rows }
-        ensures lines { self.new.lines ≡ filter (is_not_line dest) self.old.lines }
+        ensures attachments { self.new.attachments ≡ filter (is_not_attachment_of dest) self.old.attachments }
     {
-        self.lines.retire(dest)
+        self.attachments.retire(dest)
     }
 
     /// How many messages wait for the connection, 0 where it doesn't stand.
@@ -148,6 +155,29 @@ impl<G: GatewayCalls + Drop> Board<G> {
         ensures same { self.new ≡ self.old }
     {
         self.gate.queued(dest)
+    }
+
+    /// How many rows of each kind the gateway has.
+    pub fn row_counts(&mut self) -> Result<RowCounts, Failed>
+        ensures found { IfOk result (λ counts. Some counts ≡ option_map row_counts self.old.rows) }
+        ensures failed { IsOk result ↔ IsSome self.old.rows }
+        ensures same { self.new ≡ self.old }
+    {
+        self.gate.row_counts()
+    }
+
+    /// How many bytes wait for the connection, 0 where it doesn't stand, and at most the type's last value.
+    pub fn queued_bytes(&mut self, dest: Dest) -> Result<u64, Failed>
+        ensures found { IfOk result (λ answer. Some answer ≡ option_map (λ w. queued_bytes w dest) self.old.rows) }
+        ensures failed { IsOk result ↔ IsSome self.old.rows }
+        ensures same { self.new ≡ self.old }
+    {
+        self.gate.queued_bytes(dest)
+    }
+
+    /// How many messages went through so far.
+    pub fn traffic(&self) -> Traffic {
+        self.news.traffic()
     }
 
     /// Hands out whom the moves concerned since this was last called.

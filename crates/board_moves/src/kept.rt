@@ -2,10 +2,11 @@
 ghost use Rattle.std.specs.Prelude.{◌≡◌, ◌↔◌, ◌⊎◌, [], Some, IsSome, IsNone, IsOk, IsTrue, OnOk, OnErr, IfOk, IfSome, IsErrOf, filter, true, false};
 ghost use Rattle.std.specs.Option.{option_map};
 ghost use Rattle.gateway_calls.specs.Searching.{IsSearched};
-ghost use Rattle.gateway_state.specs.Asked.{stands, ends};
+ghost use Rattle.gateway_state.specs.Asked.{stands, ends, queued_bytes};
 ghost use Rattle.gateway_state.specs.Variables.{asks};
-ghost use Rattle.board_rings.specs.Lines.{is_attached, is_not_line, line_of};
-ghost use Rattle.board_rings.specs.declared.line.TheConstants.{RING_SIZE};
+ghost use Rattle.gateway_state.specs.RowCounts.{row_counts};
+ghost use Rattle.board_rings.specs.Attachments.{is_attached, is_not_attachment_of, attachment_of};
+ghost use Rattle.board_rings.specs.declared.attachment.TheConstants.{RING_SIZE};
 ghost use Rattle.board_history.specs.Calls.{Attaches};
 ghost use Rattle.board_history.specs.History.{is_for_desk};
 ghost use Rattle.board_moves.specs.Answers.{ends_of, IsDesk, KeepsRings};
@@ -13,11 +14,11 @@ ghost use Rattle.board_moves.specs.Keeping.{has_waiting, is_over, woken, IsTurn,
 
 use crate::board::Board;
 use crate::fault::BoardFault;
-use crate::news::News;
+use crate::news::{News, Traffic};
 use crate::turn::Turn;
 use board_rings::{Ends, Inlet, Outlet};
 use gateway_calls::{AskFault, Failed, GatewayCalls};
-use gateway_state::{Dest, Event};
+use gateway_state::{Dest, Event, RowCounts};
 use pv_name::{Host, Name};
 use pv_search::SearchAnswer;
 use std::marker::Model;
@@ -109,7 +110,7 @@ impl<G: GatewayCalls + Drop> Kept<G> {
     pub fn desk(&mut self, event: Event) -> Result<(), BoardFault>
         ensures desk { IsDesk event self.old.board result self.new.board }
         ensures not_here { IsErrOf result BoardFault.NotHere ↔ (is_for_desk event ≡ false) }
-        ensures rings { KeepsRings self.old.board.lines self.new.board.lines }
+        ensures rings { KeepsRings self.old.board.attachments self.new.board.attachments }
         ensures wakes { WakesBeside self.old self.new }
     {
         let answer = self.board.desk(event);
@@ -121,7 +122,7 @@ impl<G: GatewayCalls + Drop> Kept<G> {
     pub fn attach(&mut self, dest: Dest) -> Result<(Inlet, Outlet), BoardFault>
         ensures ok { IfOk result (λ r. Attaches dest r.0.ring r.1.ring RING_SIZE self.old.board self.new.board) }
         ensures empty { IfOk result (λ r. (r.0.offered ≡ []) × (r.0.free ≡ RING_SIZE) × (r.1.taken ≡ []) × (r.1.seen ≡ [])) }
-        ensures attached { IsErrOf result BoardFault.Attached ↔ (is_attached dest self.old.board.lines ≡ true) }
+        ensures attached { IsErrOf result BoardFault.Attached ↔ (is_attached dest self.old.board.attachments ≡ true) }
         ensures err { OnErr result (self.new.board ≡ self.old.board) }
         ensures cause { IsErrOf result BoardFault.Attached ⊎ IsErrOf result BoardFault.OutOfMemory ⊎ IsOk result }
         ensures wakes { WakesBeside self.old self.new }
@@ -133,9 +134,9 @@ impl<G: GatewayCalls + Drop> Kept<G> {
 
     /// Takes the board's ends of a connection's rings off.
     pub fn retire(&mut self, dest: Dest) -> Option<Ends>
-        ensures found { result ≡ option_map ends_of (line_of dest self.old.board.lines) }
+        ensures found { result ≡ option_map ends_of (attachment_of dest self.old.board.attachments) }
         ensures rows { self.new.board.rows ≡ self.old.board.rows }
-        ensures lines { self.new.board.lines ≡ filter (is_not_line dest) self.old.board.lines }
+        ensures attachments { self.new.board.attachments ≡ filter (is_not_attachment_of dest) self.old.board.attachments }
         ensures same { SameBeside self.old self.new }
     {
         self.board.retire(dest)
@@ -177,6 +178,24 @@ impl<G: GatewayCalls + Drop> Kept<G> {
         self.board.must_end(dest)
     }
 
+    /// How many rows of each kind the gateway has.
+    pub fn row_counts(&mut self) -> Result<RowCounts, Failed>
+        ensures found { IfOk result (λ counts. Some counts ≡ option_map row_counts self.old.board.rows) }
+        ensures failed { IsOk result ↔ IsSome self.old.board.rows }
+        ensures same { self.new ≡ self.old }
+    {
+        self.board.row_counts()
+    }
+
+    /// How many bytes wait for the connection, 0 where it doesn't stand, and at most the type's last value.
+    pub fn queued_bytes(&mut self, dest: Dest) -> Result<u64, Failed>
+        ensures found { IfOk result (λ answer. Some answer ≡ option_map (λ w. queued_bytes w dest) self.old.board.rows) }
+        ensures failed { IsOk result ↔ IsSome self.old.board.rows }
+        ensures same { self.new ≡ self.old }
+    {
+        self.board.queued_bytes(dest)
+    }
+
     /// Performs one round of the board, unless it is closed. Nothing where that moved nothing; else it
     /// counts a wake.
     pub fn try_turn(&mut self) -> Option<Turn>
@@ -197,6 +216,11 @@ impl<G: GatewayCalls + Drop> Kept<G> {
                 Some(Turn::Failed)
             }
         }
+    }
+
+    /// How many messages went through so far.
+    pub fn traffic(&self) -> Traffic {
+        self.board.traffic()
     }
 
     /// Hands out whom the moves concerned since this was last called.

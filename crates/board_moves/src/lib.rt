@@ -30,5 +30,5 @@ mod turn;
 pub use board::Board;
 pub use fault::BoardFault;
 pub use kept::Kept;
-pub use news::{News, SEAT_WORDS, SEATS, seat_of};
+pub use news::{News, SEAT_WORDS, SEATS, Traffic, seat_of};
 pub use turn::Turn;

@@ -1,4 +1,4 @@
-//! The board's calls on its parts: the gateway and the lines.
+//! The board's calls on its parts: the gateway and the attachments.
 ghost use Rattle.std.specs.Prelude.{◌≡◌, ◌↔◌, ◌⊎◌, IsTrue, IsNone, IsSome, IsErrOf, OnOk, OnErr, Some, None, true, false};
 ghost use Rattle.std.specs.Option.{option_map};
 ghost use Rattle.gateway_state.specs.Step.{step};
@@ -10,7 +10,7 @@ ghost use Rattle.board_moves.specs.Rounds.{dests_of};
 use crate::fault::BoardFault;
 use crate::news::News;
 use board_history::MOST_SENT;
-use board_rings::{Inbound, Lines};
+use board_rings::{Attachments, Inbound};
 use gateway_calls::{GatewayCalls, StepFault};
 use gateway_state::{Dest, Event};
 
@@ -70,25 +70,25 @@ fn perform_item<G: GatewayCalls>(
 }
 
 /// Receives one item of a connection and performs its event, on a gateway that hasn't failed. An item
-/// whose event is refused is gone with the gateway. The guess is where the connection's line may stand.
+/// whose event is refused is gone with the gateway. The guess is where the connection's attachment may stand.
 #[tactic(auto, using(crate::proofs::Moved::pumped, crate::proofs::Moved::pump_refused, crate::proofs::Moved::pump_used_up, crate::proofs::Changed::received_dests, crate::proofs::Changed::received_rings))]
 pub(crate) fn pump_standing<G: GatewayCalls>(
     gate: &mut G,
-    lines: &mut Lines,
+    attachments: &mut Attachments,
     news: &mut News,
     dest: Dest,
     guess: usize,
 ) -> Result<bool, BoardFault>
     requires stands { IsSome (G.state gate.old) }
-    ensures pump { IsPump dest (board_of (G.state gate.old) lines.old) result (board_of (G.state gate.new) lines.new) }
+    ensures pump { IsPump dest (board_of (G.state gate.old) attachments.old) result (board_of (G.state gate.new) attachments.new) }
     ensures stands { OnOk result (IsSome (G.state gate.new)) }
-    ensures dests { dests_of lines.new ≡ dests_of lines.old }
-    ensures rings { KeepsRings lines.old lines.new }
+    ensures dests { dests_of attachments.new ≡ dests_of attachments.old }
+    ensures rings { KeepsRings attachments.old attachments.new }
 {
-    let Some((item, left)) = lines.receive(dest, guess) else {
+    let Some((item, left)) = attachments.receive(dest, guess) else {
         return Ok(false);
     };
-    news.note_received(dest, left);
+    news.note_received(dest, left, !matches!(item, Inbound::Gone));
     match perform_item(gate, news, dest, item) {
         Ok(()) => Ok(true),
         Err(fault) => Err(BoardFault::Step(fault)),
@@ -98,30 +98,30 @@ pub(crate) fn pump_standing<G: GatewayCalls>(
 /// Receives one item of a connection and performs its event.
 pub(crate) fn pump<G: GatewayCalls>(
     gate: &mut G,
-    lines: &mut Lines,
+    attachments: &mut Attachments,
     news: &mut News,
     dest: Dest,
 ) -> Result<bool, BoardFault>
-    ensures pump { IsPump dest (board_of (G.state gate.old) lines.old) result (board_of (G.state gate.new) lines.new) }
-    ensures rings { KeepsRings lines.old lines.new }
+    ensures pump { IsPump dest (board_of (G.state gate.old) attachments.old) result (board_of (G.state gate.new) attachments.new) }
+    ensures rings { KeepsRings attachments.old attachments.new }
 {
-    if !lines.is_attached(dest) {
+    if !attachments.is_attached(dest) {
         return Ok(false);
     }
     if has_failed(gate) {
         return Err(BoardFault::Step(StepFault::Failed));
     }
-    pump_standing(gate, lines, news, dest, 0)
+    pump_standing(gate, attachments, news, dest, 0)
 }
 
 /// Performs an event that comes through no ring.
 pub(crate) fn desk<G: GatewayCalls>(
     gate: &mut G,
-    lines: &Lines,
+    attachments: &Attachments,
     news: &mut News,
     event: Event,
 ) -> Result<(), BoardFault>
-    ensures { IsDesk event (board_of (G.state gate.old) lines.now) result (board_of (G.state gate.new) lines.now) }
+    ensures { IsDesk event (board_of (G.state gate.old) attachments.now) result (board_of (G.state gate.new) attachments.now) }
 {
     if !is_for_desk(&event) {
         return Err(BoardFault::NotHere);
@@ -138,29 +138,29 @@ pub(crate) fn desk<G: GatewayCalls>(
 }
 
 /// Takes as many messages of a connection as places of its ring are free, up to 64, and pushes them, on a
-/// gateway that hasn't failed. The guess is where its line may stand.
+/// gateway that hasn't failed. The guess is where its attachment may stand.
 #[tactic(auto, using(crate::proofs::Moved::send_refused, crate::proofs::Moved::send_used_up, crate::proofs::Changed::looked_dests, crate::proofs::Changed::looked_rings))]
 fn send_standing<G: GatewayCalls>(
     gate: &mut G,
-    lines: &mut Lines,
+    attachments: &mut Attachments,
     news: &mut News,
     dest: Dest,
     guess: usize,
 ) -> Result<usize, BoardFault>
     requires stands { IsSome (G.state gate.old) }
-    ensures sent { IsSendOut dest (board_of (G.state gate.old) lines.old) result (board_of (G.state gate.new) lines.new) }
-    ensures dests { dests_of lines.new ≡ dests_of lines.old }
-    ensures rings { KeepsRings lines.old lines.new }
+    ensures sent { IsSendOut dest (board_of (G.state gate.old) attachments.old) result (board_of (G.state gate.new) attachments.new) }
+    ensures dests { dests_of attachments.new ≡ dests_of attachments.old }
+    ensures rings { KeepsRings attachments.old attachments.new }
 {
-    let found = lines.room(dest, guess);
+    let found = attachments.room(dest, guess);
     if found == 0 {
         return Ok(0);
     }
     match gate.drain(dest, MOST_SENT.min(found)) {
         Ok(outs) => {
             let count = outs.len();
-            news.note(dest);
-            lines.push_all(dest, guess, outs);
+            news.note_sent(dest, count);
+            attachments.push_all(dest, guess, outs);
             Ok(count)
         }
         Err(fault) => Err(BoardFault::Step(fault)),
@@ -168,22 +168,22 @@ fn send_standing<G: GatewayCalls>(
 }
 
 /// Takes as many messages of a connection as places of its ring are free, up to 64, and pushes them. The
-/// guess is where its line may stand. A connection for which no message waits costs one look.
+/// guess is where its attachment may stand. A connection for which no message waits costs one look.
 pub(crate) fn send_out<G: GatewayCalls>(
     gate: &mut G,
-    lines: &mut Lines,
+    attachments: &mut Attachments,
     news: &mut News,
     dest: Dest,
     guess: usize,
 ) -> Result<usize, BoardFault>
-    ensures sent { IsSendOut dest (board_of (G.state gate.old) lines.old) result (board_of (G.state gate.new) lines.new) }
-    ensures dests { dests_of lines.new ≡ dests_of lines.old }
-    ensures rings { KeepsRings lines.old lines.new }
+    ensures sent { IsSendOut dest (board_of (G.state gate.old) attachments.old) result (board_of (G.state gate.new) attachments.new) }
+    ensures dests { dests_of attachments.new ≡ dests_of attachments.old }
+    ensures rings { KeepsRings attachments.old attachments.new }
 {
     match gate.queued(dest) {
         Ok(0) => Ok(0),
-        Ok(_) => send_standing(gate, lines, news, dest, guess),
-        Err(_) if lines.is_attached(dest) => Err(BoardFault::Step(StepFault::Failed)),
+        Ok(_) => send_standing(gate, attachments, news, dest, guess),
+        Err(_) if attachments.is_attached(dest) => Err(BoardFault::Step(StepFault::Failed)),
         Err(_) => Ok(0),
     }
 }

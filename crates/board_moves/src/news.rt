@@ -20,11 +20,21 @@ pub fn seat_of(dest: Dest) -> usize {
     }
 }
 
-/// The seats of those connections whose workers may go on after what was moved. No contract speaks of
-/// them: who is woken is no part of what a board does.
+/// How many messages went through a board so far, each number up to the type's last value.
+#[derive(Clone, Copy, Debug, PartialEq, Eq)]
+pub struct Traffic {
+    /// Those of connections that were performed.
+    pub received: u64,
+    /// Those that were handed on to be written.
+    pub sent: u64,
+}
+
+/// The seats of those connections whose workers may go on after what was moved, and how much was moved. No
+/// contract speaks of them: who is woken, and what is counted, is no part of what a board does.
 #[derive(Clone, Copy, Debug)]
 pub struct News {
     words: [u64; SEAT_WORDS],
+    traffic: Traffic,
 }
 
 impl News {
@@ -32,6 +42,10 @@ impl News {
     pub fn none() -> News {
         News {
             words: [0; SEAT_WORDS],
+            traffic: Traffic {
+                received: 0,
+                sent: 0,
+            },
         }
     }
 
@@ -44,11 +58,25 @@ impl News {
     }
 
     /// Notes a connection where its ring in came down to half, or to nothing: a reader that waits for a
-    /// place then goes on, once for many places.
-    pub fn note_received(&mut self, dest: Dest, left: usize) {
+    /// place then goes on, once for many places. An end of a connection is no message.
+    pub fn note_received(&mut self, dest: Dest, left: usize, is_message: bool) {
+        if is_message {
+            self.traffic.received = self.traffic.received.saturating_add(1);
+        }
         if left == RING_SIZE / 2 || left == 0 {
             self.note(dest);
         }
+    }
+
+    /// Notes a connection to which so many messages were handed on.
+    pub fn note_sent(&mut self, dest: Dest, count: usize) {
+        self.traffic.sent = self.traffic.sent.saturating_add(count as u64);
+        self.note(dest);
+    }
+
+    /// How many messages went through so far.
+    pub fn traffic(&self) -> Traffic {
+        self.traffic
     }
 
     /// The n-th 64 seats: a bit for each that was noted.
@@ -59,10 +87,10 @@ impl News {
         }
     }
 
-    /// Hands out what was noted, and begins anew.
+    /// Hands out what was noted, and notes the next seats anew. Messages are counted on.
     pub fn take(&mut self) -> News {
         let news = *self;
-        *self = News::none();
+        self.words = [0; SEAT_WORDS];
         news
     }
 }

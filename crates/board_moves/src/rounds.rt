@@ -6,7 +6,7 @@ ghost use Rattle.board_moves.specs.Rounds.{dests_of, IsRound, Performs, Performs
 use crate::fault::BoardFault;
 use crate::moves::{has_failed, pump_standing, send_out};
 use crate::news::News;
-use board_rings::Lines;
+use board_rings::Attachments;
 use gateway_calls::{GatewayCalls, StepFault};
 use gateway_state::Dest;
 
@@ -17,21 +17,21 @@ enum Call {
     SendOut(Dest),
 }
 
-/// Pumps a connection whose line may stand at the guess, and answers how many items it moved.
+/// Pumps a connection whose attachment may stand at the guess, and answers how many items it moved.
 fn pump_one<G: GatewayCalls>(
     gate: &mut G,
-    lines: &mut Lines,
+    attachments: &mut Attachments,
     news: &mut News,
     dest: Dest,
     guess: usize,
 ) -> Result<usize, BoardFault>
     requires stands { IsSome (G.state gate.old) }
-    ensures performed { Performs (Call.Pump dest) (board_of (G.state gate.old) lines.old) result (board_of (G.state gate.new) lines.new) }
+    ensures performed { Performs (Call.Pump dest) (board_of (G.state gate.old) attachments.old) result (board_of (G.state gate.new) attachments.new) }
     ensures stands { OnOk result (IsSome (G.state gate.new)) }
-    ensures dests { dests_of lines.new ≡ dests_of lines.old }
-    ensures rings { KeepsRings lines.old lines.new }
+    ensures dests { dests_of attachments.new ≡ dests_of attachments.old }
+    ensures rings { KeepsRings attachments.old attachments.new }
 {
-    match pump_standing(gate, lines, news, dest, guess) {
+    match pump_standing(gate, attachments, news, dest, guess) {
         Ok(true) => Ok(1),
         Ok(false) => Ok(0),
         Err(fault) => Err(fault),
@@ -42,20 +42,20 @@ fn pump_one<G: GatewayCalls>(
 #[tactic(auto, using(crate::proofs::RoundCalls::next_performed))]
 fn pump_all<G: GatewayCalls>(
     gate: &mut G,
-    lines: &mut Lines,
+    attachments: &mut Attachments,
     news: &mut News,
 ) -> Result<usize, BoardFault>
     requires stands { IsSome (G.state gate.old) }
-    ensures calls { PerformsUpTo (map Call.Pump (dests_of lines.old)) (board_of (G.state gate.old) lines.old) result (board_of (G.state gate.new) lines.new) }
-    ensures dests { dests_of lines.new ≡ dests_of lines.old }
-    ensures rings { KeepsRings lines.old lines.new }
+    ensures calls { PerformsUpTo (map Call.Pump (dests_of attachments.old)) (board_of (G.state gate.old) attachments.old) result (board_of (G.state gate.new) attachments.new) }
+    ensures dests { dests_of attachments.new ≡ dests_of attachments.old }
+    ensures rings { KeepsRings attachments.old attachments.new }
 {
     let mut moved = 0usize;
-    for n in 0..lines.len() {
-        let Some(dest) = lines.dest(n) else {
+    for n in 0..attachments.len() {
+        let Some(dest) = attachments.dest(n) else {
             break;
         };
-        match pump_one(gate, lines, news, dest, n) {
+        match pump_one(gate, attachments, news, dest, n) {
             Ok(count) => moved = moved.saturating_add(count),
             Err(fault) => return Err(fault),
         }
@@ -67,19 +67,19 @@ fn pump_all<G: GatewayCalls>(
 #[tactic(auto, using(crate::proofs::RoundCalls::next_performed))]
 fn send_all<G: GatewayCalls>(
     gate: &mut G,
-    lines: &mut Lines,
+    attachments: &mut Attachments,
     news: &mut News,
 ) -> Result<usize, BoardFault>
-    ensures calls { PerformsUpTo (map Call.SendOut (dests_of lines.old)) (board_of (G.state gate.old) lines.old) result (board_of (G.state gate.new) lines.new) }
-    ensures dests { dests_of lines.new ≡ dests_of lines.old }
-    ensures rings { KeepsRings lines.old lines.new }
+    ensures calls { PerformsUpTo (map Call.SendOut (dests_of attachments.old)) (board_of (G.state gate.old) attachments.old) result (board_of (G.state gate.new) attachments.new) }
+    ensures dests { dests_of attachments.new ≡ dests_of attachments.old }
+    ensures rings { KeepsRings attachments.old attachments.new }
 {
     let mut moved = 0usize;
-    for n in 0..lines.len() {
-        let Some(dest) = lines.dest(n) else {
+    for n in 0..attachments.len() {
+        let Some(dest) = attachments.dest(n) else {
             break;
         };
-        match send_out(gate, lines, news, dest, n) {
+        match send_out(gate, attachments, news, dest, n) {
             Ok(count) => moved = moved.saturating_add(count),
             Err(fault) => return Err(fault),
         }
@@ -88,23 +88,23 @@ fn send_all<G: GatewayCalls>(
 }
 
 /// Pumps each attached connection, then sends out to each, up to the first fault. It answers how many
-/// items were moved. The lines are walked in place: none is searched for.
+/// items were moved. The attachments are walked in place: none is searched for.
 pub(crate) fn round<G: GatewayCalls>(
     gate: &mut G,
-    lines: &mut Lines,
+    attachments: &mut Attachments,
     news: &mut News,
 ) -> Result<usize, BoardFault>
-    ensures round { IsRound (board_of (G.state gate.old) lines.old) result (board_of (G.state gate.new) lines.new) }
-    ensures rings { KeepsRings lines.old lines.new }
+    ensures round { IsRound (board_of (G.state gate.old) attachments.old) result (board_of (G.state gate.new) attachments.new) }
+    ensures rings { KeepsRings attachments.old attachments.new }
 {
     if has_failed(gate) {
         return Err(BoardFault::Step(StepFault::Failed));
     }
-    let received = match pump_all(gate, lines, news) {
+    let received = match pump_all(gate, attachments, news) {
         Ok(received) => received,
         Err(fault) => return Err(fault),
     };
-    match send_all(gate, lines, news) {
+    match send_all(gate, attachments, news) {
         Ok(sent) => Ok(received.saturating_add(sent)),
         Err(fault) => Err(fault),
     }

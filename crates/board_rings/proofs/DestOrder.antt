@@ -4,7 +4,7 @@ use Rattle.std.proofs.lemmas.Bool.{false≢true, ltb-true, ltb-false, eqb-true, 
 use Rattle.gateway_state.specs.Connections.{same_dest}
 use Rattle.gateway_state.specs.declared.event.Dest.{Dest}
 use Rattle.gateway_state.specs.declared.event.Dest.TheVariants.{Session, Upstream}
-use Rattle.board_rings.specs.Lines.{comes_before}
+use Rattle.board_rings.specs.Attachments.{comes_before}
 
 pub same_is_equal : (a b : Dest) → same_dest a b ≡ true → a ≡ b
 same_is_equal (Session a) (Session b) same = ap Session (eqb-true a b same)

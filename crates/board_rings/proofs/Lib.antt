@@ -1,3 +1,3 @@
 mod DestOrder
-pub mod LineChanges
-pub mod LineOrder
+pub mod AttachmentChanges
+pub mod AttachmentOrder

@@ -39,9 +39,9 @@ pub record EndsState : Type 0 where
   pub out_ring : Ring
   pub pushed : List Out
 
--- the line of a connection that is attached, how many places of its ring out are known to be free, and
+-- the attachment of a connection that is attached, how many places of its ring out are known to be free, and
 -- how many items are known to be in its ring in
-pub record LineState : Type 0 where
+pub record AttachmentState : Type 0 where
   pub dest : Dest
   pub ends : EndsState
   pub free : ℕ

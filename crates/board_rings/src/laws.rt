@@ -1,8 +1,8 @@
 //! What holds of the two ends of a ring, and the numbers of the crate.
 ghost use Rattle.std.specs.Prelude.{◌≡◌, ◌+◌, length, take};
 
+use crate::attachment::RING_SIZE;
 use crate::ends::{Ends, Inlet, Outlet};
-use crate::line::RING_SIZE;
 
 /// How much lies between a reader and the board: what was received is what was offered, from the
 /// front on, and this many items follow.

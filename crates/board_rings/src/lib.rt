@@ -1,15 +1,15 @@
 //! The rings between the board and the workers of each connection.
 //!
-//! A connection that is attached has a line on the board: a ring in, by which its reader hands over what
+//! A connection that is attached has an attachment on the board: a ring in, by which its reader hands over what
 //! comes from the peer, and a ring out, by which its writer is handed what goes there. The workers' ends
-//! are an [`Inlet`] and an [`Outlet`]; the board's ends of both are in its [`Line`], and come back as
-//! [`Ends`] where the connection is retired. [`Lines`] are the lines of all attached connections, clients
+//! are an [`Inlet`] and an [`Outlet`]; the board's ends of both are in its [`Attachment`], and come back as
+//! [`Ends`] where the connection is retired. [`Attachments`] are those of all connections, clients
 //! first, each by rising number.
 //!
 //! - [`Inlet::offer`] and [`Outlet::next`] are one push or pop each. They never wait, and take no memory.
-//! - [`Lines::attach`] makes both rings, [`Lines::retire`] takes the board's ends off.
-//! - [`Lines::receive`], [`Lines::room`] and [`Lines::push_all`] are the board's side. They are told where
-//!   the line may stand, so that a walk over all lines, in order, searches for none.
+//! - [`Attachments::attach`] makes both rings, [`Attachments::retire`] takes the board's ends off.
+//! - [`Attachments::receive`], [`Attachments::room`] and [`Attachments::push_all`] are the board's side. They are told where
+//!   the attachment may stand, so that a walk over all attachments, in order, searches for none.
 //!
 //! A contract sees each end as all that ever went through it: what was offered, received, pushed and
 //! taken, and what is known to be in the ring. An offer comes back only where no place is known to be
@@ -18,26 +18,26 @@
 //!
 //! ```
 //! let dest = Dest::Session(1);
-//! let mut lines = Lines::new(rt.alloc());
-//! let (mut inlet, mut outlet) = lines.attach(rt.alloc(), dest)?;
+//! let mut attachments = Attachments::new(rt.alloc());
+//! let (mut inlet, mut outlet) = attachments.attach(rt.alloc(), dest)?;
 //! assert!(rt; inlet.offer(Inbound::Gone).is_ok());
-//! assert!(rt; lines.receive(dest, 0).is_some());
-//! assert_eq!(rt; lines.room(dest, 0), RING_SIZE);
-//! lines.push_all(dest, 0, vec![in rt.alloc(); out]?);
+//! assert!(rt; attachments.receive(dest, 0).is_some());
+//! assert_eq!(rt; attachments.room(dest, 0), RING_SIZE);
+//! attachments.push_all(dest, 0, vec![in rt.alloc(); out]?);
 //! assert!(rt; outlet.next().is_some());
-//! assert!(rt; lines.retire(dest).is_some());
-//! assert_eq!(rt; lines.len(), 0);
+//! assert!(rt; attachments.retire(dest).is_some());
+//! assert_eq!(rt; attachments.len(), 0);
 //! ```
 #![tactic(auto)]
 
+mod attachment;
+mod attachments;
 mod ends;
 mod inbound;
 pub mod laws;
-mod line;
-mod lines;
 mod places;
 
+pub use attachment::{Attachment, RING_SIZE};
+pub use attachments::Attachments;
 pub use ends::{Ends, Inlet, Outlet};
 pub use inbound::Inbound;
-pub use line::{Line, RING_SIZE};
-pub use lines::Lines;

@@ -17,7 +17,7 @@ pub const EXTENDED_MARK: u16 = 0xFFFF;
 pub const ALIGNMENT: u32 = 8;
 
 /// The size of the largest payload that is taken, in bytes.
-pub const MAX_PAYLOAD: u32 = 1_048_576;
+pub const MAX_PAYLOAD: u32 = 16_777_216;
 
 /// The header of a message (Channel Access Protocol Specification, "Message Header"). What `dtype`,
 /// `count`, `p1` and `p2` mean depends on the command.

@@ -20,7 +20,7 @@ pub fn numbers_are_these()
     ensures extended_len { EXTENDED_LEN ≡ 24 }
     ensures extended_mark { EXTENDED_MARK ≡ 0xFFFF }
     ensures alignment { ALIGNMENT ≡ 8 }
-    ensures max_payload { MAX_PAYLOAD ≡ 1_048_576 }
+    ensures max_payload { MAX_PAYLOAD ≡ 16_777_216 }
 {}
 
 /// A well-formed header that is written is read as itself, whatever follows it.

@@ -33,7 +33,7 @@ impl fmt::Display for FrameFault {
     fn fmt<W: fmt::Write>(&self, f: &mut fmt::Formatter<W>) -> fmt::Result {
         f.write_str(match self {
             FrameFault::Misaligned => "a payload's size is no multiple of 8",
-            FrameFault::TooLarge => "a payload's size is above 1048576",
+            FrameFault::TooLarge => "a payload's size is above 16777216",
         })
     }
 }

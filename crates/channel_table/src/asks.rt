@@ -35,7 +35,8 @@ pub(crate) fn of_reach(reach: Reach, rights: u32) -> Option<Ask>
     }
 }
 
-fn reach_ask(reach: Reach) -> Ask
+/// What the accepted reads on a channel ask for.
+pub fn reach_ask(reach: Reach) -> Ask
     ensures { result ≡ reach_ask reach }
 {
     Ask {
@@ -62,7 +63,8 @@ pub(crate) fn of_sub(reads: bool, sub: &ClientSub) -> Option<Ask>
     if reads { Some(own_ask(sub)) } else { None }
 }
 
-fn own_ask(sub: &ClientSub) -> Ask
+/// What a subscription asks for.
+pub fn own_ask(sub: &ClientSub) -> Ask
     ensures { result ≡ own_ask sub.now }
 {
     Ask {

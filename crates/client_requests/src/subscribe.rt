@@ -9,8 +9,9 @@ use crate::refusals::{refuse_channel, refuse_request};
 use ca_header::Header;
 use ca_message::codes::{ECA_ALLOCMEM, ECA_BADMASK, ECA_INTERNAL};
 use channel_table::{Channel, ClientSub, SUB_LIMIT, TableFault, Visits};
-use gateway_rows::{Rows, native_in, value_refusal};
+use gateway_rows::Rows;
 use gateway_state::{Native, SERVED_EVENTS, SubVerdict};
+use gateway_values::{native_in, value_refusal};
 use std::alloc::AllocError;
 use touched_rows::Touched;
 

@@ -4,16 +4,16 @@ ghost use Rattle.gateway_state.specs.Gateway.{Gateway};
 ghost use Rattle.gateway_state.specs.Numbers.{is_past_numbers};
 ghost use Rattle.gateway_state.specs.Settled.{HasWriteIdsBelow};
 ghost use Rattle.gateway_state.specs.Told.{KnowRights, KnowsRights};
-ghost use Rattle.gateway_state.specs.Writing.{may_write, new_write, notified_by, with_write, write_answered, write_asked, write_handed_on, write_judged, write_notify_asked, write_verdict, write_verdict_in, write_waits, written_by};
+ghost use Rattle.gateway_state.specs.Writing.{new_write, notified_by, with_write, write_answered, write_asked, write_handed_on, write_judged, write_notify_asked, write_verdict, write_verdict_in, write_waits, written_by};
 
 use crate::refusals::{refuse_channel, refuse_request};
 use ca_header::Header;
 use ca_message::codes::{ECA_NOWTACCESS, ECA_PUTFAIL};
-use ca_message::commands::CA_PROTO_ACCESS_RIGHT_WRITE;
 use ca_message::{ToClient, ToServer, ValueBytes, WriteFault, WrittenValue};
 use channel_table::{Channel, Visits};
 use gateway_rows::{Refusal, Rows};
 use gateway_state::WriteVerdict;
+use gateway_values::may_write;
 use link_table::{Counter, Link, LinkState, WRITE_LIMIT, WaitingWrite};
 use std::alloc::AllocError;
 
@@ -24,13 +24,6 @@ pub(crate) struct Write {
     pub sid: u32,
     pub dtype: u16,
     pub count: u32,
-}
-
-/// Whether the rights let a client write.
-fn may_write(rights: u32) -> bool
-    ensures { result ≡ may_write rights }
-{
-    rights & CA_PROTO_ACCESS_RIGHT_WRITE == CA_PROTO_ACCESS_RIGHT_WRITE
 }
 
 /// A value that isn't fit to be handed on is refused first, then a write without the right.

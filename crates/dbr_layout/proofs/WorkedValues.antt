@@ -1,7 +1,8 @@
 -- The definitions, computed on values from outside.
-use Rattle.std.proofs.Common.{◌≡◌, ℕ, pos, List, [], ◌∷◌, ◌++◌, Option, Some, None, replicate, Ok, Err, refl}
+use Rattle.std.proofs.Common.{◌≡◌, ℕ, pos, List, [], ◌∷◌, ◌++◌, Option, Some, None, replicate, Ok, Err, refl, lit<}
 use Rattle.std.specs.Prelude.{Result, codes}
 use Rattle.std.specs.Fmt.{digits, signed_decimal}
+use Rattle.dbr_layout.specs.declared.conversion.Conversion.TheVariants.{Unchanged}
 use Rattle.dbr_layout.specs.declared.conversion.Integer.TheVariants as integer
 use Rattle.dbr_layout.specs.declared.dbr.Base.TheVariants as base
 use Rattle.dbr_layout.specs.declared.dbr.Dbr.{Dbr}
@@ -16,9 +17,13 @@ use Rattle.dbr_layout.specs.Parts.{Parts}
 use Rattle.dbr_layout.specs.Properties.{Properties, properties_of}
 use Rattle.dbr_layout.specs.States.{state_text}
 use Rattle.dbr_layout.specs.View.{Shown, shown}
+use Rattle.dbr_layout.proofs.Written.{too_large_of}
 
 abbrev time_long : Dbr
 time_long = record { base = base.Long; form = form.Time }
+
+abbrev ctrl_long : Dbr
+ctrl_long = record { base = base.Long; form = form.Ctrl }
 
 abbrev time_char : Dbr
 time_char = record { base = base.Char; form = form.Time }
@@ -92,13 +97,13 @@ sts_char_layout : written chars None 11 0 ≡ Ok (0 ∷ 1 ∷ 0 ∷ 2 ∷ 0 ∷ 
 unfolding dbr_of conversion_between
 sts_char_layout = refl
 
-largest_time_long : payload_size time_long 262141 ≡ 1048576
+largest_time_long : payload_size time_long 4194301 ≡ 16777216
 largest_time_long = refl
 
-longer_time_long : payload_size time_long 262142 ≡ 1048584
+longer_time_long : payload_size time_long 4194302 ≡ 16777224
 longer_time_long = refl
 
-largest_string : payload_size string 26214 ≡ 1048560
+largest_string : payload_size string 419430 ≡ 16777200
 largest_string = refl
 
 -- LONGs of -7, the least and the greatest
@@ -187,13 +192,13 @@ type_first : long_written None 22 1 ≡ Err BadType
 unfolding dbr_of conversion_between long_written
 type_first = refl
 
-properties_next : long_written None 33 262134 ≡ Err NoProperties
+properties_next : long_written None 33 4194294 ≡ Err NoProperties
 unfolding dbr_of conversion_between long_written
 properties_next = refl
 
-too_large : long_written (Some milliamperes) 33 262134 ≡ Err TooLarge
+too_large : long_written (Some milliamperes) 33 4194294 ≡ Err TooLarge
 unfolding dbr_of conversion_between long_written
-too_large = refl
+too_large = too_large_of (record { dbr = time_long; parts = forty_two }) (Some milliamperes) (Some milliamperes) 33 4194294 ctrl_long Unchanged 4194294 refl refl refl refl (lit< tt)
 
 -- a text needs none of a LONG, and tells none
 gr_string_layout : long_written None 21 1 ≡ Ok (0 ∷ 0 ∷ 0 ∷ 0 ∷ 52 ∷ 50 ∷ replicate 42 0)

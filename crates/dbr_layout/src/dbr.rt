@@ -7,7 +7,7 @@ ghost use Rattle.dbr_layout.specs.Dbr.{base_number, element_size, form_number};
 pub const ALIGNMENT: usize = 8;
 
 /// The size of the largest payload that is laid out, in bytes.
-pub const MAX_PAYLOAD: u32 = 1_048_576;
+pub const MAX_PAYLOAD: u32 = 16_777_216;
 
 /// How many bases there are. The types of one form have as many numbers in a row.
 pub(crate) const BASES: u16 = 7;

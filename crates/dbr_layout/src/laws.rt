@@ -10,7 +10,7 @@ ghost use Rattle.dbr_layout.specs.Needs.{has_properties_by, is_state_by, is_text
 /// The numbers of payloads. Those of types, offsets and elements stand in the definitions.
 pub fn numbers_are_these()
     ensures alignment { ALIGNMENT ≡ 8 }
-    ensures max_payload { MAX_PAYLOAD ≡ 1_048_576 }
+    ensures max_payload { MAX_PAYLOAD ≡ 16_777_216 }
     ensures bases { BASES ≡ 7 }
     ensures string_size { STRING_SIZE ≡ 40 }
 {}

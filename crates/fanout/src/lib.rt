@@ -4,6 +4,7 @@
 //!   more, and a message that isn't taken comes back ([`AppendFault`]).
 //! - [`Outbox::take_front`] and [`Outbox::take`] take messages, oldest first.
 //! - [`Outbox::mark`] marks the connection to end, and nothing takes the mark off.
+//! - [`Outbox::bytes`] tells how many bytes wait: it keeps a count, and looks at no message.
 //!
 //! A contract sees an `Outbox` as the list of its messages and the mark. Want of memory changes nothing
 //! but what it says; the limit is in `laws::numbers_are_these`.

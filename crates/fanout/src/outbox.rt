@@ -1,6 +1,7 @@
 //! The messages that wait for one connection.
-ghost use Rattle.std.specs.Prelude.{◌≡◌, ◌≤◌, [], length, drop, take, false, true, OnOk, OnErr, IfOk, IfErr};
+ghost use Rattle.std.specs.Prelude.{◌≡◌, ◌^◌, ◌≤◌, [], length, drop, take, false, true, OnOk, OnErr, IfOk, IfErr};
 ghost use Rattle.std.specs.VecDeque.{deque_len};
+ghost use Rattle.fanout.specs.Waiting.{out_len, waiting_bytes};
 ghost use Rattle.fanout.specs.Outbox.{refuses, appended, without_first, front, IsRefusalOf};
 
 use bytes::Bytes;
@@ -19,6 +20,16 @@ pub struct Out {
     pub payload: Bytes,
 }
 
+impl Out {
+    // how many bytes it has as it goes out
+    fn len(&self) -> u128
+        ensures len { result ≡ out_len self.now }
+        ensures short { result ≤ 2 ^ 65 }
+    {
+        self.head.as_slice().len() as u128 + self.payload.len() as u128
+    }
+}
+
 /// Why an outbox took no message. The message comes back.
 #[derive(Debug, Drop)]
 pub enum AppendFault {
@@ -32,15 +43,19 @@ pub enum AppendFault {
 #[derive(Debug, Drop)]
 pub struct Outbox {
     messages: VecDeque<Out>,
+    /// How many bytes those messages have.
+    bytes: u128,
     marked: bool,
 }
 
 impl Model for Outbox {
-    ghost use Rattle.fanout.specs.Waiting.{Waiting};
+    ghost use Rattle.fanout.specs.Waiting.{Waiting, CountsBytes};
 
     ghost Value = { Waiting };
 
     ghost view = { λ o. record { messages = o.messages.items; marked = o.marked } };
+
+    ghost invariant = { λ o. CountsBytes o.messages.items o.bytes };
 }
 
 impl Outbox {
@@ -50,6 +65,7 @@ impl Outbox {
     {
         Outbox {
             messages: VecDeque::new(alloc),
+            bytes: 0,
             marked: false,
         }
     }
@@ -59,6 +75,13 @@ impl Outbox {
         ensures { result ≡ length self.now.messages }
     {
         self.messages.len()
+    }
+
+    /// How many bytes wait, headers and payloads, as far as the type tells it.
+    pub fn bytes(&self) -> u64
+        ensures { result ≡ waiting_bytes self.now }
+    {
+        self.bytes.min(u128::from(u64::MAX)) as u64
     }
 
     /// Whether the connection must end.
@@ -85,8 +108,12 @@ impl Outbox {
             self.marked = true;
             return Err(AppendFault::Marked(out));
         }
+        let len = out.len();
         match self.messages.push_back(out) {
-            Ok(()) => Ok(()),
+            Ok(()) => {
+                self.bytes += len;
+                Ok(())
+            }
             Err(refused) => Err(AppendFault::OutOfMemory(refused.value)),
         }
     }
@@ -96,7 +123,9 @@ impl Outbox {
         ensures found { result ≡ front self.old }
         ensures rest { self.new ≡ without_first 1 self.old }
     {
-        self.messages.pop_front()
+        let out = self.messages.pop_front()?;
+        self.bytes -= out.len();
+        Some(out)
     }
 
     /// Takes the oldest `count` messages in order, or all where there are fewer.
@@ -105,25 +134,12 @@ impl Outbox {
         ensures found { IfOk result (λ outs. outs.items ≡ take count self.old.messages) }
         ensures err { OnErr result (self.new ≡ self.old) }
     {
-        let count = count.min(self.messages.len());
-        take_first(&mut self.messages, alloc, count)
+        let found = count.min(self.messages.len());
+        let mut outs = Vec::with_capacity(alloc, found)?;
+        for _ in 0..found {
+            let out = self.take_front().unwrap();
+            outs.push_reserved(out);
+        }
+        Ok(outs)
     }
-}
-
-fn take_first(
-    messages: &mut VecDeque<Out>,
-    alloc: Global,
-    count: usize,
-) -> Result<Vec<Out>, AllocError>
-    requires { count ≤ deque_len messages.old }
-    ensures ok { OnOk result (messages.new.items ≡ drop count messages.old.items) }
-    ensures found { IfOk result (λ outs. outs.items ≡ take count messages.old.items) }
-    ensures err { OnErr result (messages.new.items ≡ messages.old.items) }
-{
-    let mut outs = Vec::with_capacity(alloc, count)?;
-    for _ in 0..count {
-        let out = messages.pop_front().unwrap();
-        outs.push_reserved(out);
-    }
-    Ok(outs)
 }

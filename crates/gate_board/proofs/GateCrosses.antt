@@ -5,7 +5,7 @@ use Rattle.gateway_rows.specs.contracts.state.Rows as rows
 use Rattle.gateway_core.specs.contracts.engine.Engine as engine
 use Rattle.gate_board.proofs.PartsCross.{table_send, links_send}
 use Rattle.gate_board.proofs.StateCrosses.{connections_send, cache_send, searches_send}
-use Rattle.gate_board.proofs.RingsCross.{lines_send, inlet_send, outlet_send}
+use Rattle.gate_board.proofs.RingsCross.{attachments_send, inlet_send, outlet_send}
 
 rows_send : IsSend rows.the_row
 rows_send = search (sendable, crosses, connections_send, table_send, links_send, cache_send, searches_send) depth 60 fits 20000
@@ -13,4 +13,4 @@ rows_send = search (sendable, crosses, connections_send, table_send, links_send,
 pub engine_send : IsSend engine.the_row
 engine_send = search (sendable, crosses, rows_send) depth 60 fits 20000
 
-pub ruleset gate_crosses = (engine_send, lines_send, inlet_send, outlet_send)
+pub ruleset gate_crosses = (engine_send, attachments_send, inlet_send, outlet_send)

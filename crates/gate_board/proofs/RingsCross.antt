@@ -3,8 +3,8 @@ use denote.Param.Send.{IsSend, sendable}
 use Rattle.std.proofs.Crossing.{crosses, send}
 use Rattle.board_rings.specs.contracts.ends.Inlet as inlet
 use Rattle.board_rings.specs.contracts.ends.Outlet as outlet
-use Rattle.board_rings.specs.contracts.line.Line as line
-use Rattle.board_rings.specs.contracts.lines.Lines as lines
+use Rattle.board_rings.specs.contracts.attachment.Attachment as attachment
+use Rattle.board_rings.specs.contracts.attachments.Attachments as attachments
 use Rattle.board_rings.specs.contracts.inbound.Inbound as inbound
 use Rattle.rtrb.proofs.end.End.TheSendSync as end
 use Rattle.gate_board.proofs.PartsCross.{out_send, bytes_cross}
@@ -18,8 +18,8 @@ inlet_send = search (sendable, crosses, send, end.the_send, inbound_send) depth 
 pub outlet_send : IsSend outlet.the_row
 outlet_send = search (sendable, crosses, send, end.the_send, out_send) depth 60 fits 20000
 
-line_send : IsSend line.the_row
-line_send = search (sendable, crosses, send, end.the_send, out_send, inbound_send) depth 60 fits 20000
+attachment_send : IsSend attachment.the_row
+attachment_send = search (sendable, crosses, send, end.the_send, out_send, inbound_send) depth 60 fits 20000
 
-pub lines_send : IsSend lines.the_row
-lines_send = search (sendable, crosses, line_send) depth 60 fits 20000
+pub attachments_send : IsSend attachments.the_row
+attachments_send = search (sendable, crosses, attachment_send) depth 60 fits 20000

@@ -18,15 +18,15 @@
 //!
 //! Connections that share a seat wake each other for nothing, and look again.
 ghost use Rattle.std.specs.Prelude.{◌≡◌, ◌↔◌, ◌⊎◌, [], ◌∷◌, ◌++◌, OnOk, OnErr, IfOk, IfErr, IsErrOf, IsOk, false};
-ghost use Rattle.board_rings.specs.declared.line.TheConstants.{RING_SIZE};
+ghost use Rattle.board_rings.specs.declared.attachment.TheConstants.{RING_SIZE};
 ghost use Rattle.board_history.specs.History.{is_for_desk};
 ghost use Rattle.gate_board.specs.Taking.{IsTaken};
 
-use board_moves::{Board, BoardFault, Kept, News, SEAT_WORDS, SEATS, Turn, seat_of};
+use board_moves::{Board, BoardFault, Kept, News, SEAT_WORDS, SEATS, Traffic, Turn, seat_of};
 use board_rings::{Ends, Inbound, Inlet, Outlet};
 use fanout::Out;
 use gateway_calls::{AskFault, Failed, GatewayCalls};
-use gateway_state::{Dest, Event};
+use gateway_state::{Dest, Event, RowCounts};
 use pv_name::{Host, Name};
 use pv_search::SearchAnswer;
 use std::array;
@@ -129,6 +129,21 @@ impl<G: GatewayCalls + Drop> GateOver<G> {
     /// Whether the connection stands and must end.
     pub fn must_end<R: Wait>(&self, rt: &R, dest: Dest) -> Result<bool, Failed> {
         self.kept.lock(rt).must_end(dest)
+    }
+
+    /// How many bytes wait for the connection, 0 where it doesn't stand.
+    pub fn queued_bytes<R: Wait>(&self, rt: &R, dest: Dest) -> Result<u64, Failed> {
+        self.kept.lock(rt).queued_bytes(dest)
+    }
+
+    /// How many rows of each kind the gateway has.
+    pub fn row_counts<R: Wait>(&self, rt: &R) -> Result<RowCounts, Failed> {
+        self.kept.lock(rt).row_counts()
+    }
+
+    /// How many messages went through so far.
+    pub fn traffic<R: Wait>(&self, rt: &R) -> Traffic {
+        self.kept.lock(rt).traffic()
     }
 
     /// Closes the gate for good, and wakes all.

@@ -12,7 +12,7 @@
 
 mod gate;
 
-pub use board_moves::{BoardFault, Turn};
+pub use board_moves::{BoardFault, Traffic, Turn};
 pub use board_rings::{Ends, Inbound, Inlet, Outlet, RING_SIZE, laws};
 pub use gate::{GateOver, Taken};
 use gateway_core::Engine;

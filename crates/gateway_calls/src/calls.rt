@@ -6,16 +6,17 @@ ghost use Rattle.gateway_state.specs.declared.config.TheConstants.{LAST_FIRST};
 ghost use Rattle.gateway_state.specs.Numbers.{is_past_numbers, runs_out};
 ghost use Rattle.gateway_state.specs.Step.{step, run, taken};
 ghost use Rattle.gateway_state.specs.Answer.{reading};
-ghost use Rattle.gateway_state.specs.Asked.{stands, ends, queued};
+ghost use Rattle.gateway_state.specs.Asked.{stands, ends, queued, queued_bytes};
 ghost use Rattle.gateway_state.specs.Interest.{property_subscription_of, subscription_of};
 ghost use Rattle.gateway_state.specs.Rights.{rights_asked};
 ghost use Rattle.gateway_state.specs.Variables.{asks};
+ghost use Rattle.gateway_state.specs.RowCounts.{row_counts};
 ghost use Rattle.gateway_calls.specs.Searching.{IsSearched};
 
 use crate::NoMemory;
 use crate::fault::{AskFault, Failed, StepFault};
 use fanout::Out;
-use gateway_state::{Config, Dest, Event, Policy, Reading, Sub};
+use gateway_state::{Config, Dest, Event, Policy, Reading, RowCounts, Sub};
 use pv_name::{Host, Name};
 use pv_search::SearchAnswer;
 use std::alloc::Global;
@@ -71,6 +72,18 @@ pub trait GatewayCalls {
     /// How many messages wait for the connection, 0 where it doesn't stand.
     fn queued(&mut self, dest: Dest) -> Result<usize, Failed>
         ensures found { IfOk result (λ answer. Some answer ≡ option_map (λ w. queued w dest) (state self.old)) }
+        ensures failed { IsOk result ↔ IsSome (state self.old) }
+        ensures same { state self.new ≡ state self.old };
+
+    /// How many bytes wait for the connection, 0 where it doesn't stand, and at most the type's last value.
+    fn queued_bytes(&mut self, dest: Dest) -> Result<u64, Failed>
+        ensures found { IfOk result (λ answer. Some answer ≡ option_map (λ w. queued_bytes w dest) (state self.old)) }
+        ensures failed { IsOk result ↔ IsSome (state self.old) }
+        ensures same { state self.new ≡ state self.old };
+
+    /// How many rows of each kind there are.
+    fn row_counts(&mut self) -> Result<RowCounts, Failed>
+        ensures found { IfOk result (λ counts. Some counts ≡ option_map row_counts (state self.old)) }
         ensures failed { IsOk result ↔ IsSome (state self.old) }
         ensures same { state self.new ≡ state self.old };
 

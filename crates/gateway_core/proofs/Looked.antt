@@ -34,7 +34,7 @@ use Rattle.gateway_state.specs.Asked.{acts}
 use Rattle.gateway_state.specs.Direct.{direct_effect}
 use Rattle.gateway_state.specs.Gateway.{Gateway}
 use Rattle.gateway_state.specs.Variables.{is_creating}
-use Rattle.gateway_state.specs.Servers.{concerned_owed, concerns, fails_without, held_with, is_told, reads_failed, replied, server_said, subject_of, updated_by, updated_link, updated_under, with_held}
+use Rattle.gateway_state.specs.Servers.{concerned_owed, concerns, fails_without, held_with, is_heard, reads_failed, replied, server_said, subject_of, updated_by, updated_link, updated_under, with_held}
 use Rattle.gateway_state.specs.Updates.{concerned}
 use Rattle.link_table.specs.declared.links.Link.{Link}
 use Rattle.link_table.specs.declared.links.LinkState.{LinkState}
@@ -133,7 +133,7 @@ module _ (w : Gateway) (before direct after : ℕ) where
   looked_over subject dtype count payload link (Connected sid native native_count) (Some sub) first =
       let passes : ClientSub → Bool = concerns subject w link.cid dtype count payload in
       let then : Gateway = with_held link.server link.cid (held_with subject dtype count payload sub.count) (concerned_owed link.name passes w) in
-      elim (is_told subject native sub.count dtype count payload)
+      elim (is_heard subject native sub.count dtype count payload)
       as (λ t. IsWithin (looks_after (cond t (Value link.name) Nothing) (cond t then w)) direct after → after ≤ before + (4 + 8 * own_over w (Some link))) [
         | true ↦
             λ rest. told before direct after (channels_on w link.name) (subs_on w link.name) (reads_on w link.name) (subs_on then link.name) (reads_on then link.name) first rest

@@ -6,10 +6,11 @@ ghost use Rattle.gateway_state.specs.declared.config.TheConstants.{LAST_FIRST};
 ghost use Rattle.gateway_state.specs.Numbers.{is_past_numbers, runs_out};
 ghost use Rattle.gateway_state.specs.Step.{step, run, taken};
 ghost use Rattle.gateway_state.specs.Answer.{reading};
-ghost use Rattle.gateway_state.specs.Asked.{stands, ends, queued};
+ghost use Rattle.gateway_state.specs.Asked.{stands, ends, queued, queued_bytes};
 ghost use Rattle.gateway_state.specs.Interest.{property_subscription_of, subscription_of};
 ghost use Rattle.gateway_state.specs.Rights.{rights_asked};
 ghost use Rattle.gateway_state.specs.Variables.{asks};
+ghost use Rattle.gateway_state.specs.RowCounts.{row_counts};
 ghost use Rattle.gateway_calls.specs.Searching.{IsSearched};
 ghost use Rattle.gateway_core.specs.Looks.{event_looks};
 ghost use Rattle.gateway_rows.specs.Own.{IsWithin};
@@ -20,7 +21,7 @@ use channel_table::Visits;
 use fanout::Out;
 use gateway_calls::{AskFault, Failed, NoMemory, StepFault};
 use gateway_rows::{Refusal, Rows};
-use gateway_state::{Config, Dest, Event, Policy, Reading, Sub};
+use gateway_state::{Config, Dest, Event, Policy, Reading, RowCounts, Sub};
 use pv_name::{Host, Name};
 use pv_search::SearchAnswer;
 use std::alloc::Global;
@@ -168,6 +169,32 @@ impl Engine {
     {
         match &self.rows {
             Some(rows) => Ok(rows.queued(dest)),
+            None => Err(Failed),
+        }
+    }
+
+    /// How many bytes wait for the connection, 0 where it doesn't stand, and at most the type's last value.
+    pub fn queued_bytes(&mut self, dest: Dest) -> Result<u64, Failed>
+        ensures found { IfOk result (λ answer. Some answer ≡ option_map (λ w. queued_bytes w dest) self.old.state) }
+        ensures failed { IsOk result ↔ IsSome self.old.state }
+        ensures same { self.new.state ≡ self.old.state }
+        ensures looks { self.new.visits ≡ self.old.visits }
+    {
+        match &self.rows {
+            Some(rows) => Ok(rows.queued_bytes(dest)),
+            None => Err(Failed),
+        }
+    }
+
+    /// How many rows of each kind there are: the lengths of the lists that the definitions speak of.
+    pub fn row_counts(&mut self) -> Result<RowCounts, Failed>
+        ensures found { IfOk result (λ counts. Some counts ≡ option_map row_counts self.old.state) }
+        ensures failed { IsOk result ↔ IsSome self.old.state }
+        ensures same { self.new.state ≡ self.old.state }
+        ensures looks { self.new.visits ≡ self.old.visits }
+    {
+        match &self.rows {
+            Some(rows) => Ok(rows.row_counts()),
             None => Err(Failed),
         }
     }

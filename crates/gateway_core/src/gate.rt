@@ -3,7 +3,7 @@
 use crate::engine::Engine;
 use fanout::Out;
 use gateway_calls::{AskFault, Failed, GatewayCalls, NoMemory, StepFault};
-use gateway_state::{Config, Dest, Event, Policy, Reading, Sub};
+use gateway_state::{Config, Dest, Event, Policy, Reading, RowCounts, Sub};
 use pv_name::{Host, Name};
 use pv_search::SearchAnswer;
 use std::alloc::Global;
@@ -37,6 +37,14 @@ impl GatewayCalls for Engine {
 
     fn queued(&mut self, dest: Dest) -> Result<usize, Failed> {
         Engine::queued(self, dest)
+    }
+
+    fn queued_bytes(&mut self, dest: Dest) -> Result<u64, Failed> {
+        Engine::queued_bytes(self, dest)
+    }
+
+    fn row_counts(&mut self) -> Result<RowCounts, Failed> {
+        Engine::row_counts(self)
     }
 
     fn subscription(&mut self, name: &Name) -> Result<Option<Sub>, Failed> {

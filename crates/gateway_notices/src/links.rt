@@ -11,8 +11,9 @@ ghost use Rattle.touched_rows.specs.Touched.{interest_notices_over, interest_tol
 ghost use Rattle.touched_rows.specs.Touches.{AreReady};
 
 use ca_message::ToServer;
-use gateway_rows::{Refusal, Rows, is_for, sent_for, type_for};
+use gateway_rows::{Refusal, Rows};
 use gateway_state::{LinkNotice, Native};
+use gateway_values::{is_for, sent_for, type_for};
 use link_table::{Counter, Link, LinkState, Subject, Subscription, TableFault};
 use mask_merge::Want;
 use pv_name::Name;

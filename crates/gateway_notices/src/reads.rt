@@ -9,8 +9,9 @@ ghost use Rattle.touched_rows.specs.Touched.{one_read_told, read_notices_on, rea
 use ca_message::ToClient;
 use ca_message::codes::ECA_NORDACCESS;
 use channel_table::{Visits, WaitingRead};
-use gateway_rows::{Rows, may_read, native_in};
+use gateway_rows::Rows;
 use gateway_state::ReadNotice;
+use gateway_values::{may_read, native_in};
 use pv_name::Name;
 use std::alloc::AllocError;
 use std::collections::VecDeque;

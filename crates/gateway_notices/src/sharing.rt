@@ -3,7 +3,8 @@ ghost use Rattle.std.specs.Prelude.{◌≡◌, ◌≤◌, ◌+◌, ◌*◌, OnOk
 ghost use Rattle.gateway_rows.specs.Own.{subs_on};
 
 use channel_table::{ClientSub, Visits};
-use gateway_rows::{Rows, may_read, native_in};
+use gateway_rows::Rows;
+use gateway_values::{may_read, native_in};
 use pv_name::Name;
 use std::alloc::AllocError;
 
@@ -17,9 +18,11 @@ pub(crate) fn share_on(rows: &mut Rows, visits: &mut Visits, name: &Name) -> Res
     let Some((cid, native)) = value_on(rows, name) else {
         return Ok(());
     };
+    let mut kept = None;
     for n in 0..rows.clients.subs_on(name) {
-        if let Some(sub) = nth_waiting(rows, visits, name, n) {
+        if let Some(sub) = nth_waiting(rows, visits, name, n, kept) {
             rows.keep_value(cid, native, sub.dtype, sub.count)?;
+            kept = Some((sub.dtype, sub.count));
         }
     }
     Ok(())
@@ -55,12 +58,19 @@ fn value_on(rows: &Rows, name: &Name) -> Option<(u32, u32)> {
     Some((link.cid, native.count))
 }
 
-fn nth_waiting(rows: &Rows, visits: &mut Visits, name: &Name, n: usize) -> Option<ClientSub>
+// The nth subscription, where it may be told an update and isn't of the type and count that were kept last.
+fn nth_waiting(
+    rows: &Rows,
+    visits: &mut Visits,
+    name: &Name,
+    n: usize,
+    kept: Option<(u16, u32)>,
+) -> Option<ClientSub>
     ensures ok { visits.new ≤ visits.old + 2 }
     ensures no_less { visits.old ≤ visits.new }
 {
     let sub = rows.clients.sub_on(visits, name, n)?;
-    if is_waiting(rows, visits, sub) {
+    if kept != Some((sub.dtype, sub.count)) && is_waiting(rows, visits, sub) {
         Some(*sub)
     } else {
         None

@@ -1,6 +1,9 @@
 //! What clients are owed about their subscriptions.
-ghost use Rattle.std.specs.Prelude.{◌≡◌, ◌≤◌, ◌+◌, ◌*◌, length, Some, fold, OnOk, IfOk};
+ghost use Rattle.std.specs.Prelude.{◌≡◌, ◌≤◌, ◌+◌, ◌*◌, length, Some, fold, OnOk, IfOk, IfSome};
+ghost use Rattle.std.specs.List.{find};
+ghost use Rattle.std.specs.Option.{option_copied};
 ghost use Rattle.gateway_rows.specs.Own.{subs_on};
+ghost use Rattle.gateway_state.specs.CachedRows.{is_cached_of};
 ghost use Rattle.gateway_state.specs.Rights.{channel_of};
 ghost use Rattle.gateway_state.specs.Told.{KnowRights, KnowsRights};
 ghost use Rattle.gateway_state.specs.Updates.{is_open_to, is_paused, is_unreadable, is_withheld, update_notice, update_notices, update_on, update_over, update_told, updates_told, updates_withheld, withheld};
@@ -9,8 +12,10 @@ ghost use Rattle.touched_rows.specs.Touched.{one_update_told, update_notices_on,
 
 use ca_message::ToClient;
 use channel_table::{Channel, ClientSub, Visits};
-use gateway_rows::{Rows, may_read, native_in};
-use gateway_state::UpdateNotice;
+use gateway_rows::Rows;
+use gateway_state::{LastMessage, UpdateNotice};
+use gateway_values::{cached_as, may_read, native_in};
+use link_table::Link;
 use pv_name::Name;
 use std::alloc::AllocError;
 use std::collections::VecDeque;
@@ -150,6 +155,84 @@ fn update_on(
     }
 }
 
+/// The same by a link and what it was told last.
+fn update_from(
+    rows: &Rows,
+    sub: &ClientSub,
+    link: Option<&Link>,
+    last: Option<&LastMessage>,
+) -> Result<Option<UpdateNotice>, AllocError>
+    requires last { IfSome (option_copied link) (λ l. option_copied last ≡ find (is_cached_of l.cid) rows.now.cache) }
+    ensures { IfOk result (λ notice. notice ≡ update_over rows.now sub.now (option_copied link.entry)) }
+{
+    let Some(link) = link else {
+        return Ok(None);
+    };
+    let (Some(native), Some(last)) = (native_in(link.state), last) else {
+        return Ok(None);
+    };
+    match cached_as(rows.alloc, native.count, sub.dtype, sub.count, last)? {
+        Some(given) => Ok(Some(UpdateNotice {
+            session: sub.session,
+            id: sub.id,
+            dtype: sub.dtype,
+            count: given.count,
+            payload: given.payload,
+        })),
+        None => Ok(None),
+    }
+}
+
+/// The same of a subscription on a channel, where the link and what it was told last are those of a name:
+/// they are looked up once for all who are told of it.
+fn update_on_name(
+    rows: &Rows,
+    sub: &ClientSub,
+    channel: &Channel,
+    name: &Name,
+    link: Option<&Link>,
+    last: Option<&LastMessage>,
+) -> Result<Option<UpdateNotice>, AllocError>
+    requires told { KnowsRights rows.now channel.now }
+    requires link { option_copied link ≡ link_of rows.now name.now }
+    requires last { IfSome (option_copied link) (λ l. option_copied last ≡ find (is_cached_of l.cid) rows.now.cache) }
+    ensures { IfOk result (λ notice. notice ≡ update_on rows.now sub.now (Some channel.now)) }
+{
+    if channel.real != *name {
+        return update_on(rows, sub, channel);
+    }
+    if !may_read(channel.rights_told) {
+        return Ok(None);
+    }
+    update_from(rows, sub, link, last)
+}
+
+/// The update that is due to a subscription, where the link and what it was told last are those of a name.
+#[tactic(auto, unfolding(gateway_state::specs::Updates::update_notice))]
+fn update_notice_of(
+    rows: &Rows,
+    visits: &mut Visits,
+    sub: ClientSub,
+    name: &Name,
+    link: Option<&Link>,
+    last: Option<&LastMessage>,
+) -> Result<Option<UpdateNotice>, AllocError>
+    requires told { KnowRights rows.now }
+    requires link { option_copied link ≡ link_of rows.now name.now }
+    requires last { IfSome (option_copied link) (λ l. option_copied last ≡ find (is_cached_of l.cid) rows.now.cache) }
+    ensures found { IfOk result (λ notice. notice ≡ update_notice rows.now sub) }
+    ensures bound { visits.new ≤ visits.old + 2 }
+    ensures no_less { visits.old ≤ visits.new }
+{
+    if !(sub.owed && is_open_to(rows, visits, &sub)) {
+        return Ok(None);
+    }
+    match rows.told_channel(visits, sub.session, sub.sid) {
+        Some(channel) => update_on_name(rows, &sub, channel, name, link, last),
+        None => Ok(None),
+    }
+}
+
 /// The update that is due to a subscription.
 #[tactic(auto, unfolding(gateway_state::specs::Updates::update_notice))]
 fn update_notice(
@@ -185,6 +268,15 @@ fn update_notices(rows: &Rows, visits: &mut Visits) -> Result<VecDeque<UpdateNot
     Ok(notices)
 }
 
+fn last_of<'a>(rows: &'a Rows, link: Option<&Link>) -> Option<&'a LastMessage>
+    ensures { IfSome (option_copied link.entry) (λ l. option_copied result ≡ find (is_cached_of l.cid) rows.now.cache) }
+{
+    match link {
+        Some(link) => rows.cache.get(link.cid),
+        None => None,
+    }
+}
+
 /// The updates that are due to subscriptions to a variable.
 fn update_notices_on(
     rows: &Rows,
@@ -198,8 +290,10 @@ fn update_notices_on(
     ensures no_less { visits.old ≤ visits.new }
 {
     let mut notices = VecDeque::new(rows.alloc);
+    let link = rows.link_of(name);
+    let last = last_of(rows, link);
     for sub in &rows.subs_on(visits, name)? {
-        if let Some(notice) = update_notice(rows, visits, *sub)? {
+        if let Some(notice) = update_notice_of(rows, visits, *sub, name, link, last)? {
             notices.push_back(notice)?;
         }
     }

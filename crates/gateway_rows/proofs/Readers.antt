@@ -8,7 +8,7 @@ use Rattle.std.proofs.lemmas.List.Elements.{All-head, All-tail}
 use Rattle.dbr_layout.specs.Needs.{is_state_by}
 use Rattle.channel_table.specs.declared.channels.Channel.{Channel}
 use Rattle.channel_table.specs.declared.subs.ClientSub.{ClientSub}
-use Rattle.channel_table.specs.Channels.{is_channel}
+use Rattle.channel_table.specs.Channels.{is_channel, is_channel_on, is_on}
 use Rattle.channel_table.specs.Indexes.{is_to}
 use Rattle.channel_table.specs.Demand.{ask_of_sub, asks_on, channel_ask, own_ask, props_on, reach_ask, reads_over, sub_ask, want_on}
 use Rattle.link_table.specs.declared.links.Subject.TheVariants.{Values}
@@ -21,7 +21,6 @@ use Rattle.gateway_state.specs.Told.{KnowRights, KnowsRights}
 use Rattle.gateway_state.proofs.ToldRights.{found_told}
 use Rattle.gateway_rows.specs.ToldReaders.{is_told_reader, is_told_subscriber, is_told_through}
 use Rattle.gateway_state.specs.Updates.{is_sub_to}
-use Rattle.gateway_state.specs.Variables.{is_channel_on, is_on}
 
 -- rows that pass two tests
 pub passing_both : {A : Type 0} (test wider : A → Bool) (rows : List A) → filter (λ row. wider row && test row) rows ≡ filter test (filter wider rows)

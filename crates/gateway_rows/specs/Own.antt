@@ -4,7 +4,7 @@ use Rattle.link_table.specs.declared.links.Link.{Link}
 use Rattle.gateway_state.specs.Gateway.{Gateway}
 use Rattle.gateway_state.specs.Servers.{waits_for}
 use Rattle.gateway_state.specs.Updates.{is_sub_to}
-use Rattle.gateway_state.specs.Variables.{is_on}
+use Rattle.channel_table.specs.Channels.{is_on}
 
 -- how many channels are on it
 abbrev pub channels_on : Gateway → List ℕ → ℕ

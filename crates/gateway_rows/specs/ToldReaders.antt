@@ -4,7 +4,7 @@ use Rattle.channel_table.specs.declared.channels.Channel.{Channel}
 use Rattle.channel_table.specs.declared.subs.ClientSub.{ClientSub}
 use Rattle.gateway_state.specs.Gateway.{Gateway}
 use Rattle.gateway_state.specs.Rights.{channel_of, may_read}
-use Rattle.gateway_state.specs.Variables.{is_on}
+use Rattle.channel_table.specs.Channels.{is_on}
 
 -- a channel on the variable that had a read accepted, and whose client was told that it may read
 abbrev pub is_told_reader : List ℕ → Channel → Bool

@@ -1,6 +1,6 @@
 //! Connections: whether they stand, and what waits for them.
 ghost use Rattle.std.specs.Prelude.{◌≡◌, take, OnOk, IfOk};
-ghost use Rattle.gateway_state.specs.Asked.{stands, ends, queued, acts};
+ghost use Rattle.gateway_state.specs.Asked.{stands, ends, queued, queued_bytes, acts};
 ghost use Rattle.gateway_state.specs.Connections.{outbox_of};
 ghost use Rattle.gateway_state.specs.Direct.{drained};
 ghost use Rattle.gateway_state.specs.Telling.{marked};
@@ -8,7 +8,7 @@ ghost use Rattle.gateway_state.specs.Updates.{is_taking};
 
 use crate::state::Rows;
 use fanout::Out;
-use gateway_state::{Dest, UPDATE_LIMIT};
+use gateway_state::Dest;
 use std::alloc::AllocError;
 
 impl Rows {
@@ -33,6 +33,13 @@ impl Rows {
         self.connections.queued(dest)
     }
 
+    /// How many bytes wait for a connection, 0 where it doesn't stand.
+    pub fn queued_bytes(&self, dest: Dest) -> u64
+        ensures { result ≡ queued_bytes self.now dest }
+    {
+        self.connections.queued_bytes(dest)
+    }
+
     /// Whether a message from the connection has an effect.
     pub fn acts(&self, dest: Dest) -> bool
         ensures { result ≡ acts self.now dest }
@@ -44,8 +51,7 @@ impl Rows {
     pub fn is_taking(&self, number: u32) -> bool
         ensures { result ≡ is_taking self.now number }
     {
-        let dest = Dest::Session(number);
-        !self.ends(dest) && self.queued(dest) < UPDATE_LIMIT
+        self.connections.takes_updates(Dest::Session(number))
     }
 
     /// Marks a connection to end.

@@ -1,16 +1,15 @@
 //! What the readers of a variable want together.
 ghost use Rattle.std.specs.Prelude.{◌≡◌};
-ghost use Rattle.gateway_state.specs.Interest.{ask_props, interest_of, is_for, minor_of, property_subscription_of, property_want, readers, sent_count, sent_for, subscription_of, subscription_to, wanted_by, wanted_for};
-ghost use Rattle.gateway_state.specs.Notices.{type_for};
+ghost use Rattle.gateway_state.specs.Interest.{ask_props, interest_of, minor_of, property_subscription_of, readers, subscription_of, subscription_to, wanted_by, wanted_for};
 ghost use Rattle.gateway_state.specs.Told.{KnowRights};
 ghost use Rattle.link_table.specs.declared.links.Subject.TheVariants.{Properties};
 
-use crate::answer::{ctrl_of, time_of};
 use crate::state::Rows;
 use dbr_layout::is_state_by;
-use gateway_state::{Sub, UPDATE_MINOR};
-use link_table::{LinkState, Subject, Subscription};
-use mask_merge::{PROPERTY_EVENT, Want};
+use gateway_state::Sub;
+use gateway_values::property_want;
+use link_table::{LinkState, Subject};
+use mask_merge::Want;
 use pv_name::Name;
 
 impl Rows {
@@ -95,58 +94,5 @@ impl Rows {
             Some(row) => row.minor,
             None => 0,
         }
-    }
-}
-
-/// What is asked of a server that is to tell a variable's properties.
-fn property_want() -> Want
-    ensures { result ≡ property_want }
-{
-    Want {
-        mask: PROPERTY_EVENT,
-        count: 1,
-    }
-}
-
-/// Whether the subscription is for what is wanted.
-pub fn is_for(want: Option<Want>, subscription: Option<Subscription>) -> bool
-    ensures { result ≡ is_for want subscription }
-{
-    match (want, subscription) {
-        (None, None) => true,
-        (Some(want), Some(sub)) => sub.mask == want.mask && sub.count == want.count,
-        (None, Some(_)) => false,
-        (Some(_), None) => false,
-    }
-}
-
-/// The count as it is sent: 0 stands for the native count, where the server knows that.
-fn sent_count(minor: u32, native: u32, count: u32) -> u32
-    ensures { result ≡ sent_count minor native count }
-{
-    if count == native && minor >= UPDATE_MINOR {
-        0
-    } else {
-        count
-    }
-}
-
-/// The count as it is sent for a subject: of properties always the one that is wanted.
-pub fn sent_for(subject: Subject, minor: u32, native: u32, count: u32) -> u32
-    ensures { result ≡ sent_for subject minor native count }
-{
-    match subject {
-        Subject::Values => sent_count(minor, native, count),
-        Subject::Properties => count,
-    }
-}
-
-/// The type that a server is asked to tell a subject in, of a native type.
-pub fn type_for(subject: Subject, dtype: u16) -> u16
-    ensures { result ≡ type_for subject dtype }
-{
-    match subject {
-        Subject::Values => time_of(dtype),
-        Subject::Properties => ctrl_of(dtype),
     }
 }

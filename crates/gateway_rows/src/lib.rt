@@ -23,12 +23,5 @@ mod state;
 mod telling;
 mod variables;
 
-pub use answer::{
-    ctrl_of, fits_payload, meant_count, needs_by_number, reach_with, read_refusal, time_of,
-    value_refusal,
-};
 pub use fault::Refusal;
-pub use interest::{is_for, sent_for, type_for};
-pub use rights::may_read;
 pub use state::Rows;
-pub use variables::{is_connected, is_creating, native_in};

@@ -3,7 +3,7 @@ ghost use Rattle.std.specs.Prelude.{◌≡◌, ◌≤◌, ◌+◌, length, filte
 ghost use Rattle.channel_table.specs.Subs.{is_sub_of};
 ghost use Rattle.gateway_state.specs.Servers.{waits_for};
 ghost use Rattle.gateway_state.specs.Updates.{is_sub_to};
-ghost use Rattle.gateway_state.specs.Variables.{is_on};
+ghost use Rattle.channel_table.specs.Channels.{is_on};
 
 use crate::state::Rows;
 use channel_table::{Channel, ClientSub, Table, Visits, WaitingRead};

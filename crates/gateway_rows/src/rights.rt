@@ -5,13 +5,12 @@ ghost use Rattle.gateway_state.specs.Variables.{link_of};
 ghost use Rattle.gateway_state.specs.Reached.{rights_told};
 ghost use Rattle.gateway_state.specs.Resolution.{is_real, rights_left};
 ghost use Rattle.gateway_state.specs.Told.{KnowRights, KnowsRights};
-ghost use Rattle.gateway_state.specs.Rights.{is_found, may_read, link_rights, link_connected, channel_of};
+ghost use Rattle.gateway_state.specs.Rights.{is_found, link_rights, link_connected, channel_of};
 
 use crate::state::Rows;
-use crate::variables::is_connected;
-use ca_message::commands::CA_PROTO_ACCESS_RIGHT_READ;
 use channel_table::{Channel, Visits};
 use gateway_state::{is_real, rights_left};
+use gateway_values::is_connected;
 use pv_alias::Lead;
 use pv_name::{Host, Name};
 use std::alloc::AllocError;
@@ -103,11 +102,4 @@ impl Rows {
             None => None,
         }
     }
-}
-
-/// Whether the rights let a client read.
-pub fn may_read(rights: u32) -> bool
-    ensures { result ≡ may_read rights }
-{
-    rights & CA_PROTO_ACCESS_RIGHT_READ == CA_PROTO_ACCESS_RIGHT_READ
 }

@@ -2,9 +2,10 @@
 ghost use Rattle.std.specs.Prelude.{◌≡◌, false};
 ghost use Rattle.gateway_state.specs.Gateway.{initial};
 ghost use Rattle.gateway_state.specs.Numbers.{is_past_numbers};
+ghost use Rattle.gateway_state.specs.RowCounts.{row_counts};
 
 use channel_table::{Table, Visits};
-use gateway_state::{Config, Policy};
+use gateway_state::{Config, Policy, RowCounts};
 use link_table::Links;
 use state_tables::{Cache, Connections, Searches};
 use std::alloc::Global;
@@ -77,6 +78,22 @@ impl Rows {
             searches: Searches::new(alloc, policy),
         };
         (rows, visits)
+    }
+
+    /// How many rows of each kind there are. It looks at none.
+    pub fn row_counts(&self) -> RowCounts
+        ensures { result ≡ row_counts self.now }
+    {
+        RowCounts {
+            sessions: self.clients.all_sessions(),
+            channels: self.clients.all_channels(),
+            subs: self.clients.all_subs(),
+            reads: self.clients.all_reads(),
+            servers: self.upstream.server_count(),
+            links: self.upstream.link_count(),
+            writes: self.upstream.write_count(),
+            searches: self.searches.len(),
+        }
     }
 
     /// No number past the last one was given out, whatever was done: this call does nothing.

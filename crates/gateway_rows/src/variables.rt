@@ -1,12 +1,10 @@
 //! Links and wanted names, by variable.
 ghost use Rattle.std.specs.Prelude.{◌≡◌};
 ghost use Rattle.std.specs.Option.{option_copied};
-ghost use Rattle.gateway_state.specs.Variables.{link_of, is_linked, is_wanted, is_missing, is_connected, is_creating};
-ghost use Rattle.gateway_state.specs.Answer.{native_in};
+ghost use Rattle.gateway_state.specs.Variables.{link_of, is_linked, is_wanted, is_missing};
 
 use crate::state::Rows;
-use gateway_state::Native;
-use link_table::{Link, LinkState};
+use link_table::Link;
 use pv_name::Name;
 
 impl Rows {
@@ -39,38 +37,5 @@ impl Rows {
         ensures { result ≡ is_missing self.now name.now }
     {
         self.is_wanted(name) && !self.is_linked(name)
-    }
-}
-
-/// Whether a server made the link's channel, and it can be used.
-pub fn is_connected(state: LinkState) -> bool
-    ensures { result ≡ is_connected state }
-{
-    match state {
-        LinkState::Creating => false,
-        LinkState::Connected { .. } => true,
-        LinkState::Unusable => false,
-    }
-}
-
-/// Whether the server was asked for the link's channel and hasn't answered.
-pub fn is_creating(state: LinkState) -> bool
-    ensures { result ≡ is_creating state }
-{
-    match state {
-        LinkState::Creating => true,
-        LinkState::Connected { .. } => false,
-        LinkState::Unusable => false,
-    }
-}
-
-/// The type and the count of a connected link's variable.
-pub fn native_in(state: LinkState) -> Option<Native>
-    ensures { result ≡ native_in state }
-{
-    match state {
-        LinkState::Creating => None,
-        LinkState::Connected { dtype, count, .. } => Some(Native { dtype, count }),
-        LinkState::Unusable => None,
     }
 }

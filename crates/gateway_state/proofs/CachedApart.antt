@@ -68,7 +68,7 @@ cached_apart_kept = record {
     servers = λ rows w apart. apart;
     cache_left = λ stays w apart. apart_filtered stays w.cache apart;
     cached = λ server cid change w apart. apart_put server cid change w.cache apart;
-    untold = λ cid w apart other.
+    bare = λ cid w apart other.
         let most = apart other in
         omega (arith, passing_changed (is_cached_of other) (is_cached_of cid) without_told w.cache (λ row. refl));
     searches = λ rows w apart. apart;

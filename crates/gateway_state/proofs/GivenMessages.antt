@@ -138,7 +138,7 @@ module _ (x : Gateway) (event : Event) (dest : Dest) where
     servers = λ rows w grown. grown;
     cache_left = λ stays w grown. grown;
     cached = λ server cid change w grown. grown;
-    untold = λ cid w grown. grown;
+    bare = λ cid w grown. grown;
     searches = λ rows w grown. grown;
     policy = λ policy w grown. grown;
     channel_added = λ session cid name real rights w fixed grown. grown;

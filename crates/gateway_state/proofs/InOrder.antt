@@ -23,7 +23,7 @@ in_order_kept = record {
     servers = λ rows w order. record { channels = order.channels; links = order.links; ids = order.ids };
     cache_left = λ stays w order. record { channels = order.channels; links = order.links; ids = order.ids };
     cached = λ server cid change w order. record { channels = order.channels; links = order.links; ids = order.ids };
-    untold = λ cid w order. record { channels = order.channels; links = order.links; ids = order.ids };
+    bare = λ cid w order. record { channels = order.channels; links = order.links; ids = order.ids };
     searches = λ rows w order. record { channels = order.channels; links = order.links; ids = order.ids };
     policy = λ policy w order. record { channels = order.channels; links = order.links; ids = order.ids };
     channel_added = λ session cid name real rights w fixed order. record {

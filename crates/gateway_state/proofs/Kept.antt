@@ -145,7 +145,7 @@ pub record KeepsRows (P : Gateway → Type 0) : Type 0 where
   pub servers : (rows : List Server) (w : Gateway) → P w → P (with_servers rows w)
   pub cache_left : (stays : LastMessage → Bool) (w : Gateway) → P w → P (with_cache (filter stays w.cache) w)
   pub cached : (server cid : ℕ) (change : Held → Held) (w : Gateway) → P w → P (with_cache (put_row server cid change w.cache) w)
-  pub untold : (cid : ℕ) (w : Gateway) → P w → P (forgotten Properties cid w)
+  pub bare : (cid : ℕ) (w : Gateway) → P w → P (forgotten Properties cid w)
   pub searches : (rows : List Search) (w : Gateway) → P w → P (with_searches rows w)
   pub policy : (policy : Policy) (w : Gateway) → P w → P (with_policy policy w)
   pub channel_added : (session cid : ℕ) (name real : List ℕ) (rights : ℕ) (w : Gateway) → is_host_fixed (find (is_numbered session) w.clients.sessions) ≡ true → P w

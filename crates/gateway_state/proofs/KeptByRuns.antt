@@ -75,7 +75,7 @@ module _ (P : Gateway → Type 0) (kept : KeepsRows P) where
   kept_link_told w (Cancelled subject server cid sid dtype sub) holds =
       kept.messages.asking server (requests.EventCancel sid sub.id dtype sub.sent) (with_subscription_of subject server cid None w) (kept.subscription_ended subject server cid w holds)
   kept_link_told w (Unread Values cid) holds = kept.cache_left (is_cached_elsewhere cid) w holds
-  kept_link_told w (Unread Properties cid) holds = kept.untold cid w holds
+  kept_link_told w (Unread Properties cid) holds = kept.bare cid w holds
   kept_link_told w (Subscribed subject server cid sid dtype want sent) holds =
       let id : ℕ = w.upstream.counters.subscription in
       kept.messages.asking server (requests.EventAdd sid id dtype sent want.mask) (with_new_subscription subject server cid want.mask want.count sent w)

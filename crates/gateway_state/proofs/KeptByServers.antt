@@ -25,7 +25,7 @@ use Rattle.gateway_state.specs.declared.event.Dest.TheVariants.{Upstream}
 use Rattle.gateway_state.specs.Answer.{native_in}
 use Rattle.gateway_state.specs.Asked.{acts, ends, stands}
 use Rattle.gateway_state.specs.Gateway.{Gateway}
-use Rattle.gateway_state.specs.Servers.{answered_creating, concerned_owed, concerns, created_for, failed_for, fails_without, found, gone_for, held_with, is_told, is_usable, linked, read_failed, reads_failed, replied, rights_given, server_said, subject_of, updated_by, updated_link, updated_under, waits_for, with_held, with_link_state, without_link}
+use Rattle.gateway_state.specs.Servers.{answered_creating, concerned_owed, concerns, created_for, failed_for, fails_without, found, gone_for, held_with, is_heard, is_usable, linked, read_failed, reads_failed, replied, rights_given, server_said, subject_of, updated_by, updated_link, updated_under, waits_for, with_held, with_link_state, without_link}
 use Rattle.gateway_state.specs.Sessions.{introduced, up_opened, with_server}
 use Rattle.gateway_state.specs.Connections.{fresh}
 use Rattle.gateway_state.specs.Notices.{without_read}
@@ -116,7 +116,7 @@ module _ (P : Gateway → Type 0) (kept : KeepsRows P) where
       let change : Held → Held = held_with subject dtype count payload sub.count in
       let passes : ClientSub → Bool = concerns subject w link.cid dtype count payload in
       let owed : Gateway = concerned_owed link.name passes w in
-      kept_either P (is_told subject native sub.count dtype count payload) (with_held link.server link.cid change owed) w
+      kept_either P (is_heard subject native sub.count dtype count payload) (with_held link.server link.cid change owed) w
       (λ _. kept.cached link.server link.cid change owed (kept_owed_to_all P kept (concerned w link.name passes) w holds)) holds
   kept_updated_link subject link (Connected sid native native_count) None dtype count payload w holds = holds
   kept_updated_link subject link Creating sub dtype count payload w holds = holds

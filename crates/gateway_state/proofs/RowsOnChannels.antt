@@ -43,7 +43,7 @@ rows_on_channels_kept = record {
     servers = λ rows w on. record { reads = on.reads; subs = on.subs };
     cache_left = λ stays w on. record { reads = on.reads; subs = on.subs };
     cached = λ server cid change w on. record { reads = on.reads; subs = on.subs };
-    untold = λ cid w on. record { reads = on.reads; subs = on.subs };
+    bare = λ cid w on. record { reads = on.reads; subs = on.subs };
     searches = λ rows w on. record { reads = on.reads; subs = on.subs };
     policy = λ policy w on. record { reads = on.reads; subs = on.subs };
     channel_added = λ session cid name real rights w fixed on. record {

@@ -5,7 +5,7 @@ use Rattle.std.specs.List.{fold, find, list_any, cons_option}
 use Rattle.std.proofs.lemmas.Slice.Eq.{bytes_eq-Decides}
 use Rattle.channel_table.specs.declared.channels.Channel.{Channel}
 use Rattle.channel_table.specs.declared.subs.ClientSub.{ClientSub}
-use Rattle.channel_table.specs.Channels.{is_channel}
+use Rattle.channel_table.specs.Channels.{is_channel, is_on}
 use Rattle.channel_table.specs.Demand.{own_ask}
 use Rattle.link_table.specs.declared.links.Link.{Link}
 use Rattle.gateway_state.specs.declared.cached.LastMessage.{LastMessage}
@@ -22,7 +22,7 @@ use Rattle.gateway_state.specs.Rights.{channel_of, is_served, lead_in, may_read,
 use Rattle.gateway_state.specs.Settled.{AreInOrder, HasSubsApart, IsSettled}
 use Rattle.gateway_state.specs.Step.{consequences}
 use Rattle.gateway_state.specs.Updates.{is_unreadable, is_withheld, owed_to_all, update_notices, update_told, updates_told, updates_withheld, withheld}
-use Rattle.gateway_state.specs.Variables.{is_on, is_wanted}
+use Rattle.gateway_state.specs.Variables.{is_wanted}
 use Rattle.gateway_state.specs.Searches.{leads_to}
 use Rattle.gateway_state.proofs.InOrder.{in_order_kept}
 use Rattle.gateway_state.proofs.KeptByRuns.{kept_channels_told, kept_links_told, kept_reads_told, kept_updates_withheld}

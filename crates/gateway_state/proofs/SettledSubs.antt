@@ -7,7 +7,7 @@ use Rattle.std.proofs.lemmas.List.Elements.{All-cons, All-head, All-nil, All-tai
 use Rattle.std.proofs.lemmas.Slice.Eq.{bytes_eq-Decides}
 use Rattle.channel_table.specs.declared.channels.Channel.{Channel}
 use Rattle.channel_table.specs.declared.subs.ClientSub.{ClientSub}
-use Rattle.channel_table.specs.Channels.{is_channel}
+use Rattle.channel_table.specs.Channels.{is_channel, is_on}
 use Rattle.channel_table.specs.Demand.{own_ask}
 use Rattle.link_table.specs.declared.links.Link.{Link}
 use Rattle.link_table.specs.declared.links.LinkState.{LinkState}
@@ -21,7 +21,7 @@ use Rattle.gateway_state.specs.Interest.{is_read_through, is_reader, is_subscrib
 use Rattle.gateway_state.specs.Rights.{channel_of, link_connected}
 use Rattle.gateway_state.specs.Settled.{IsInUse, IsKeptPosted, IsSettled, IsSubscribedTo, IsUpToDate, native_count_over, native_type_over, want_in, want_of}
 use Rattle.gateway_state.specs.Updates.{is_open_to, is_unreadable, is_withheld, update_notice, update_on}
-use Rattle.gateway_state.specs.Variables.{is_on, link_of}
+use Rattle.gateway_state.specs.Variables.{link_of}
 use Rattle.gateway_state.proofs.SettledMeaning.{all_in_use, all_up_to_date, none_told}
 
 -- what holds of all rows holds of one that is found, which passes the test

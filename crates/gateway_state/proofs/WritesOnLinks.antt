@@ -221,7 +221,7 @@ writes_fit_kept = record {
     servers = λ rows w on. record { apart = on.apart; fit = on.fit };
     cache_left = λ stays w on. record { apart = on.apart; fit = on.fit };
     cached = λ server cid change w on. record { apart = on.apart; fit = on.fit };
-    untold = λ cid w on. record { apart = on.apart; fit = on.fit };
+    bare = λ cid w on. record { apart = on.apart; fit = on.fit };
     searches = λ rows w on. record { apart = on.apart; fit = on.fit };
     policy = λ policy w on. record { apart = on.apart; fit = on.fit };
     channel_added = λ session cid name real rights w fixed on. record { apart = on.apart; fit = fit_more w (new_channel session cid name real rights w) on.fit };

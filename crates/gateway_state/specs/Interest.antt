@@ -24,7 +24,8 @@ use Rattle.gateway_state.specs.declared.limits.TheConstants.{UPDATE_MINOR}
 use Rattle.gateway_state.specs.Gateway.{Gateway}
 use Rattle.gateway_state.specs.Quantities.{Count, Minor}
 use Rattle.gateway_state.specs.Rights.{channel_of, rights_of, may_read}
-use Rattle.gateway_state.specs.Variables.{is_on, link_of}
+use Rattle.channel_table.specs.Channels.{is_on}
+use Rattle.gateway_state.specs.Variables.{link_of}
 
 -- a channel on the variable that had a read accepted, and that may still read, is a reader of it
 abbrev pub is_reader : Gateway → List ℕ → Channel → Bool

@@ -14,6 +14,7 @@ pub mod Reached
 pub mod Requests
 pub mod Resolution
 pub mod Rights
+pub mod RowCounts
 pub mod Searches
 pub mod Servers
 pub mod Sessions

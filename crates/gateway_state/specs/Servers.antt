@@ -35,10 +35,10 @@ use Rattle.gateway_state.specs.Asked.{acts}
 use Rattle.gateway_state.specs.CachedRows.{put_row}
 use Rattle.gateway_state.specs.Gateway.{Gateway}
 use Rattle.gateway_state.specs.Quantities.{Cid, Code, Count, Dtype, ServerNumber, Sid, SubId}
-use Rattle.gateway_state.specs.Rights.{channel_of}
 use Rattle.gateway_state.specs.Telling.{told, asked}
 use Rattle.gateway_state.specs.Updates.{alarm_differs_in, asks_for, concerned, held_by, is_concerned, owed_to_all}
-use Rattle.gateway_state.specs.Variables.{is_channel_on, is_missing, is_creating, without_cached}
+use Rattle.channel_table.specs.ClientRows as client_rows
+use Rattle.gateway_state.specs.Variables.{is_missing, is_creating, without_cached}
 use Rattle.gateway_state.specs.Writing.{write_ended}
 
 -- FOUND
@@ -139,7 +139,7 @@ channel_dropped w server cid = gone_for server cid (find (is_link server cid) w.
 
 -- the read waits for this variable
 abbrev pub waits_for : Gateway → List ℕ → WaitingRead → Bool
-waits_for w name read = is_channel_on name (channel_of w read.session read.sid)
+waits_for w = client_rows.is_read_for w.clients
 
 -- the read can't be had
 abbrev pub read_failed : Gateway → WaitingRead → Gateway
@@ -179,9 +179,9 @@ is_description native dtype count payload =
     dtype == ctrl_of native && nat_le count 1 && is_described_in (shown dtype count payload)
 
 -- an update counts, of a variable of this native type, by the count that was asked for
-abbrev pub is_told : Subject → Dtype → Count → Dtype → Count → List ℕ → Bool
-is_told Values native asked_with dtype count payload = is_value native asked_with dtype count payload
-is_told Properties native asked_with dtype count payload = is_description native dtype count payload
+abbrev pub is_heard : Subject → Dtype → Count → Dtype → Count → List ℕ → Bool
+is_heard Values native asked_with dtype count payload = is_value native asked_with dtype count payload
+is_heard Properties native asked_with dtype count payload = is_description native dtype count payload
 
 -- what is held once it came
 abbrev pub held_with : Subject → ℕ → ℕ → List ℕ → ℕ → Held → Held
@@ -203,7 +203,7 @@ concerned_owed name passes w = owed_to_all w (concerned w name passes)
 
 abbrev pub updated_connected : Subject → Link → Dtype → Count → Dtype → Count → List ℕ → Gateway → Gateway
 updated_connected subject link native asked_with dtype count payload w =
-    if is_told subject native asked_with dtype count payload
+    if is_heard subject native asked_with dtype count payload
     then with_held link.server link.cid (held_with subject dtype count payload asked_with)
     (concerned_owed link.name (concerns subject w link.cid dtype count payload) w)
     else w

@@ -25,7 +25,8 @@ use Rattle.gateway_state.specs.Connections.{outbox_of}
 use Rattle.gateway_state.specs.Gateway.{Gateway}
 use Rattle.gateway_state.specs.Rights.{channel_of, may_read, rights_of}
 use Rattle.gateway_state.specs.Telling.{told}
-use Rattle.gateway_state.specs.Variables.{is_channel_on, link_of}
+use Rattle.channel_table.specs.ClientRows as client_rows
+use Rattle.gateway_state.specs.Variables.{link_of}
 use Rattle.fanout.specs.Waiting.{Waiting}
 
 -- a subscription is owed an update, or no longer
@@ -44,7 +45,7 @@ owed_to_all w subs = fold owed_to w subs
 
 -- the subscription is on this variable
 abbrev pub is_sub_to : Gateway → List ℕ → ClientSub → Bool
-is_sub_to w name sub = is_channel_on name (channel_of w sub.session sub.sid)
+is_sub_to w = client_rows.is_sub_to w.clients
 
 abbrev pub asks_for : ℕ → ClientSub → Bool
 asks_for events sub = nat_lt 0 (bit_and sub.mask events)

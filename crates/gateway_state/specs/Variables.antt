@@ -5,6 +5,7 @@ use Rattle.std.specs.Ordering.{nat_cmp}
 use Rattle.std.specs.Cmp.Lexicographic.{slice_cmp}
 use Rattle.std.specs.declared.cmp.Ordering.TheVariants.{Less, Equal, Greater}
 use Rattle.channel_table.specs.declared.channels.Channel.{Channel}
+use Rattle.channel_table.specs.Channels.{is_on}
 use Rattle.link_table.specs.declared.links.Link.{Link}
 use Rattle.link_table.specs.declared.links.LinkState.{LinkState}
 use Rattle.link_table.specs.declared.links.LinkState.TheVariants.{Creating, Connected, Unusable}
@@ -36,14 +37,6 @@ is_creating Unusable = false
 -- a link's last messages go
 abbrev pub without_cached : ℕ → Gateway → Gateway
 without_cached cid w = record w { cache = filter (is_cached_elsewhere cid) w.cache }
-
--- the channel is on this real name
-abbrev pub is_on : List ℕ → Channel → Bool
-is_on name row = bytes_eq row.real name
-
-abbrev pub is_channel_on : List ℕ → Option Channel → Bool
-is_channel_on name None = false
-is_channel_on name (Some c) = is_on name c
 
 -- a channel is open on the real name, or a remembered search leads to it
 abbrev pub is_wanted : Gateway → List ℕ → Bool

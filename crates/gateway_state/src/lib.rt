@@ -16,6 +16,7 @@ mod limits;
 mod notice;
 mod reading;
 mod resolution;
+mod row_counts;
 mod search;
 
 pub use cached::LastMessage;
@@ -32,5 +33,6 @@ pub use notice::{
 };
 pub use reading::{Given, Native, Reading};
 pub use resolution::{is_real, lead_of, rights_left};
+pub use row_counts::RowCounts;
 pub use rule_desk::Policy;
 pub use search::Search;

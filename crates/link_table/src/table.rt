@@ -129,6 +129,20 @@ impl Links {
         self.links.len()
     }
 
+    /// How many servers stand.
+    pub fn server_count(&self) -> usize
+        ensures { result ≡ length self.now.servers }
+    {
+        self.servers.len()
+    }
+
+    /// How many writes wait, of all sessions.
+    pub fn write_count(&self) -> usize
+        ensures { result ≡ length self.now.writes }
+    {
+        self.writes.len()
+    }
+
     /// The server's nth link, counted from 0 in the order of adding. The links of others are not
     /// looked at.
     pub fn link_of(&self, server: u32, n: usize) -> Option<&Link>

@@ -1,5 +1,5 @@
 //! Waiting writes, found by their IDs, and by the sessions that they are of.
-ghost use Rattle.std.specs.Prelude.{◌≡◌, [], ◌∷◌, ◌++◌, true, false, OnOk, OnErr, IfSome, IsNone};
+ghost use Rattle.std.specs.Prelude.{◌≡◌, [], ◌∷◌, ◌++◌, length, true, false, OnOk, OnErr, IfSome, IsNone};
 ghost use Rattle.std.specs.List.{filter, find, count_by, list_any};
 ghost use Rattle.std.specs.Option.{option_copied};
 ghost use Rattle.link_table.specs.Writes.{is_write, is_write_of, is_write_on, is_write_to, is_not_write, is_not_write_of, is_not_write_on, is_not_write_to};
@@ -71,6 +71,13 @@ impl Writes {
         ensures { result ≡ count_by (is_write_of session) self.now }
     {
         self.by_session.of(session).len()
+    }
+
+    /// How many writes wait.
+    pub(crate) fn len(&self) -> usize
+        ensures { result ≡ length self.now }
+    {
+        self.rows.len()
     }
 
     /// Adds a write. At an error none is added.

@@ -1,5 +1,5 @@
 -- What a tally keeps, as counts.
-use Rattle.std.specs.Prelude.{ℕ, ◌+◌, ◌≤◌, ◌<◌, Bool, nat_le, length, vec_capacity}
+use Rattle.std.specs.Prelude.{ℕ, ◌+◌, ◌≤◌, ◌<◌, List, [], ◌∷◌, Bool, nat_le, length, vec_capacity}
 use Rattle.mask_merge.specs.declared.kept.Kept.{Kept}
 use Rattle.mask_merge.specs.Counts.{Counts}
 
@@ -13,9 +13,16 @@ pub record AreWithin (c : Counts) : Type 0 where
   pub props : c.props ≤ length c.counts
   pub texts : c.texts ≤ length c.counts
 
--- and there is room for each reader's count
+-- none is greater than the next
+abbrev pub IsRising : List ℕ → Type 0
+IsRising [] = Unit {0}
+IsRising (x ∷ []) = Unit {0}
+IsRising (x ∷ y ∷ ys) = (x ≤ y) × IsRising (y ∷ ys)
+
+-- and the counts rise, and there is room for each reader's
 pub record Fits (kept : Kept) : Type 0 where
   pub within : AreWithin (counts_of kept)
+  pub rising : IsRising kept.counts.items
   pub room : length kept.counts.items + kept.silent ≤ vec_capacity kept.counts
 
 -- there is room for one reader more

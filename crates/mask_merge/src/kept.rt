@@ -1,9 +1,9 @@
 //! What a tally keeps: counts, and room for the count of each reader.
-ghost use Rattle.std.specs.Prelude.{◌≡◌, ◌≤◌, ◌<◌, ◌+◌, ◌^◌, true, length, position, vec_len, vec_capacity, OnOk};
+ghost use Rattle.std.specs.Prelude.{◌≡◌, ◌≤◌, ◌<◌, ◌+◌, ◌^◌, true, insert, length, position, remove, vec_len, vec_capacity, IfSome, IsNone, OnOk};
 ghost use Rattle.std.specs.List.{position_or_len};
 ghost use Rattle.rows.specs.Rows.{remove_first};
 ghost use Rattle.mask_merge.specs.Counts.{asks_log, more_if, less_if, has_such, is_count, put_rising, counted_with, left_of, holds, log_mask, greatest_of, wanted_by};
-ghost use Rattle.mask_merge.specs.Kept.{counts_of, is_not_less, Fits, HasRoom};
+ghost use Rattle.mask_merge.specs.Kept.{counts_of, is_not_less, Fits, HasRoom, IsRising};
 
 use crate::want::{ALWAYS_ASKED, Ask, KNOWN_EVENTS, LOG_EVENT, Want};
 use std::alloc::AllocError;
@@ -118,13 +118,26 @@ fn place_for(counts: &[u32], count: u32) -> usize
     first_not_less(counts, count).unwrap_or(counts.len())
 }
 
-#[tactic(auto, using(crate::proofs::PlaceLemmas::put_at_place, crate::proofs::PlaceLemmas::place_within))]
+/// Where a count is put: behind all others where none is greater, so that most are put there without a walk.
+#[tactic(auto, using(crate::proofs::PlaceLemmas::put_at_place, crate::proofs::PlaceLemmas::place_within, crate::proofs::RisingLemmas::put_at_end))]
+fn place_to_put(counts: &[u32], count: u32) -> usize
+    requires rising { IsRising counts.now }
+    ensures put { insert counts.now result count ≡ put_rising count counts.now }
+    ensures within { result ≤ length counts.now }
+{
+    match counts.last() {
+        Some(last) if *last <= count => counts.len(),
+        _ => place_for(counts, count),
+    }
+}
+
 fn put(counts: &mut Vec<u32>, count: u32)
+    requires rising { IsRising counts.old.items }
     requires room { vec_len counts.old < vec_capacity counts.old }
     ensures items { counts.new.items ≡ put_rising count counts.old.items }
     ensures room { vec_capacity counts.old ≤ vec_capacity counts.new }
 {
-    let place = place_for(counts, count);
+    let place = place_to_put(counts, count);
     counts.insert(place, count).unwrap();
 }
 
@@ -134,12 +147,25 @@ fn place_of(counts: &[u32], count: u32) -> Option<usize>
     counts.iter().position(|other| *other == count)
 }
 
-#[tactic(auto, using(rows::proofs::RowLemmas::remove_is_remove_first, rows::proofs::RowLemmas::remove_first_none))]
+/// From where a count is taken away: from the end where it is the greatest, which moves none of the others.
+#[tactic(auto, using(rows::proofs::RowLemmas::remove_is_remove_first, rows::proofs::RowLemmas::remove_first_none, crate::proofs::RisingLemmas::removed_at_end))]
+fn place_to_take(counts: &[u32], count: u32) -> Option<usize>
+    requires rising { IsRising counts.now }
+    ensures taken { IfSome result (λ place. (remove counts.now place ≡ remove_first (is_count count) counts.now) × (place < length counts.now)) }
+    ensures none { IsNone result → remove_first (is_count count) counts.now ≡ counts.now }
+{
+    match counts.last() {
+        Some(last) if *last == count => Some(counts.len() - 1),
+        _ => place_of(counts, count),
+    }
+}
+
 fn take_away(counts: &mut Vec<u32>, count: u32)
+    requires rising { IsRising counts.old.items }
     ensures items { counts.new.items ≡ remove_first (is_count count) counts.old.items }
     ensures room { vec_capacity counts.new ≡ vec_capacity counts.old }
 {
-    if let Some(place) = place_of(counts, count) {
+    if let Some(place) = place_to_take(counts, count) {
         counts.remove(place);
     }
 }

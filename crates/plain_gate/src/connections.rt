@@ -1,7 +1,7 @@
 //! Connections: what is said to them, and what waits for them.
 ghost use Rattle.std.specs.Prelude.{◌≡◌, take, OnOk, IfOk};
 ghost use Rattle.rows.specs.Rows.{change_first};
-ghost use Rattle.gateway_state.specs.Asked.{acts, ends, queued, stands};
+ghost use Rattle.gateway_state.specs.Asked.{acts, ends, queued, queued_bytes, stands};
 ghost use Rattle.gateway_state.specs.Clients.{read_refused};
 ghost use Rattle.gateway_state.specs.Connections.{given, is_to, marked_now, outbox_of, relieved};
 ghost use Rattle.gateway_state.specs.Subscribing.{request_refused};
@@ -100,6 +100,16 @@ impl Rows {
     {
         match find(&self.connections, ConnectionTo { dest }) {
             Some(connection) => connection.outbox.len(),
+            None => 0,
+        }
+    }
+
+    /// How many bytes wait for a connection, 0 where it doesn't stand.
+    pub(crate) fn queued_bytes(&self, dest: Dest) -> u64
+        ensures { result ≡ queued_bytes self.now dest }
+    {
+        match find(&self.connections, ConnectionTo { dest }) {
+            Some(connection) => connection.outbox.bytes(),
             None => 0,
         }
     }

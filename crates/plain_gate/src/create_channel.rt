@@ -6,12 +6,12 @@ ghost use Rattle.gateway_state.specs.Variables.{link_of};
 
 use crate::clients::{ChannelsOf, SessionNumbered, fix_host};
 use crate::lists::{count, find};
-use crate::names::native_in;
 use crate::numbers::Refusal;
 use crate::state::Rows;
 use ca_message::ToClient;
 use channel_table::{CHANNEL_LIMIT, Channel, Reach};
 use gateway_state::Native;
+use gateway_values::native_in;
 use link_table::Counter;
 use pv_alias::{Lead, group_rights};
 use pv_name::Name;

@@ -6,7 +6,7 @@ ghost use Rattle.gateway_state.specs.declared.config.TheConstants.{LAST_FIRST};
 ghost use Rattle.gateway_state.specs.Numbers.{is_past_numbers, runs_out};
 ghost use Rattle.gateway_state.specs.Step.{step, run, taken};
 ghost use Rattle.gateway_state.specs.Answer.{reading};
-ghost use Rattle.gateway_state.specs.Asked.{stands, ends, queued};
+ghost use Rattle.gateway_state.specs.Asked.{stands, ends, queued, queued_bytes};
 ghost use Rattle.gateway_state.specs.Interest.{property_subscription_of, subscription_of};
 ghost use Rattle.gateway_state.specs.Rights.{rights_asked};
 ghost use Rattle.gateway_state.specs.Variables.{asks};
@@ -17,7 +17,7 @@ use crate::state::Rows;
 use crate::step::{drain, step};
 use fanout::Out;
 use gateway_calls::{AskFault, Failed, GatewayCalls, NoMemory, StepFault};
-use gateway_state::{Config, Dest, Event, Policy, Reading, Sub};
+use gateway_state::{Config, Dest, Event, Policy, Reading, RowCounts, Sub};
 use link_table::Subject;
 use pv_name::{Host, Name};
 use pv_search::{SearchAnswer, answer};
@@ -119,6 +119,20 @@ impl GatewayCalls for PlainGate {
     fn queued(&mut self, dest: Dest) -> Result<usize, Failed> {
         match &self.rows {
             Some(rows) => Ok(rows.queued(dest)),
+            None => Err(Failed),
+        }
+    }
+
+    fn queued_bytes(&mut self, dest: Dest) -> Result<u64, Failed> {
+        match &self.rows {
+            Some(rows) => Ok(rows.queued_bytes(dest)),
+            None => Err(Failed),
+        }
+    }
+
+    fn row_counts(&mut self) -> Result<RowCounts, Failed> {
+        match &self.rows {
+            Some(rows) => Ok(rows.row_counts()),
             None => Err(Failed),
         }
     }

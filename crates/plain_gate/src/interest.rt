@@ -1,20 +1,19 @@
 //! What the readers of a variable want together, from the list of all readers.
 ghost use Rattle.std.specs.Prelude.{◌≡◌, ◌++◌, filter, map, Some, IfOk, OnOk};
-ghost use Rattle.channel_table.specs.Demand.{names_properties, own_ask, reach_ask};
-ghost use Rattle.gateway_state.specs.Interest.{ask_props, is_for, is_reader, is_subscriber, minor_of, reader_ask, readers, sent_count, sent_for, subscription_to, wanted_by, wanted_for};
+ghost use Rattle.channel_table.specs.Demand.{own_ask};
+ghost use Rattle.gateway_state.specs.Interest.{ask_props, is_reader, is_subscriber, minor_of, reader_ask, readers, subscription_to, wanted_by, wanted_for};
 ghost use Rattle.mask_merge.specs.Counts.{as_native, asks_props, want_asked};
 ghost use Rattle.mask_merge.specs.Merged.{events, greatest, merged};
 
 use crate::lists::find;
-use crate::names::may_read;
 use crate::state::Rows;
-use crate::upstream::{ServerNumbered, sub_at};
-use crate::values::meant_count;
-use channel_table::{Channel, ClientSub, Reach};
-use dbr_layout::{has_properties_by, is_state_by, is_text_by};
-use gateway_state::{Sub, UPDATE_MINOR};
-use link_table::{LinkState, Subject, Subscription};
-use mask_merge::{ALWAYS_ASKED, Ask, KNOWN_EVENTS, PROPERTY_EVENT, Want};
+use crate::upstream::ServerNumbered;
+use channel_table::{Channel, ClientSub, own_ask, reach_ask};
+use dbr_layout::is_state_by;
+use gateway_state::Sub;
+use gateway_values::{may_read, meant_count, property_want};
+use link_table::{LinkState, Subject};
+use mask_merge::{ALWAYS_ASKED, Ask, KNOWN_EVENTS, Want};
 use pv_name::Name;
 use std::alloc::{AllocError, Global};
 
@@ -41,7 +40,7 @@ impl Rows {
     {
         for sub in &self.subs {
             if self.is_subscriber(name, sub)? {
-                asks.push(own_ask(*sub))?;
+                asks.push(own_ask(sub))?;
             }
         }
         Ok(())
@@ -91,7 +90,7 @@ impl Rows {
         let LinkState::Connected { .. } = link.state else {
             return None;
         };
-        let subscription = sub_at(subject, link.subscriptions)?;
+        let subscription = link.subscriptions.at(subject)?;
         Some(Sub {
             id: subscription.id,
             mask: subscription.mask,
@@ -110,40 +109,6 @@ impl Rows {
     }
 }
 
-/// What a subscription asks for.
-fn own_ask(sub: ClientSub) -> Ask
-    ensures { result ≡ own_ask sub }
-{
-    Ask {
-        want: Want {
-            mask: sub.mask,
-            count: sub.count,
-        },
-        props: names_properties(sub.mask) || has_properties_by(sub.dtype),
-        texts: is_text_by(sub.dtype),
-    }
-}
-
-fn names_properties(mask: u16) -> bool
-    ensures { result ≡ names_properties mask }
-{
-    mask & PROPERTY_EVENT == PROPERTY_EVENT
-}
-
-/// What the accepted reads on a channel ask for.
-fn reach_ask(reach: Reach) -> Ask
-    ensures { result ≡ reach_ask reach }
-{
-    Ask {
-        want: Want {
-            mask: ALWAYS_ASKED,
-            count: reach.count,
-        },
-        props: reach.props,
-        texts: false,
-    }
-}
-
 /// What those who ask this of a variable of a native type and count want a server to tell of a subject.
 fn wanted_by(
     alloc: Global,
@@ -159,10 +124,7 @@ fn wanted_by(
             let wants = wants_of(alloc, native, asks)?;
             Ok(merged(&wants))
         }
-        Subject::Properties if ask_props(dtype, asks) => Ok(Some(Want {
-            mask: PROPERTY_EVENT,
-            count: 1,
-        })),
+        Subject::Properties if ask_props(dtype, asks) => Ok(Some(property_want())),
         Subject::Properties => Ok(None),
     }
 }
@@ -225,37 +187,4 @@ fn greatest(wants: &[Want]) -> u32
         greatest = greatest.max(want.count);
     }
     greatest
-}
-
-/// Whether the subscription is for what is wanted.
-pub(crate) fn is_for(want: Option<Want>, subscription: Option<Subscription>) -> bool
-    ensures { result ≡ is_for want subscription }
-{
-    match (want, subscription) {
-        (None, None) => true,
-        (Some(want), Some(sub)) => sub.mask == want.mask && sub.count == want.count,
-        (None, Some(_)) => false,
-        (Some(_), None) => false,
-    }
-}
-
-/// The count as it is sent: 0 stands for the native count, where the server knows that.
-fn sent_count(minor: u32, native: u32, count: u32) -> u32
-    ensures { result ≡ sent_count minor native count }
-{
-    if count == native && minor >= UPDATE_MINOR {
-        0
-    } else {
-        count
-    }
-}
-
-/// The count as it is sent for a subject: of properties always the one that is wanted.
-pub(crate) fn sent_for(subject: Subject, minor: u32, native: u32, count: u32) -> u32
-    ensures { result ≡ sent_for subject minor native count }
-{
-    match subject {
-        Subject::Values => sent_count(minor, native, count),
-        Subject::Properties => count,
-    }
 }

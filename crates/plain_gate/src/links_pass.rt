@@ -3,14 +3,13 @@ ghost use Rattle.std.specs.Prelude.{◌≡◌, ◌++◌, true, fold, IfOk, IsErr
 ghost use Rattle.gateway_state.specs.Notices.{dropped, forgotten, interest_notices, link_notices, link_notices_of, link_told, links_told, subject_notices, subscribed_to};
 ghost use Rattle.gateway_state.specs.Numbers.{is_past_numbers};
 
-use crate::interest::{is_for, sent_for};
 use crate::lists::remove;
 use crate::numbers::Refusal;
 use crate::state::Rows;
-use crate::upstream::{MessageOf, drop_properties, put_subscription, sub_at};
-use crate::values::type_for;
+use crate::upstream::{MessageOf, drop_properties, put_subscription};
 use ca_message::ToServer;
 use gateway_state::LinkNotice;
+use gateway_values::{is_for, sent_for, type_for};
 use link_table::{Counter, Link, LinkState, Subject, Subscription};
 use mask_merge::Want;
 use std::alloc::AllocError;
@@ -30,7 +29,7 @@ fn add_subject_notices(
 {
     let (server, cid) = (link.server, link.cid);
     let want = rows.wanted_for(subject, &link.name, dtype, native)?;
-    let present = sub_at(subject, link.subscriptions);
+    let present = link.subscriptions.at(subject);
     if is_for(want, present) {
         return Ok(());
     }

@@ -2,20 +2,20 @@
 ghost use Rattle.std.specs.Prelude.{◌≡◌, fold, IfOk, OnOk};
 ghost use Rattle.std.specs.List.{list_any};
 ghost use Rattle.std.specs.Option.{option_copied};
-ghost use Rattle.gateway_state.specs.Answer.{native_in};
 ghost use Rattle.gateway_state.specs.Clients.{remembered};
 ghost use Rattle.gateway_state.specs.Reached.{rights_told};
-ghost use Rattle.gateway_state.specs.Rights.{channel_of, is_found, is_served, lead_in, link_connected, link_rights, may_read, rights_of};
+ghost use Rattle.gateway_state.specs.Rights.{channel_of, is_found, is_served, lead_in, link_connected, link_rights, rights_of};
 ghost use Rattle.gateway_state.specs.Searches.{leads_to, same_search};
-ghost use Rattle.gateway_state.specs.Variables.{asks, channel_names, is_channel_on, is_connected, is_creating, is_linked, is_missing, is_on, is_wanted, link_of, search_names, with_name, with_unlinked};
+ghost use Rattle.channel_table.specs.Channels.{is_channel_on, is_on};
+ghost use Rattle.gateway_state.specs.Variables.{asks, channel_names, is_linked, is_missing, is_wanted, link_of, search_names, with_name, with_unlinked};
 
 use crate::clients::{ChannelAt, SessionNumbered};
 use crate::lists::find;
 use crate::state::Rows;
-use ca_message::commands::CA_PROTO_ACCESS_RIGHT_READ;
 use channel_table::Channel;
-use gateway_state::{Native, SEARCH_LIMIT, Search, is_real, lead_of, rights_left};
-use link_table::{Link, LinkState};
+use gateway_state::{SEARCH_LIMIT, Search, is_real, lead_of, rights_left};
+use gateway_values::is_connected;
+use link_table::Link;
 use pv_alias::Lead;
 use pv_name::{Host, Name, same_host};
 use std::alloc::AllocError;
@@ -229,41 +229,4 @@ fn add_in_order(names: &mut Vec<Name>, name: Name) -> Result<(), AllocError>
     }
     names.push(name)?;
     Ok(())
-}
-
-/// Whether the rights let a client read.
-pub(crate) fn may_read(rights: u32) -> bool
-    ensures { result ≡ may_read rights }
-{
-    rights & CA_PROTO_ACCESS_RIGHT_READ == CA_PROTO_ACCESS_RIGHT_READ
-}
-
-/// Whether a server made the link's channel, and it can be used.
-fn is_connected(state: LinkState) -> bool
-    ensures { result ≡ is_connected state }
-{
-    match state {
-        LinkState::Creating | LinkState::Unusable => false,
-        LinkState::Connected { .. } => true,
-    }
-}
-
-/// Whether the server was asked for the link's channel and hasn't answered.
-pub(crate) fn is_creating(state: LinkState) -> bool
-    ensures { result ≡ is_creating state }
-{
-    match state {
-        LinkState::Creating => true,
-        LinkState::Connected { .. } | LinkState::Unusable => false,
-    }
-}
-
-/// The type and the count of a connected link's variable.
-pub(crate) fn native_in(state: LinkState) -> Option<Native>
-    ensures { result ≡ native_in state }
-{
-    match state {
-        LinkState::Creating | LinkState::Unusable => None,
-        LinkState::Connected { dtype, count, .. } => Some(Native { dtype, count }),
-    }
 }

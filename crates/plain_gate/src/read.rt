@@ -1,18 +1,17 @@
 //! READ_NOTIFY.
 ghost use Rattle.std.specs.Prelude.{◌≡◌, Some, IfOk, OnOk};
 ghost use Rattle.gateway_state.specs.Answer.{cached_value};
-ghost use Rattle.gateway_state.specs.Clients.{accepted, is_one_too_many, reach_with, read_asked, read_verdict, verdict_natively};
+ghost use Rattle.gateway_state.specs.Clients.{accepted, is_one_too_many, read_asked, read_verdict, verdict_natively};
 
 use crate::clients::{ReadsOf, put_channel};
 use crate::lists::count;
-use crate::names::native_in;
 use crate::state::Rows;
-use crate::values::{meant_count, needs_by_number, read_refusal};
 use ca_header::Header;
 use ca_message::codes::{ECA_BADCHID, ECA_GETFAIL};
 use ca_message::commands::NO_CHANNEL;
 use channel_table::{Channel, READ_LIMIT, Reach, WaitingRead};
 use gateway_state::{Native, ReadVerdict};
+use gateway_values::{native_in, reach_with, read_refusal};
 use link_table::Link;
 use std::alloc::AllocError;
 
@@ -35,16 +34,6 @@ fn is_one_too_many(
     match rows.cached_value(link.cid, native.count, read.dtype, read.count)? {
         Some(_) => Ok(false),
         None => Ok(true),
-    }
-}
-
-/// How far the reads on a channel reach, with one more of this type and count.
-fn reach_with(reach: Reach, native: Native, dtype: u16, count: u32) -> Reach
-    ensures { result ≡ reach_with reach native dtype count }
-{
-    Reach {
-        count: reach.count.max(meant_count(native.count, count)),
-        props: reach.props || needs_by_number(native.dtype, dtype),
     }
 }
 

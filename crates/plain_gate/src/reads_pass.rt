@@ -4,12 +4,12 @@ ghost use Rattle.gateway_state.specs.Notices.{answered_over, read_notice, read_n
 ghost use Rattle.gateway_state.specs.Variables.{link_of};
 
 use crate::clients::remove_read;
-use crate::names::{may_read, native_in};
 use crate::state::Rows;
 use ca_message::ToClient;
 use ca_message::codes::ECA_NORDACCESS;
 use channel_table::WaitingRead;
 use gateway_state::ReadNotice;
+use gateway_values::{may_read, native_in};
 use pv_name::Name;
 use std::alloc::AllocError;
 use std::collections::VecDeque;

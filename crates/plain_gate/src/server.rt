@@ -1,19 +1,18 @@
 //! What a server's message does by itself, and links to variables that servers have.
 ghost use Rattle.std.specs.Prelude.{◌≡◌, true, IsErrOf, OnOk};
 ghost use Rattle.gateway_state.specs.Numbers.{is_past_numbers};
-ghost use Rattle.gateway_state.specs.Servers.{channel_dropped, channel_made, channel_returned, creation_refused, found, is_usable, linked, rights_said, server_said};
+ghost use Rattle.gateway_state.specs.Servers.{channel_dropped, channel_made, channel_returned, creation_refused, found, linked, rights_said, server_said};
 
 use crate::lists::find;
-use crate::names::is_creating;
 use crate::numbers::Refusal;
 use crate::state::Rows;
 use crate::update::update;
 use crate::upstream::{LinkAt, put_minor, put_state};
-use crate::values::{fits_payload, time_of};
 use crate::write::end_write;
 use ca_header::Message;
 use ca_message::{NameText, ServerReply, ToServer, read_reply};
-use gateway_state::{Dest, PLAIN_TYPES};
+use gateway_state::Dest;
+use gateway_values::{is_creating, is_usable};
 use link_table::{Counter, LINK_LIMIT, Link, LinkState, Subscriptions};
 use pv_name::Name;
 use std::alloc::AllocError;
@@ -66,13 +65,6 @@ fn return_channel(rows: &mut Rows, server: u32, sid: u32, cid: u32) -> Result<()
     ensures { OnOk result (rows.new ≡ channel_returned server sid cid rows.old) }
 {
     rows.ask(server, ToServer::ClearChannel { sid, cid })
-}
-
-/// Whether updates of a channel with this native type and count can be taken.
-fn is_usable(dtype: u16, count: u32) -> bool
-    ensures { result ≡ is_usable dtype count }
-{
-    dtype < PLAIN_TYPES && 0 < count && fits_payload(time_of(dtype), count)
 }
 
 /// A server made a channel.

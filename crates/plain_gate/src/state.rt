@@ -2,10 +2,11 @@
 ghost use Rattle.std.specs.Prelude.{◌≡◌, false};
 ghost use Rattle.gateway_state.specs.Gateway.{initial};
 ghost use Rattle.gateway_state.specs.Numbers.{is_past_numbers};
+ghost use Rattle.gateway_state.specs.RowCounts.{row_counts};
 
 use crate::numbers::Numbers;
 use channel_table::{Channel, ClientSub, Session, WaitingRead};
-use gateway_state::{Config, Connection, LastMessage, Policy, Search};
+use gateway_state::{Config, Connection, LastMessage, Policy, RowCounts, Search};
 use link_table::{Link, Server, WaitingWrite};
 use std::alloc::Global;
 use std::marker::Model;
@@ -89,6 +90,22 @@ impl Rows {
             numbers: Numbers::new(first),
             cache: Vec::new(alloc),
             searches: Vec::new(alloc),
+        }
+    }
+
+    /// How many rows of each kind there are.
+    pub(crate) fn row_counts(&self) -> RowCounts
+        ensures { result ≡ row_counts self.now }
+    {
+        RowCounts {
+            sessions: self.sessions.len(),
+            channels: self.channels.len(),
+            subs: self.subs.len(),
+            reads: self.reads.len(),
+            servers: self.servers.len(),
+            links: self.links.len(),
+            writes: self.writes.len(),
+            searches: self.searches.len(),
         }
     }
 

@@ -4,15 +4,14 @@ ghost use Rattle.gateway_state.specs.Subscribing.{is_on_sid, short_subscription,
 
 use crate::clients::{SubAt, SubsOf};
 use crate::lists::{count, find, remove};
-use crate::names::native_in;
 use crate::state::Rows;
-use crate::values::value_refusal;
 use ca_header::Header;
 use ca_message::ToClient;
 use ca_message::codes::{ECA_ALLOCMEM, ECA_BADCHID, ECA_BADMASK, ECA_INTERNAL};
 use ca_message::commands::NO_CHANNEL;
 use channel_table::{ClientSub, SUB_LIMIT};
 use gateway_state::{Native, SERVED_EVENTS, SubVerdict};
+use gateway_values::{native_in, value_refusal};
 use std::alloc::AllocError;
 
 /// Why a subscription is refused, the first reason that applies.

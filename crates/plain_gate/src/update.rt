@@ -1,36 +1,22 @@
 //! Updates that servers send.
 ghost use Rattle.std.specs.Prelude.{◌≡◌, ◌&&◌, filter, IfOk, OnOk};
-ghost use Rattle.dbr_layout.specs.View.{shown};
-ghost use Rattle.gateway_state.specs.Servers.{concerns, fails_without, has_other_alarm, is_described_in, is_description, is_told, is_value, read_failed, reads_failed, subject_of, updated, waits_for};
-ghost use Rattle.gateway_state.specs.Updates.{asks_for, concerned, is_concerned};
+ghost use Rattle.gateway_state.specs.Servers.{concerns, fails_without, has_other_alarm, read_failed, reads_failed, updated, waits_for};
+ghost use Rattle.gateway_state.specs.Updates.{concerned};
 
 use crate::clients::remove_read;
 use crate::lists::find;
-use crate::names::native_in;
 use crate::state::Rows;
-use crate::upstream::{LinkSubscribed, MessageOf, has_id, sub_at};
-use crate::values::{ctrl_of, needs_by_number, time_of};
+use crate::upstream::{LinkSubscribed, MessageOf};
 use bytes::Bytes;
 use ca_message::codes::{ECA_GETFAIL, ECA_NORMAL};
 use channel_table::{ClientSub, WaitingRead};
-use dbr_layout::{Props, View};
-use gateway_state::{ALARM_EVENTS, Native, VALUE_EVENTS};
+use dbr_layout::View;
+use gateway_state::Native;
+use gateway_values::{asks_for, fails_without, is_concerned, is_heard, native_in, subject_of};
 use link_table::{Link, LinkState, Subject};
 use mask_merge::PROPERTY_EVENT;
 use pv_name::Name;
 use std::alloc::AllocError;
-
-/// Whether a read can't be had where a server fails to tell a subject: without values none can, without
-/// properties none that needs them.
-fn fails_without(subject: Subject, native: Option<Native>, read: &WaitingRead) -> bool
-    ensures { result ≡ fails_without subject native read.now }
-{
-    match (subject, native) {
-        (Subject::Values, _) => true,
-        (Subject::Properties, Some(native)) => needs_by_number(native.dtype, read.dtype),
-        (Subject::Properties, None) => false,
-    }
-}
 
 /// The reads that wait for a variable and fail without a subject, in the order of asking.
 fn reads_without(
@@ -89,21 +75,6 @@ fn has_other_alarm(rows: &Rows, cid: u32, dtype: u16, count: u32, payload: &[u8]
     }
 }
 
-/// Whether a subscription asks for one of these events.
-fn asks_for(events: u16, sub: &ClientSub) -> bool
-    ensures { result ≡ asks_for events sub.now }
-{
-    sub.mask & events > 0
-}
-
-/// Whether a value concerns a subscription: it asks for values or for the log, or for alarms and the
-/// alarm is another.
-fn is_concerned(differs: bool, sub: &ClientSub) -> bool
-    ensures { result ≡ is_concerned differs sub.now }
-{
-    asks_for(VALUE_EVENTS, sub) || asks_for(ALARM_EVENTS, sub) && differs
-}
-
 /// Whether an update concerns a subscription: a value by its events, properties one that asks for
 /// theirs.
 fn concerns(
@@ -145,57 +116,6 @@ fn concerned(
     Ok(subs)
 }
 
-/// Whether an update counts as a value.
-fn is_value(native: u16, asked_with: u32, dtype: u16, count: u32, payload: &[u8]) -> bool
-    ensures { result ≡ is_value native asked_with dtype count payload.now }
-{
-    dtype == time_of(native) && count <= asked_with && View::new(dtype, count, payload).is_ok()
-}
-
-/// Whether an update counts as properties.
-fn is_description(native: u16, dtype: u16, count: u32, payload: &[u8]) -> bool
-    ensures { result ≡ is_description native dtype count payload.now }
-{
-    dtype == ctrl_of(native) && count <= 1 && tells_properties(dtype, count, payload)
-}
-
-fn tells_properties(dtype: u16, count: u32, payload: &[u8]) -> bool
-    ensures { result ≡ is_described_in (shown dtype count payload.now) }
-{
-    match View::new(dtype, count, payload) {
-        Ok(view) => Props::of(&view).is_some(),
-        Err(_) => false,
-    }
-}
-
-/// Whether an update of a subject counts, of a variable of this native type.
-fn is_told(
-    subject: Subject,
-    native: u16,
-    asked_with: u32,
-    dtype: u16,
-    count: u32,
-    payload: &[u8],
-) -> bool
-    ensures { result ≡ is_told subject native asked_with dtype count payload.now }
-{
-    match subject {
-        Subject::Values => is_value(native, asked_with, dtype, count, payload),
-        Subject::Properties => is_description(native, dtype, count, payload),
-    }
-}
-
-/// The subject of a link's subscription that has this ID.
-fn subject_of(id: u32, link: &Link) -> Subject
-    ensures { result ≡ subject_of id link.now }
-{
-    if has_id(link.subscriptions.values, id) {
-        Subject::Values
-    } else {
-        Subject::Properties
-    }
-}
-
 /// An update came under a subscription's ID.
 pub(crate) fn update(
     rows: &mut Rows,
@@ -220,11 +140,11 @@ pub(crate) fn update(
     let LinkState::Connected { dtype: native, .. } = link.state else {
         return Ok(());
     };
-    let Some(subscription) = sub_at(subject, link.subscriptions) else {
+    let Some(subscription) = link.subscriptions.at(subject) else {
         return Ok(());
     };
     let asked_with = subscription.count;
-    if !is_told(subject, native, asked_with, dtype, count, payload) {
+    if !is_heard(subject, native, asked_with, dtype, count, payload) {
         return Ok(());
     }
     let (server, cid) = (link.server, link.cid);

@@ -5,11 +5,11 @@ ghost use Rattle.gateway_state.specs.Variables.{link_of};
 
 use crate::clients::{SessionNumbered, put_owed};
 use crate::lists::find;
-use crate::names::{may_read, native_in};
 use crate::state::Rows;
 use ca_message::ToClient;
 use channel_table::ClientSub;
 use gateway_state::{Dest, UPDATE_LIMIT, UpdateNotice};
+use gateway_values::{may_read, native_in};
 use pv_name::Name;
 use std::alloc::AllocError;
 use std::collections::VecDeque;

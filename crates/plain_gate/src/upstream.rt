@@ -1,7 +1,7 @@
 //! Rows towards servers, and their keys: servers, links, waiting writes, and what variables told last.
 ghost use Rattle.std.specs.Prelude.{◌≡◌, ◌==◌, IsOk, OnOk};
 ghost use Rattle.rows.specs.Rows.{change_first};
-ghost use Rattle.link_table.specs.Links.{has_id, has_subscription, is_link, is_of, sub_at, with_state, with_subscription};
+ghost use Rattle.link_table.specs.Links.{has_id, has_subscription, is_link, is_of, with_state, with_subscription};
 ghost use Rattle.link_table.specs.Servers.{is_server, with_minor};
 ghost use Rattle.link_table.specs.Writes.{is_write, is_write_of, is_write_on, is_write_to};
 ghost use Rattle.dbr_layout.specs.View.{shown};
@@ -91,7 +91,7 @@ impl Key<Link> for LinkSubscribed {
 }
 
 /// Whether it is a subscription of this ID.
-pub(crate) fn has_id(subscription: Option<Subscription>, id: u32) -> bool
+fn has_id(subscription: Option<Subscription>, id: u32) -> bool
     ensures { result ≡ has_id id subscription }
 {
     match subscription {
@@ -109,16 +109,6 @@ pub(crate) fn put_state(rows: &mut Vec<Link>, server: u32, cid: u32, state: Link
         let row = &mut rows[place];
         row.state = state;
         row.rights = rights;
-    }
-}
-
-/// The subscription on a subject.
-pub(crate) fn sub_at(subject: Subject, subscriptions: Subscriptions) -> Option<Subscription>
-    ensures { result ≡ sub_at subject subscriptions }
-{
-    match subject {
-        Subject::Values => subscriptions.values,
-        Subject::Properties => subscriptions.properties,
     }
 }
 

@@ -1,7 +1,7 @@
 //! WRITE and WRITE_NOTIFY, from clients and from servers.
 ghost use Rattle.std.specs.Prelude.{◌≡◌, true, IfOk, IsErrOf, OnOk};
 ghost use Rattle.gateway_state.specs.Numbers.{is_past_numbers};
-ghost use Rattle.gateway_state.specs.Writing.{may_write, new_write, with_write, write_answered, write_asked, write_ended, write_handed_on, write_judged, write_notify_asked, write_verdict};
+ghost use Rattle.gateway_state.specs.Writing.{new_write, with_write, write_answered, write_asked, write_ended, write_handed_on, write_judged, write_notify_asked, write_verdict};
 
 use crate::lists::{count, find, remove};
 use crate::numbers::Refusal;
@@ -9,10 +9,11 @@ use crate::state::Rows;
 use crate::upstream::{WriteAt, WritesOf};
 use ca_header::Header;
 use ca_message::codes::{ECA_BADCHID, ECA_NOWTACCESS, ECA_PUTFAIL};
-use ca_message::commands::{CA_PROTO_ACCESS_RIGHT_WRITE, NO_CHANNEL};
+use ca_message::commands::NO_CHANNEL;
 use ca_message::{ToClient, ToServer, WriteFault, WrittenValue};
 use channel_table::Channel;
 use gateway_state::WriteVerdict;
+use gateway_values::may_write;
 use link_table::{Counter, LinkState, WRITE_LIMIT, WaitingWrite};
 use std::alloc::AllocError;
 
@@ -23,13 +24,6 @@ pub(crate) struct Write {
     pub sid: u32,
     pub dtype: u16,
     pub count: u32,
-}
-
-/// Whether the rights let a client write.
-fn may_write(rights: u32) -> bool
-    ensures { result ≡ may_write rights }
-{
-    rights & CA_PROTO_ACCESS_RIGHT_WRITE == CA_PROTO_ACCESS_RIGHT_WRITE
 }
 
 /// A value that isn't fit to be handed on is refused first, then a write without the right.

@@ -7,7 +7,7 @@ ghost use Rattle.pv_name.specs.declared.name.TheConstants.{NAME_LIMIT};
 
 /// The numbers of names: how many bytes there are at most, and which may be in one.
 pub fn numbers_are_these()
-    ensures name { NAME_LIMIT ≡ 127 }
+    ensures name { NAME_LIMIT ≡ 255 }
     ensures host { HOST_LIMIT ≡ 127 }
     ensures group { GROUP_LIMIT ≡ 127 }
     ensures printable { (b : ℕ) → IsTrue (is_ascii_graphic b) ↔ ((33 ≤ b) × (b ≤ 126)) }

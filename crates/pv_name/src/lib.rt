@@ -1,5 +1,5 @@
-//! What process variables, hosts and groups are called. Each is a word of 1 to 127 bytes, all of them
-//! printable ASCII characters other than the blank.
+//! What process variables, hosts and groups are called. Each is a word: printable ASCII characters
+//! other than the blank, 1 to 255 of them in a name and 1 to 127 in a host or a group.
 //!
 //! - [`Name::read`], [`Host::read`] and [`Group::read`] make a word of bytes, or say why these are
 //!   none: the first of the faults of [`NameFault`], whether or not memory is there.

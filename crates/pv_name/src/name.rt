@@ -16,7 +16,7 @@ use std::hash::{Hash, Hasher};
 use std::marker::Model;
 
 /// The most bytes that the name of a process variable has.
-pub const NAME_LIMIT: usize = 127;
+pub const NAME_LIMIT: usize = 255;
 
 /// The name of a process variable.
 #[derive(Debug, Drop)]

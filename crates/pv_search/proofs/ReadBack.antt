@@ -58,7 +58,7 @@ whole-ask : (name : List ℕ) (cid : ℕ) → IsName name → IsWholeMessage (as
 whole-ask name cid is_name =
     let n : ℕ = length (name ++ 0 ∷ []) in
     let text : n ≡ length name + 1 = length-append name (0 ∷ []) in
-    let short : length name ≤ 127 = is_name.short in
+    let short : length name ≤ 255 = is_name.short in
     let len : length (nul_ended name) ≡ n + (8 - n % 8) % 8 = simp (length-append, length-replicate) in
     let size : min (length (nul_ended name)) 0xFFFF_FFFF ≡ length (nul_ended name) = min-eq_left (omega arith) in
     record { well_formed = record { aligned = rw size (omega arith); within_limit = rw size (omega arith) }; size = sym size }

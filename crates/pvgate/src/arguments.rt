@@ -1,11 +1,17 @@
 //! The command line.
 
 use clap::{Arg, ArgAction, ArgMatches, Command, Error};
+use pvlist::Syntax;
 use std::alloc::Global;
 
-const VERSION: &str = "0.1.0";
+/// The version, and the kit that its sources are proved with: the one that `docs/PROOF.md` names.
+const VERSION: &str = "0.1.0 (proved with rattle-kit-13b)";
 
 const LOCAL: &str = "localhost";
+
+const MOST_WAITING: &str = "256";
+
+const LOG: &str = "info";
 
 const ABOUT: &str = "A gateway for EPICS process variables over Channel Access";
 
@@ -83,7 +89,24 @@ Lines of a rule file (# begins a comment):
   PATTERN ALIAS REAL [GROUP [LEVEL]]    they are served as REAL, where \\1 to \\9 are parts of the name
   PATTERN DENY                          they are refused
   PATTERN DENY FROM HOST ..             they are refused to these hosts
+In a pattern \\( and \\) enclose a part of the name, and \\| stands between two choices; ( ) | stand for
+themselves. With --plain-groups it is the other way round. The first rule that seems to be meant so is
+noted on standard error:
+  note: line N: ( ) | stand for themselves here; --plain-groups reads them as groups
 A group file has lines GROUP NONE, GROUP READ and GROUP WRITE.
+
+Causes, of which the first that applies is printed:
+  LineTooLong    the line has more than 1024 bytes, its comment counted
+  BadOrder       it begins with EVALUATION ORDER, and neither order follows
+  NoVerb         its second word is none of ALLOW, ALIAS and DENY; a pattern has no blanks
+  TooManyLines   it is rule number 4097, or line number 4097 of the groups
+  BadFrom        behind FROM there is no host, or one that is too long or isn't printable ASCII
+  BadGroup       a group or level is none, or words follow them; in a group file, the line is none
+  BadPattern     the pattern is no expression: an escaped letter or digit, or a bracket left open
+  BadReference   an alias has no real name, or one with a \\ that refers to no part of the pattern
+What the faulty line said is printed on standard error, bytes that aren't printable ASCII as \\xHH, and
+200 characters at most:
+  line N: says: TEXT, or groups line N: says: TEXT
 
 Exit status: 0 for good files, 1 for a faulty line, 2 for bad arguments, 3 where a file can't be
 read or standard output can't be written, 4 where memory runs out.
@@ -97,7 +120,8 @@ const SERVE_LONG_ABOUT: &str = "\
 Serves clients with the variables of servers, over TCP and UDP.
 
 Clients find it at LISTEN. It connects to each UPSTREAM once, at the start; they are numbered from 1.
-With no rule file every name is served. Once it listens it prints: listening ADDR";
+With --reconnect it connects again to those that can't be reached or are lost. With no rule file every
+name is served. Once it listens it prints: listening ADDR";
 
 const SERVE_AFTER_HELP: &str = "\
 Lines of standard input:
@@ -107,7 +131,17 @@ Lines of standard input:
   connect N   UPSTREAM number N is connected to again, where it is lost
   quit        the gateway ends, as at the end of input
 
-What happens is told on standard error, one line each.
+What happens is told on standard error, one line each. With --log error it is want of memory alone, with
+warn also what somebody may want to do something about, with info also what is as it should be, and with
+debug also what may help to find a cause.
+
+With --reconnect each UPSTREAM that isn't connected is tried again every so many seconds, as by
+`connect N`, and names are asked for once it is connected, as by `ask`. That it can't be reached is told
+once until then. With --sweep names are forgotten every so many seconds, as by `sweep`. SECONDS is a
+whole number from 1 to 86400; neither is done without its option, and no time is kept to the second.
+
+With --status each who connects to ADDRESS is told of the gateway in one line of JSON, and is hung up on:
+clients, upstreams, rows of each kind, edits of the rules, messages in and out, and the largest outbox.
 
 Exit status: 0 where it was told to end, 1 for a faulty line of the rule files, 2 for bad arguments, 3
 where a file, LISTEN or a standard stream can't be opened, read or written, 4 where memory runs out.
@@ -130,23 +164,32 @@ pub enum Body {
     Plain,
 }
 
-/// What `check-rules` is to check: the paths of the files, and the name and the host that it is
-/// asked of.
+/// What `check-rules` is to check: the paths of the files, the name and the host that it is asked of,
+/// and the syntax of patterns.
 #[derive(Clone, Copy, Debug)]
 pub struct CheckRules<'a> {
     pub rules: &'a str,
     pub groups: Option<&'a str>,
     pub name: Option<&'a str>,
     pub host: &'a str,
+    pub syntax: Syntax,
 }
 
-/// What `serve` is to serve: the texts of its addresses, and the paths of the rule files.
+/// What `serve` is to serve: the texts of its addresses, the paths of the rule files, the syntax of patterns,
+/// and the texts of how many MiB may wait for a client, after how many seconds lost servers are connected to
+/// again and names are forgotten, and what is logged.
 #[derive(Drop)]
 pub struct Serve<'a> {
     pub listen: &'a str,
     pub upstreams: Vec<&'a str>,
     pub rules: Option<&'a str>,
     pub groups: Option<&'a str>,
+    pub syntax: Syntax,
+    pub most_waiting: &'a str,
+    pub reconnect: Option<&'a str>,
+    pub sweep: Option<&'a str>,
+    pub log: &'a str,
+    pub status: Option<&'a str>,
 }
 
 /// Reads a command line, the program's own name first.
@@ -202,7 +245,8 @@ fn check_rules_command<'a>(alloc: Global) -> Result<Command<'a>, Error> {
             .arg(file)?
             .arg(groups)?
             .arg(name)?
-            .arg(host)?,
+            .arg(host)?
+            .arg(plain_groups(alloc))?,
     )
 }
 
@@ -219,16 +263,39 @@ fn serve_command<'a>(alloc: Global) -> Result<Command<'a>, Error> {
         .action(ArgAction::Append);
     let rules = option(alloc, "rules", "FILE", "The rule file");
     let groups = option(alloc, "groups", "FILE", "The group file");
+    let command = Command::new(alloc, "serve")
+        .about(SERVE_ABOUT)
+        .long_about(SERVE_LONG_ABOUT)
+        .after_help(SERVE_AFTER_HELP)
+        .arg(listen)?
+        .arg(upstreams)?
+        .arg(rules)?
+        .arg(groups)?
+        .arg(plain_groups(alloc))?;
+    operating_options(alloc, command)
+}
+
+fn operating_options<'a>(alloc: Global, command: Command<'a>) -> Result<Command<'a>, Error> {
+    let most_waiting = "A client for which more MiB wait is cut off; at least 1";
+    let reconnect = "So often servers that aren't connected are tried again; 1 to 86400";
+    let sweep = "So often it is forgotten which names clients looked for; 1 to 86400";
+    let log = "What is told on standard error: error, warn, info or debug";
+    let status = "It tells each who connects to this address of itself, in one line of JSON";
     Ok(
-        Command::new(alloc, "serve")
-            .about(SERVE_ABOUT)
-            .long_about(SERVE_LONG_ABOUT)
-            .after_help(SERVE_AFTER_HELP)
-            .arg(listen)?
-            .arg(upstreams)?
-            .arg(rules)?
-            .arg(groups)?,
+        command
+            .arg(option(alloc, "most-waiting", "MIB", most_waiting).default_value(MOST_WAITING))?
+            .arg(option(alloc, "reconnect", "SECONDS", reconnect))?
+            .arg(option(alloc, "sweep", "SECONDS", sweep))?
+            .arg(option(alloc, "log", "LEVEL", log).default_value(LOG))?
+            .arg(option(alloc, "status", "ADDRESS", status))?,
     )
+}
+
+fn plain_groups<'a>(alloc: Global) -> Arg<'a> {
+    Arg::new(alloc, "plain-groups")
+        .long("plain-groups")
+        .help("Patterns write groups as ( ) |, as those for PCRE do, and not as \\( \\) \\|")
+        .action(ArgAction::SetTrue)
 }
 
 fn option<'a>(alloc: Global, id: &'a str, value: &'a str, help: &'a str) -> Arg<'a> {
@@ -245,6 +312,15 @@ fn check_rules_arguments<'a>(found: &ArgMatches<'a>) -> CheckRules<'a> {
         groups: found.get_str("groups"),
         name: found.get_str("name"),
         host: found.get_str("host").unwrap_or(LOCAL),
+        syntax: syntax(found),
+    }
+}
+
+fn syntax(found: &ArgMatches<'_>) -> Syntax {
+    if found.get_flag("plain-groups") {
+        Syntax::Plain
+    } else {
+        Syntax::Escaped
     }
 }
 
@@ -258,5 +334,11 @@ fn serve_arguments<'a>(alloc: Global, found: &ArgMatches<'a>) -> Result<Serve<'a
         upstreams,
         rules: found.get_str("rules"),
         groups: found.get_str("groups"),
+        syntax: syntax(found),
+        most_waiting: found.get_str("most-waiting").unwrap_or(MOST_WAITING),
+        reconnect: found.get_str("reconnect"),
+        sweep: found.get_str("sweep"),
+        log: found.get_str("log").unwrap_or(LOG),
+        status: found.get_str("status"),
     })
 }

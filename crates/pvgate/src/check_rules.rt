@@ -3,13 +3,13 @@
 use crate::arguments::CheckRules;
 use crate::fault::Fault;
 use pv_name::{Host, Name};
-use rule_check::{Asked, check, status};
+use rule_check::{Asked, Note, Said, check, status};
 use std::alloc::Global;
 use std::io::BufWriter;
 use std::{fs, io};
 
-/// Checks the files that the command line names, and prints what is wrong or what they answer.
-/// Returns the status that the program ends with.
+/// Checks the files that the command line names, and prints what is wrong or what they answer. What is
+/// noted of the rule file goes to standard error, and what a faulty line said. Returns the status that the program ends with.
 pub fn check_rules(rt: &HostRuntime, arguments: &CheckRules<'_>) -> Result<u8, Fault> {
     let alloc = rt.alloc();
     let asked = read_asked(alloc, arguments)?;
@@ -18,9 +18,25 @@ pub fn check_rules(rt: &HostRuntime, arguments: &CheckRules<'_>) -> Result<u8, F
         Some(path) => Some(read_file(rt, path)?),
         None => None,
     };
+    let syntax = arguments.syntax;
+    if let Some(note) = Note::of(rules.as_str(), syntax) {
+        let _ = eprintln!(rt; "{note}");
+    }
     let mut out = BufWriter::new(alloc, io::writer(rt))?;
     let groups = groups.as_ref().map(|text| text.as_str());
-    let ended = check(alloc, rules.as_str(), groups, asked.as_ref(), &mut out);
+    let ended = check(
+        alloc,
+        rules.as_str(),
+        groups,
+        asked.as_ref(),
+        &mut out,
+        syntax,
+    );
+    if ended == status::REFUSED {
+        if let Some(said) = Said::of(alloc, rules.as_str(), groups, syntax) {
+            let _ = eprintln!(rt; "{said}");
+        }
+    }
     if ended == status::STREAM_FAILED {
         return Err(Fault::Output);
     }

@@ -19,11 +19,23 @@ pub enum Fault {
     /// An address that is none.
     #[error("the address is bad, as 127.0.0.1:5064 is good: {0}")]
     BadAddress(String),
+    /// A number of MiB that is none.
+    #[error("the number of MiB is bad, as 256 is good: {0}")]
+    BadMost(String),
+    /// A number of seconds that is none.
+    #[error("the number of seconds is bad, as 10 is good: {0}")]
+    BadSeconds(String),
+    /// A level that is none.
+    #[error("the level is bad, as info is good: {0}")]
+    BadLevel(String),
     #[error("there are more than 16 upstreams")]
     TooManyUpstreams,
     /// LISTEN can't be opened.
     #[error("the address can't be listened on: {0}")]
     Listen(io::Error),
+    /// The address of --status can't be opened.
+    #[error("the address of --status can't be listened on: {0}")]
+    Reports(io::Error),
     #[error("standard output can't be written")]
     Output,
     #[error("out of memory")]
@@ -37,8 +49,12 @@ impl Fault {
             Fault::BadName(_)
             | Fault::BadHost(_)
             | Fault::BadAddress(_)
+            | Fault::BadMost(_)
+            | Fault::BadSeconds(_)
+            | Fault::BadLevel(_)
             | Fault::TooManyUpstreams => status::BAD_INPUT,
-            Fault::File(_, _) | Fault::Listen(_) | Fault::Output => status::STREAM_FAILED,
+            Fault::File(_, _) | Fault::Listen(_) | Fault::Reports(_) | Fault::Output =>
+                status::STREAM_FAILED,
             Fault::OutOfMemory => status::FAILED,
         }
     }

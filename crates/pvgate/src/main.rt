@@ -30,7 +30,14 @@ fn main(rt: HostRuntime) -> ExitCode {
     let status = match begin(&rt) {
         Ok(Begun::Ended(status)) => status,
         Ok(Begun::Serve(site)) => {
-            match open(rt, rt.alloc(), site.listen, site.servers, site.files) {
+            match open(
+                rt,
+                rt.alloc(),
+                site.listen,
+                site.servers,
+                site.files,
+                site.options,
+            ) {
                 Ok(status) => status,
                 Err(fault) => told(&rt, ended(fault)),
             }

@@ -1,10 +1,11 @@
 -- Files by their lines.
-use Rattle.std.proofs.Common.{◌≡◌, ℕ, suc, ◌+◌, ◌<◌, ◌≤◌, Bool, true, false, cond, eqb, List, [], ◌∷◌, ◌++◌, length, get_or, take, drop, filter_map, Option, Some, None, refl, sym, ap, ◌∙◌, add-one, drop-cons, length-append, arith}
+use Rattle.std.proofs.Common.{◌≡◌, ℕ, suc, ◌+◌, ◌<◌, ◌≤◌, Bool, true, false, cond, eqb, List, [], ◌∷◌, ◌++◌, length, get_or, take, drop, filter_map, position, Option, Some, None, refl, sym, ap, ◌∙◌, add-one, below_more, drop-cons, length-append, arith}
 use Rattle.std.proofs.Math.Seq.{take-length, take-suc}
 use Rattle.std.proofs.lemmas.Bool.Decides.{nat_tests}
-use Rattle.std.proofs.lemmas.List.{append-nil, length-take-le, take-append-drop}
+use Rattle.std.proofs.lemmas.List.{append-nil, get_or_default, length-take-le, take-append-drop}
 use Rattle.std.proofs.lemmas.List.Elements.{filter_map-append}
-use Rattle.std.specs.List.{AllZip, last_or, onto_first, slice_split}
+use Rattle.std.proofs.lemmas.List.Sums.{position_or_len_is}
+use Rattle.std.specs.List.{AllZip, last_or, onto_first, position_or_len, slice_split}
 use Rattle.std.specs.Str.Lines.{lines, lines_of_parts}
 use Rattle.pvlist.specs.declared.fault.LineFault.{LineFault}
 use Rattle.pvlist.specs.declared.fault.LineFault.TheVariants.{Cause, OutOfMemory}
@@ -14,6 +15,7 @@ use Rattle.pvlist.specs.declared.line.Item.{Item}
 use Rattle.pvlist.specs.declared.line.Item.TheVariants as item
 use Rattle.pvlist.specs.declared.line.TheConstants.{ROW_LIMIT}
 use Rattle.pvlist.specs.declared.rules.Order.TheVariants.{AllowDeny}
+use Rattle.pvlist.specs.declared.syntax.Syntax.{Syntax}
 use Rattle.pvlist.specs.Fault.{fault_at}
 use Rattle.pvlist.specs.File.{IsFileFault}
 use Rattle.pvlist.specs.GroupFile as group
@@ -96,6 +98,28 @@ last_or-append : {A : Type 0} (o : Option A) (xs ys : List A) → last_or o (xs 
 last_or-append o [] ys = refl
 last_or-append o (x ∷ xs) ys = last_or-append (Some x) xs ys
 
+-- ---- the first line that passes a test
+
+pub first_line : (p : List ℕ → Bool) (all : List (List ℕ)) (n : ℕ) (line : List ℕ) → n < length all → line ≡ get_or all n line
+    → ((k : ℕ) → k < n → p (get_or all k []) ≡ false) → p line ≡ true → position p all ≡ Some n
+first_line p all n line short is before passes =
+    let at : p (get_or all n []) ≡ true = ap p (get_or_default all n [] line short ∙ sym is) ∙ passes in
+    let place : position_or_len p all ≡ n = position_or_len_is p all n [] (omega arith) before (λ _. at) in
+    grind (arith, nat_tests)
+
+pub no_line : (p : List ℕ → Bool) (all : List (List ℕ)) → ((k : ℕ) → k < length all → p (get_or all k []) ≡ false) → position p all ≡ None
+no_line p all before =
+    let place : position_or_len p all ≡ length all = position_or_len_is p all (length all) [] (omega arith) before (λ h. absurd (omega arith)) in
+    grind (arith, nat_tests)
+
+-- the lines so far fail, once the next does
+pub before-more : {A : Type 0} (p : List ℕ → Bool) (all : List (List ℕ)) (so_far : List A) (x : A) (line : List ℕ) → length so_far < length all
+    → line ≡ get_or all (length so_far) line → ((k : ℕ) → k < length so_far → p (get_or all k []) ≡ false) → p line ≡ false
+    → (k : ℕ) → k < length (so_far ++ x ∷ []) → p (get_or all k []) ≡ false
+before-more p all so_far x line short is before fails =
+    let at : p (get_or all (length so_far) []) ≡ false = ap p (get_or_default all (length so_far) [] line short ∙ sym is) ∙ fails in
+    rw (length-more so_far x) (below_more _ _ before at)
+
 -- ---- rule files
 
 rows-more : (items : List Item) (said : Item) (old : Ruling) → old.rows ≡ filter_map row_in items
@@ -124,21 +148,21 @@ closed-more item.Nothing old h = h
 closed-more (item.Order order) old h = h
 closed-more (item.Row row) old h = h
 
-pub IsRulingOf-nothing : IsRulingOf [] (record { order = AllowDeny; rows = []; is_open = false })
-IsRulingOf-nothing = record { items = []; read = tt; rows = refl; order = refl; few = omega arith; closed = refl }
+pub IsRulingOf-nothing : (syntax : Syntax) → IsRulingOf syntax [] (record { order = AllowDeny; rows = []; is_open = false })
+IsRulingOf-nothing syntax = record { items = []; read = tt; rows = refl; order = refl; few = omega arith; closed = refl }
 
-pub IsRulingOf-more : (all : List (List ℕ)) (line : List ℕ) (old new : Ruling) → IsRulingOf all old → TakesLine line old new → IsRulingOf (all ++ line ∷ []) new
-IsRulingOf-more all line old new h taken = rw taken.after (record {
+pub IsRulingOf-more : (syntax : Syntax) (all : List (List ℕ)) (line : List ℕ) (old new : Ruling) → IsRulingOf syntax all old → TakesLine syntax line old new → IsRulingOf syntax (all ++ line ∷ []) new
+IsRulingOf-more syntax all line old new h taken = rw taken.after (record {
   items = h.items ++ taken.said ∷ [];
-  read = AllZip-more IsItem all h.items line taken.said h.read taken.read;
+  read = AllZip-more (IsItem syntax) all h.items line taken.said h.read taken.read;
   rows = rows-more h.items taken.said old h.rows;
   order = order-more h.items taken.said old h.order;
   few = few-more taken.said old taken.room h.few;
   closed = closed-more taken.said old h.closed;
 })
 
-pub refuses_line : (old : Ruling) (line : List ℕ) (fault : LineFault) → IsLineFault old line fault → (cause : RuleCause) → fault ≡ Cause cause → RefusesLine old line cause
-refuses_line old line fault h cause is = rw is at h
+pub refuses_line : (syntax : Syntax) (old : Ruling) (line : List ℕ) (fault : LineFault) → IsLineFault syntax old line fault → (cause : RuleCause) → fault ≡ Cause cause → RefusesLine syntax old line cause
+refuses_line syntax old line fault h cause is = rw is at h
 
 -- ---- group files
 

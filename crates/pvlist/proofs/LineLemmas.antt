@@ -5,18 +5,19 @@ use Rattle.pv_name.specs.Host.{is_host}
 use Rattle.pvlist.specs.declared.fault.LineFault.{LineFault}
 use Rattle.pvlist.specs.declared.fault.LineFault.TheVariants.{Cause, OutOfMemory}
 use Rattle.pvlist.specs.declared.fault.RuleCause.TheVariants.{BadFrom, BadReference}
+use Rattle.pvlist.specs.declared.syntax.Syntax.{Syntax}
 use Rattle.regex.specs.declared.string.regex.Regex.{Regex}
 use Rattle.pvlist.specs.Compiled.{IsCompiled, IsAccepted}
 use Rattle.pvlist.specs.Fault.{Lacks}
 use Rattle.pvlist.specs.RuleLine.{alias_entry, host_word, hosts_among, IsFaultOf}
 
 -- an alias without a real name, whose pattern is fine
-pub alias_without_real : (pattern : List ℕ) (group : Option (List ℕ)) (found : Option (List ℕ)) (regex : Regex) (fault : LineFault)
-    → IsCompiled pattern regex → Lacks BadReference found fault → IsFaultOf pattern (alias_entry (Some group) found) fault
-alias_without_real pattern group found regex (Cause cause) compiled lacks =
-    let accepted : IsAccepted pattern = record { regex = regex; compiled = compiled } in
+pub alias_without_real : (syntax : Syntax) (pattern : List ℕ) (group : Option (List ℕ)) (found : Option (List ℕ)) (regex : Regex) (fault : LineFault)
+    → IsCompiled syntax pattern regex → Lacks BadReference found fault → IsFaultOf syntax pattern (alias_entry (Some group) found) fault
+alias_without_real syntax pattern group found regex (Cause cause) compiled lacks =
+    let accepted : IsAccepted syntax pattern = record { regex = regex; compiled = compiled } in
     rw (lacks.0, lacks.1) (refl, accepted)
-alias_without_real pattern group found regex OutOfMemory compiled lacks = tt
+alias_without_real syntax pattern group found regex OutOfMemory compiled lacks = tt
 
 no_host : (word : List ℕ) → host_word word ≡ None → is_host word ≡ false
 no_host word h = by (is_host word) h

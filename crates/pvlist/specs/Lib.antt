@@ -1,3 +1,4 @@
+pub mod BareGroups
 pub mod Captures
 pub mod Cause
 pub mod Compiled
@@ -13,6 +14,7 @@ pub mod RuleFile
 pub mod RuleLine
 pub mod Ruling
 pub mod Separators
+pub mod Syntax
 pub mod Translation
 pub mod Words
 pub mod Writing

@@ -1,4 +1,4 @@
--- What a rule file says, by its lines (user's guide, PVLIST).
+-- What a rule file says, by its lines and the syntax of its patterns (user's guide, PVLIST).
 use Rattle.std.specs.Prelude.{◌≡◌, ℕ, ◌≤◌, Bool, false, nat_le, List, [], ◌∷◌, ◌++◌, length, filter_map, Option, Some, None}
 use Rattle.std.specs.List.{AllZip, last_or}
 use Rattle.std.specs.Str.Lines.{lines}
@@ -11,6 +11,7 @@ use Rattle.pvlist.specs.declared.line.TheConstants.{ROW_LIMIT}
 use Rattle.pvlist.specs.declared.row.Row.{Row}
 use Rattle.pvlist.specs.declared.rules.Order.{Order}
 use Rattle.pvlist.specs.declared.rules.Order.TheVariants.{AllowDeny}
+use Rattle.pvlist.specs.declared.syntax.Syntax.{Syntax}
 use Rattle.pvlist.specs.File.{IsFileFault}
 use Rattle.pvlist.specs.RuleLine.{entry, IsItem, IsCause, IsFaultOf, HasRoom}
 use Rattle.pvlist.specs.Ruling.{Ruling}
@@ -29,21 +30,21 @@ abbrev pub is_full : Ruling → Bool
 is_full ruling = nat_le ROW_LIMIT (length ruling.rows)
 
 -- each of the lines is without fault; their rows are those of the rules, and the last order is theirs
-pub record IsRulingOf (all : List (List ℕ)) (ruling : Ruling) : Type 0 where
+pub record IsRulingOf (syntax : Syntax) (all : List (List ℕ)) (ruling : Ruling) : Type 0 where
   pub items : List Item
-  pub read : AllZip IsItem all items
+  pub read : AllZip (IsItem syntax) all items
   pub rows : ruling.rows ≡ filter_map row_in items
   pub order : last_or (Some AllowDeny) (filter_map order_in items) ≡ Some ruling.order
   pub few : length ruling.rows ≤ ROW_LIMIT
   pub closed : ruling.is_open ≡ false
 
 -- after lines that say this, the line is faulty
-abbrev pub RefusesLine : Ruling → List ℕ → RuleCause → Type 0
-RefusesLine ruling line cause = IsCause (is_full ruling) line cause
+abbrev pub RefusesLine : Syntax → Ruling → List ℕ → RuleCause → Type 0
+RefusesLine syntax ruling line cause = IsCause syntax (is_full ruling) line cause
 
 -- the fault is that of the first faulty line
-abbrev pub IsRuleFault : List ℕ → RuleFault → Type 0
-IsRuleFault text fault = IsFileFault IsRulingOf RefusesLine (lines text) fault
+abbrev pub IsRuleFault : Syntax → List ℕ → RuleFault → Type 0
+IsRuleFault syntax text fault = IsFileFault (IsRulingOf syntax) (RefusesLine syntax) (lines text) fault
 
 -- with what a line says
 abbrev pub with_item : Ruling → Item → Ruling
@@ -52,12 +53,12 @@ with_item ruling (item.Order order) = record ruling { order = order }
 with_item ruling (item.Row row) = record ruling { rows = ruling.rows ++ row ∷ [] }
 
 -- the line is without fault, and is taken up
-pub record TakesLine (line : List ℕ) (old new : Ruling) : Type 0 where
+pub record TakesLine (syntax : Syntax) (line : List ℕ) (old new : Ruling) : Type 0 where
   pub said : Item
-  pub read : IsItem line said
+  pub read : IsItem syntax line said
   pub room : HasRoom (is_full old) said
   pub after : new ≡ with_item old said
 
 -- why the line is not taken up
-abbrev pub IsLineFault : Ruling → List ℕ → LineFault → Type 0
-IsLineFault old line fault = IsFaultOf (first_word (words line)) (entry (is_full old) line) fault
+abbrev pub IsLineFault : Syntax → Ruling → List ℕ → LineFault → Type 0
+IsLineFault syntax old line fault = IsFaultOf syntax (first_word (words line)) (entry syntax (is_full old) line) fault

@@ -17,6 +17,7 @@ use Rattle.pvlist.specs.declared.row.Row.{Row}
 use Rattle.pvlist.specs.declared.row.Verb.{Verb}
 use Rattle.pvlist.specs.declared.row.Verb.TheVariants as verb
 use Rattle.pvlist.specs.declared.rules.Order.{Order}
+use Rattle.pvlist.specs.declared.syntax.Syntax.{Syntax}
 use Rattle.pvlist.specs.Captures.{group_count}
 use Rattle.pvlist.specs.Compiled.{IsCompiled, IsAccepted, IsRefused}
 use Rattle.pvlist.specs.Keywords.{is_keyword, is_order_line, keyword_of, order_of}
@@ -78,48 +79,51 @@ abbrev pub deny_entry : Option (List (List ℕ)) → Result Entry RuleCause
 deny_entry None = Err BadFrom
 deny_entry (Some hosts) = Ok (Drafted (Some (verb.Deny hosts)))
 
--- a row, by its pattern, its keyword and the words after that
-abbrev pub row_entry : List ℕ → Keyword → List (List ℕ) → Result Entry RuleCause
-row_entry pattern keyword.Allow rest = allow_entry (group_of rest)
-row_entry pattern keyword.Alias rest = alias_entry (group_of (drop 1 rest)) (real_text_of (group_count pattern) (next_word rest))
-row_entry pattern keyword.Deny rest = deny_entry (hosts_of (between_commas rest))
+-- a row, by the syntax of patterns, its pattern, its keyword and the words after that
+abbrev pub row_entry : Syntax → List ℕ → Keyword → List (List ℕ) → Result Entry RuleCause
+row_entry syntax pattern keyword.Allow rest = allow_entry (group_of rest)
+row_entry syntax pattern keyword.Alias rest =
+    alias_entry (group_of (drop 1 rest)) (real_text_of (group_count syntax pattern) (next_word rest))
+row_entry syntax pattern keyword.Deny rest = deny_entry (hosts_of (between_commas rest))
 
 -- a line that is no order line; one that is full takes no row
-abbrev pub keyword_entry : Bool → List ℕ → Option Keyword → List (List ℕ) → Result Entry RuleCause
-keyword_entry full pattern None rest = Err NoVerb
-keyword_entry full pattern (Some keyword) rest = if full then Err TooManyLines else row_entry pattern keyword rest
+abbrev pub keyword_entry : Syntax → Bool → List ℕ → Option Keyword → List (List ℕ) → Result Entry RuleCause
+keyword_entry syntax full pattern None rest = Err NoVerb
+keyword_entry syntax full pattern (Some keyword) rest =
+    if full then Err TooManyLines else row_entry syntax pattern keyword rest
 
 abbrev pub order_entry : Option Order → Result Entry RuleCause
 order_entry None = Err BadOrder
 order_entry (Some order) = Ok (Ordering order)
 
 -- a line by its words
-abbrev pub words_entry : Bool → List (List ℕ) → Result Entry RuleCause
-words_entry full [] = Ok Blank
-words_entry full (first ∷ []) = Err NoVerb
-words_entry full (first ∷ second ∷ rest) =
+abbrev pub words_entry : Syntax → Bool → List (List ℕ) → Result Entry RuleCause
+words_entry syntax full [] = Ok Blank
+words_entry syntax full (first ∷ []) = Err NoVerb
+words_entry syntax full (first ∷ second ∷ rest) =
     if is_order_line first second then order_entry (order_of (between_commas rest))
-    else keyword_entry full first (keyword_of second) rest
+    else keyword_entry syntax full first (keyword_of second) rest
 
 -- what a line says, or the first cause that it is faulty, but for its pattern and for the real name of an alias; where the
 -- file is full, it takes no further row
-abbrev pub entry : Bool → List ℕ → Result Entry RuleCause
-entry full line = if nat_lt LINE_LIMIT (length line) then Err LineTooLong else words_entry full (words line)
+abbrev pub entry : Syntax → Bool → List ℕ → Result Entry RuleCause
+entry syntax full line =
+    if nat_lt LINE_LIMIT (length line) then Err LineTooLong else words_entry syntax full (words line)
 
 -- the row that a draft becomes, with this pattern
-pub record IsRow (pattern : List ℕ) (drawn : Result Entry RuleCause) (row : Row) : Type 0 where
+pub record IsRow (syntax : Syntax) (pattern : List ℕ) (drawn : Result Entry RuleCause) (row : Row) : Type 0 where
   pub verb : drawn ≡ Ok (Drafted (Some row.verb))
-  pub compiled : IsCompiled pattern row.regex
+  pub compiled : IsCompiled syntax pattern row.regex
 
 -- the item of an entry, with this pattern
-abbrev pub IsItemOf : List ℕ → Result Entry RuleCause → Item → Type 0
-IsItemOf pattern drawn item.Nothing = drawn ≡ Ok Blank
-IsItemOf pattern drawn (item.Order order) = drawn ≡ Ok (Ordering order)
-IsItemOf pattern drawn (item.Row row) = IsRow pattern drawn row
+abbrev pub IsItemOf : Syntax → List ℕ → Result Entry RuleCause → Item → Type 0
+IsItemOf syntax pattern drawn item.Nothing = drawn ≡ Ok Blank
+IsItemOf syntax pattern drawn (item.Order order) = drawn ≡ Ok (Ordering order)
+IsItemOf syntax pattern drawn (item.Row row) = IsRow syntax pattern drawn row
 
 -- the line is without fault, and is this item
-abbrev pub IsItem : List ℕ → Item → Type 0
-IsItem line item = IsItemOf (first_word (words line)) (entry false line) item
+abbrev pub IsItem : Syntax → List ℕ → Item → Type 0
+IsItem syntax line item = IsItemOf syntax (first_word (words line)) (entry syntax false line) item
 
 -- the line has a pattern, and no cause before those of the pattern
 abbrev pub is_draft : Result Entry RuleCause → Bool
@@ -127,15 +131,15 @@ is_draft (Ok (Drafted _)) = true
 is_draft _ = false
 
 -- the first cause that an entry is faulty, with this pattern
-abbrev pub IsCauseOf : List ℕ → Result Entry RuleCause → RuleCause → Type 0
-IsCauseOf pattern drawn BadPattern = IsTrue (is_draft drawn) × IsRefused pattern
-IsCauseOf pattern drawn BadReference = (drawn ≡ Ok (Drafted None)) × IsAccepted pattern
-IsCauseOf pattern drawn cause = drawn ≡ Err cause
+abbrev pub IsCauseOf : Syntax → List ℕ → Result Entry RuleCause → RuleCause → Type 0
+IsCauseOf syntax pattern drawn BadPattern = IsTrue (is_draft drawn) × IsRefused syntax pattern
+IsCauseOf syntax pattern drawn BadReference = (drawn ≡ Ok (Drafted None)) × IsAccepted syntax pattern
+IsCauseOf syntax pattern drawn cause = drawn ≡ Err cause
 
 -- the pattern has no regular expression, or memory ran out
-abbrev pub IsPatternFault : List ℕ → LineFault → Type 0
-IsPatternFault pattern (Cause cause) = (cause ≡ BadPattern) × IsRefused pattern
-IsPatternFault pattern OutOfMemory = Unit {0}
+abbrev pub IsPatternFault : Syntax → List ℕ → LineFault → Type 0
+IsPatternFault syntax pattern (Cause cause) = (cause ≡ BadPattern) × IsRefused syntax pattern
+IsPatternFault syntax pattern OutOfMemory = Unit {0}
 
 -- the file may take what the line is
 abbrev pub HasRoom : Bool → Item → Type 0
@@ -143,10 +147,10 @@ HasRoom full (item.Row row) = full ≡ false
 HasRoom full _ = Unit {0}
 
 -- the cause of an entry, or memory ran out
-abbrev pub IsFaultOf : List ℕ → Result Entry RuleCause → LineFault → Type 0
-IsFaultOf pattern drawn (Cause cause) = IsCauseOf pattern drawn cause
-IsFaultOf pattern drawn OutOfMemory = Unit {0}
+abbrev pub IsFaultOf : Syntax → List ℕ → Result Entry RuleCause → LineFault → Type 0
+IsFaultOf syntax pattern drawn (Cause cause) = IsCauseOf syntax pattern drawn cause
+IsFaultOf syntax pattern drawn OutOfMemory = Unit {0}
 
 -- this is the first cause that the line is faulty
-abbrev pub IsCause : Bool → List ℕ → RuleCause → Type 0
-IsCause full line cause = IsCauseOf (first_word (words line)) (entry full line) cause
+abbrev pub IsCause : Syntax → Bool → List ℕ → RuleCause → Type 0
+IsCause syntax full line cause = IsCauseOf syntax (first_word (words line)) (entry syntax full line) cause

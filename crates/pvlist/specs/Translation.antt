@@ -4,6 +4,7 @@
 -- `]` 93 and `^` 94.
 use Rattle.std.specs.Prelude.{ℕ, Bool, ◌==◌, if◌then◌else◌, List, [], ◌∷◌, ◌++◌, codes, chars, Option, Some, None}
 use Rattle.std.specs.Option.{option_map}
+use Rattle.pvlist.specs.declared.syntax.Syntax.{Syntax}
 use Rattle.pvlist.specs.declared.writing.Writing.{Writing}
 use Rattle.pvlist.specs.Writing.{written, outside_brackets, after_backslash, in_bracket}
 
@@ -36,35 +37,36 @@ is_closing c = c == 93
 
 abbrev mutual
   -- the text of a pattern, if it is one
-  pub outside : List ℕ → Option (List ℕ)
-  outside [] = Some []
-  outside (c ∷ rest) =
-      if c == 92 then escaped rest
-      else if c == 91 then bracket rest
-      else one (outside_brackets c) c (outside rest)
+  pub outside : Syntax → List ℕ → Option (List ℕ)
+  outside syntax [] = Some []
+  outside syntax (c ∷ rest) =
+      if c == 92 then escaped syntax rest
+      else if c == 91 then bracket syntax rest
+      else one (outside_brackets syntax c) c (outside syntax rest)
 
   -- after a backslash
-  pub escaped : List ℕ → Option (List ℕ)
-  escaped [] = None
-  escaped (c ∷ rest) = one (after_backslash c) c (outside rest)
+  pub escaped : Syntax → List ℕ → Option (List ℕ)
+  escaped syntax [] = None
+  escaped syntax (c ∷ rest) = one (after_backslash syntax c) c (outside syntax rest)
 
   -- after a `[`, with a `^` or without
-  pub bracket : List ℕ → Option (List ℕ)
-  bracket [] = None
-  bracket (c ∷ rest) = if c == 94 then opened (codes "[^") rest else within (codes "[") (c ∷ []) rest
+  pub bracket : Syntax → List ℕ → Option (List ℕ)
+  bracket syntax [] = None
+  bracket syntax (c ∷ rest) =
+      if c == 94 then opened syntax (codes "[^") rest else within syntax (codes "[") (c ∷ []) rest
 
   -- after the start of a bracket: the first character is one of its own, be it a `]`
-  pub opened : List ℕ → List ℕ → Option (List ℕ)
-  opened start [] = None
-  opened start (c ∷ rest) = within start (c ∷ []) rest
+  pub opened : Syntax → List ℕ → List ℕ → Option (List ℕ)
+  opened syntax start [] = None
+  opened syntax start (c ∷ rest) = within syntax start (c ∷ []) rest
 
   -- what stands inside goes up to the next `]`
-  pub within : List ℕ → List ℕ → List ℕ → Option (List ℕ)
-  within start inside [] = None
-  within start inside (c ∷ rest) =
-      if is_closing c then followed (start ++ members inside ++ codes "]") (outside rest)
-      else within start (inside ++ c ∷ []) rest
+  pub within : Syntax → List ℕ → List ℕ → List ℕ → Option (List ℕ)
+  within syntax start inside [] = None
+  within syntax start inside (c ∷ rest) =
+      if is_closing c then followed (start ++ members inside ++ codes "]") (outside syntax rest)
+      else within syntax start (inside ++ c ∷ []) rest
 
 -- what a pattern is translated to, which matches whole names
-abbrev pub translation : List ℕ → Option (List ℕ)
-translation pattern = option_map (λ text. codes "^(?:" ++ text ++ codes ")$") (outside (chars pattern))
+abbrev pub translation : Syntax → List ℕ → Option (List ℕ)
+translation syntax pattern = option_map (λ text. codes "^(?:" ++ text ++ codes ")$") (outside syntax (chars pattern))

@@ -5,6 +5,7 @@ ghost use Rattle.pvlist.specs.Compiled.{IsCompiled};
 ghost use Rattle.pvlist.specs.RuleLine.{IsPatternFault};
 
 use crate::fault::{LineFault, RuleCause};
+use crate::syntax::Syntax;
 use crate::translation::translate_counted;
 use regex::Regex;
 use std::alloc::Global;
@@ -19,12 +20,12 @@ pub(crate) struct Compiled {
 }
 
 impl Compiled {
-    pub(crate) fn new(alloc: Global, pattern: &str) -> Result<Compiled, LineFault>
-        ensures ok { IfOk result (λ compiled. IsCompiled pattern.now compiled.regex) }
-        ensures groups { IfOk result (λ compiled. compiled.groups ≡ group_count pattern.now) }
-        ensures err { IfErr result (IsPatternFault pattern.now) }
+    pub(crate) fn new(alloc: Global, pattern: &str, syntax: Syntax) -> Result<Compiled, LineFault>
+        ensures ok { IfOk result (λ compiled. IsCompiled syntax pattern.now compiled.regex) }
+        ensures groups { IfOk result (λ compiled. compiled.groups ≡ group_count syntax pattern.now) }
+        ensures err { IfErr result (IsPatternFault syntax pattern.now) }
     {
-        let translated = translate_counted(alloc, pattern)?;
+        let translated = translate_counted(alloc, pattern, syntax)?;
         match Regex::new(alloc, translated.text.as_str()) {
             Ok(regex) => Ok(Compiled {
                 regex,

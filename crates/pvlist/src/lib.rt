@@ -12,11 +12,15 @@
 //! ```
 //!
 //! The pattern of a row is read as a regular expression after a translation, and matches whole
-//! names. A fault names the first line that has one and the first cause that applies to it. What
-//! lines say is in `specs/RuleLine.antt` and `specs/GroupFile.antt`, what files say in
-//! `specs/RuleFile.antt`, and how faults are told in `specs/Cause.antt`.
+//! names. It writes groups after backslashes, as above, or without them where the file is read by
+//! `Rules::read_as` in the plain syntax; `first_bare_group` finds rows that may be meant so. A fault
+//! names the first line that has one and the first cause that applies to it. What lines say is in
+//! `specs/RuleLine.antt` and `specs/GroupFile.antt`, what files say in `specs/RuleFile.antt`, how
+//! patterns are translated in `specs/Translation.antt`, and how faults are told in
+//! `specs/Cause.antt`.
 #![tactic(auto)]
 
+mod bare_groups;
 mod bracket;
 mod compiled;
 mod fault;
@@ -31,10 +35,12 @@ mod line;
 mod real_text;
 mod row;
 mod rules;
+mod syntax;
 mod translation;
 mod words;
 mod writing;
 
+pub use bare_groups::first_bare_group;
 pub use fault::{RuleCause, RuleFault, TranslateFault};
 pub use groups::{GroupRight, Groups};
 pub use hosts::Hosts;
@@ -42,4 +48,5 @@ pub use line::{LINE_LIMIT, ROW_LIMIT};
 pub use real_text::RealText;
 pub use row::{Row, Verb};
 pub use rules::{Order, Rules};
-pub use translation::translate;
+pub use syntax::Syntax;
+pub use translation::{translate, translate_as};

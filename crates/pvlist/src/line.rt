@@ -7,6 +7,7 @@ use crate::fault::{LineFault, RuleCause};
 use crate::keyword::{Keyword, is_order_line, read_order};
 use crate::row::Row;
 use crate::rules::Order;
+use crate::syntax::Syntax;
 use crate::words::Words;
 use std::alloc::Global;
 
@@ -25,21 +26,31 @@ pub(crate) enum Item {
 }
 
 /// Reads a line of a rule file, which takes no row where the file is full.
-pub(crate) fn read_line(alloc: Global, line: &str, full: bool) -> Result<Item, LineFault>
-    ensures ok { IfOk result (IsItem line.now) }
+pub(crate) fn read_line(
+    alloc: Global,
+    line: &str,
+    syntax: Syntax,
+    full: bool,
+) -> Result<Item, LineFault>
+    ensures ok { IfOk result (IsItem syntax line.now) }
     ensures room { IfOk result (HasRoom full) }
-    ensures err { IfErr result (IsFaultOf (first_word (words line.now)) (entry full line.now)) }
+    ensures err { IfErr result (IsFaultOf syntax (first_word (words line.now)) (entry syntax full line.now)) }
 {
     if line.len() > LINE_LIMIT {
         return Err(LineFault::Cause(RuleCause::LineTooLong));
     }
-    read_words(alloc, Words::new(line), full)
+    read_words(alloc, Words::new(line), syntax, full)
 }
 
-fn read_words(alloc: Global, mut words: Words, full: bool) -> Result<Item, LineFault>
-    ensures ok { IfOk result (IsItemOf (first_word words.entry) (words_entry false words.entry)) }
+fn read_words(
+    alloc: Global,
+    mut words: Words,
+    syntax: Syntax,
+    full: bool,
+) -> Result<Item, LineFault>
+    ensures ok { IfOk result (IsItemOf syntax (first_word words.entry) (words_entry syntax false words.entry)) }
     ensures room { IfOk result (HasRoom full) }
-    ensures err { IfErr result (IsFaultOf (first_word words.entry) (words_entry full words.entry)) }
+    ensures err { IfErr result (IsFaultOf syntax (first_word words.entry) (words_entry syntax full words.entry)) }
 {
     let Some(first) = words.next() else {
         return Ok(Item::Nothing);
@@ -55,6 +66,6 @@ fn read_words(alloc: Global, mut words: Words, full: bool) -> Result<Item, LineF
     if full {
         return Err(LineFault::Cause(RuleCause::TooManyLines));
     }
-    let row = Row::read(alloc, first, keyword, words)?;
+    let row = Row::read(alloc, first, syntax, keyword, words)?;
     Ok(Item::Row(row))
 }

@@ -10,6 +10,7 @@ use crate::host_words::read_hosts;
 use crate::hosts::Hosts;
 use crate::keyword::Keyword;
 use crate::real_text::{RealText, read_real_text};
+use crate::syntax::Syntax;
 use crate::words::Words;
 use pv_name::Group;
 use regex::Regex;
@@ -35,42 +36,53 @@ pub enum Verb {
 }
 
 impl Row {
-    /// Reads a row from its pattern, its keyword and the words that follow.
+    /// Reads a row from its pattern, which is of the syntax, its keyword and the words that follow.
     pub(crate) fn read(
         alloc: Global,
         pattern: &str,
+        syntax: Syntax,
         keyword: Keyword,
         words: Words,
     ) -> Result<Row, LineFault>
-        ensures ok { IfOk result (IsRow pattern.now (row_entry pattern.now keyword words.entry)) }
-        ensures err { IfErr result (IsFaultOf pattern.now (row_entry pattern.now keyword words.entry)) }
+        ensures ok { IfOk result (IsRow syntax pattern.now (row_entry syntax pattern.now keyword words.entry)) }
+        ensures err { IfErr result (IsFaultOf syntax pattern.now (row_entry syntax pattern.now keyword words.entry)) }
     {
         match keyword {
-            Keyword::Allow => Row::read_allow(alloc, pattern, words),
-            Keyword::Alias => Row::read_alias(alloc, pattern, words),
-            Keyword::Deny => Row::read_deny(alloc, pattern, words),
+            Keyword::Allow => Row::read_allow(alloc, pattern, syntax, words),
+            Keyword::Alias => Row::read_alias(alloc, pattern, syntax, words),
+            Keyword::Deny => Row::read_deny(alloc, pattern, syntax, words),
         }
     }
 
-    fn read_allow(alloc: Global, pattern: &str, words: Words) -> Result<Row, LineFault>
-        ensures ok { IfOk result (IsRow pattern.now (row_entry pattern.now Allow words.entry)) }
-        ensures err { IfErr result (IsFaultOf pattern.now (row_entry pattern.now Allow words.entry)) }
+    fn read_allow(
+        alloc: Global,
+        pattern: &str,
+        syntax: Syntax,
+        words: Words,
+    ) -> Result<Row, LineFault>
+        ensures ok { IfOk result (IsRow syntax pattern.now (row_entry syntax pattern.now Allow words.entry)) }
+        ensures err { IfErr result (IsFaultOf syntax pattern.now (row_entry syntax pattern.now Allow words.entry)) }
     {
         let group = read_group(alloc, words)?;
-        let compiled = Compiled::new(alloc, pattern)?;
+        let compiled = Compiled::new(alloc, pattern, syntax)?;
         Ok(Row {
             regex: compiled.regex,
             verb: Verb::Allow(group),
         })
     }
 
-    fn read_alias(alloc: Global, pattern: &str, mut words: Words) -> Result<Row, LineFault>
-        ensures ok { IfOk result (IsRow pattern.now (row_entry pattern.now Alias words.entry)) }
-        ensures err { IfErr result (IsFaultOf pattern.now (row_entry pattern.now Alias words.entry)) }
+    fn read_alias(
+        alloc: Global,
+        pattern: &str,
+        syntax: Syntax,
+        mut words: Words,
+    ) -> Result<Row, LineFault>
+        ensures ok { IfOk result (IsRow syntax pattern.now (row_entry syntax pattern.now Alias words.entry)) }
+        ensures err { IfErr result (IsFaultOf syntax pattern.now (row_entry syntax pattern.now Alias words.entry)) }
     {
         let real = words.next();
         let group = read_group(alloc, words)?;
-        let compiled = Compiled::new(alloc, pattern)?;
+        let compiled = Compiled::new(alloc, pattern, syntax)?;
         let real = read_real_text(alloc, compiled.groups, real)?;
         Ok(Row {
             regex: compiled.regex,
@@ -78,12 +90,17 @@ impl Row {
         })
     }
 
-    fn read_deny(alloc: Global, pattern: &str, words: Words) -> Result<Row, LineFault>
-        ensures ok { IfOk result (IsRow pattern.now (row_entry pattern.now Deny words.entry)) }
-        ensures err { IfErr result (IsFaultOf pattern.now (row_entry pattern.now Deny words.entry)) }
+    fn read_deny(
+        alloc: Global,
+        pattern: &str,
+        syntax: Syntax,
+        words: Words,
+    ) -> Result<Row, LineFault>
+        ensures ok { IfOk result (IsRow syntax pattern.now (row_entry syntax pattern.now Deny words.entry)) }
+        ensures err { IfErr result (IsFaultOf syntax pattern.now (row_entry syntax pattern.now Deny words.entry)) }
     {
         let hosts = read_hosts(alloc, words.between_commas())?;
-        let compiled = Compiled::new(alloc, pattern)?;
+        let compiled = Compiled::new(alloc, pattern, syntax)?;
         Ok(Row {
             regex: compiled.regex,
             verb: Verb::Deny(hosts),

@@ -7,6 +7,7 @@ ghost use Rattle.pvlist.specs.RuleFile.{IsRulingOf, IsRuleFault, TakesLine, IsLi
 use crate::fault::{LineFault, RuleFault};
 use crate::line::{Item, ROW_LIMIT, read_line};
 use crate::row::Row;
+use crate::syntax::Syntax;
 use std::alloc::Global;
 use std::fmt;
 use std::marker::Model;
@@ -55,10 +56,19 @@ impl Model for Rules {
 }
 
 impl Rules {
-    /// Reads a rule file. Of a file with faults the first faulty line is told.
+    /// Reads a rule file whose patterns are of the escaped syntax. Of a file with faults the first
+    /// faulty line is told.
     pub fn read(alloc: Global, text: &str) -> Result<Rules, RuleFault>
-        ensures ok { IfOk result (IsRulingOf (lines text.now)) }
-        ensures err { IfErr result (IsRuleFault text.now) }
+        ensures ok { IfOk result (IsRulingOf Syntax.Escaped (lines text.now)) }
+        ensures err { IfErr result (IsRuleFault Syntax.Escaped text.now) }
+    {
+        Rules::read_as(alloc, text, Syntax::Escaped)
+    }
+
+    /// The same where the patterns are of the syntax.
+    pub fn read_as(alloc: Global, text: &str, syntax: Syntax) -> Result<Rules, RuleFault>
+        ensures ok { IfOk result (IsRulingOf syntax (lines text.now)) }
+        ensures err { IfErr result (IsRuleFault syntax text.now) }
     {
         let mut rules = Rules {
             order: Order::AllowDeny,
@@ -68,7 +78,7 @@ impl Rules {
         let mut number = 0;
         for line in text.lines() {
             number += 1;
-            if let Err(fault) = rules.take_line(alloc, line) {
+            if let Err(fault) = rules.take_line(alloc, line, syntax) {
                 return Err(fault.at(number));
             }
         }
@@ -76,11 +86,11 @@ impl Rules {
     }
 
     // Takes up what the next line of a file says.
-    fn take_line(&mut self, alloc: Global, line: &str) -> Result<(), LineFault>
-        ensures ok { OnOk result (TakesLine line.now self.old self.new) }
-        ensures err { IfErr result (IsLineFault self.old line.now) }
+    fn take_line(&mut self, alloc: Global, line: &str, syntax: Syntax) -> Result<(), LineFault>
+        ensures ok { OnOk result (TakesLine syntax line.now self.old self.new) }
+        ensures err { IfErr result (IsLineFault syntax self.old line.now) }
     {
-        match read_line(alloc, line, self.rows.len() >= ROW_LIMIT)? {
+        match read_line(alloc, line, syntax, self.rows.len() >= ROW_LIMIT)? {
             Item::Nothing => {}
             Item::Order(order) => self.order = order,
             Item::Row(row) => self.rows.push(row)?,

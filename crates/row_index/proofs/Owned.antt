@@ -1,9 +1,9 @@
 -- The rows of one owner, and their IDs.
-use Rattle.std.proofs.Common.{◌≡◌, ◌≤◌, ◌<◌, ◌&&◌, not, length, get_or, take, drop, arith, ℕ, zero, suc, List, [], ◌∷◌, ◌++◌, slice_get, true, false, cond, ◌==◌, nat_eq, Some, None, map, filter, refl, sym, ap, subst, ◌∙◌}
+use Rattle.std.proofs.Common.{◌≡◌, ◌≤◌, ◌&&◌, length, arith, ℕ, zero, suc, List, [], ◌∷◌, ◌++◌, slice_get, true, false, cond, ◌==◌, nat_eq, Some, None, map, filter, refl, sym, ap, subst, ◌∙◌}
 use Rattle.std.specs.Cmp.{nat_eq_equiv}
 use Rattle.std.specs.List.{find}
 use Rattle.std.specs.Option.{option_map}
-use Rattle.std.proofs.lemmas.Bool.{eqb-true, true≢false}
+use Rattle.std.proofs.lemmas.Bool.{eqb-true}
 use Rattle.std.proofs.lemmas.Option.{slice_get-map}
 use Rattle.row_index.specs.declared.key.Key.{Key}
 use Rattle.row_index.specs.Lists.{is_id, is_not_id, with_last}
@@ -126,50 +126,3 @@ module _ {V : Type 0} where
             ] refl
         | false ↦ λ a. simp a rest
       ] refl
-
-ends_in : (id : ℕ) (xs : List ℕ) → 1 ≤ length (filter (is_id id) (xs ++ id ∷ []))
-ends_in id [] = rw (nat_eq_equiv.refl id) (omega arith)
-ends_in id (x ∷ xs) =
-    let rest = ends_in id xs in
-    elim (is_id id x) as (λ t. 1 ≤ length (cond t (x ∷ filter (is_id id) (xs ++ id ∷ [])) (filter (is_id id) (xs ++ id ∷ []))))
-    [ true ↦ omega arith | false ↦ rest ]
-
--- a list that ends in an ID, and has it there alone
-pub others_of : (id : ℕ) (xs : List ℕ) → length (filter (is_id id) (xs ++ id ∷ [])) ≤ 1 → xs ≡ filter (is_not_id id) (xs ++ id ∷ [])
-others_of id [] once = rw (nat_eq_equiv.refl id) refl
-others_of id (x ∷ xs) once =
-    elim (is_id id x) as (λ t. length (cond t (x ∷ filter (is_id id) (xs ++ id ∷ [])) (filter (is_id id) (xs ++ id ∷ []))) ≤ 1 → x ∷ xs ≡ cond (not t) (x ∷ filter (is_not_id id) (xs ++ id ∷ [])) (filter (is_not_id id) (xs ++ id ∷ []))) [
-      | true ↦ λ h. let some = ends_in id xs in absurd (omega (arith, some, h))
-      | false ↦ λ h. ap (λ rest. x ∷ rest) (others_of id xs h)
-    ] once
-
-some_at : (id : ℕ) (xs : List ℕ) (i : ℕ) → i < length xs → get_or xs i 0 ≡ id → 1 ≤ length (filter (is_id id) xs)
-some_at id [] i within at = absurd (omega (arith, within))
-some_at id (x ∷ xs) zero within at = rw at (rw (nat_eq_equiv.refl id) (omega arith))
-some_at id (x ∷ xs) (suc i) within at =
-    let rest = some_at id xs i (omega (arith, within)) at in
-    elim (is_id id x) as (λ t. 1 ≤ length (cond t (x ∷ filter (is_id id) xs) (filter (is_id id) xs))) [ true ↦ omega arith | false ↦ rest ]
-
-none_of : (id : ℕ) (xs : List ℕ) → length (filter (is_id id) xs) ≤ 0 → xs ≡ filter (is_not_id id) xs
-none_of id [] none = refl
-none_of id (x ∷ xs) none =
-    elim (is_id id x) as (λ t. length (cond t (x ∷ filter (is_id id) xs) (filter (is_id id) xs)) ≤ 0 → x ∷ xs ≡ cond (not t) (x ∷ filter (is_not_id id) xs) (filter (is_not_id id) xs)) [
-      | true ↦ λ h. absurd (omega (arith, h))
-      | false ↦ λ h. ap (λ rest. x ∷ rest) (none_of id xs h)
-    ] none
-
--- a list that has an ID at one place alone
-pub others_beside : (id : ℕ) (xs : List ℕ) (i : ℕ) → i < length xs → get_or xs i 0 ≡ id → length (filter (is_id id) xs) ≤ 1
-    → take i xs ++ drop (suc i) xs ≡ filter (is_not_id id) xs
-others_beside id [] i within at once = absurd (omega (arith, within))
-others_beside id (x ∷ xs) zero within at once =
-    elim (is_id id x) as (λ t. is_id id x ≡ t → length (cond t (x ∷ filter (is_id id) xs) (filter (is_id id) xs)) ≤ 1 → xs ≡ cond (not t) (x ∷ filter (is_not_id id) xs) (filter (is_not_id id) xs)) [
-      | true ↦ λ is h. none_of id xs (omega (arith, h))
-      | false ↦ λ is h. absurd (true≢false (sym (nat_eq_equiv.refl id) ∙ ap (λ n. is_id id n) (sym at) ∙ is))
-    ] refl once
-others_beside id (x ∷ xs) (suc i) within at once =
-    let some = some_at id xs i (omega (arith, within)) at in
-    elim (is_id id x) as (λ t. length (cond t (x ∷ filter (is_id id) xs) (filter (is_id id) xs)) ≤ 1 → x ∷ (take i xs ++ drop (suc i) xs) ≡ cond (not t) (x ∷ filter (is_not_id id) xs) (filter (is_not_id id) xs)) [
-      | true ↦ λ h. absurd (omega (arith, some, h))
-      | false ↦ λ h. ap (λ rest. x ∷ rest) (others_beside id xs i (omega (arith, within)) at h)
-    ] once

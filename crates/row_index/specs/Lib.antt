@@ -1,6 +1,9 @@
+pub mod HeldIds
+pub mod HeldKeys
+pub mod KeyLists
 pub mod Lists
 pub mod RowLends
 pub mod Rows
 pub mod SlotLends
-pub mod SlotsLends
 pub mod Slots
+pub mod SlotsLends

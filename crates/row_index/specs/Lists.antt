@@ -27,6 +27,10 @@ with_last x xs = xs ++ x ∷ []
 abbrev pub of : List (List ℕ × List Key) → List ℕ → List Key
 of lists name = listed bytes_eq lists name
 
+-- the same key
+abbrev pub is_key : Key → Key → Bool
+is_key key other = same_key other key
+
 -- another key
 abbrev pub is_not_key : Key → Key → Bool
 is_not_key key other = not (same_key other key)

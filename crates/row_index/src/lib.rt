@@ -26,14 +26,19 @@
 //! ```
 #![tactic(auto)]
 
+mod id_list;
 mod key;
+mod key_list;
+mod long_keys;
 mod name_lists;
-mod owner_lists;
+mod owner_ids;
+mod owner_keys;
 mod row_map;
+mod sequence;
 mod slot;
 mod slots;
 
 pub use key::Key;
 pub use name_lists::NameLists;
-pub use owner_lists::{OwnerKeys, OwnerLists};
+pub use owner_keys::OwnerKeys;
 pub use row_map::RowMap;

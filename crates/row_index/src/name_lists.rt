@@ -1,10 +1,10 @@
 //! Lists of keys by names.
 ghost use Rattle.std.specs.Prelude.{◌≡◌, ℕ, List, [], None, OnOk, OnErr, bytes_eq, if◌then◌else◌};
-ghost use Rattle.std.specs.List.{filter};
 ghost use Rattle.indexmap.specs.IndexMap.{get};
-ghost use Rattle.row_index.specs.Lists.{of, is_not_key, AddsTo, RemovesFrom, SameLists};
+ghost use Rattle.row_index.specs.Lists.{of, AddsTo, RemovesFrom, SameLists};
 
 use crate::key::Key;
+use crate::key_list::KeyList;
 use indexmap::IndexMap;
 use pv_name::Name;
 use std::alloc::{AllocError, Global};
@@ -13,21 +13,21 @@ use std::marker::Model;
 /// Lists of keys, each under a name, in the order of adding. A name with no key takes no memory.
 #[derive(Drop)]
 pub struct NameLists {
-    lists: IndexMap<Name, Vec<Key>>,
+    lists: IndexMap<Name, KeyList>,
     alloc: Global,
 }
 
 impl Model for NameLists {
-    ghost use Rattle.std.specs.Prelude.{ℕ, List, map};
+    ghost use Rattle.std.specs.Prelude.{ℕ, List};
     ghost use Rattle.std.specs.Prelude.{bytes_eq};
     ghost use Rattle.row_index.specs.declared.key.Key.{Key as RowKey};
     ghost use Rattle.row_index.specs.Lists.{HasNoEmptyList};
 
     ghost Value = { List (List ℕ × List RowKey) };
 
-    ghost view = { λ l. map (λ list. (list.0, list.1.items)) l.lists.entries };
+    ghost view = { λ l. l.lists.entries };
 
-    ghost invariant = { λ l. HasNoEmptyList bytes_eq (map (λ list. (list.0, list.1.items)) l.lists.entries) };
+    ghost invariant = { λ l. HasNoEmptyList bytes_eq l.lists.entries };
 }
 
 impl NameLists {
@@ -46,7 +46,7 @@ impl NameLists {
         ensures { result.now ≡ of self.now name.now }
     {
         match self.lists.get(name) {
-            Some(keys) => keys,
+            Some(keys) => keys.as_slice(),
             None => &[],
         }
     }
@@ -58,7 +58,7 @@ impl NameLists {
     {
         match self.lists.get_mut(name) {
             Some(keys) => {
-                keys.push(key)?;
+                keys.push(self.alloc, key)?;
                 Ok(())
             }
             None => self.add_first(name, key),
@@ -74,36 +74,31 @@ impl NameLists {
         let Ok(copy) = name.copy() else {
             return Err(AllocError);
         };
-        let mut keys = Vec::new(self.alloc);
-        keys.push(key)?;
+        let mut keys = KeyList::new();
+        keys.push(self.alloc, key)?;
         match self.lists.insert(copy, keys) {
             Ok(_) => Ok(()),
             Err(_) => Err(AllocError),
         }
     }
 
-    /// Removes a key under this name, if it stands there. This takes no memory.
+    /// Removes a key under this name, if it stands there. This takes no memory. The first one and the last, and where
+    /// IDs or owners rise with adding any, goes without a walk.
     pub fn remove(&mut self, name: &Name, key: Key)
         ensures { RemovesFrom name.now key self.old self.new }
     {
         let Some(keys) = self.lists.get_mut(name) else {
             return;
         };
-        remove_key(keys, key);
+        keys.remove(key);
         if keys.is_empty() {
             forget(&mut self.lists, name);
         }
     }
 }
 
-pub(crate) fn remove_key(keys: &mut Vec<Key>, key: Key)
-    ensures { keys.new.items ≡ filter (is_not_key key) keys.old.items }
-{
-    keys.retain(|other| *other != key);
-}
-
 // Takes out a list, with its name.
-fn forget(lists: &mut IndexMap<Name, Vec<Key>>, name: &Name)
+fn forget(lists: &mut IndexMap<Name, KeyList>, name: &Name)
     ensures { (n : List ℕ) → get bytes_eq lists.new n ≡ (if bytes_eq name.now n then None else get bytes_eq lists.old n) }
 {
     lists.swap_remove(name);

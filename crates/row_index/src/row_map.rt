@@ -6,7 +6,7 @@ ghost use Rattle.std.specs.Borrow.{sem};
 ghost use Rattle.row_index.specs.Rows.{has_key, lacks_key, is_owned_by, value_at, row_of, HasKeysApart};
 
 use crate::key::Key;
-use crate::owner_lists::OwnerLists;
+use crate::owner_ids::OwnerIds;
 use crate::slots::Slots;
 use std::alloc::{AllocError, Global};
 use std::marker::Model;
@@ -15,7 +15,7 @@ use std::marker::Model;
 #[derive(Drop)]
 pub struct RowMap<V> {
     rows: Slots<V>,
-    owners: OwnerLists<u32>,
+    owners: OwnerIds,
 }
 
 impl<V> Model for RowMap<V> {
@@ -42,7 +42,7 @@ impl<V> RowMap<V> {
     {
         RowMap {
             rows: Slots::new(alloc),
-            owners: OwnerLists::new(alloc),
+            owners: OwnerIds::new(alloc),
         }
     }
 

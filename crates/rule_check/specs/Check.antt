@@ -1,6 +1,7 @@
 -- How a check ends. A writer's contents are known or not, and `before` and `after` are those at the call and the return.
 use Rattle.std.specs.Prelude.{◌≡◌, ℕ, ◌⊎◌, List, Option, Some, option_map, Result, Ok, Err}
 use Rattle.std.specs.Io.KnownBytes.{Appends}
+use Rattle.pvlist.specs.declared.syntax.Syntax.{Syntax}
 use Rattle.rule_desk.specs.Edit.{IsPolicyOf, IsDeskFault}
 use Rattle.rule_desk.specs.declared.fault.DeskFault.{DeskFault}
 use Rattle.rule_desk.specs.declared.fault.DeskFault.TheVariants.{OutOfMemory}
@@ -22,15 +23,15 @@ status_after (Err _) status = 3
 abbrev pub IsGoodOf : Policy → Option Asked → Option (List ℕ) → Option (List ℕ) → Type 0
 IsGoodOf policy asked before after = Appends before after (good_lines policy.rules (option_map (answer_of policy) asked))
 
--- the texts say a policy, and that is written, with what the policy answers
-pub record IsGood (rules : List ℕ) (groups : Option (List ℕ)) (asked : Option Asked) (before after : Option (List ℕ)) : Type 0 where
+-- in this syntax the texts say a policy, and that is written, with what the policy answers
+pub record IsGood (syntax : Syntax) (rules : List ℕ) (groups : Option (List ℕ)) (asked : Option Asked) (before after : Option (List ℕ)) : Type 0 where
   pub policy : Policy
-  pub are : IsPolicyOf (Some rules) groups policy
+  pub are : IsPolicyOf syntax (Some rules) groups policy
   pub written : IsGoodOf policy asked before after
 
--- a line of the texts is faulty, and the first such line is written
-pub record IsRefused (rules : List ℕ) (groups : Option (List ℕ)) (before after : Option (List ℕ)) : Type 0 where
+-- in this syntax a line of the texts is faulty, and the first such line is written
+pub record IsRefused (syntax : Syntax) (rules : List ℕ) (groups : Option (List ℕ)) (before after : Option (List ℕ)) : Type 0 where
   pub fault : DeskFault
   pub is_line : ¬ (fault ≡ OutOfMemory)
-  pub is : IsDeskFault (Some rules) groups fault
+  pub is : IsDeskFault syntax (Some rules) groups fault
   pub written : Appends before after (fault_line fault)

@@ -1,3 +1,5 @@
 pub mod Answer
 pub mod Check
+pub mod Note
 pub mod Output
+pub mod Said

@@ -11,13 +11,14 @@
 //!     host: Host::read(alloc, b"desk1")?,
 //! };
 //! let mut out = Vec::new(alloc);
-//! let status = check(alloc, rules, Some("ops READ\n"), Some(&asked), &mut out);
+//! let status = check(alloc, rules, Some("ops READ\n"), Some(&asked), &mut out, Syntax::Escaped);
 //! ```
 //!
 //! Here the status is `status::GOOD`, and `out` has the lines `ok 3 rows ALLOW, DENY` and
 //! `admitted A:SP ops read`. Of files with faults it has the first faulty line alone, that of the
 //! rule file before that of the group file, as `line 2: NoVerb` or `groups line 1: BadGroup`, and
-//! the status is `status::REFUSED`.
+//! the status is `status::REFUSED`. In the escaped syntax [`Note::of`] finds the first row that seems
+//! to be meant in the plain syntax; [`Said::of`] tells what the first faulty line said.
 //!
 //! `rule_desk` says what good files are, `pv_alias` where names lead, and `specs/Output.antt` how
 //! it is written.
@@ -28,34 +29,40 @@ ghost use Rattle.std.specs.Io.KnownBytes.{Keeps};
 ghost use Rattle.rule_check.specs.Check.{IsStatus, IsGood, IsGoodOf, IsRefused, status_after};
 
 mod answer;
+mod note;
 mod output;
+mod said;
 pub mod status;
 
 pub use answer::Asked;
 use answer::answer_if_asked;
+pub use note::Note;
 use output::{print_fault, print_good};
+use pvlist::Syntax;
 use rule_desk::{Desk, DeskFault, Policy};
+pub use said::Said;
 use std::alloc::Global;
 use std::io;
 use std::io::Write;
 
-/// Checks the texts of a rule file and of a group file, the rule file first, and writes their first
-/// faulty line; or that they are good, and then what they answer where a name is asked for.
-/// Returns the status that the program ends with. What was written is flushed then. Where memory is
-/// refused nothing is written.
+/// Checks the texts of a rule file, whose patterns are of the syntax, and of a group file, the rule
+/// file first, and writes their first faulty line; or that they are good, and then what they answer
+/// where a name is asked for. Returns the status that the program ends with. What was written is
+/// flushed then. Where memory is refused nothing is written.
 pub fn check<W: Write>(
     alloc: Global,
     rules: &str,
     groups: Option<&str>,
     asked: Option<&Asked>,
     writer: &mut W,
+    syntax: Syntax,
 ) -> u8
     ensures among { IsStatus result }
-    ensures good { result ≡ 0 → IsGood rules.now (option_copied groups.entry) (option_copied asked.entry) (W.contents writer.old) (W.contents writer.new) }
-    ensures refused { result ≡ 1 → IsRefused rules.now (option_copied groups.entry) (W.contents writer.old) (W.contents writer.new) }
+    ensures good { result ≡ 0 → IsGood syntax rules.now (option_copied groups.entry) (option_copied asked.entry) (W.contents writer.old) (W.contents writer.new) }
+    ensures refused { result ≡ 1 → IsRefused syntax rules.now (option_copied groups.entry) (W.contents writer.old) (W.contents writer.new) }
     ensures memory { result ≡ 4 → Keeps (W.contents writer.old) (W.contents writer.new) }
 {
-    let mut desk = Desk::new(alloc);
+    let mut desk = Desk::with_syntax(alloc, syntax);
     match desk.edit(Some(rules), groups) {
         Ok(policy) => answer_by(alloc, &policy, asked, writer),
         Err(DeskFault::OutOfMemory) => status::FAILED,

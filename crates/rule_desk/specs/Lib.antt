@@ -1,3 +1,4 @@
+pub mod DeskState
 pub mod Edit
 pub mod Fault
 pub mod Policy

@@ -4,63 +4,83 @@ ghost use Rattle.rule_desk.specs.Edit.{AreRulesOf, AreGroupsOf, IsPolicyOf, IsDe
 
 use crate::fault::DeskFault;
 use crate::policy::Policy;
-use pvlist::{Groups, RuleFault, Rules};
+use pvlist::{Groups, RuleFault, Rules, Syntax};
 use std::alloc::Global;
 use std::marker::Model;
 
-/// Where a policy is edited. A contract sees how many edits were accepted.
+/// Where a policy is edited. A contract sees how many edits were accepted, and the syntax of rule
+/// files.
 #[derive(Drop)]
 pub struct Desk {
     alloc: Global,
     edits: u64,
+    syntax: Syntax,
 }
 
 impl Model for Desk {
-    ghost use Rattle.std.specs.Prelude.{ℕ};
+    ghost use Rattle.rule_desk.specs.DeskState.{DeskState};
 
-    ghost Value = { ℕ };
+    ghost Value = { DeskState };
 
-    ghost view = { λ d. d.edits };
+    ghost view = { λ d. record { edits = d.edits; syntax = d.syntax } };
 }
 
 impl Desk {
-    /// No edit was accepted yet. It takes no memory.
+    /// No edit was accepted yet, and patterns are of the escaped syntax. It takes no memory.
     pub fn new(alloc: Global) -> Desk
-        ensures { result ≡ 0 }
+        ensures { result ≡ record { edits = 0; syntax = Syntax.Escaped } }
     {
-        Desk { alloc, edits: 0 }
+        Desk::with_syntax(alloc, Syntax::Escaped)
+    }
+
+    /// The same where patterns are of the syntax. It takes no memory.
+    pub fn with_syntax(alloc: Global, syntax: Syntax) -> Desk
+        ensures { result ≡ record { edits = 0; syntax = syntax } }
+    {
+        Desk {
+            alloc,
+            edits: 0,
+            syntax,
+        }
     }
 
     /// How many edits were accepted, up to the greatest number that fits.
     pub fn edits(&self) -> u64
-        ensures { result ≡ self.now }
+        ensures { result ≡ self.now.edits }
     {
         self.edits
+    }
+
+    /// In which syntax the patterns of rule files are.
+    pub fn syntax(&self) -> Syntax
+        ensures { result ≡ self.now.syntax }
+    {
+        self.syntax
     }
 
     /// The policy of a rule file and a group file. Without a rule file each name leads to itself, and
     /// without a group file no group has a line, whatever the edit before had.
     pub fn edit(&mut self, rules: Option<&str>, groups: Option<&str>) -> Result<Policy, DeskFault>
-        ensures ok { IfOk result (IsPolicyOf (option_copied rules.entry) (option_copied groups.entry)) }
-        ensures counted { OnOk result (self.new ≡ min (self.old + 1) (2 ^ 64 - 1)) }
-        ensures err { IfErr result (IsDeskFault (option_copied rules.entry) (option_copied groups.entry)) }
+        ensures ok { IfOk result (IsPolicyOf self.old.syntax (option_copied rules.entry) (option_copied groups.entry)) }
+        ensures counted { OnOk result (self.new ≡ record self.old { edits = min (self.old.edits + 1) (2 ^ 64 - 1) }) }
+        ensures err { IfErr result (IsDeskFault self.old.syntax (option_copied rules.entry) (option_copied groups.entry)) }
         ensures kept { OnErr result (self.new ≡ self.old) }
     {
-        let rules = read_rules(self.alloc, rules)?;
+        let rules = read_rules(self.alloc, self.syntax, rules)?;
         let groups = read_groups(self.alloc, groups)?;
         self.edits = self.edits.saturating_add(1);
         Ok(Policy { rules, groups })
     }
 }
 
-fn read_rules(alloc: Global, text: Option<&str>) -> Result<Rules, DeskFault>
-    ensures ok { IfOk result (AreRulesOf (option_copied text.entry)) }
-    ensures err { IfErr result (IsRulesFault (option_copied text.entry)) }
+fn read_rules(alloc: Global, syntax: Syntax, text: Option<&str>) -> Result<Rules, DeskFault>
+    ensures ok { IfOk result (AreRulesOf syntax (option_copied text.entry)) }
+    ensures err { IfErr result (IsRulesFault syntax (option_copied text.entry)) }
 {
     let Some(text) = text else {
         return Ok(Rules::open_to_all(alloc));
     };
-    match Rules::read(alloc, text) {
+    match Rules::read_as(alloc, text, syntax) {
         Ok(rules) => Ok(rules),
         Err(RuleFault::At(line, cause)) => Err(DeskFault::Rules(line, cause)),
         Err(RuleFault::OutOfMemory) => Err(DeskFault::OutOfMemory),

@@ -12,7 +12,8 @@
 //!
 //! `Desk::edit` promises the policy that both texts say (`IsPolicyOf`), or their first fault, the
 //! rule file's before the group file's (`IsDeskFault`), and that a refused edit leaves the desk as
-//! it was. The policy itself is the caller's: the desk keeps no text and no policy.
+//! it was. The policy itself is the caller's: the desk keeps no text and no policy. A desk of the plain
+//! syntax (`Desk::with_syntax`) reads patterns whose groups are written without a backslash.
 #![tactic(auto)]
 
 mod desk;

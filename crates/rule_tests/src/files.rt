@@ -3,26 +3,56 @@
 //! - `translate PATTERN`: the pattern as a regular expression;
 //! - `read TEXT`: how many rows a rule file has, and its order; or its fault. Its rows are those of
 //!   the policy from then on;
+//! - `bare TEXT`: the number of a rule file's first row with a `(`, `)` or `|` that no backslash
+//!   stands before, outside brackets; `-` where there is none;
 //! - `rows`: the rows of the policy, each with its regular expression and what it does;
 //! - `groups-read TEXT`: the same of a group file, answered only by its fault;
 //! - `bits`: the rights of a group by their words, as numbers.
 use crate::words::Told;
 use pv_name::Group;
-use pvlist::{GroupRight, Groups, Row, RuleFault, Rules, Verb, translate};
+use pvlist::{
+    GroupRight, Groups, Row, RuleFault, Rules, Syntax, TranslateFault, Verb, first_bare_group,
+    translate, translate_as,
+};
 use rule_desk::Policy;
 use std::alloc::Global;
 use std::fmt::Write;
 
-pub(crate) fn call(alloc: Global, policy: &mut Policy, verb: &str, text: &str, told: &mut Told) {
+pub(crate) fn call(
+    alloc: Global,
+    syntax: Syntax,
+    policy: &mut Policy,
+    verb: &str,
+    text: &str,
+    told: &mut Told,
+) {
     match verb {
-        "translate" => match translate(alloc, text) {
+        "translate" => match translated(alloc, syntax, text) {
             Ok(text) => told.line(&text),
             Err(fault) => told.line(&fault),
         },
-        "read" => read(Rules::read(alloc, text), policy, told),
+        "read" => read(rules(alloc, syntax, text), policy, told),
+        "bare" => match first_bare_group(text) {
+            Some(line) => told.line(&line),
+            None => told.line(&'-'),
+        },
         "groups-read" => read_groups(Groups::read(alloc, text), policy, told),
         "rows" => rows(policy.rules.rows(), told),
         _ => bits(told),
+    }
+}
+
+fn translated(alloc: Global, syntax: Syntax, text: &str) -> Result<String, TranslateFault> {
+    match syntax {
+        Syntax::Escaped => translate(alloc, text),
+        Syntax::Plain => translate_as(alloc, text, syntax),
+    }
+}
+
+fn rules(alloc: Global, syntax: Syntax, text: &str) -> Result<Rules, RuleFault> {
+    match syntax {
+        Syntax::Escaped => Rules::read(alloc, text),
+        Syntax::Plain => Rules::read_as(alloc, text, syntax),
     }
 }
 

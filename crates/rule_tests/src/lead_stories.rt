@@ -133,12 +133,12 @@ read .* ALIAS 12
 > 1 rows, ALLOW, DENY
 lead desk1 T1
 > 12 -
-# 126 bytes are a name, and 128 are none.
+# 254 bytes are a name, and 256 are none.
 read \(.*\) ALIAS \1\1
 > 1 rows, ALLOW, DENY
-lead desk1 «63*x»
-> «126*x» -
-lead desk1 «64*x»
+lead desk1 «127*x»
+> «254*x» -
+lead desk1 «128*x»
 > refused
 ",
     );

@@ -4,8 +4,9 @@
 //! A test is a story, which is a text. Its lines are calls, each with one word for what is called and
 //! then a text, and behind `> ` stands what a call answers. A line `| TEXT` is a line of the next
 //! call's text, before what stands in that call's own line. Lines that begin with `# ` are titles, and
-//! at each a policy that is open to all stands ready. `«0d»` is the character with this number, and
-//! `«63*x¶»` is 63 times that, each with the end of a line; so it is in answers, too.
+//! at each a policy that is open to all stands ready. From the call `plain` on, up to the next title,
+//! patterns are of the plain syntax, and elsewhere of the escaped one. `«0d»` is the character with
+//! this number, and `«63*x¶»` is 63 times that, each with the end of a line; so it is in answers, too.
 //!
 //! The calls are said in the files that make them: `names`, `files`, `leads`, `policies`. The files
 //! named `.._stories` have the stories.
@@ -25,6 +26,8 @@ mod name_stories;
 mod names;
 #[cfg(test)]
 mod pattern_stories;
+#[cfg(test)]
+mod plain_stories;
 #[cfg(test)]
 mod policies;
 #[cfg(test)]

@@ -17,7 +17,7 @@ name LAB7 T1
 > bad byte at 4
 > bad byte at 4
 > false false
-# Each limit is 127 bytes.
+# A name has at most 255 bytes, a host and a group at most 127.
 name
 > empty
 > empty
@@ -34,6 +34,16 @@ name «127*x»
 > «127*x» «127*x»
 > true true
 name «128*x»
+> «128*x» «128*x»
+> too long
+> too long
+> true false
+name «255*x»
+> «255*x» «255*x»
+> too long
+> too long
+> true false
+name «256*x»
 > too long
 > too long
 > too long

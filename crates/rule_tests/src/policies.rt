@@ -9,7 +9,7 @@
 //! - `refusals`: what is told where memory is refused, of a name, a pattern, a file and an edit.
 use crate::words::{Told, two_words};
 use pv_name::{Host, Name, NameFault};
-use pvlist::{RuleFault, Rules, TranslateFault};
+use pvlist::{RuleFault, Rules, Syntax, TranslateFault};
 use rule_check::{Asked, check};
 use rule_desk::{Desk, DeskFault, Policy};
 use std::alloc::Global;
@@ -46,13 +46,20 @@ impl Texts {
     }
 }
 
-pub(crate) fn call(alloc: Global, texts: &mut Texts, verb: &str, text: &str, told: &mut Told) {
+pub(crate) fn call(
+    alloc: Global,
+    syntax: Syntax,
+    texts: &mut Texts,
+    verb: &str,
+    text: &str,
+    told: &mut Told,
+) {
     match verb {
         "rules" => texts.rules = copied(alloc, text, told),
         "groups" => texts.groups = copied(alloc, text, told),
         "no-texts" => *texts = Texts::none(),
-        "check" => check_texts(alloc, texts, text, told),
-        "rooms" => rooms(alloc, texts, text, told),
+        "check" => check_texts(alloc, syntax, texts, text, told),
+        "rooms" => rooms(alloc, syntax, texts, text, told),
         _ => refusals(told),
     }
 }
@@ -85,11 +92,12 @@ fn asked(alloc: Global, text: &str) -> Option<Asked> {
     Some(Asked { name, host })
 }
 
-fn check_texts(alloc: Global, texts: &Texts, text: &str, told: &mut Told) {
+fn check_texts(alloc: Global, syntax: Syntax, texts: &Texts, text: &str, told: &mut Told) {
     let asked = asked(alloc, text);
     let rules = texts.rules().unwrap_or("");
     let mut out = Vec::new(alloc);
-    let status = check(alloc, rules, texts.groups(), asked.as_ref(), &mut out);
+    let groups = texts.groups();
+    let status = check(alloc, rules, groups, asked.as_ref(), &mut out, syntax);
     match str::from_utf8(&out) {
         Ok(printed) => told.put(&printed),
         Err(_) => told.line(&"no text"),
@@ -98,14 +106,15 @@ fn check_texts(alloc: Global, texts: &Texts, text: &str, told: &mut Told) {
     told.keep(written);
 }
 
-fn rooms(alloc: Global, texts: &Texts, text: &str, told: &mut Told) {
+fn rooms(alloc: Global, syntax: Syntax, texts: &Texts, text: &str, told: &mut Told) {
     let (first, text) = two_words(text);
     let (last, text) = two_words(text);
     let asked = asked(alloc, text);
     let rules = texts.rules().unwrap_or("");
     for room in first.parse().unwrap_or(0)..=last.parse().unwrap_or(0) {
         let out = &mut Narrow(room);
-        told.put(&check(alloc, rules, texts.groups(), asked.as_ref(), out));
+        let groups = texts.groups();
+        told.put(&check(alloc, rules, groups, asked.as_ref(), out, syntax));
     }
     told.put(&'\n');
 }

@@ -2,6 +2,7 @@
 use crate::policies::Texts;
 use crate::words::Told;
 use crate::{files, leads, names, policies};
+use pvlist::Syntax;
 use rule_desk::{Desk, Policy};
 use std::alloc::Global;
 use std::process::Abort;
@@ -53,14 +54,16 @@ fn new_office(alloc: Global) -> Office {
 
 fn call(alloc: Global, office: &mut Office, verb: &str, told: &mut Told) {
     let text = office.text.text.as_str();
+    let syntax = office.desk.syntax();
     match verb {
+        "plain" => office.desk = Desk::with_syntax(alloc, Syntax::Plain),
         "name" | "same" | "listed" => names::call(alloc, verb, text, told),
-        "translate" | "read" | "groups-read" | "rows" | "bits" => {
-            files::call(alloc, &mut office.policy, verb, text, told);
+        "translate" | "read" | "bare" | "groups-read" | "rows" | "bits" => {
+            files::call(alloc, syntax, &mut office.policy, verb, text, told);
         }
         "lead" | "rights" => leads::call(alloc, &office.policy, verb, text, told),
         "edit" => policies::edit(&mut office.desk, &mut office.policy, &office.texts, told),
         "shown" => policies::show(&office.desk, &office.policy.rules, told),
-        _ => policies::call(alloc, &mut office.texts, verb, text, told),
+        _ => policies::call(alloc, syntax, &mut office.texts, verb, text, told),
     }
 }

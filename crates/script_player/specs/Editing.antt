@@ -1,9 +1,10 @@
--- What an edit of a script does to the gateway, and what is printed of it.
+-- What an edit of a script does to the gateway, and what is printed of it. Patterns are of the escaped syntax.
 use Rattle.std.specs.Prelude.{◌≡◌, ℕ, ◌⊎◌, List, Option, Some, None, option_map}
 use Rattle.std.specs.Io.KnownBytes.{Appends}
 use Rattle.gateway_state.specs.Gateway.{Gateway}
 use Rattle.gateway_state.specs.Step.{step}
 use Rattle.gateway_state.specs.declared.event.Event.TheVariants.{Edit}
+use Rattle.pvlist.specs.declared.syntax.Syntax.TheVariants.{Escaped}
 use Rattle.replay_text.specs.Output.{refused_line, refused_groups_line}
 use Rattle.replay_text.specs.declared.line.Line.{Line}
 use Rattle.replay_text.specs.declared.line.Line.TheVariants as lines
@@ -16,7 +17,7 @@ use Rattle.script_player.specs.declared.entry.Files.{Files}
 -- an edit is accepted: the policy that its files say is the gateway's from then on, and nothing is printed of it
 pub record IsAccepted (files : Files) (old new : Option Gateway) (before after : Option (List ℕ)) : Type 0 where
   pub policy : Policy
-  pub said : IsPolicyOf files.rules files.groups policy
+  pub said : IsPolicyOf Escaped files.rules files.groups policy
   pub edited : new ≡ option_map (λ w. step w (Edit policy)) old
   pub silent : after ≡ before
 
@@ -34,7 +35,7 @@ IsPrinted (Some line) before after = Appends before after line
 -- an edit is refused: the first fault of its files is printed, and the gateway is as it was
 pub record IsRefused (files : Files) (old new : Option Gateway) (before after : Option (List ℕ)) : Type 0 where
   pub fault : DeskFault
-  pub first : IsDeskFault files.rules files.groups fault
+  pub first : IsDeskFault Escaped files.rules files.groups fault
   pub printed : IsPrinted (refusal fault) before after
   pub same : new ≡ old
 

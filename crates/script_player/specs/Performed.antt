@@ -13,6 +13,7 @@ use Rattle.gateway_state.specs.Variables.{asks}
 use Rattle.gateway_state.specs.declared.event.Dest.TheVariants.{Session, Upstream}
 use Rattle.gateway_state.specs.declared.event.Event.TheVariants as events
 use Rattle.pv_search.specs.declared.answering.SearchAnswer.{SearchAnswer}
+use Rattle.pvlist.specs.declared.syntax.Syntax.TheVariants.{Escaped}
 use Rattle.replay_text.specs.Output.{asks_line, props_line, reading_line, reply_line, rights_line, subscription_line, subscription_text}
 use Rattle.replay_text.specs.declared.line.Line.{Line}
 use Rattle.replay_text.specs.declared.line.Line.TheVariants as lines
@@ -42,17 +43,17 @@ pub record IsSearchedFor (host datagram : List ℕ) (old new : Gateway) (text : 
   pub asked : new ≡ run old (map (events.Search host) answer.asked)
   pub reply : text ≡ reply_line answer.reply
 
--- the policy of both files holds from then on, and nothing is printed
+-- the policy of both files, whose patterns are of the escaped syntax, holds from then on, and nothing is printed
 pub record IsEditOf (files : Files) (old new : Gateway) (text : List ℕ) : Type 0 where
   pub policy : Policy
-  pub said : IsPolicyOf files.rules files.groups policy
+  pub said : IsPolicyOf Escaped files.rules files.groups policy
   pub edited : new ≡ step old (events.Edit policy)
   pub silent : text ≡ []
 
 -- or the first fault of the files is printed
 pub record IsRefusalOf (files : Files) (old new : Gateway) (text : List ℕ) : Type 0 where
   pub fault : DeskFault
-  pub first : IsDeskFault files.rules files.groups fault
+  pub first : IsDeskFault Escaped files.rules files.groups fault
   pub line : refusal fault ≡ Some text
   pub same : new ≡ old
 

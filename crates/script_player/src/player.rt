@@ -42,7 +42,6 @@ const PIECE: usize = 1_024;
 pub struct Player<G> {
     alloc: Global,
     gate: G,
-    desk: Desk,
     /// The connections that stand, with the bytes that came from each and are no whole message yet.
     intakes: BTreeMap<Dest, Intake>,
     /// The connections whose messages are kept back, whether they stand or not.
@@ -64,7 +63,6 @@ impl<G: GatewayCalls + Drop> Player<G> {
         Player {
             alloc,
             gate,
-            desk: Desk::new(alloc),
             intakes: BTreeMap::new(alloc),
             held: BTreeSet::new(alloc),
         }
@@ -174,7 +172,8 @@ impl<G: GatewayCalls + Drop> Player<G> {
         ensures edited { OnOk result (IsEdited files.now (G.state self.old.gate) (G.state self.new.gate) (W.contents out.old) (W.contents out.new)) }
         ensures same { (self.new.intakes ≡ self.old.intakes) × (self.new.held ≡ self.old.held) }
     {
-        match self.desk.edit(files.rules.text(), files.groups.text()) {
+        let mut desk = Desk::new(self.alloc);
+        match desk.edit(files.rules.text(), files.groups.text()) {
             Ok(policy) => Ok(self.gate.step(Event::Edit(policy))?),
             Err(fault) => print_refusal(out, fault),
         }

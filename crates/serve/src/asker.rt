@@ -1,5 +1,5 @@
 //! What asks servers for names.
-use crate::hub::{AsHub, Hub, complain, warn_of};
+use crate::hub::{AsHub, Hub};
 use crate::machine::System;
 use gateway_core::AskFault;
 use pv_name::{Name, NoMemory};
@@ -27,16 +27,24 @@ fn while_wanted<R: System, H: AsHub>(rt: R, hub: &H, had_many: &mut bool) {
         }
         match hub.gate().asks(&rt) {
             Ok(names) => {
-                let has_many = names.len() >= MANY_NAMES;
-                if has_many && !*had_many {
-                    warn_of(&rt, Notice::NamesNearLimit(names.len()));
-                }
-                *had_many = has_many;
+                tell_of(rt, hub.hub(), names.len(), had_many);
                 ask_for(rt, hub.hub(), names);
             }
-            Err(AskFault::OutOfMemory) => complain(&rt, Notice::OutOfMemory),
+            Err(AskFault::OutOfMemory) => hub.hub().tell(&rt, Notice::OutOfMemory),
             Err(AskFault::Failed) => (),
         }
+    }
+}
+
+// So many names are asked for.
+fn tell_of<R: System>(rt: R, hub: &Hub, names: usize, had_many: &mut bool) {
+    let has_many = names >= MANY_NAMES;
+    if has_many && !*had_many {
+        hub.tell(&rt, Notice::NamesNearLimit(names));
+    }
+    *had_many = has_many;
+    if names > 0 {
+        hub.tell(&rt, Notice::NamesAsked(names));
     }
 }
 
@@ -61,7 +69,7 @@ fn ask_for<R: System>(rt: R, hub: &Hub, names: Vec<Name>) {
             count = 0;
         }
         if ask(rt, hub, name).is_err() {
-            complain(&rt, Notice::OutOfMemory);
+            hub.tell(&rt, Notice::OutOfMemory);
             return;
         }
         count += 1;

@@ -1,5 +1,5 @@
 //! Clients that connect.
-use crate::hub::{Arrival, AsHub, Hub, complain, tell, warn_of};
+use crate::hub::{Arrival, AsHub, Hub};
 use crate::machine::System;
 use crate::workers::start_workers;
 use gateway_core::{Dest, Event};
@@ -34,7 +34,7 @@ fn hand_on<R: System>(rt: R, hub: &Hub, arrival: Arrival) {
     let added = hub.arrivals.lock(&rt).waiting.push_back(arrival);
     match added {
         Ok(()) => hub.arrived.notify_all(),
-        Err(_) => complain(&rt, Notice::OutOfMemory),
+        Err(_) => hub.tell(&rt, Notice::OutOfMemory),
     }
 }
 
@@ -74,11 +74,11 @@ fn greet<'x, 's: 'x, E: 's, R: System + 's, H: AsHub + Sync + 's>(
     let _ = stream.set_nodelay(true);
     let (Ok(host), Ok(stream)) = (host_of(hub.hub(), &peer), Arc::new(hub.hub().alloc, stream))
     else {
-        complain(&rt, Notice::OutOfMemory);
+        hub.hub().tell(&rt, Notice::OutOfMemory);
         return;
     };
     let Ok(link) = Arc::try_clone(&stream) else {
-        complain(&rt, Notice::OutOfMemory);
+        hub.hub().tell(&rt, Notice::OutOfMemory);
         return;
     };
     let admitted = hub.hub().roster.lock(&rt).admit_client(link, peer);
@@ -86,22 +86,22 @@ fn greet<'x, 's: 'x, E: 's, R: System + 's, H: AsHub + Sync + 's>(
         Ok(number) => number,
         Err(refusal) => {
             let _ = stream.shutdown(Shutdown::Both);
-            refuse(rt, peer, refusal);
+            refuse(rt, hub.hub(), peer, refusal);
             return;
         }
     };
-    tell(&rt, Notice::ClientConnected(number, peer));
+    hub.hub().tell(&rt, Notice::ClientConnected(number, peer));
     let _ = hub.gate().desk(&rt, Event::Opened(number, host));
     start_workers(rt, &*scope, &*hub, Dest::Session(number), stream);
 }
 
-fn refuse<R: System>(rt: R, peer: SocketAddr, refusal: Refusal) {
+fn refuse<R: System>(rt: R, hub: &Hub, peer: SocketAddr, refusal: Refusal) {
     match refusal {
-        Refusal::Full => warn_of(
+        Refusal::Full => hub.tell(
             &rt,
             Notice::ClientRefused(peer, "1024 clients are connected"),
         ),
-        Refusal::OutOfMemory => warn_of(&rt, Notice::ClientRefused(peer, "out of memory")),
+        Refusal::OutOfMemory => hub.tell(&rt, Notice::ClientRefused(peer, "out of memory")),
         Refusal::Closing | Refusal::Held => (),
     }
 }

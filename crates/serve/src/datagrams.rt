@@ -1,6 +1,6 @@
 //! Datagrams: clients' searches, and servers' replies to asks.
 use crate::clients::host_of;
-use crate::hub::{AsHub, complain};
+use crate::hub::AsHub;
 use crate::machine::System;
 use gateway_core::{AskFault, Event};
 use pv_name::Host;
@@ -37,7 +37,7 @@ fn hear<R: System, H: AsHub>(rt: R, hub: &H, datagram: &[u8], from: SocketAddr) 
 
 fn hear_server<R: System, H: AsHub>(rt: R, hub: &H, datagram: &[u8], server: u32) {
     let Ok(cids) = read_found(hub.hub().alloc, datagram) else {
-        complain(&rt, Notice::OutOfMemory);
+        hub.hub().tell(&rt, Notice::OutOfMemory);
         return;
     };
     for cid in cids.as_slice() {
@@ -53,7 +53,7 @@ fn hear_server<R: System, H: AsHub>(rt: R, hub: &H, datagram: &[u8], server: u32
 
 fn hear_client<R: System, H: AsHub>(rt: R, hub: &H, datagram: &[u8], from: SocketAddr) {
     let Ok(host) = host_of(hub.hub(), &from) else {
-        complain(&rt, Notice::OutOfMemory);
+        hub.hub().tell(&rt, Notice::OutOfMemory);
         return;
     };
     match hub.gate().search(&rt, &host, datagram) {
@@ -68,7 +68,7 @@ fn hear_client<R: System, H: AsHub>(rt: R, hub: &H, datagram: &[u8], from: Socke
             remember(rt, hub, &host, &answer);
             hub.hub().ask(&rt);
         }
-        Err(AskFault::OutOfMemory) => complain(&rt, Notice::OutOfMemory),
+        Err(AskFault::OutOfMemory) => hub.hub().tell(&rt, Notice::OutOfMemory),
         Err(AskFault::Failed) => (),
     }
 }
@@ -80,7 +80,7 @@ fn remember<R: System, H: AsHub>(rt: R, hub: &H, host: &Host, answer: &SearchAns
                 let _ = hub.gate().desk(&rt, Event::Search(host, name));
             }
             _ => {
-                complain(&rt, Notice::OutOfMemory);
+                hub.hub().tell(&rt, Notice::OutOfMemory);
                 return;
             }
         }

@@ -12,6 +12,8 @@ pub enum ServeFault {
     File(String, io::Error),
     /// The address can't be opened.
     Listen(io::Error),
+    /// The address on which it would tell of itself can't be opened.
+    Reports(io::Error),
     /// Standard output can't be written.
     Output,
     OutOfMemory,

@@ -2,8 +2,9 @@
 use crate::machine::System;
 use gate_board::Gate;
 use gateway_core::Dest;
-use log::{error, info, warn};
-use serve_state::{Asked, Cut, Notice, Roster};
+use log::sink::Console;
+use log::{Level, Logged, log};
+use serve_state::{Asked, Cut, MostWaiting, Notice, Outages, Roster, Seconds};
 use std::alloc::Global;
 use std::collections::VecDeque;
 use std::net::{Shutdown, SocketAddr, TcpListener, TcpStream, UdpSocket};
@@ -22,6 +23,21 @@ pub struct Sockets {
     pub datagrams: UdpSocket,
     pub listener_door: TcpStream,
     pub datagrams_door: TcpStream,
+}
+
+/// What a command line may say of how it serves.
+#[derive(Clone, Copy)]
+pub struct Options {
+    /// A client for whom more waits is cut off.
+    pub most_waiting: MostWaiting,
+    /// So often lost servers are connected to again.
+    pub reconnect: Option<Seconds>,
+    /// So often it is forgotten which names clients looked for.
+    pub sweep: Option<Seconds>,
+    /// Whoever connects to this address is told of the gateway.
+    pub status: Option<SocketAddr>,
+    /// What has this level or a graver one is logged.
+    pub log: Level,
 }
 
 /// What is wanted of the asker.
@@ -51,6 +67,7 @@ pub struct Hub {
     pub alloc: Global,
     pub sockets: Sockets,
     pub servers: Vec<SocketAddr>,
+    pub options: Options,
     pub roster: Mutex<Rows>,
     /// A row has to be looked at.
     pub changed: Condvar,
@@ -59,14 +76,18 @@ pub struct Hub {
     pub wanted: Mutex<Wanted>,
     pub asker: Condvar,
     pub asked: Mutex<Asked>,
+    pub outages: Mutex<Outages>,
+    /// How many edits of the rules were taken.
+    pub edits: Mutex<u64>,
 }
 
 impl Hub {
-    pub fn new(alloc: Global, sockets: Sockets, servers: Vec<SocketAddr>) -> Hub {
+    pub fn new(alloc: Global, sockets: Sockets, servers: Vec<SocketAddr>, options: Options) -> Hub {
         Hub {
             alloc,
             sockets,
             servers,
+            options,
             roster: Mutex::new(Roster::new(alloc)),
             changed: Condvar::new(),
             arrivals: Mutex::new(Arrivals {
@@ -80,6 +101,8 @@ impl Hub {
             }),
             asker: Condvar::new(),
             asked: Mutex::new(Asked::new(alloc)),
+            outages: Mutex::new(Outages::new()),
+            edits: Mutex::new(0),
         }
     }
 
@@ -87,6 +110,11 @@ impl Hub {
     pub fn ask<R: Wait>(&self, rt: &R) {
         self.wanted.lock(rt).asks = true;
         self.asker.notify_all();
+    }
+
+    /// Logs it. Nobody who calls this holds a lock.
+    pub fn tell<R: System>(&self, rt: &R, notice: Notice<'_>) {
+        tell(rt, self.options.log, notice);
     }
 
     pub fn is_closing<R: Wait>(&self, rt: &R) -> bool {
@@ -181,17 +209,8 @@ impl<G: AsGate, P: AsRest> AsHub for Served<G, P> {
     }
 }
 
-/// Logs what is as it should be.
-pub fn tell<R: System>(rt: &R, notice: Notice<'_>) {
-    info!(*rt; target: "pvgate", "{notice}");
-}
-
-/// Logs what somebody may want to do something about.
-pub fn warn_of<R: System>(rt: &R, notice: Notice<'_>) {
-    warn!(*rt; target: "pvgate", "{notice}");
-}
-
-/// Logs what stops the gateway or one of its calls.
-pub fn complain<R: System>(rt: &R, notice: Notice<'_>) {
-    error!(*rt; target: "pvgate", "{notice}");
+/// Logs it on standard error, where what has its level is logged.
+pub fn tell<R: System>(rt: &R, log: Level, notice: Notice<'_>) {
+    let logger = Logged::new(*rt, log, Console(*rt));
+    log!(logger; target: "pvgate", notice.level(), "{notice}");
 }

@@ -1,5 +1,5 @@
 //! What keeps the connections' rows.
-use crate::hub::{AsHub, Hub, Rows, Stream, tell, warn_of};
+use crate::hub::{AsHub, Hub, Rows, Stream};
 use crate::machine::System;
 use crate::workers::start_workers;
 use gateway_core::{Dest, Event};
@@ -75,9 +75,14 @@ fn serve_server<'x, 's: 'x, E: 's, R: System + 's, H: AsHub + Sync + 's>(
     peer: SocketAddr,
     stream: Stream,
 ) {
-    tell(&rt, Notice::ServerConnected(number, peer));
+    hub.hub().outages.lock(&rt).end(number);
+    hub.hub().tell(&rt, Notice::ServerConnected(number, peer));
     let _ = hub.gate().desk(&rt, Event::UpOpened(number));
     start_workers(rt, &*scope, &*hub, Dest::Upstream(number), stream);
+    // Who connects to it again and again isn't there to write `ask`.
+    if hub.hub().options.reconnect.is_some() {
+        hub.hub().ask(&rt);
+    }
 }
 
 // Takes away each row whose workers have ended and whose loss was performed. False where the loss of one
@@ -109,15 +114,15 @@ fn retire<R: System, H: AsHub>(rt: R, hub: &H, dest: Dest) {
     drop(hub.gate().retire(&rt, dest));
     let removed = hub.hub().roster.lock(&rt).remove(dest);
     if let Some(row) = removed {
-        tell_of_end(rt, dest, *row.peer(), row.cut());
+        tell_of_end(rt, hub.hub(), dest, *row.peer(), row.cut());
     }
 }
 
-fn tell_of_end<R: System>(rt: R, dest: Dest, peer: SocketAddr, cut: Option<Cut>) {
+fn tell_of_end<R: System>(rt: R, hub: &Hub, dest: Dest, peer: SocketAddr, cut: Option<Cut>) {
     match (dest, cut) {
-        (Dest::Session(number), None) => tell(&rt, Notice::ClientGone(number, peer)),
-        (Dest::Session(number), Some(why)) => warn_of(&rt, Notice::ClientCut(number, peer, why)),
-        (Dest::Upstream(number), None) => warn_of(&rt, Notice::ServerLost(number, peer)),
-        (Dest::Upstream(number), Some(why)) => warn_of(&rt, Notice::ServerCut(number, peer, why)),
+        (Dest::Session(number), None) => hub.tell(&rt, Notice::ClientGone(number, peer)),
+        (Dest::Session(number), Some(why)) => hub.tell(&rt, Notice::ClientCut(number, peer, why)),
+        (Dest::Upstream(number), None) => hub.tell(&rt, Notice::ServerLost(number, peer)),
+        (Dest::Upstream(number), Some(why)) => hub.tell(&rt, Notice::ServerCut(number, peer, why)),
     }
 }

@@ -8,10 +8,12 @@
 //! - one asks servers for names: it alone sends asks, and rests after 64;
 //! - one keeps the connections: it starts the workers of a server that was reached, and takes the rows away of
 //!   those that are lost;
-//! - one looks now and then whether a connection must end whose writer waits for its peer;
+//! - one looks now and then whether a connection must end whose writer waits for its peer, or too much waits
+//!   for a client;
 //! - two for each connection, which read and write;
-//! - one reads the orders of standard input, and one for each connection to a server that is being made: these
-//!   stand outside, and nobody waits for them.
+//! - one reads the orders of standard input, one performs those that are to be repeated, where any is, one tells of
+//!   the gateway, where it is to, and one for each connection to a server that is being made: these stand outside,
+//!   and nobody waits for them.
 #![tactic(auto)]
 
 mod asker;
@@ -24,15 +26,20 @@ mod link;
 mod machine;
 mod opening;
 mod orders;
+mod repeating;
+mod reports;
 mod rules;
 mod servers;
 mod watcher;
 mod workers;
 
 pub use fault::ServeFault;
+pub use hub::Options;
+pub use log::Level;
 pub use machine::{Machine, System};
 pub use opening::{SERVER_LIMIT, open};
 pub use rules::Files;
+pub use serve_state::{MostWaiting, Seconds, read_level};
 
 /// What the exit statuses of the program mean.
 pub mod status {

@@ -1,5 +1,5 @@
 //! What the machine does for the gateway, besides threads and sockets.
-use log::Log;
+use rule_check::Note;
 use std::alloc::Global;
 use std::fs::Files;
 use std::io;
@@ -7,9 +7,9 @@ use std::rt::Clock;
 use std::sync::Wait;
 
 /// What each thread may do: wait, sleep and log.
-pub trait System: Wait + Clock + Log + Copy + Send + Sync + Drop {}
+pub trait System: Wait + Clock + Eprint + Copy + Send + Sync + Drop {}
 
-impl<R: Wait + Clock + Log + Copy + Send + Sync + Drop> System for R {}
+impl<R: Wait + Clock + Eprint + Copy + Send + Sync + Drop> System for R {}
 
 /// Files and standard streams.
 pub trait Machine {
@@ -22,6 +22,9 @@ pub trait Machine {
 
     /// Writes a line to standard output.
     fn print_line(&self, line: &str) -> io::Result<()>;
+
+    /// Writes a note to standard error, where that can be written.
+    fn print_note(&self, note: Note);
 }
 
 impl Machine for HostRuntime {
@@ -35,5 +38,9 @@ impl Machine for HostRuntime {
 
     fn print_line(&self, line: &str) -> io::Result<()> {
         self.println(line)
+    }
+
+    fn print_note(&self, note: Note) {
+        let _ = eprintln!(self; "{note}");
     }
 }

@@ -3,10 +3,12 @@ use crate::asker::ask_servers;
 use crate::clients::{accept_clients, greet_clients};
 use crate::datagrams::{DATAGRAM_SIZE, receive};
 use crate::fault::ServeFault;
-use crate::hub::{AsGate, AsHub, AsRest, Hub, Served, Sockets, complain, tell};
+use crate::hub::{AsGate, AsHub, AsRest, Hub, Options, Served, Sockets};
 use crate::keeper::keep_rows;
 use crate::machine::{Machine, System};
 use crate::orders::{Orders, read_orders};
+use crate::repeating::{repeat_orders, repeats};
+use crate::reports::tell_reports;
 use crate::rules::{Files, read_policy, read_texts};
 use crate::servers::connect;
 use crate::status;
@@ -16,7 +18,7 @@ use gate_board::{Board, Gate};
 use gateway_core::{Config, Engine, Policy};
 use pv_name::Name;
 use rule_desk::Desk;
-use serve_state::Notice;
+use serve_state::{Notice, Try};
 use session_worker::{CoreEnd, serve_core};
 use std::alloc::Global;
 use std::fmt::Write;
@@ -43,15 +45,17 @@ pub fn open<
     listen: SocketAddr,
     servers: Vec<SocketAddr>,
     files: Files,
+    options: Options,
 ) -> Result<u8, ServeFault> {
-    let mut desk = Desk::new(alloc);
-    let texts = read_texts(&rt, alloc, &files)?;
-    let policy = read_policy(&rt, alloc, &mut desk, &texts)?;
+    let mut desk = Desk::with_syntax(alloc, files.syntax);
+    let texts = read_texts(&rt, alloc, &files, options.log)?;
+    let policy = read_policy(&rt, alloc, &mut desk, &texts, options.log)?;
     let (sockets, address) = open_sockets(rt, listen).map_err(ServeFault::Listen)?;
+    let reports = open_reports(rt, options.status).map_err(ServeFault::Reports)?;
     let gate = gate(alloc, address.port(), policy)?;
-    let rest = Hub::new(alloc, sockets, servers);
+    let rest = Hub::new(alloc, sockets, servers, options);
     tell_address(&rt, alloc, address)?;
-    serve(rt, alloc, gate, rest, Orders { desk, files })
+    serve(rt, alloc, gate, rest, reports, Orders { desk, files })
 }
 
 // Prints where it listens.
@@ -71,20 +75,22 @@ fn serve<
     R: Machine + System + Threads + Net<Listener = TcpListener, Stream = TcpStream> + 'static,
     G: AsGate + Send + Sync + Drop + 'static,
     P: AsRest + Send + Sync + Drop + 'static,
->(rt: R, alloc: Global, gate: G, rest: P, orders: Orders) -> Result<u8, ServeFault> {
+>(
+    rt: R,
+    alloc: Global,
+    gate: G,
+    rest: P,
+    reports: Option<TcpListener>,
+    orders: Orders,
+) -> Result<u8, ServeFault> {
     let Ok(hub) = Arc::new(alloc, Served { gate, rest }) else {
         return Err(ServeFault::OutOfMemory);
     };
     for number in 1..=SERVER_LIMIT {
-        connect(rt, &hub, number);
+        connect(rt, &hub, number, Try::Ordered);
     }
-    let again = Arc::try_clone(&hub)?;
-    let started = Builder::new()
-        .stack_size(STACK_SIZE)
-        .spawn(&rt, move || read_orders(rt, again, orders));
-    if started.is_err() {
-        return Err(ServeFault::OutOfMemory);
-    }
+    start_orders(rt, &hub, orders)?;
+    start_reports(rt, &hub, reports)?;
     let mut buffer = Vec::new(alloc);
     buffer.resize(DATAGRAM_SIZE, 0u8)?;
     let shared: &Served<G, P> = &hub;
@@ -92,6 +98,53 @@ fn serve<
     // The process ends now, with whatever waits for clients.
     forget(hub);
     Ok(ended)
+}
+
+// The threads that perform orders, written and repeated. Nobody waits for them.
+fn start_orders<
+    R: Machine + System + Threads + Net<Listener = TcpListener, Stream = TcpStream> + 'static,
+    H: AsHub + Send + Sync + Drop + 'static,
+>(rt: R, hub: &Arc<H, Global>, orders: Orders) -> Result<(), ServeFault> {
+    let again = Arc::try_clone(hub)?;
+    let reading = Builder::new()
+        .stack_size(STACK_SIZE)
+        .spawn(&rt, move || read_orders(rt, again, orders));
+    if reading.is_err() {
+        return Err(ServeFault::OutOfMemory);
+    }
+    if !repeats(hub.hub()) {
+        return Ok(());
+    }
+    let again = Arc::try_clone(hub)?;
+    let repeating = Builder::new()
+        .stack_size(STACK_SIZE)
+        .spawn(&rt, move || repeat_orders(rt, again));
+    match repeating {
+        Ok(_) => Ok(()),
+        Err(_) => Err(ServeFault::OutOfMemory),
+    }
+}
+
+// The thread that tells of the gateway, where it is to. Nobody waits for it.
+fn start_reports<R: System + Threads + 'static, H: AsHub + Send + Sync + Drop + 'static>(
+    rt: R,
+    hub: &Arc<H, Global>,
+    reports: Option<TcpListener>,
+) -> Result<(), ServeFault> {
+    let Some(listener) = reports else {
+        return Ok(());
+    };
+    if let Ok(address) = listener.local_addr() {
+        hub.hub().tell(&rt, Notice::ReportsAt(address));
+    }
+    let again = Arc::try_clone(hub)?;
+    let telling = Builder::new()
+        .stack_size(STACK_SIZE)
+        .spawn(&rt, move || tell_reports(rt, again, listener));
+    match telling {
+        Ok(_) => Ok(()),
+        Err(_) => Err(ServeFault::OutOfMemory),
+    }
 }
 
 // All threads but those that nobody waits for, until the gate is closed or fails.
@@ -105,7 +158,7 @@ fn run<R: System + Threads, H: AsHub + Sync>(rt: R, hub: &H, buffer: Vec<u8>) ->
             .stack_size(STACK_SIZE)
             .spawn_scoped(scope, move || greet_clients(rt, scope, hub));
         if !others || keeper.is_err() || greeter.is_err() {
-            complain(&rt, Notice::OutOfMemory);
+            hub.hub().tell(&rt, Notice::OutOfMemory);
             hub.end(&rt, status::FAILED);
         }
         perform_rounds(rt, hub);
@@ -142,9 +195,9 @@ fn start_others<'x, 's: 'x, E: 's, R: System + 's, H: AsHub + Sync + 's>(
 // Moves the board until the gate is closed or fails, and then has all threads end.
 fn perform_rounds<R: System, H: AsHub>(rt: R, hub: &H) {
     match serve_core(&rt, hub.gate()) {
-        CoreEnd::Closed => tell(&rt, Notice::Closing),
+        CoreEnd::Closed => hub.hub().tell(&rt, Notice::Closing),
         CoreEnd::GateFailed => {
-            complain(&rt, Notice::Failed);
+            hub.hub().tell(&rt, Notice::Failed);
             hub.end(&rt, status::FAILED);
         }
     }
@@ -182,4 +235,14 @@ fn open_sockets<R: System + Net<Listener = TcpListener, Stream = TcpStream>>(
         datagrams_door,
     };
     Ok((sockets, address))
+}
+
+fn open_reports<R: System + Net<Listener = TcpListener, Stream = TcpStream>>(
+    rt: R,
+    address: Option<SocketAddr>,
+) -> io::Result<Option<TcpListener>> {
+    match address {
+        Some(address) => Ok(Some(TcpListener::bind(&rt, address)?)),
+        None => Ok(None),
+    }
 }

@@ -1,13 +1,13 @@
 //! Orders on standard input.
 use crate::fault::ServeFault;
-use crate::hub::{AsHub, complain, tell};
+use crate::hub::{AsHub, Hub};
 use crate::machine::{Machine, System};
 use crate::rules::{Files, read_policy, read_texts};
 use crate::servers::connect;
 use crate::status;
 use gateway_core::Event;
 use rule_desk::Desk;
-use serve_state::{Notice, Order, read_order};
+use serve_state::{Notice, Order, Try, read_order};
 use std::alloc::Global;
 use std::io::ErrorKind;
 use std::net::{Net, TcpListener, TcpStream};
@@ -47,7 +47,9 @@ fn perform_lines<
                 }
             }
             // A line that is no text is none of the orders.
-            Err(fault) if fault.kind() == ErrorKind::InvalidData => (),
+            Err(fault) if fault.kind() == ErrorKind::InvalidData => hub
+                .hub()
+                .tell(&rt, Notice::NoOrder),
             Err(fault) if fault.kind() == ErrorKind::OutOfMemory => return status::FAILED,
             Err(_) => return status::STREAM_FAILED,
         }
@@ -70,15 +72,19 @@ fn perform<
     let shared: &H = hub;
     match order {
         Some(Order::Ask) => hub.hub().ask(&rt),
-        Some(Order::Sweep) => {
-            let _ = hub.gate().desk(&rt, Event::Sweep);
-        }
+        Some(Order::Sweep) => sweep(rt, shared),
         Some(Order::Reload) => return reload(rt, shared, desk, files),
-        Some(Order::Connect(number)) => connect(rt, hub, number),
+        Some(Order::Connect(number)) => connect(rt, hub, number, Try::Ordered),
         Some(Order::Quit) => return Some(status::GOOD),
-        None => (),
+        None => hub.hub().tell(&rt, Notice::NoOrder),
     }
     None
+}
+
+/// Has it forgotten which names clients looked for.
+pub fn sweep<R: System, H: AsHub>(rt: R, hub: &H) {
+    let _ = hub.gate().desk(&rt, Event::Sweep);
+    hub.hub().tell(&rt, Notice::Swept);
 }
 
 fn reload<R: Machine + System, H: AsHub>(
@@ -87,21 +93,27 @@ fn reload<R: Machine + System, H: AsHub>(
     desk: &mut Desk,
     files: &Files,
 ) -> Option<u8> {
-    let texts = match read_texts(&rt, hub.hub().alloc, files) {
+    let texts = match read_texts(&rt, hub.hub().alloc, files, hub.hub().options.log) {
         Ok(texts) => texts,
         Err(ServeFault::OutOfMemory) => {
-            complain(&rt, Notice::OutOfMemory);
+            hub.hub().tell(&rt, Notice::OutOfMemory);
             return None;
         }
         Err(_) => return None,
     };
-    match read_policy(&rt, hub.hub().alloc, desk, &texts) {
+    match read_policy(&rt, hub.hub().alloc, desk, &texts, hub.hub().options.log) {
         Ok(policy) => {
             let _ = hub.gate().desk(&rt, Event::Edit(policy));
-            tell(&rt, Notice::Reloaded);
+            count_edit(rt, hub.hub());
+            hub.hub().tell(&rt, Notice::Reloaded);
             None
         }
         Err(ServeFault::Output) => Some(status::STREAM_FAILED),
         Err(_) => None,
     }
+}
+
+fn count_edit<R: System>(rt: R, hub: &Hub) {
+    let mut edits = hub.edits.lock(&rt);
+    *edits = edits.saturating_add(1);
 }

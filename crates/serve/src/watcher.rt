@@ -7,22 +7,23 @@ use std::net::Shutdown;
 use std::sync::CondvarTimeouts;
 use std::time::Duration;
 
-/// How many milliseconds pass between two looks at all connections.
+/// How many milliseconds pass between two looks, four of which are a second.
 const PAUSE: u64 = 250;
 
-/// Looks at all connections again and again, until the gateway closes, and shuts those that must end. A
-/// writer finds that itself, but not while it waits for a peer that doesn't read.
+/// Looks at all connections again and again, until the gateway closes, and shuts those that must end and those
+/// of clients for whom too much waits. A writer finds the former itself, but not while it waits for a peer that
+/// doesn't read; nobody else looks for the latter.
 pub fn watch<R: System, H: AsHub>(rt: R, hub: &H) {
     for _ in rt.forever() {
         if !rests(rt, hub.hub()) {
             return;
         }
-        shut_marked(rt, hub);
+        look_at_all(rt, hub);
     }
 }
 
-// Waits for a while. False where the gateway closes.
-fn rests<R: System>(rt: R, hub: &Hub) -> bool {
+/// Waits for a while. False where the gateway closes.
+pub fn rests<R: System>(rt: R, hub: &Hub) -> bool {
     let roster = hub.roster.lock(&rt);
     let pause = Duration::from_millis(PAUSE);
     let (roster, _) = hub
@@ -31,21 +32,32 @@ fn rests<R: System>(rt: R, hub: &Hub) -> bool {
     !roster.is_closing()
 }
 
-fn shut_marked<R: System, H: AsHub>(rt: R, hub: &H) {
+fn look_at_all<R: System, H: AsHub>(rt: R, hub: &H) {
     let mut place = 0usize;
     for _ in rt.forever() {
         let Some(dest) = dest_at(rt, hub.hub(), place) else {
             return;
         };
-        if matches!(hub.gate().must_end(&rt, dest), Ok(true)) {
-            hub.hub().cut(&rt, dest, Cut::TooSlow);
+        if let Some(why) = why_shut(rt, hub, dest) {
+            hub.hub().cut(&rt, dest, why);
             shut(rt, hub.hub(), dest);
         }
         place = place.saturating_add(1);
     }
 }
 
-fn dest_at<R: System>(rt: R, hub: &Hub, place: usize) -> Option<Dest> {
+// Why a connection is to be shut; None where it goes on, or the gateway failed.
+fn why_shut<R: System, H: AsHub>(rt: R, hub: &H, dest: Dest) -> Option<Cut> {
+    let must_end = hub.gate().must_end(&rt, dest).ok()?;
+    let bytes = hub.gate().queued_bytes(&rt, dest).ok()?;
+    hub.hub()
+        .options
+        .most_waiting
+        .why_shut(dest, must_end, bytes)
+}
+
+/// The connection whose row has this place.
+pub fn dest_at<R: System>(rt: R, hub: &Hub, place: usize) -> Option<Dest> {
     let roster = hub.roster.lock(&rt);
     roster.rows().get(place).map(|row| row.dest())
 }

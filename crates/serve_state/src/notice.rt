@@ -1,4 +1,8 @@
 //! What is logged.
+ghost use Rattle.std.specs.Prelude.{◌≡◌};
+ghost use Rattle.serve_state.specs.Levels.{level_of};
+
+use log::Level;
 use pvlist::RuleCause;
 use std::fmt;
 use std::net::SocketAddr;
@@ -14,19 +18,23 @@ pub enum Cut {
     TooOld,
     /// As many messages as can be wait for it.
     TooSlow,
+    /// More bytes wait for it than so many MiB.
+    TooMuch(u32),
     OutOfMemory,
 }
 
 impl fmt::Display for Cut {
     fn fmt<W: fmt::Write>(&self, f: &mut fmt::Formatter<W>) -> fmt::Result {
-        f.write_str(match self {
+        let why = match self {
             Cut::Misaligned =>
                 "it sent bytes that are no message (a length that is no multiple of 8)",
-            Cut::TooLarge => "it sent bytes that are no message (a length over 1048576)",
+            Cut::TooLarge => "it sent bytes that are no message (a length over 16777216)",
             Cut::TooOld => "its protocol version is below 9",
             Cut::TooSlow => "16384 messages waited for it",
+            Cut::TooMuch(mib) => return write!(f, "more than {mib} MiB waited for it"),
             Cut::OutOfMemory => "out of memory",
-        })
+        };
+        f.write_str(why)
     }
 }
 
@@ -39,8 +47,12 @@ pub enum Notice<'a> {
     GroupsRefused(usize, RuleCause),
     FileUnread(&'a str),
     Reloaded,
+    /// Whoever connects to this address is told of the gateway.
+    ReportsAt(SocketAddr),
     ServerConnected(u32, SocketAddr),
     ServerUnreached(u32, SocketAddr),
+    /// It was told already that it can't be reached, and nobody ordered this try.
+    ServerStillUnreached(u32, SocketAddr),
     ServerLost(u32, SocketAddr),
     ServerCut(u32, SocketAddr, Cut),
     ClientConnected(u32, SocketAddr),
@@ -48,9 +60,47 @@ pub enum Notice<'a> {
     ClientCut(u32, SocketAddr, Cut),
     ClientRefused(SocketAddr, &'a str),
     NamesNearLimit(usize),
+    /// So many names were asked for.
+    NamesAsked(usize),
+    /// It was forgotten which names clients looked for.
+    Swept,
+    /// A line of standard input is none of the orders.
+    NoOrder,
     OutOfMemory,
     Failed,
     Closing,
+}
+
+impl<'a> Notice<'a> {
+    /// The level at which it is logged.
+    pub fn level(&self) -> Level
+        ensures { result ≡ level_of self.now }
+    {
+        match self {
+            Notice::OutOfMemory | Notice::Failed => Level::Error,
+            Notice::RulesRefused(_, _)
+            | Notice::GroupsRefused(_, _)
+            | Notice::FileUnread(_)
+            | Notice::ServerUnreached(_, _)
+            | Notice::ServerLost(_, _)
+            | Notice::ServerCut(_, _, _)
+            | Notice::ClientCut(_, _, _)
+            | Notice::ClientRefused(_, _)
+            | Notice::NamesNearLimit(_) => Level::Warn,
+            Notice::RulesRead(_)
+            | Notice::OpenToAll
+            | Notice::Reloaded
+            | Notice::ReportsAt(_)
+            | Notice::ServerConnected(_, _)
+            | Notice::ClientConnected(_, _)
+            | Notice::ClientGone(_, _)
+            | Notice::Closing => Level::Info,
+            Notice::ServerStillUnreached(_, _)
+            | Notice::NamesAsked(_)
+            | Notice::Swept
+            | Notice::NoOrder => Level::Debug,
+        }
+    }
 }
 
 impl<'a> fmt::Display for Notice<'a> {
@@ -65,6 +115,7 @@ impl<'a> fmt::Display for Notice<'a> {
             ),
             Notice::FileUnread(path) => write!(f, "rules refused: {path} can't be read"),
             Notice::Reloaded => f.write_str("reload: the new rules hold"),
+            Notice::ReportsAt(address) => write!(f, "status at {address}"),
             Notice::ServerConnected(number, peer) => write!(
                 f,
                 "upstream {number} ({peer}) connected"
@@ -75,6 +126,10 @@ impl<'a> fmt::Display for Notice<'a> {
                     "upstream {number} ({peer}) can't be reached: write `connect {number}`, and then `ask`, to try again"
                 )
             }
+            Notice::ServerStillUnreached(number, peer) => write!(
+                f,
+                "upstream {number} ({peer}) still can't be reached"
+            ),
             Notice::ServerLost(number, peer) => {
                 write!(
                     f,
@@ -103,6 +158,9 @@ impl<'a> fmt::Display for Notice<'a> {
                     "{names} of 4096 searched names are remembered and not found: write `sweep` to forget them"
                 )
             }
+            Notice::NamesAsked(names) => write!(f, "names asked for: {names}"),
+            Notice::Swept => f.write_str("swept: searched names are forgotten"),
+            Notice::NoOrder => f.write_str("a line that is no order"),
             Notice::OutOfMemory => f.write_str("out of memory"),
             Notice::Failed => f.write_str("the gateway ran out of memory or numbers, and ends"),
             Notice::Closing => f.write_str("closing"),

@@ -56,7 +56,7 @@ fn read_connect(line: &[u8]) -> Option<Order>
 }
 
 // Digits alone: `parse` would take a plus.
-fn read_number(digits: &[u8]) -> Option<u32>
+pub(crate) fn read_number(digits: &[u8]) -> Option<u32>
     ensures { result ≡ number_of 32 digits.now }
 {
     if digits.starts_with(b"+") {

@@ -1,12 +1,11 @@
 //! What servers say of channels.
 ghost use Rattle.std.specs.Prelude.{◌≡◌, OnOk, IfOk};
-ghost use Rattle.gateway_state.specs.Servers.{is_usable, channel_made, answered_creating, channel_returned, rights_said, creation_refused, channel_dropped, with_link_state};
-ghost use Rattle.dbr_layout.specs.Dbr.{dbr_of};
+ghost use Rattle.gateway_state.specs.Servers.{channel_made, answered_creating, channel_returned, rights_said, creation_refused, channel_dropped, with_link_state};
 ghost use Rattle.touched_rows.specs.Touches.{created_touches, gone_touches, rights_touches};
 
 use ca_message::ToServer;
-use gateway_rows::{Rows, fits_payload, is_connected, is_creating, time_of};
-use gateway_state::PLAIN_TYPES;
+use gateway_rows::Rows;
+use gateway_values::{is_connected, is_creating, is_usable};
 use link_table::LinkState;
 use std::alloc::AllocError;
 use touched_rows::Touched;
@@ -109,11 +108,4 @@ pub(crate) fn hear_disconnect(rows: &mut Rows, server: u32, cid: u32) -> Result<
     };
     rows.remove_link(server, cid);
     Ok(touched)
-}
-
-/// Whether updates of a channel with this native type and count can be taken.
-fn is_usable(dtype: u16, count: u32) -> bool
-    ensures { result ≡ is_usable dtype count }
-{
-    dtype < PLAIN_TYPES && 0 < count && fits_payload(time_of(dtype), count)
 }

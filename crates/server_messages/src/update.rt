@@ -3,18 +3,19 @@ ghost use Rattle.std.specs.Prelude.{◌≡◌, ◌≤◌, ◌+◌, ◌*◌, true
 ghost use Rattle.std.specs.List.{find};
 ghost use Rattle.gateway_rows.specs.Own.{own_over, subs_on};
 ghost use Rattle.link_table.specs.Links.{has_subscription};
-ghost use Rattle.gateway_state.specs.Servers.{concerns, fails_without, has_other_alarm, held_with, is_told, is_value, read_failed, subject_of, updated, with_held};
+ghost use Rattle.gateway_state.specs.Servers.{concerns, fails_without, has_other_alarm, held_with, is_heard, read_failed, updated, with_held};
 ghost use Rattle.gateway_state.specs.Updates.{concerned, is_concerned};
 ghost use Rattle.touched_rows.specs.Touches.{update_touches};
 
-use crate::describe::{concerned_by_properties, is_description};
+use crate::describe::concerned_by_properties;
 use bytes::Bytes;
 use ca_message::ToClient;
 use ca_message::codes::{ECA_GETFAIL, ECA_NORMAL};
 use channel_table::{ClientSub, Visits, WaitingRead};
 use dbr_layout::View;
-use gateway_rows::{Rows, native_in, needs_by_number, time_of};
-use gateway_state::{ALARM_EVENTS, Native, VALUE_EVENTS};
+use gateway_rows::Rows;
+use gateway_state::Native;
+use gateway_values::{fails_without, is_concerned, is_heard, native_in, subject_of};
 use link_table::{Link, LinkState, Subject};
 use pv_name::Name;
 use std::alloc::{AllocError, Global};
@@ -36,20 +37,6 @@ fn fail_read(rows: &mut Rows, read: WaitingRead) -> Result<(), AllocError>
         code: ECA_GETFAIL,
     };
     rows.tell(read.session, &said)
-}
-
-/// Whether a read of a variable of this native type can't be had where a server fails to tell a
-/// subject: without values none can, without properties none that needs them.
-fn fails_without(subject: Subject, native: Option<Native>, read: &WaitingRead) -> bool
-    ensures { result ≡ fails_without subject native read.now }
-{
-    match subject {
-        Subject::Values => true,
-        Subject::Properties => match native {
-            Some(native) => needs_by_number(native.dtype, read.dtype),
-            None => false,
-        },
-    }
 }
 
 /// None of these reads can be had that fail without the subject.
@@ -92,7 +79,7 @@ fn keep(
     payload: Bytes,
     asked_with: u32,
 ) -> Result<(), AllocError>
-    requires { is_told subject native asked_with dtype count payload ≡ true }
+    requires { is_heard subject native asked_with dtype count payload ≡ true }
     ensures { OnOk result (rows.new ≡ with_held server cid (held_with subject dtype count payload asked_with) rows.old) }
 {
     match subject {
@@ -118,7 +105,7 @@ fn concerned_by_value(
 {
     let mut subs = Vec::new(rows.alloc);
     for sub in &rows.subs_on(visits, name)? {
-        if is_concerned(sub, differs) {
+        if is_concerned(differs, sub) {
             subs.push(*sub)?;
         }
     }
@@ -162,16 +149,6 @@ fn has_other_alarm(rows: &Rows, cid: u32, dtype: u16, count: u32, payload: &[u8]
     }
 }
 
-/// The subject of a link's subscription that has this ID.
-fn subject_of(id: u32, link: &Link) -> Subject
-    ensures { result ≡ subject_of id link.now }
-{
-    match link.subscriptions.values {
-        Some(sub) if sub.id == id => Subject::Values,
-        _ => Subject::Properties,
-    }
-}
-
 /// An update came under a subscription's ID.
 #[tactic(auto, using(crate::proofs::Concerned::failing_are_waiting))]
 pub(crate) fn update(
@@ -206,7 +183,7 @@ pub(crate) fn update(
         return Ok(Touched::Nothing);
     };
     let asked_with = subscription.count;
-    if !is_told(subject, native, asked_with, dtype, count, &payload) {
+    if !is_heard(subject, native, asked_with, dtype, count, &payload) {
         return Ok(Touched::Nothing);
     }
     let touched = Touched::Value(link.name.copy()?);
@@ -218,36 +195,4 @@ pub(crate) fn update(
         rows, subject, native, server, cid, dtype, count, payload, asked_with,
     )?;
     Ok(touched)
-}
-
-/// Whether an update counts, of a variable of this native type.
-fn is_told(
-    subject: Subject,
-    native: u16,
-    asked_with: u32,
-    dtype: u16,
-    count: u32,
-    payload: &[u8],
-) -> bool
-    ensures { result ≡ is_told subject native asked_with dtype count payload.now }
-{
-    match subject {
-        Subject::Values => is_value(native, asked_with, dtype, count, payload),
-        Subject::Properties => is_description(native, dtype, count, payload),
-    }
-}
-
-/// Whether an update counts as a value.
-fn is_value(native: u16, asked_with: u32, dtype: u16, count: u32, payload: &[u8]) -> bool
-    ensures { result ≡ is_value native asked_with dtype count payload.now }
-{
-    dtype == time_of(native) && count <= asked_with && View::new(dtype, count, payload).is_ok()
-}
-
-/// Whether a value concerns a subscription: it asks for values or for the log, or for alarms and the
-/// alarm is another.
-fn is_concerned(sub: &ClientSub, differs: bool) -> bool
-    ensures { result ≡ is_concerned differs sub.now }
-{
-    sub.mask & VALUE_EVENTS > 0 || sub.mask & ALARM_EVENTS > 0 && differs
 }

@@ -15,7 +15,7 @@ use Rattle.link_table.specs.LinkIndex.{key}
 use Rattle.value_cache.specs.Held.{Held}
 use Rattle.gateway_state.specs.declared.cached.LastMessage.{LastMessage}
 use Rattle.gateway_state.specs.CachedRows.{is_cached_of, is_cached_elsewhere, put_row}
-use Rattle.state_tables.specs.LatestRows.{AreApart, AreLatest, latest_key, unchanged, untold, with_held}
+use Rattle.state_tables.specs.LatestRows.{AreApart, AreLatest, latest_key, unchanged, bare, with_held}
 use Rattle.state_tables.proofs.ConnectionRows.{and_true}
 
 -- the row that has a key is that of the link
@@ -82,7 +82,7 @@ made_already server cid (row ∷ rows) there =
     [ true ↦ λ h. refl | false ↦ λ h. ap (λ xs. row ∷ xs) (made_already server cid rows h) ] there
 
 -- else it is a last one
-pub made_last : (server cid : ℕ) (rows : List LastMessage) → list_any (is_cached_of cid) rows ≡ false → put_row server cid unchanged rows ≡ rows ++ untold server cid ∷ []
+pub made_last : (server cid : ℕ) (rows : List LastMessage) → list_any (is_cached_of cid) rows ≡ false → put_row server cid unchanged rows ≡ rows ++ bare server cid ∷ []
 made_last server cid [] none = refl
 made_last server cid (row ∷ rows) none =
     let parts = or_parts (is_cached_of cid row) (list_any (is_cached_of cid) rows) none in

@@ -24,8 +24,8 @@ AreApart [] = Unit {0}
 AreApart (row ∷ later) = (list_any (is_cached_of row.cid) later ≡ false) × AreApart later
 
 -- a link's row before anything is told
-abbrev pub untold : ℕ → ℕ → LastMessage
-untold server cid = record { server = server; cid = cid; held = nothing }
+abbrev pub bare : ℕ → ℕ → LastMessage
+bare server cid = record { server = server; cid = cid; held = nothing }
 
 -- the row with what is held changed
 abbrev pub with_held : (Held → Held) → LastMessage → LastMessage

@@ -2,14 +2,16 @@
 ghost use Rattle.std.specs.Prelude.{◌≡◌, ◌∷◌, ◌++◌, [], false, length, take, OnOk, OnErr, IfOk};
 ghost use Rattle.std.specs.List.{list_any, filter, find};
 ghost use Rattle.std.specs.Option.{option_copied};
+ghost use Rattle.fanout.specs.Waiting.{waiting_bytes};
 ghost use Rattle.rows.specs.Rows.{change_first};
 ghost use Rattle.row_index.specs.Rows.{has_key, value_at};
 ghost use Rattle.channel_table.specs.Indexes.{changed_by};
 ghost use Rattle.state_tables.specs.ConnectionKeys.{key_of, outbox_under};
 ghost use Rattle.gateway_state.specs.Connections.{is_to, is_not_to, given, marked_now, relieved, fresh, outbox_of};
+ghost use Rattle.gateway_state.specs.Updates.{takes_updates};
 
 use fanout::{AppendFault, Out, Outbox};
-use gateway_state::{Connection, Dest};
+use gateway_state::{Connection, Dest, UPDATE_LIMIT};
 use row_index::{Key, RowMap};
 use std::alloc::{AllocError, Global};
 use std::marker::Model;
@@ -73,6 +75,29 @@ impl Connections {
         match self.get(dest) {
             Some(connection) => connection.outbox.len(),
             None => 0,
+        }
+    }
+
+    /// How many bytes wait, 0 where the connection doesn't stand.
+    pub fn queued_bytes(&self, dest: Dest) -> u64
+        ensures { result ≡ waiting_bytes (outbox_of dest self.now) }
+    {
+        match self.get(dest) {
+            Some(connection) => connection.outbox.bytes(),
+            None => 0,
+        }
+    }
+
+    /// Whether the connection's outbox takes updates: it isn't marked, and not too many messages wait.
+    pub fn takes_updates(&self, dest: Dest) -> bool
+        ensures { result ≡ takes_updates (outbox_of dest self.now) }
+    {
+        match self.get(dest) {
+            Some(connection) => {
+                let outbox = &connection.outbox;
+                !outbox.marked() && outbox.len() < UPDATE_LIMIT
+            }
+            None => true,
         }
     }
 

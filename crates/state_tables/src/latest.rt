@@ -10,7 +10,7 @@ ghost use Rattle.value_cache.specs.Held.{with_properties, with_value, without_pr
 ghost use Rattle.value_cache.specs.Message.{TellsProperties};
 ghost use Rattle.gateway_state.specs.CachedRows.{is_cached_of, is_cached_elsewhere, without_told};
 ghost use Rattle.link_table.specs.LinkIndex.{key};
-ghost use Rattle.state_tables.specs.LatestRows.{server_of, untold, with_held, AreApart};
+ghost use Rattle.state_tables.specs.LatestRows.{server_of, bare, with_held, AreApart};
 
 use bytes::Bytes;
 use gateway_state::{LastMessage, LastValue};
@@ -72,7 +72,7 @@ impl Latest {
     /// Adds a row for a link, to which nothing was told.
     pub(crate) fn add(&mut self, server: u32, cid: u32) -> Result<(), AllocError>
         requires new { list_any (is_cached_of cid) self.old ≡ false }
-        ensures ok { OnOk result (self.new ≡ self.old ++ untold server cid ∷ []) }
+        ensures ok { OnOk result (self.new ≡ self.old ++ bare server cid ∷ []) }
         ensures err { OnErr result (self.new ≡ self.old) }
     {
         let row = LastMessage {

@@ -13,7 +13,7 @@ use Rattle.channel_table.specs.declared.channels.Reach.{Reach}
 use Rattle.channel_table.specs.declared.channels.Channel.{Channel}
 use Rattle.channel_table.specs.declared.reads.WaitingRead.{WaitingRead}
 use Rattle.channel_table.specs.declared.subs.ClientSub.{ClientSub}
-use Rattle.channel_table.specs.Channels.{is_channel, is_not_channel, with_reach_and_rights}
+use Rattle.channel_table.specs.Channels.{is_channel, is_not_channel, with_reach_and_rights, is_channel_on, is_on}
 use Rattle.channel_table.specs.Reads.{is_not_read_on}
 use Rattle.channel_table.specs.Subs.{is_not_sub_on, with_owed}
 use Rattle.channel_table.specs.Demand.{own_ask}
@@ -37,7 +37,7 @@ use Rattle.gateway_state.specs.Searches.{leads_to}
 use Rattle.gateway_state.specs.Servers.{waits_for}
 use Rattle.gateway_state.specs.Telling.{outgoing, sent}
 use Rattle.gateway_state.specs.Updates.{is_sub_to, is_unreadable, is_withheld, update_notice, update_on}
-use Rattle.gateway_state.specs.Variables.{is_channel_on, is_on, is_wanted, link_of}
+use Rattle.gateway_state.specs.Variables.{is_wanted, link_of}
 use Rattle.gateway_state.proofs.RowTests.{any_changed}
 use Rattle.gateway_state.proofs.SettledWithheld.{with_subs}
 use Rattle.touched_rows.proofs.Blanked.{found_blanked, passing_changed}

@@ -10,7 +10,7 @@ use Rattle.ca_message.specs.declared.to_client.ToClient.TheVariants as replies
 use Rattle.channel_table.specs.declared.channels.Channel.{Channel}
 use Rattle.channel_table.specs.declared.reads.WaitingRead.{WaitingRead}
 use Rattle.channel_table.specs.declared.subs.ClientSub.{ClientSub}
-use Rattle.channel_table.specs.Channels.{is_channel, is_not_channel}
+use Rattle.channel_table.specs.Channels.{is_channel, is_not_channel, is_on}
 use Rattle.channel_table.specs.Reads.{is_not_read_on}
 use Rattle.channel_table.specs.Subs.{is_not_sub_on}
 use Rattle.fanout.specs.declared.outbox.Out.{Out}
@@ -23,7 +23,7 @@ use Rattle.gateway_state.specs.Interest.{is_read_through, is_reader, is_subscrib
 use Rattle.gateway_state.specs.Notices.{channel_told, read_notice}
 use Rattle.gateway_state.specs.Rights.{channel_of, may_read, rights_of}
 use Rattle.gateway_state.specs.Telling.{outgoing, sent}
-use Rattle.gateway_state.specs.Variables.{is_among, is_on}
+use Rattle.gateway_state.specs.Variables.{is_among}
 use Rattle.touched_rows.specs.Touched.{disconnected, is_channel_among}
 use Rattle.touched_rows.proofs.Beside.{IsQuiet}
 use Rattle.touched_rows.proofs.Cleared.{found_without, not_so}

@@ -10,7 +10,7 @@ use Rattle.channel_table.specs.ClientRows.{ClientRows}
 use Rattle.channel_table.specs.declared.channels.Channel.{Channel}
 use Rattle.channel_table.specs.declared.reads.WaitingRead.{WaitingRead}
 use Rattle.channel_table.specs.declared.subs.ClientSub.{ClientSub}
-use Rattle.channel_table.specs.Channels.{is_channel, is_not_channel}
+use Rattle.channel_table.specs.Channels.{is_channel, is_not_channel, is_on}
 use Rattle.channel_table.specs.Reads.{is_not_read_on}
 use Rattle.channel_table.specs.Subs.{is_not_sub_on}
 use Rattle.channel_table.specs.Demand.{own_ask}
@@ -29,7 +29,7 @@ use Rattle.gateway_state.specs.Settled.{AreInOrder, HasLinksApart, IsSettled, si
 use Rattle.gateway_state.specs.Step.{consequences}
 use Rattle.gateway_state.specs.Telling.{sent}
 use Rattle.gateway_state.specs.Updates.{is_unreadable, is_withheld, update_notice, update_notices, update_on, updates_told, withheld}
-use Rattle.gateway_state.specs.Variables.{is_on, is_wanted, link_of}
+use Rattle.gateway_state.specs.Variables.{is_wanted, link_of}
 use Rattle.gateway_state.proofs.SettledMeaning.{none_told}
 use Rattle.gateway_state.proofs.SettledSteps.{found_is_on, reads_stay, updates_stay}
 use Rattle.touched_rows.specs.Touched.{link_notices_over, link_told_on}

@@ -13,7 +13,7 @@ use Rattle.channel_table.specs.declared.reads.WaitingRead.{WaitingRead}
 use Rattle.channel_table.specs.declared.sessions.Session.{Session}
 use Rattle.channel_table.specs.declared.subs.ClientSub.{ClientSub}
 use Rattle.channel_table.specs.declared.table.TheConstants.{CHANNEL_LIMIT}
-use Rattle.channel_table.specs.Channels.{is_channel}
+use Rattle.channel_table.specs.Channels.{is_channel, is_on}
 use Rattle.channel_table.specs.ClientRows.{channel_count}
 use Rattle.channel_table.specs.Sessions.{is_numbered}
 use Rattle.channel_table.specs.Demand.{own_ask}
@@ -37,7 +37,7 @@ use Rattle.gateway_state.specs.Settled.{HasReadsOnChannels, HasSubsOnChannels, I
 use Rattle.gateway_state.specs.Step.{consequences}
 use Rattle.gateway_state.specs.Telling.{outgoing, sent}
 use Rattle.gateway_state.specs.Updates.{is_open_to, is_unreadable, is_withheld, update_notice, update_notices, update_on, withheld}
-use Rattle.gateway_state.specs.Variables.{is_connected, is_on, is_wanted, link_of}
+use Rattle.gateway_state.specs.Variables.{is_connected, is_wanted, link_of}
 use Rattle.gateway_state.proofs.SettledMeaning.{none_told}
 use Rattle.gateway_state.proofs.SettledSteps.{settled_stays}
 use Rattle.touched_rows.proofs.LinksQuiet.{links_quiet}

@@ -13,7 +13,7 @@ use Rattle.dbr_layout.specs.Fault.{◌>>=◌}
 use Rattle.dbr_layout.specs.Needs.{needs}
 use Rattle.dbr_layout.specs.Properties.{Properties}
 use Rattle.dbr_layout.specs.View.{Shown}
-use Rattle.value_cache.specs.Held.{Held, Value, answer_of, are_told, covers_by, given, laid_out, needs_by}
+use Rattle.value_cache.specs.Held.{Held, Value, answer_of, are_there, covers_by, given, laid_out, needs_by}
 use Rattle.gateway_state.specs.declared.cached.LastMessage.{LastMessage}
 use Rattle.gateway_state.specs.Answer.{cached_as, given_in, meant_count}
 use Rattle.gateway_state.specs.CachedRows.{is_cached_of, put_row, without_told}
@@ -36,7 +36,7 @@ had_without native dtype count row none = by row.held.value none
     told = row.held.properties
 
     over : (value : Value) (within needed : Bool) → needs_by value.shown.dbr.base dtype ≡ needed
-        → cond (within && (not needed || are_told value.shown.dbr.base told)) (given_in (given dtype count told value.shown)) None ≡ None
+        → cond (within && (not needed || are_there value.shown.dbr.base told)) (given_in (given dtype count told value.shown)) None ≡ None
         → cond (within && (not needed || false)) (given_in (given dtype count None value.shown)) None ≡ None
     over value false needed is none = refl
     over value true true is none = refl

@@ -10,7 +10,7 @@ use Rattle.channel_table.specs.ClientRows.{ClientRows}
 use Rattle.channel_table.specs.declared.channels.Channel.{Channel}
 use Rattle.channel_table.specs.declared.reads.WaitingRead.{WaitingRead}
 use Rattle.channel_table.specs.declared.subs.ClientSub.{ClientSub}
-use Rattle.channel_table.specs.Channels.{is_channel, is_channel_of, is_not_channel_of}
+use Rattle.channel_table.specs.Channels.{is_channel, is_channel_of, is_not_channel_of, is_on}
 use Rattle.channel_table.specs.Reads.{is_not_read_of, is_read_of}
 use Rattle.channel_table.specs.Sessions.{is_not_numbered, is_numbered}
 use Rattle.channel_table.specs.Subs.{is_not_sub_of, is_sub_of}
@@ -31,7 +31,7 @@ use Rattle.gateway_state.specs.Sessions.{lost}
 use Rattle.gateway_state.specs.Settled.{AreInOrder, IsSettled}
 use Rattle.gateway_state.specs.Step.{consequences}
 use Rattle.gateway_state.specs.Updates.{is_unreadable, is_withheld, paused_in, takes_updates, update_notice, update_notices, update_on, update_over, updates_told, withheld}
-use Rattle.gateway_state.specs.Variables.{channel_names, is_among, is_on, is_wanted, link_of}
+use Rattle.gateway_state.specs.Variables.{channel_names, is_among, is_wanted, link_of}
 use Rattle.gateway_state.proofs.SettledChannels.{notice_by}
 use Rattle.gateway_state.proofs.SettledMeaning.{none_told}
 use Rattle.gateway_state.proofs.SettledSteps.{found_is_on, reads_stay, updates_stay}

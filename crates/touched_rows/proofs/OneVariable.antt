@@ -9,7 +9,7 @@ use Rattle.channel_table.specs.ClientRows.{ClientRows, is_read_for, is_sub_to as
 use Rattle.channel_table.specs.declared.channels.Channel.{Channel}
 use Rattle.channel_table.specs.declared.reads.WaitingRead.{WaitingRead}
 use Rattle.channel_table.specs.declared.subs.ClientSub.{ClientSub}
-use Rattle.channel_table.specs.Channels.{is_channel}
+use Rattle.channel_table.specs.Channels.{is_channel, is_channel_on, is_on}
 use Rattle.channel_table.specs.Demand.{own_ask}
 use Rattle.link_table.specs.declared.links.Link.{Link}
 use Rattle.link_table.specs.Links.{is_named}
@@ -30,7 +30,7 @@ use Rattle.gateway_state.specs.Servers.{waits_for}
 use Rattle.gateway_state.specs.Settled.{AreApart, AreRising, HasSubsApart, cid_of, sid_of}
 use Rattle.gateway_state.specs.Step.{consequences}
 use Rattle.gateway_state.specs.Updates.{is_sub_to, is_withheld, owed_to_all, update_notice, update_on, update_told, updates_told, updates_withheld, withheld}
-use Rattle.gateway_state.specs.Variables.{is_channel_on, is_on, is_wanted, link_of}
+use Rattle.gateway_state.specs.Variables.{is_wanted, link_of}
 use Rattle.gateway_state.proofs.KeptByRuns.{kept_channels}
 use Rattle.gateway_state.proofs.SettledChannels.{notice_by}
 use Rattle.gateway_state.proofs.SettledMeaning.{none_told}

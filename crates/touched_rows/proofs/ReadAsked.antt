@@ -9,7 +9,7 @@ use Rattle.channel_table.specs.ClientRows.{ClientRows}
 use Rattle.channel_table.specs.declared.channels.Channel.{Channel}
 use Rattle.channel_table.specs.declared.reads.WaitingRead.{WaitingRead}
 use Rattle.channel_table.specs.declared.subs.ClientSub.{ClientSub}
-use Rattle.channel_table.specs.Channels.{is_channel, with_reach_and_rights}
+use Rattle.channel_table.specs.Channels.{is_channel, with_reach_and_rights, is_on}
 use Rattle.channel_table.specs.Demand.{own_ask}
 use Rattle.gateway_state.specs.declared.notice.ReadNotice.{ReadNotice}
 use Rattle.gateway_state.specs.declared.notice.ReadNotice.TheVariants.{Answered, Refused}
@@ -23,7 +23,7 @@ use Rattle.gateway_state.specs.Settled.{HasLinksApart, IsSettled}
 use Rattle.gateway_state.specs.Step.{consequences}
 use Rattle.gateway_state.specs.Telling.{sent}
 use Rattle.gateway_state.specs.Updates.{is_unreadable, update_notice, update_notices, updates_told, withheld}
-use Rattle.gateway_state.specs.Variables.{is_on, is_wanted}
+use Rattle.gateway_state.specs.Variables.{is_wanted}
 use Rattle.gateway_state.proofs.RowTests.{any_changed}
 use Rattle.gateway_state.proofs.SettledChannels.{notice_by}
 use Rattle.gateway_state.proofs.SettledMeaning.{none_told}

@@ -21,7 +21,8 @@ use Rattle.gateway_state.specs.Step.{step}
 use Rattle.gateway_state.specs.Telling.{sent, told}
 use Rattle.gateway_state.specs.Told.{KnowRights, KnowsRights}
 use Rattle.gateway_state.specs.Updates.{is_taking, owed_to_all, update_notice, update_told, with_owed_of}
-use Rattle.gateway_state.specs.Variables.{is_on, is_wanted, link_of}
+use Rattle.channel_table.specs.Channels.{is_on}
+use Rattle.gateway_state.specs.Variables.{is_wanted, link_of}
 use Rattle.gateway_state.proofs.OrderKept.{order_after_effect}
 use Rattle.gateway_state.proofs.ReachedStates.{reached_step}
 use Rattle.gateway_state.proofs.ToldRights.{reached_told}

@@ -17,7 +17,8 @@ use Rattle.gateway_state.specs.Servers.{server_versioned}
 use Rattle.gateway_state.specs.Settled.{IsSettled}
 use Rattle.gateway_state.specs.Step.{consequences}
 use Rattle.gateway_state.specs.Updates.{update_notice}
-use Rattle.gateway_state.specs.Variables.{is_on, is_wanted}
+use Rattle.channel_table.specs.Channels.{is_on}
+use Rattle.gateway_state.specs.Variables.{is_wanted}
 use Rattle.gateway_state.proofs.SettledSteps.{settled_stays}
 use Rattle.touched_rows.proofs.LinksQuiet.{links_quiet}
 

@@ -9,7 +9,7 @@ use Rattle.std.proofs.lemmas.Slice.Eq.{bytes_eq-Decides}
 use Rattle.channel_table.specs.declared.channels.Channel.{Channel}
 use Rattle.channel_table.specs.declared.reads.WaitingRead.{WaitingRead}
 use Rattle.channel_table.specs.declared.subs.ClientSub.{ClientSub}
-use Rattle.channel_table.specs.Channels.{is_channel}
+use Rattle.channel_table.specs.Channels.{is_channel, is_on}
 use Rattle.channel_table.specs.Demand.{own_ask}
 use Rattle.link_table.specs.declared.links.Link.{Link}
 use Rattle.link_table.specs.declared.writes.WaitingWrite.{WaitingWrite}
@@ -32,7 +32,7 @@ use Rattle.gateway_state.specs.Sessions.{up_lost}
 use Rattle.gateway_state.specs.Settled.{IsInUse, IsUpToDate}
 use Rattle.gateway_state.specs.Step.{consequences}
 use Rattle.gateway_state.specs.Updates.{is_unreadable, is_withheld, takes_updates, update_notice, update_notices, update_on, updates_told, updates_withheld, withheld}
-use Rattle.gateway_state.specs.Variables.{is_among, is_on, is_wanted, link_of}
+use Rattle.gateway_state.specs.Variables.{is_among, is_wanted, link_of}
 use Rattle.gateway_state.proofs.SettledChannels.{channels_settled, notice_by}
 use Rattle.gateway_state.proofs.SettledMeaning.{all_in_use, none_told, nothing_told, quiet_up_to_date}
 use Rattle.gateway_state.proofs.SettledSteps.{links_stay, reads_stay, updates_stay, withheld_stay}

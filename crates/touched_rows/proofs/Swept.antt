@@ -7,7 +7,7 @@ use Rattle.channel_table.specs.ClientRows.{ClientRows}
 use Rattle.channel_table.specs.declared.channels.Channel.{Channel}
 use Rattle.channel_table.specs.declared.reads.WaitingRead.{WaitingRead}
 use Rattle.channel_table.specs.declared.subs.ClientSub.{ClientSub}
-use Rattle.channel_table.specs.Channels.{is_channel}
+use Rattle.channel_table.specs.Channels.{is_channel, is_on}
 use Rattle.gateway_state.specs.declared.notice.LinkNotice.{LinkNotice}
 use Rattle.gateway_state.specs.Direct.{swept}
 use Rattle.gateway_state.specs.Gateway.{Gateway}
@@ -16,7 +16,7 @@ use Rattle.gateway_state.specs.Rights.{channel_of}
 use Rattle.gateway_state.specs.Settled.{AreInOrder, IsSettled}
 use Rattle.gateway_state.specs.Step.{consequences}
 use Rattle.gateway_state.specs.Updates.{update_notice, update_notices, update_on, updates_told}
-use Rattle.gateway_state.specs.Variables.{is_among, is_on, is_wanted, search_names}
+use Rattle.gateway_state.specs.Variables.{is_among, is_wanted, search_names}
 use Rattle.gateway_state.proofs.SearchedNames.{searched_is_among}
 use Rattle.gateway_state.proofs.SettledMeaning.{none_told}
 use Rattle.gateway_state.proofs.SettledSteps.{found_is_on, reads_stay, updates_stay}

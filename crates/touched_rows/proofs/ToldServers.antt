@@ -20,7 +20,7 @@ use Rattle.gateway_state.specs.Answer.{native_in}
 use Rattle.gateway_state.specs.CachedRows.{put_row}
 use Rattle.gateway_state.specs.Gateway.{Gateway}
 use Rattle.gateway_state.specs.Connections.{given, is_to}
-use Rattle.gateway_state.specs.Servers.{answered_creating, channel_made, channel_returned, concerned_owed, concerns, created_for, fails_without, held_with, is_told, is_usable, reads_failed, replied, rights_given, rights_said, subject_of, updated, updated_by, updated_link, updated_under, with_held, with_link_state}
+use Rattle.gateway_state.specs.Servers.{answered_creating, channel_made, channel_returned, concerned_owed, concerns, created_for, fails_without, held_with, is_heard, is_usable, reads_failed, replied, rights_given, rights_said, subject_of, updated, updated_by, updated_link, updated_under, with_held, with_link_state}
 use Rattle.gateway_state.specs.Step.{consequences}
 use Rattle.gateway_state.specs.Telling.{outgoing_upstream, sent}
 use Rattle.gateway_state.specs.Variables.{is_creating}
@@ -55,7 +55,7 @@ module _ (w : Gateway) (tidy : IsTidy w) where
           let change : Held → Held = held_with subject dtype count payload sub.count in
           let passes : ClientSub → Bool = concerns subject w link.cid dtype count payload in
           let after : Gateway = with_held link.server link.cid change (concerned_owed link.name passes w) in
-          elim (is_told subject native sub.count dtype count payload) as (λ t. consequences (cond t after w) ≡ follows (cond t (Value link.name) Nothing) (cond t after w)) [
+          elim (is_heard subject native sub.count dtype count payload) as (λ t. consequences (cond t after w) ≡ follows (cond t (Value link.name) Nothing) (cond t after w)) [
             | true ↦
                 told_after_update w tidy.settled tidy.order tidy.subs_apart server id link is (put_row link.server link.cid change)
                 (λ other differ. put_beside link.server link.cid change other w.cache differ) passes

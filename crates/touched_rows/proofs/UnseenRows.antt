@@ -8,7 +8,7 @@ use Rattle.channel_table.specs.declared.channels.Channel.{Channel}
 use Rattle.channel_table.specs.declared.reads.WaitingRead.{WaitingRead}
 use Rattle.channel_table.specs.declared.sessions.Session.{Session}
 use Rattle.channel_table.specs.declared.subs.ClientSub.{ClientSub}
-use Rattle.channel_table.specs.Channels.{is_channel}
+use Rattle.channel_table.specs.Channels.{is_channel, is_on}
 use Rattle.channel_table.specs.Sessions.{is_numbered}
 use Rattle.channel_table.specs.Demand.{own_ask}
 use Rattle.link_table.specs.declared.links.Link.{Link}
@@ -23,7 +23,7 @@ use Rattle.gateway_state.specs.Resolution.{is_real, rights_left}
 use Rattle.gateway_state.specs.Rights.{channel_of, is_served, lead_for, lead_in, link_connected, link_rights, may_read, rights_of}
 use Rattle.gateway_state.specs.Settled.{IsSettled}
 use Rattle.gateway_state.specs.Updates.{is_unreadable, update_notice, update_notices, update_on, update_over, withheld}
-use Rattle.gateway_state.specs.Variables.{is_on, link_of}
+use Rattle.gateway_state.specs.Variables.{link_of}
 use Rattle.gateway_state.proofs.SettledChannels.{notice_by}
 use Rattle.gateway_state.proofs.SettledMeaning.{none_told}
 use Rattle.touched_rows.proofs.LessGiven.{is_open, update_if_open}

@@ -29,7 +29,8 @@ use Rattle.gateway_state.specs.Servers.{concerned_owed, waits_for}
 use Rattle.gateway_state.specs.Settled.{AreInOrder, HasSubsApart, IsSettled, cid_of}
 use Rattle.gateway_state.specs.Step.{consequences}
 use Rattle.gateway_state.specs.Updates.{concerned, is_open_to, is_sub_to, update_by, update_natively, update_notice, update_notices, update_on, update_over, update_told, updates_told}
-use Rattle.gateway_state.specs.Variables.{is_channel_on, link_of}
+use Rattle.channel_table.specs.Channels.{is_channel_on}
+use Rattle.gateway_state.specs.Variables.{link_of}
 use Rattle.gateway_state.proofs.LinkNotices.{link_notices_alike}
 use Rattle.gateway_state.proofs.SettledMeaning.{none_told}
 use Rattle.gateway_state.proofs.SettledWithheld.{owing_changed, with_subs}

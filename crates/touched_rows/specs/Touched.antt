@@ -15,7 +15,8 @@ use Rattle.gateway_state.specs.Gateway.{Gateway}
 use Rattle.gateway_state.specs.Notices.{channel_notice, channel_told, interest_notices, link_notices_of, link_told, read_notice, read_told}
 use Rattle.gateway_state.specs.Servers.{waits_for}
 use Rattle.gateway_state.specs.Updates.{is_sub_to, is_withheld, owed_to_all, update_notice, update_told}
-use Rattle.gateway_state.specs.Variables.{is_among, is_on, link_of}
+use Rattle.channel_table.specs.Channels.{is_on}
+use Rattle.gateway_state.specs.Variables.{is_among, link_of}
 
 -- CHANNELS
 

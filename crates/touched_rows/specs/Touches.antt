@@ -33,7 +33,7 @@ use Rattle.gateway_state.specs.Clients.{read_verdict}
 use Rattle.gateway_state.specs.Gateway.{Gateway}
 use Rattle.gateway_state.specs.Quantities.{Code, Count, Dtype, Ioid, ServerNumber, SessionNumber, Sid, SubId}
 use Rattle.gateway_state.specs.Rights.{channel_of}
-use Rattle.gateway_state.specs.Servers.{is_told, subject_of}
+use Rattle.gateway_state.specs.Servers.{is_heard, subject_of}
 use Rattle.gateway_state.specs.Settled.{HasLinksApart}
 use Rattle.gateway_state.specs.Step.{consequences}
 use Rattle.gateway_state.specs.Subscribing.{is_on_sid, new_sub, sub_of, sub_verdict}
@@ -151,7 +151,7 @@ request_touches w number (Err fault) = Nothing
 -- whatever the subject, what counts may answer reads of the variable and is told to its subscriptions
 abbrev pub value_touches : Subject → Link → LinkState → Option Subscription → Dtype → Count → List ℕ → Touched
 value_touches subject link (Connected sid native native_count) (Some sub) dtype count payload =
-    if is_told subject native sub.count dtype count payload then Value link.name else Nothing
+    if is_heard subject native sub.count dtype count payload then Value link.name else Nothing
 value_touches subject link (Connected sid native native_count) None dtype count payload = Nothing
 value_touches subject link Creating sub dtype count payload = Nothing
 value_touches subject link Unusable sub dtype count payload = Nothing

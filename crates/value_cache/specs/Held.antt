@@ -52,14 +52,14 @@ abbrev pub needs_by : Base → ℕ → Bool
 needs_by native dtype = unwrap_or (option_map (needs native) (dbr_of dtype)) false
 
 -- properties of this base are there
-abbrev pub are_told : Base → Option Properties → Bool
-are_told base properties = is_some (of_base base properties)
+abbrev pub are_there : Base → Option Properties → Bool
+are_there base properties = is_some (of_base base properties)
 
 abbrev pub covers_by : ℕ → ℕ → Option Properties → Option Value → Bool
 covers_by dtype count properties None = false
 covers_by dtype count properties (Some value) =
     nat_le count value.asked_with
-    && (not (needs_by value.shown.dbr.base dtype) || are_told value.shown.dbr.base properties)
+    && (not (needs_by value.shown.dbr.base dtype) || are_there value.shown.dbr.base properties)
 
 -- what is held covers a type and a count: the count is at most the one that was asked for, and the properties are there
 -- where the type needs them

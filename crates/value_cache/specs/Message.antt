@@ -32,9 +32,9 @@ IsReadable (Some m) = IsOk (shown m.dtype m.count m.payload)
 abbrev pub TellsProperties : ℕ → List ℕ → Type 0
 TellsProperties dtype payload = is_some (properties_in (shown dtype 0 payload)) ≡ true
 
-abbrev pub IsTold : Option Described → Type 0
-IsTold None = Unit {0}
-IsTold (Some d) = TellsProperties d.dtype d.payload
+abbrev pub IsDescription : Option Described → Type 0
+IsDescription None = Unit {0}
+IsDescription (Some d) = TellsProperties d.dtype d.payload
 
 -- with these encodings beside them
 abbrev pub keeping_in : Option Message → Option Described → List Encoding → Keeping
@@ -43,5 +43,5 @@ keeping_in last described kept = record { held = held_in last described; kept = 
 -- and the encodings are their own
 pub record IsSound (last : Option Message) (described : Option Described) (kept : List Encoding) : Type 0 where
   pub readable : IsReadable last
-  pub told : IsTold described
+  pub told : IsDescription described
   pub answers : AreAnswers (held_in last described) kept

@@ -2,8 +2,8 @@
 ghost use Rattle.std.specs.Prelude.{◌≡◌, ◌≤◌, ◌||◌, not, length, IsOk, IfOk, IsSome, OnOk, OnErr, Option, Some};
 ghost use Rattle.std.specs.Option.{option_copied, option_map};
 ghost use Rattle.std.specs.Ordering.{int_eq};
-ghost use Rattle.value_cache.specs.Held.{answer, are_told, covers_by, given, needs_by};
-ghost use Rattle.value_cache.specs.Message.{IsReadable, IsTold, held_in, told_in, value_in};
+ghost use Rattle.value_cache.specs.Held.{answer, are_there, covers_by, given, needs_by};
+ghost use Rattle.value_cache.specs.Message.{IsReadable, IsDescription, held_in, told_in, value_in};
 
 use crate::encodings::{Encoding, Encodings};
 use bytes::Bytes;
@@ -199,7 +199,7 @@ fn differ(old: &View<'_>, new: &View<'_>) -> bool
 }
 
 fn is_covered(message: &Message, described: &Option<Described>, dtype: u16, count: u32) -> bool
-    requires { IsTold described.now }
+    requires { IsDescription described.now }
     ensures { result ≡ covers_by dtype count (told_in described.now) (value_in (Some message.now)) }
 {
     match View::new(message.dtype, message.count, &message.payload) {
@@ -210,10 +210,10 @@ fn is_covered(message: &Message, described: &Option<Described>, dtype: u16, coun
 
 // Properties of the base are there, where the type needs them.
 fn is_enough(native: Dbr, described: &Option<Described>, dtype: u16) -> bool
-    requires { IsTold described.now }
-    ensures { result ≡ (not (needs_by native.base dtype) || are_told native.base (told_in described.now)) }
+    requires { IsDescription described.now }
+    ensures { result ≡ (not (needs_by native.base dtype) || are_there native.base (told_in described.now)) }
 {
-    !needs_by(native, dtype) || are_told(native.base, described)
+    !needs_by(native, dtype) || are_there(native.base, described)
 }
 
 fn needs_by(native: Dbr, dtype: u16) -> bool
@@ -225,9 +225,9 @@ fn needs_by(native: Dbr, dtype: u16) -> bool
     }
 }
 
-fn are_told(base: Base, described: &Option<Described>) -> bool
-    requires { IsTold described.now }
-    ensures { result ≡ are_told base (told_in described.now) }
+fn are_there(base: Base, described: &Option<Described>) -> bool
+    requires { IsDescription described.now }
+    ensures { result ≡ are_there base (told_in described.now) }
 {
     match props_of(described) {
         Some(props) => props.base() == base,
@@ -246,7 +246,7 @@ fn view_of(last: &Option<Message>) -> Option<View<'_>>
 }
 
 fn props_of(described: &Option<Described>) -> Option<Props<'_>>
-    requires { IsTold described.now }
+    requires { IsDescription described.now }
     ensures { result ≡ told_in described.now }
 {
     match described {
@@ -273,7 +273,7 @@ fn encoded(
     count: u32,
 ) -> Result<Option<(u32, Bytes)>, AllocError>
     requires readable { IsReadable last.now }
-    requires told { IsTold described.now }
+    requires told { IsDescription described.now }
     ensures ok { IfOk result (λ given. given ≡ answer dtype count (held_in last.now described.now)) }
     ensures err { OnErr result (IsSome (answer dtype count (held_in last.now described.now))) }
 {

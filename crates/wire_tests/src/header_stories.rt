@@ -16,8 +16,8 @@ read: 00010010 00130014 00000065 01020304 09
 read: 00010010 00130014 00000065 010203
 > need more
 # An extended header has them in four bytes each, behind the others.
-write 1 19 101 16909060 262141 1048576
-> 0001ffff 00130000 00000065 01020304 00100000 0003fffd
+write 1 19 101 16909060 4194301 16777216
+> 0001ffff 00130000 00000065 01020304 01000000 003ffffd
 # It is extended from the mark on.
 write 1 19 101 16909060 65534 65534
 > 0001fffe 0013fffe 00000065 01020304
@@ -47,16 +47,18 @@ reread 23 0 0 0 0 65528
 > 23 0 0 0 0 65528 16
 reread 23 0 0 0 0 65536
 > 23 0 0 0 0 65536 24
-reread 23 0 0 0 0 1048568
-> 23 0 0 0 0 1048568 24
-reread 23 0 0 0 0 1048576
-> 23 0 0 0 0 1048576 24
-reread 23 0 0 0 0 1048577
+reread 23 0 0 0 0 16777208
+> 23 0 0 0 0 16777208 24
+reread 23 0 0 0 0 16777216
+> 23 0 0 0 0 16777216 24
+reread 23 0 0 0 0 16777217
 > misaligned
-reread 23 0 0 0 0 1048584
+reread 23 0 0 0 0 16777224
 > too large
 reread 23 0 0 0 0 4294967288
 > too large
+reread 23 0 0 0 0 4294967295
+> misaligned
 # Sizes are padded to the next multiple of eight.
 pad 0
 > 0
@@ -66,10 +68,10 @@ pad 8
 > 8
 pad 9
 > 16
-pad 1048569
-> 1048576
-pad 1048576
-> 1048576
+pad 16777209
+> 16777216
+pad 16777216
+> 16777216
 ",
     )
 }
@@ -120,7 +122,14 @@ take
 > 23 0 0 0 0 8 with 03030303 03030303
 take
 > none
-# The largest payload comes byte by byte.
+# The largest payload is waited for.
+feed: 0017ffff 00*12 01000000 00000000
+take
+> none
+feed: 07*65536
+take
+> none
+# A large payload comes byte by byte.
 feed: 0017ffff 00*12 00100000 00000000
 drip: 07*1048576
 > none 1048576 times
@@ -141,15 +150,15 @@ take
 feed: 00
 > a payload's size is no multiple of 8
 # So does a payload that is too large, and then even no bytes are taken.
-feed: 0017ffff 00*12 00100008 00000000
+feed: 0017ffff 00*12 01000008 00000000
 take
-> a payload's size is above 1048576
+> a payload's size is above 16777216
 feed
-> a payload's size is above 1048576
+> a payload's size is above 16777216
 take
-> a payload's size is above 1048576
+> a payload's size is above 16777216
 feed
-> a payload's size is above 1048576
+> a payload's size is above 16777216
 # Memory may be refused.
 refusals
 > out of memory

@@ -188,17 +188,17 @@ as 35 1
 > type not served
 as 65535 1
 > type not served
-as 5 262145
+as 5 4194305
 > larger than a payload may be
 as 5 4294967295
 > larger than a payload may be
 as 19 262141
 > 1048576 bytes 00000000 3b9aca00 00000000 0000002a 00*1048560
-as 19 262142
+as 19 4194302
 > larger than a payload may be
 as 0 26214
 > 1048560 bytes 3432 00*1048558
-as 0 26215
+as 0 419431
 > larger than a payload may be
 ",
     )

@@ -120,8 +120,8 @@ reply: 0016 0000 0000 0000 00000001 fffffffd
 > AccessRights cid 1 rights 1
 reply: 0012 0000 0005 0001 00000001 00000065
 > CreateChannel cid 1 sid 101 dtype 5 count 1
-reply: 0012 ffff 0005 0000 00000001 00000065 00000000 0003fffd
-> CreateChannel cid 1 sid 101 dtype 5 count 262141
+reply: 0012 ffff 0005 0000 00000001 00000065 00000000 003ffffd
+> CreateChannel cid 1 sid 101 dtype 5 count 4194301
 reply: 0012 0000 0007 0001 00000001 00000065
 > CreateChannel cid 1 sid 101 dtype 7 count 1
 reply: 0013 0000 0005 0001 00000001 00000043

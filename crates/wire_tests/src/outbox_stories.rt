@@ -20,13 +20,19 @@ append 1 23 0 11 0 0 0
 append 1 23 0 12 0 0 0
 length
 > 3 wait
+bytes
+> 48
 front
 > 00170000 00000000 0000000a 00000000
+bytes
+> 32
 empty 5
 > 00170000 00000000 0000000b 00000000
 > 00170000 00000000 0000000c 00000000
 length
 > 0 wait
+bytes
+> 0
 front
 > none
 # A marked outbox takes no message, and keeps its own.

@@ -3,6 +3,7 @@
 //! - `append COUNT HEADER`: so many of them; those that are handed back are told;
 //! - `mark`;
 //! - `length`: how many wait, and whether the outbox is marked;
+//! - `bytes`: how many bytes wait;
 //! - `front`: the message that leaves, or `none`;
 //! - `empty COUNT`: all that leave.
 use crate::headers::header;
@@ -24,6 +25,7 @@ pub(crate) fn call(outbox: &mut Outbox, verb: &str, call: &Call, told: &mut Told
             told.word(&outbox.len());
             told.line(if outbox.marked() { &"marked" } else { &"wait" });
         }
+        "bytes" => told.line(&outbox.bytes()),
         "front" => match outbox.take_front() {
             Some(out) => told.bytes(out.head.as_slice()),
             None => told.line(&"none"),

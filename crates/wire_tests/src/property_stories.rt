@@ -190,16 +190,16 @@ as 35 1
 > type not served
 as 22 4294967295
 > type not served
-as 33 262134
+as 33 4194294
 > no properties are there
 as 26 4294967295
 > no properties are there
 describe 33: 00070008 00*40
-as 33 262134
+as 33 4194294
 > larger than a payload may be
-as 26 262136
+as 26 4194296
 > larger than a payload may be
-as 28 26215
+as 28 419431
 > larger than a payload may be
 of 5 0
 as 33 262133

@@ -47,7 +47,7 @@ impl Wire {
             | "forget-properties" => {
                 caches::call(&mut self.cached, verb, call, told);
             }
-            "append" | "mark" | "length" | "front" | "empty" => {
+            "append" | "mark" | "length" | "bytes" | "front" | "empty" => {
                 outboxes::call(&mut self.outbox, verb, call, told);
             }
             "request" | "reply" | "name" | "host" | "error-text" => {

@@ -65,41 +65,41 @@ size 5 0
 > 0
 size 5 1
 > 8
-size 5 262144
-> 1048576
-size 5 262145
+size 5 4194304
+> 16777216
+size 5 4194305
 > none
 size 19 0
 > 16
 size 19 1
 > 16
-size 19 262141
-> 1048576
-size 19 262142
+size 19 4194301
+> 16777216
+size 19 4194302
 > none
 size 19 4294967295
 > none
-size 0 26214
-> 1048560
-size 0 26215
+size 0 419430
+> 16777200
+size 0 419431
 > none
 size 0 4294967295
 > none
-size 11 1048571
-> 1048576
-size 11 1048572
+size 11 16777211
+> 16777216
+size 11 16777212
 > none
-size 33 262133
-> 1048576
-size 33 262134
+size 33 4194293
+> 16777216
+size 33 4194294
 > none
-size 26 262135
-> 1048576
-size 26 262136
+size 26 4194295
+> 16777216
+size 26 4194296
 > none
-size 20 131070
-> 1048576
-size 20 131071
+size 20 2097150
+> 16777216
+size 20 2097151
 > none
 # Bases are converted by a table.
 conversions

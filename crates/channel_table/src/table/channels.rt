@@ -48,6 +48,13 @@ impl Table {
         self.channels.count_of(session)
     }
 
+    /// How many channels stand, of all sessions.
+    pub fn all_channels(&self) -> usize
+        ensures { result ≡ length self.now.channels }
+    {
+        self.channels.len()
+    }
+
     /// The session's nth channel, counted from 0 in the order in which they were added.
     pub fn channel_of<'a>(
         &'a self,

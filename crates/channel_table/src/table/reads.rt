@@ -31,6 +31,13 @@ impl Table {
         self.reads.count_of(session)
     }
 
+    /// How many reads wait, of all sessions.
+    pub fn all_reads(&self) -> usize
+        ensures { result ≡ length self.now.reads }
+    {
+        self.reads.len()
+    }
+
     /// The session's nth waiting read.
     pub fn read_of(&self, visits: &mut Visits, session: u32, n: usize) -> Option<WaitingRead>
         ensures nth { result ≡ slice_get (filter (is_read_of session) self.now.reads) n }

@@ -35,6 +35,13 @@ impl Table {
         self.sessions.nth(n)
     }
 
+    /// How many sessions stand.
+    pub fn all_sessions(&self) -> usize
+        ensures { result ≡ length self.now.sessions }
+    {
+        self.sessions.len()
+    }
+
     /// Adds a session. The caller sees to it that none of its number stands.
     pub fn add_session(&mut self, session: Session) -> Result<(), TableFault>
         requires new { has_session session.number self.old ≡ false }

@@ -48,6 +48,13 @@ impl Table {
         self.subs.count_of(session)
     }
 
+    /// How many subscriptions stand, of all sessions.
+    pub fn all_subs(&self) -> usize
+        ensures { result ≡ length self.now.subs }
+    {
+        self.subs.len()
+    }
+
     /// The session's nth subscription.
     pub fn sub_of<'a>(
         &'a self,

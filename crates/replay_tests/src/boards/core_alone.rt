@@ -39,8 +39,10 @@ fn the_core_alone_moves_items(rt: HostRuntime) -> Result<(), Fail> {
     let end = serve_in(&rt, alloc, &mut link, &mut inlet, &gate, CLIENT);
     assert_eq!(rt; end, InEnd::Closed);
     assert_eq!(rt; gate.must_end(&rt, CLIENT), Ok(false));
+    assert_eq!(rt; gate.queued_bytes(&rt, CLIENT), Ok(16));
     assert_eq!(rt; gate.turn(&rt), Turn::Moved);
     assert_eq!(rt; gate.must_end(&rt, CLIENT), Ok(true));
+    assert_eq!(rt; gate.queued_bytes(&rt, CLIENT), Ok(0));
     assert_eq!(rt; minor_of_next(&mut outlet), Some(13));
     assert_eq!(rt; gate.turn(&rt), Turn::Moved);
     assert_eq!(rt; gate.is_open(&rt, CLIENT), Ok(false));

@@ -122,7 +122,7 @@ read s1 1 26 3
     )
 }
 
-// 262,133 LONGs are the most of a CTRL_LONG, 262,135 of a GR_LONG, 262,141 of a TIME_LONG.
+// 4,194,293 LONGs are the most of a CTRL_LONG, 4,194,295 of a GR_LONG, 4,194,301 of a TIME_LONG.
 #[test]
 fn what_stands_before_the_value_counts_against_the_limit(rt: HostRuntime) -> Result<(), Fail> {
     tells(
@@ -130,17 +130,17 @@ fn what_stands_before_the_value_counts_against_the_limit(rt: HostRuntime) -> Res
         rt.alloc(),
         b"@linked
 server u1 00160000000000000000000100000003
-server u1 0012ffff000500000000000100000065000000000003fffd
+server u1 0012ffff00050000000000010000006500000000003ffffd
 client s1 0012000800000000000000070000000d5431000000000000
 > s1 00160000000000000000000700000003
-> s1 0012ffff000500000000000700000001000000000003fffd
-read s1 1 33 262133
+> s1 0012ffff00050000000000070000000100000000003ffffd
+read s1 1 33 4194293
 > waits
-read s1 1 33 262134
+read s1 1 33 4194294
 > refused 72
-read s1 1 26 262135
+read s1 1 26 4194295
 > waits
-read s1 1 26 262136
+read s1 1 26 4194296
 > refused 72
 read s1 1 33 0
 > refused 72

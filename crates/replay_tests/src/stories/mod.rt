@@ -20,6 +20,7 @@ mod limits;
 mod links;
 mod properties;
 mod property_events;
+mod property_messages;
 mod reads;
 mod searches;
 mod servers;

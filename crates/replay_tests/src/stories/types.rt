@@ -189,7 +189,7 @@ read s1 1 1 1
     )
 }
 
-// 26,214 strings of 40 bytes fit into 1,048,576.
+// 419,430 strings of 40 bytes fit into 16,777,216.
 #[test]
 fn refuses_more_strings_than_a_payload_takes(rt: HostRuntime) -> Result<(), Fail> {
     tells(
@@ -197,13 +197,13 @@ fn refuses_more_strings_than_a_payload_takes(rt: HostRuntime) -> Result<(), Fail
         rt.alloc(),
         b"@linked
 server u1 00160000000000000000000100000003
-server u1 0012ffff000500000000000100000065000000000003fffd
+server u1 0012ffff00050000000000010000006500000000003ffffd
 client s1 0012000800000000000000070000000d5431000000000000
 > s1 00160000000000000000000700000003
-> s1 0012ffff000500000000000700000001000000000003fffd
-read s1 1 0 26214
+> s1 0012ffff00050000000000070000000100000000003ffffd
+read s1 1 0 419430
 > waits
-read s1 1 0 26215
+read s1 1 0 419431
 > refused 72
 client s1 000f0000000000000000000100000053
 > s1 000f0000000000000000004800000053

@@ -6,10 +6,12 @@
 //! - `serving`: a round of a client, the gateway and a server.
 //! - `gates`: each call of a gate, and `put` and `take` where they wait or are stopped.
 //! - `writers`: a writer to its end, and to a fault, and the buffer that it writes by.
+//! - `faulty`: each read and each write of a link fails in turn, beside a client whose link has no fault.
 //! - `rings`: what both ends of a ring say of what lies between.
 //!
 //! A new test gets a gate from `stand`, and does what it has to in functions that are generic over the
 //! runtime: threads are joined there.
+mod faulty;
 mod gates;
 mod meeting;
 mod paced;

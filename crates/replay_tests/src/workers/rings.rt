@@ -1,6 +1,6 @@
 //! Both ends of a connection's rings, once the connection is retired.
 ghost use Rattle.std.specs.Prelude.{◌≡◌, Some};
-ghost use Rattle.board_rings.specs.Lines.{rings_of};
+ghost use Rattle.board_rings.specs.Attachments.{rings_of};
 ghost use Rattle.board_moves.specs.Answers.{KeepsRings};
 
 use crate::workers::stand::{board, echo};
@@ -19,7 +19,7 @@ fn move_some(
     inlet: &mut Inlet,
     outlet: &mut Outlet,
 ) -> Result<bool, BoardFault>
-    ensures rings { KeepsRings board.old.lines board.new.lines }
+    ensures rings { KeepsRings board.old.attachments board.new.attachments }
     ensures inlet { inlet.new.ring ≡ inlet.old.ring }
     ensures outlet { outlet.new.ring ≡ outlet.old.ring }
 {
@@ -39,7 +39,7 @@ fn left_between(
     inlet: &mut Inlet,
     outlet: &mut Outlet,
 ) -> Option<(usize, usize)>
-    requires { rings_of dest board.old.lines ≡ Some (inlet.old.ring, outlet.old.ring) }
+    requires { rings_of dest board.old.attachments ≡ Some (inlet.old.ring, outlet.old.ring) }
 {
     let mut ends = match board.retire(dest) {
         Some(ends) => ends,

@@ -9,4 +9,4 @@ use Rattle.board_moves.proofs.rounds.pump_all.Given as goal
 -- the calls for the first n connections were performed
 abbrev pub invariant-loop-n : goal.invariant-loop-n
 invariant-loop-n g l =
-    IsPerformed (map Pump (dests_of l.fn.lines)) l.n (board_of (g.G.GatewayCalls.state l.fn.gate) l.fn.lines) (board_of (g.G.GatewayCalls.state l.gate) l.lines) l.moved × ((dests_of l.lines ≡ dests_of l.fn.lines) × (KeepsRings l.fn.lines l.lines × IsSome (g.G.GatewayCalls.state l.gate)))
+    IsPerformed (map Pump (dests_of l.fn.attachments)) l.n (board_of (g.G.GatewayCalls.state l.fn.gate) l.fn.attachments) (board_of (g.G.GatewayCalls.state l.gate) l.attachments) l.moved × ((dests_of l.attachments ≡ dests_of l.fn.attachments) × (KeepsRings l.fn.attachments l.attachments × IsSome (g.G.GatewayCalls.state l.gate)))

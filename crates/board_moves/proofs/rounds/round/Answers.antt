@@ -10,7 +10,7 @@ returns-in-Err g c =
     let some = has_rows c.has_failed.result (g.G.GatewayCalls.state c.args.gate.now) c.has_failed.ensures.failed c.if-has_failed.false in
     record {
       round =
-          pumps_end (g.G.GatewayCalls.state c.args.gate.now) (g.G.GatewayCalls.state c.has_failed.new.gate) (g.G.GatewayCalls.state c.pump_all.new.gate) c.args.lines.now c.pump_all.new.lines c.in-Err.fault some c.has_failed.ensures.same c.in-Err.ensures.calls;
+          pumps_end (g.G.GatewayCalls.state c.args.gate.now) (g.G.GatewayCalls.state c.has_failed.new.gate) (g.G.GatewayCalls.state c.pump_all.new.gate) c.args.attachments.now c.pump_all.new.attachments c.in-Err.fault some c.has_failed.ensures.same c.in-Err.ensures.calls;
       rings = c.pump_all.ensures.rings;
     }
 
@@ -20,9 +20,9 @@ returns-in-Ok-send_all g c =
     let some = has_rows c.has_failed.result (g.G.GatewayCalls.state c.args.gate.now) c.has_failed.ensures.failed c.if-has_failed.false in
     record {
       round =
-          round_ends (g.G.GatewayCalls.state c.args.gate.now) (g.G.GatewayCalls.state c.has_failed.new.gate) (g.G.GatewayCalls.state c.pump_all.new.gate) (g.G.GatewayCalls.state c.send_all.new.gate) c.args.lines.now c.pump_all.new.lines c.send_all.new.lines c.in-Ok.received c.in-Ok-send_all.sent
+          round_ends (g.G.GatewayCalls.state c.args.gate.now) (g.G.GatewayCalls.state c.has_failed.new.gate) (g.G.GatewayCalls.state c.pump_all.new.gate) (g.G.GatewayCalls.state c.send_all.new.gate) c.args.attachments.now c.pump_all.new.attachments c.send_all.new.attachments c.in-Ok.received c.in-Ok-send_all.sent
           c.saturating_add.result some c.has_failed.ensures.same c.pump_all.ensures.dests c.in-Ok.ensures.calls c.in-Ok-send_all.ensures.calls (omega (arith, c.saturating_add.ensures));
-      rings = rings_stay c.args.lines.now c.pump_all.new.lines c.send_all.new.lines c.pump_all.ensures.rings c.send_all.ensures.rings;
+      rings = rings_stay c.args.attachments.now c.pump_all.new.attachments c.send_all.new.attachments c.pump_all.ensures.rings c.send_all.ensures.rings;
     }
 
 -- a send-out was refused
@@ -31,7 +31,7 @@ returns-in-Err-send_all g c =
     let some = has_rows c.has_failed.result (g.G.GatewayCalls.state c.args.gate.now) c.has_failed.ensures.failed c.if-has_failed.false in
     record {
       round =
-          sends_end (g.G.GatewayCalls.state c.args.gate.now) (g.G.GatewayCalls.state c.has_failed.new.gate) (g.G.GatewayCalls.state c.pump_all.new.gate) (g.G.GatewayCalls.state c.send_all.new.gate) c.args.lines.now c.pump_all.new.lines c.send_all.new.lines c.in-Ok.received c.in-Err-send_all.fault some
+          sends_end (g.G.GatewayCalls.state c.args.gate.now) (g.G.GatewayCalls.state c.has_failed.new.gate) (g.G.GatewayCalls.state c.pump_all.new.gate) (g.G.GatewayCalls.state c.send_all.new.gate) c.args.attachments.now c.pump_all.new.attachments c.send_all.new.attachments c.in-Ok.received c.in-Err-send_all.fault some
           c.has_failed.ensures.same c.pump_all.ensures.dests c.in-Ok.ensures.calls c.in-Err-send_all.ensures.calls;
-      rings = rings_stay c.args.lines.now c.pump_all.new.lines c.send_all.new.lines c.pump_all.ensures.rings c.send_all.ensures.rings;
+      rings = rings_stay c.args.attachments.now c.pump_all.new.attachments c.send_all.new.attachments c.pump_all.ensures.rings c.send_all.ensures.rings;
     }

@@ -1,5 +1,5 @@
 use Rattle.std.proofs.Common.{sym, ◌∙◌}
-use Rattle.board_rings.proofs.LineOrder.{place_guessed}
+use Rattle.board_rings.proofs.AttachmentOrder.{place_guessed}
 use Rattle.board_rings.proofs.places.place_near.Goals as goal
 
 pub returns-then-is_of : goal.returns-then-is_of

@@ -1,5 +1,5 @@
 use Rattle.std.proofs.Common.{sym, ◌∙◌}
-use Rattle.board_rings.proofs.LineOrder.{place_is, place_other, place_past}
+use Rattle.board_rings.proofs.AttachmentOrder.{place_is, place_other, place_past}
 use Rattle.board_rings.proofs.places.place_of.Goals as goal
 use Rattle.board_rings.proofs.places.place_of.Goals.{else-place-rows-via-then-place-rows+else-is_of, else-place-rows-via-else-place-rows}
 

@@ -1,5 +1,5 @@
 use Rattle.std.proofs.Common.{◌≡◌, ◌≤◌, ◌++◌, filter, map, drop}
-use Rattle.gateway_state.specs.Variables.{is_on}
+use Rattle.channel_table.specs.Channels.{is_on}
 use Rattle.gateway_rows.proofs.state.Rows.channels_on.Given as goal
 
 -- those taken so far and those that are left are all

@@ -6,4 +6,4 @@ use Rattle.replay_tests.proofs.workers.rings.left_after_moves.Goals as goal
 pub left_between-requires : goal.left_between-requires
 left_between-requires c =
     rw (c.move_some.ensures.inlet, c.move_some.ensures.outlet)
-    (c.move_some.ensures.rings c.args.dest ∙ attached_rings c.args.dest _ _ _ _ _ c.in-Ok.ensures.ok.lines)
+    (c.move_some.ensures.rings c.args.dest ∙ attached_rings c.args.dest _ _ _ _ _ c.in-Ok.ensures.ok.attachments)

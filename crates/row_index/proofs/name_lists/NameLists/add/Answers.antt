@@ -17,7 +17,7 @@ returns-in_ok-push-in-Some-clause-ok c =
     let written = c.get_mut.follows.holds c.push.new.self in
     rw (← c.self.view_is) (
     of_updated bytes_eq same_bytes ended c.args.name.now old (c.get_mut.follows.lender c.push.new.self).entries (Some c.push.new.self) (written.3 (sym (ap is_some c.in-Some.ensures.value))).0
-    (c.in_ok-push-in-Some.ensures.items ∙ ap (λ keys. keys ++ c.args.key ∷ []) there)
+    (c.in_ok-push-in-Some.ensures.ok ∙ ap (λ keys. keys ++ c.args.key ∷ []) there)
     )
 
 pub returns-in_err-push-in-Some-clause-err : goal.returns-in_err-push-in-Some-clause-err
@@ -25,7 +25,7 @@ returns-in_err-push-in-Some-clause-err c =
     let old = c.self.inside.lists.entries in
     let there = of_there bytes_eq same_bytes c.args.name.now old c.in-Some.keys.now c.in-Some.ensures.value in
     let written = c.get_mut.follows.holds c.push.new.self in
-    let kept = of_kept bytes_eq same_bytes c.args.name.now old (c.get_mut.follows.lender c.push.new.self).entries (Some c.push.new.self) (written.3 (sym (ap is_some c.in-Some.ensures.value))).0 (c.in_err-push-in-Some.ensures.items ∙ there) in
+    let kept = of_kept bytes_eq same_bytes c.args.name.now old (c.get_mut.follows.lender c.push.new.self).entries (Some c.push.new.self) (written.3 (sym (ap is_some c.in-Some.ensures.value))).0 (c.in_err-push-in-Some.ensures.err ∙ there) in
     MatchResult-from_err c.from_residual.result _ _ c.from_residual.ensures.0 (λ _. λ n. kept n ∙ ap (λ lists. of lists n) c.self.view_is)
 
 -- one more is listed, so the list isn't empty
@@ -34,13 +34,13 @@ invariant_of-self-in-Some c =
     let old = c.self.inside.lists.entries in
     let written = c.get_mut.follows.holds c.push.new.self in
     no_empty_updated bytes_eq same_bytes c.args.name.now old (c.get_mut.follows.lender c.push.new.self).entries (Some c.push.new.self) (written.3 (sym (ap is_some c.in-Some.ensures.value))).0
-    (last_there c.args.key c.in-Some.keys.now.items c.push.new.self.items c.in_ok-push-in-Some.ensures.items) c.self.invariant
+    (last_there c.args.key c.in-Some.keys.now c.push.new.self c.in_ok-push-in-Some.ensures.ok) c.self.invariant
 
 -- or the list is as it was
 pub invariant_of-self : goal.invariant_of-self
 invariant_of-self c =
     let old = c.self.inside.lists.entries in
-    let kept = c.in_err-push-in-Some.ensures.items in
+    let kept = c.in_err-push-in-Some.ensures.err in
     let some = none_there bytes_eq same_bytes c.args.name.now old c.in-Some.keys.now c.in-Some.ensures.value c.self.invariant in
     let written = c.get_mut.follows.holds c.push.new.self in
     no_empty_updated bytes_eq same_bytes c.args.name.now old (c.get_mut.follows.lender c.push.new.self).entries (Some c.push.new.self) (written.3 (sym (ap is_some c.in-Some.ensures.value))).0

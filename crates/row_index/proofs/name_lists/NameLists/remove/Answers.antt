@@ -1,4 +1,4 @@
-use Rattle.std.proofs.Common.{bytes_eq, ◌≡◌, List, is_some, refl, length, vec_len, Some, None, ap, sym, ◌∙◌}
+use Rattle.std.proofs.Common.{bytes_eq, ◌≡◌, List, is_some, refl, length, Some, None, ap, sym, ◌∙◌}
 use Rattle.std.specs.List.{filter}
 use Rattle.std.proofs.lemmas.Bool.{eqb-true}
 use Rattle.row_index.specs.declared.key.Key.{Key}
@@ -15,41 +15,38 @@ returns-else-is_empty c =
     let without : List Key → List Key = filter (is_not_key c.args.key) in
     let old = c.self.inside.lists.entries in
     let there = of_there bytes_eq same_bytes c.args.name.now old c.in-Some.keys.now c.in-Some.ensures.value in
-    let written = c.get_mut.follows.holds c.remove_key.new.keys in
+    let written = c.get_mut.follows.holds c.remove.new.self in
     rw (← c.self.view_is) (
-    of_updated bytes_eq same_bytes without c.args.name.now old (c.get_mut.follows.lender c.remove_key.new.keys).entries (Some c.remove_key.new.keys) (written.3 (sym (ap is_some c.in-Some.ensures.value))).0
-    (c.remove_key.ensures ∙ ap without there)
+    of_updated bytes_eq same_bytes without c.args.name.now old (c.get_mut.follows.lender c.remove.new.self).entries (Some c.remove.new.self) (written.3 (sym (ap is_some c.in-Some.ensures.value))).0
+    (c.remove.ensures ∙ ap without there)
     )
 
 pub returns-then-is_empty : goal.returns-then-is_empty
 returns-then-is_empty c =
     let without : List Key → List Key = filter (is_not_key c.args.key) in
     let old = c.self.inside.lists.entries in
-    let mid = (c.get_mut.follows.lender c.remove_key.new.keys).entries in
+    let mid = (c.get_mut.follows.lender c.remove.new.self).entries in
     let there = of_there bytes_eq same_bytes c.args.name.now old c.in-Some.keys.now c.in-Some.ensures.value in
-    let written = c.get_mut.follows.holds c.remove_key.new.keys in
-    let none : vec_len c.remove_key.new.keys ≡ 0 = eqb-true (vec_len c.remove_key.new.keys) 0 (sym c.if-is_empty.ensures) in
-    let len = c.remove_key.new.keys.ok in
-    let empty : length c.remove_key.new.keys.items ≡ 0 = sym len.0 ∙ none in
+    let written = c.get_mut.follows.holds c.remove.new.self in
+    let empty : length c.remove.new.self ≡ 0 = eqb-true (length c.remove.new.self) 0 (sym c.if-is_empty.ensures) in
     rw (← c.self.view_is) (
     of_updated bytes_eq same_bytes without c.args.name.now old c.forget.new.lists.entries None
-    (taken_out bytes_eq same_bytes c.args.name.now old mid c.forget.new.lists.entries (Some c.remove_key.new.keys) (written.3 (sym (ap is_some c.in-Some.ensures.value))).0 c.forget.ensures)
-    (sym (no_items c.remove_key.new.keys.items empty) ∙ c.remove_key.ensures ∙ ap without there)
+    (taken_out bytes_eq same_bytes c.args.name.now old mid c.forget.new.lists.entries (Some c.remove.new.self) (written.3 (sym (ap is_some c.in-Some.ensures.value))).0 c.forget.ensures)
+    (sym (no_items c.remove.new.self empty) ∙ c.remove.ensures ∙ ap without there)
     )
 
 pub invariant_of-self-then-is_empty : goal.invariant_of-self-then-is_empty
 invariant_of-self-then-is_empty c =
     let old = c.self.inside.lists.entries in
-    let mid = (c.get_mut.follows.lender c.remove_key.new.keys).entries in
-    let written = c.get_mut.follows.holds c.remove_key.new.keys in
+    let mid = (c.get_mut.follows.lender c.remove.new.self).entries in
+    let written = c.get_mut.follows.holds c.remove.new.self in
     no_empty_updated bytes_eq same_bytes c.args.name.now old c.forget.new.lists.entries None
-    (taken_out bytes_eq same_bytes c.args.name.now old mid c.forget.new.lists.entries (Some c.remove_key.new.keys) (written.3 (sym (ap is_some c.in-Some.ensures.value))).0 c.forget.ensures)
+    (taken_out bytes_eq same_bytes c.args.name.now old mid c.forget.new.lists.entries (Some c.remove.new.self) (written.3 (sym (ap is_some c.in-Some.ensures.value))).0 c.forget.ensures)
     (λ none. refl) c.self.invariant
 
 pub invariant_of-self-else-is_empty : goal.invariant_of-self-else-is_empty
 invariant_of-self-else-is_empty c =
     let old = c.self.inside.lists.entries in
-    let written = c.get_mut.follows.holds c.remove_key.new.keys in
-    let len = c.remove_key.new.keys.ok in
-    no_empty_updated bytes_eq same_bytes c.args.name.now old (c.get_mut.follows.lender c.remove_key.new.keys).entries (Some c.remove_key.new.keys) (written.3 (sym (ap is_some c.in-Some.ensures.value))).0
-    (some_items c.remove_key.new.keys.items (vec_len c.remove_key.new.keys) len.0 (sym c.if-is_empty.ensures)) c.self.invariant
+    let written = c.get_mut.follows.holds c.remove.new.self in
+    no_empty_updated bytes_eq same_bytes c.args.name.now old (c.get_mut.follows.lender c.remove.new.self).entries (Some c.remove.new.self) (written.3 (sym (ap is_some c.in-Some.ensures.value))).0
+    (some_items c.remove.new.self (sym c.if-is_empty.ensures)) c.self.invariant

@@ -4,7 +4,7 @@ use Rattle.row_index.specs.Rows.{lacks_key}
 use Rattle.link_table.specs.LinkIndex.{key}
 use Rattle.channel_table.proofs.Lists.{absent_is_unfound}
 use Rattle.gateway_state.specs.CachedRows.{is_cached_of, put_row}
-use Rattle.state_tables.specs.LatestRows.{unchanged, untold}
+use Rattle.state_tables.specs.LatestRows.{unchanged, bare}
 use Rattle.state_tables.proofs.LatestLemmas.{made_already, made_last}
 use Rattle.state_tables.proofs.ListedLemmas.{listed_again}
 use Rattle.state_tables.proofs.ServerLemmas.{listed_new, unlisted}
@@ -30,7 +30,7 @@ pub invariant_of-self-in-Ok : goal.invariant_of-self-in-Ok
 invariant_of-self-in-Ok c =
     let s = c.self.inside in
     let none = absent_is_unfound (is_cached_of c.args.cid) s.latest (sym c.has.ensures ∙ c.if-has.false) in
-    rw (c.in-Ok.ensures.ok, c.in_ok-add.ensures.ok) (listed_new (untold c.args.server c.args.cid) s.latest s.listed none c.self.invariant)
+    rw (c.in-Ok.ensures.ok, c.in_ok-add.ensures.ok) (listed_new (bare c.args.server c.args.cid) s.latest s.listed none c.self.invariant)
 
 -- the entry goes again where there is no memory for the row
 pub invariant_of-self-in-Err : goal.invariant_of-self-in-Err

@@ -1,0 +1,46 @@
+use Rattle.std.proofs.lemmas.Bool.{eqb-true}
+use Rattle.std.proofs.Common.{nat_eq, is_some, Some, ap, sym, ◌∙◌}
+use Rattle.std.proofs.lemmas.Result.{MatchResult-from_err}
+use Rattle.row_index.specs.Lists.{of_owner, with_last}
+use Rattle.row_index.proofs.Named.{of_there, of_nowhere, of_updated, of_kept, no_empty_updated, none_there, last_there}
+use Rattle.row_index.proofs.owner_keys.OwnerKeys.add.Goals as goal
+
+pub add_first-requires : goal.add_first-requires
+add_first-requires c =
+    rw c.get_mut.follows.holds-at-none (sym (of_nowhere nat_eq eqb-true c.args.owner c.self.inside.lists.entries c.in-None.ensures.value))
+
+pub returns-in_ok-push-in-Some-clause-ok : goal.returns-in_ok-push-in-Some-clause-ok
+returns-in_ok-push-in-Some-clause-ok c =
+    let old = c.self.inside.lists.entries in
+    let there = of_there nat_eq eqb-true c.args.owner old c.in-Some.keys.now c.in-Some.ensures.value in
+    let written = c.get_mut.follows.holds c.push.new.self in
+    rw (← c.self.view_is) (
+    of_updated nat_eq eqb-true (with_last c.args.key) c.args.owner old (c.get_mut.follows.lender c.push.new.self).entries (Some c.push.new.self) (written.3 (sym (ap is_some c.in-Some.ensures.value))).0
+    (c.in_ok-push-in-Some.ensures.ok ∙ ap (with_last c.args.key) there)
+    )
+
+pub returns-in_err-push-in-Some-clause-err : goal.returns-in_err-push-in-Some-clause-err
+returns-in_err-push-in-Some-clause-err c =
+    let old = c.self.inside.lists.entries in
+    let there = of_there nat_eq eqb-true c.args.owner old c.in-Some.keys.now c.in-Some.ensures.value in
+    let written = c.get_mut.follows.holds c.push.new.self in
+    let kept = of_kept nat_eq eqb-true c.args.owner old (c.get_mut.follows.lender c.push.new.self).entries (Some c.push.new.self) (written.3 (sym (ap is_some c.in-Some.ensures.value))).0 (c.in_err-push-in-Some.ensures.err ∙ there) in
+    MatchResult-from_err c.from_residual.result _ _ c.from_residual.ensures.0 (λ _. λ n. kept n ∙ ap (λ lists. of_owner lists n) c.self.view_is)
+
+-- one more is listed, so the list isn't empty
+pub invariant_of-self-in-Some : goal.invariant_of-self-in-Some
+invariant_of-self-in-Some c =
+    let old = c.self.inside.lists.entries in
+    let written = c.get_mut.follows.holds c.push.new.self in
+    no_empty_updated nat_eq eqb-true c.args.owner old (c.get_mut.follows.lender c.push.new.self).entries (Some c.push.new.self) (written.3 (sym (ap is_some c.in-Some.ensures.value))).0
+    (last_there c.args.key c.in-Some.keys.now c.push.new.self c.in_ok-push-in-Some.ensures.ok) c.self.invariant
+
+-- or the list is as it was
+pub invariant_of-self : goal.invariant_of-self
+invariant_of-self c =
+    let old = c.self.inside.lists.entries in
+    let kept = c.in_err-push-in-Some.ensures.err in
+    let some = none_there nat_eq eqb-true c.args.owner old c.in-Some.keys.now c.in-Some.ensures.value c.self.invariant in
+    let written = c.get_mut.follows.holds c.push.new.self in
+    no_empty_updated nat_eq eqb-true c.args.owner old (c.get_mut.follows.lender c.push.new.self).entries (Some c.push.new.self) (written.3 (sym (ap is_some c.in-Some.ensures.value))).0
+    (λ none. ap Some kept ∙ some (sym kept ∙ none)) c.self.invariant

@@ -1,0 +1,202 @@
+//! Two keys and more in the order of adding.
+ghost use Rattle.std.specs.Prelude.{◌≡◌, ◌≤◌, suc, [], ◌∷◌, ◌++◌, All, IsTrue, OnOk, OnErr, IfOk, IfSome, length, slice_get, take, drop, Some};
+ghost use Rattle.std.specs.List.{filter};
+ghost use Rattle.row_index.specs.KeyLists.{AreApart, IsUpTo};
+ghost use Rattle.row_index.specs.Lists.{is_key, is_not_key};
+
+use crate::key::Key;
+use crate::sequence::Sequence;
+use std::alloc::{AllocError, Global};
+use std::marker::Model;
+
+/// Keys in the order of adding, for lists that had two of them. As long as each stands there once, one
+/// goes without a walk where it is at an end, and where the IDs or the owners rise.
+#[derive(Drop)]
+pub(crate) struct LongKeys {
+    keys: Sequence<Key>,
+    top: Key,
+    /// The top without the last key, which is the one that goes soonest.
+    under: Key,
+    apart: bool,
+}
+
+impl Model for LongKeys {
+    ghost use Rattle.std.specs.Prelude.{List};
+    ghost use Rattle.row_index.specs.declared.key.Key.{Key as RowKey};
+    ghost use Rattle.row_index.specs.KeyLists.{AreKnown};
+
+    ghost Value = { List RowKey };
+
+    ghost view = { λ l. l.keys };
+
+    ghost invariant = { λ l. AreKnown l.top l.under l.apart l.keys };
+}
+
+impl LongKeys {
+    fn new(alloc: Global) -> LongKeys
+        ensures { result ≡ [] }
+    {
+        let none = Key { owner: 0, id: 0 };
+        LongKeys {
+            keys: Sequence::new(alloc),
+            top: none,
+            under: none,
+            apart: true,
+        }
+    }
+
+    pub(crate) fn of_two(alloc: Global, first: Key, second: Key) -> Result<LongKeys, AllocError>
+        ensures { IfOk result (λ keys. keys ≡ first ∷ second ∷ []) }
+    {
+        let mut keys = LongKeys::new(alloc);
+        keys.push(first)?;
+        keys.push(second)?;
+        Ok(keys)
+    }
+
+    pub(crate) fn as_slice(&self) -> &[Key]
+        ensures { result.now ≡ self.now }
+    {
+        self.keys.as_slice()
+    }
+
+    pub(crate) fn push(&mut self, key: Key) -> Result<(), AllocError>
+        ensures ok { OnOk result (self.new ≡ self.old ++ key ∷ []) }
+        ensures err { OnErr result (self.new ≡ self.old) }
+    {
+        let apart = self.stays_apart(key);
+        self.keys.push(key)?;
+        self.apart = apart;
+        self.under = self.top;
+        self.top = raised(self.top, key);
+        Ok(())
+    }
+
+    pub(crate) fn remove(&mut self, key: Key)
+        ensures { self.new ≡ filter (is_not_key key) self.old }
+    {
+        match self.place_of(key) {
+            Some(place) => {
+                let top = self.top_without(place);
+                self.keys.remove(place);
+                self.top = top;
+            }
+            None => self.keys.remove_all(key),
+        }
+    }
+
+    // Whether all are known to be apart with this one.
+    #[tactic(auto, using(crate::proofs::Known::apart_more))]
+    fn stays_apart(&self, key: Key) -> bool
+        ensures { IsTrue result → AreApart (self.now ++ key ∷ []) }
+    {
+        self.apart && self.is_new(key)
+    }
+
+    // Whether a key is new. Where its owner or its ID is, no key is looked at.
+    fn is_new(&self, key: Key) -> bool
+        ensures { IsTrue result → length (filter (is_key key) self.now) ≡ 0 }
+    {
+        key.owner > self.top.owner || key.id > self.top.id || !self.keys.as_slice().contains(&key)
+    }
+
+    // What no key is greater than once the one at this place is gone.
+    fn top_without(&self, place: usize) -> Key
+        ensures { All (IsUpTo result) (take place self.now ++ drop (suc place) self.now) }
+    {
+        if self.is_last(place) {
+            self.under
+        } else {
+            self.top
+        }
+    }
+
+    fn is_last(&self, place: usize) -> bool
+        ensures { IsTrue result → suc place ≡ length self.now }
+    {
+        let len = self.keys.as_slice().len();
+        place < len && len - place == 1
+    }
+
+    // The place of a key, if all keys are known to stand there once.
+    fn place_of(&self, key: Key) -> Option<usize>
+        ensures { IfSome result (λ place. (slice_get self.now place ≡ Some key) × (length (filter (is_key key) self.now) ≤ 1)) }
+    {
+        if self.apart {
+            place_in(self.keys.as_slice(), key)
+        } else {
+            None
+        }
+    }
+}
+
+// The top, once a key is there that may be greater.
+fn raised(top: Key, key: Key) -> Key
+    ensures { IsUpTo result top × IsUpTo result key }
+{
+    Key {
+        owner: top.owner.max(key.owner),
+        id: top.id.max(key.id),
+    }
+}
+
+// A place of a key: an end, or what a search finds.
+fn place_in(keys: &[Key], key: Key) -> Option<usize>
+    ensures { IfSome result (λ place. slice_get keys.now place ≡ Some key) }
+{
+    let last = keys.len().saturating_sub(1);
+    if is_at(keys, 0, key) {
+        Some(0)
+    } else if is_at(keys, last, key) {
+        Some(last)
+    } else {
+        searched(keys, key)
+    }
+}
+
+// A place of a key among IDs that rise, among owners that rise, or else by a walk.
+fn searched(keys: &[Key], key: Key) -> Option<usize>
+    ensures { IfSome result (λ place. slice_get keys.now place ≡ Some key) }
+{
+    let by_id = by_id(keys, key.id);
+    if is_at(keys, by_id, key) {
+        return Some(by_id);
+    }
+    let by_owner = by_owner(keys, key.owner);
+    if is_at(keys, by_owner, key) {
+        return Some(by_owner);
+    }
+    walked(keys, key)
+}
+
+fn walked(keys: &[Key], key: Key) -> Option<usize>
+    ensures { IfSome result (λ place. slice_get keys.now place ≡ Some key) }
+{
+    match keys.iter().position(|other| *other == key) {
+        Some(place) if is_at(keys, place, key) => Some(place),
+        _ => None,
+    }
+}
+
+fn by_id(keys: &[Key], id: u32) -> usize {
+    match keys.binary_search_by_key(&id, |other| other.id) {
+        Ok(place) => place,
+        Err(place) => place,
+    }
+}
+
+fn by_owner(keys: &[Key], owner: u32) -> usize {
+    match keys.binary_search_by_key(&owner, |other| other.owner) {
+        Ok(place) => place,
+        Err(place) => place,
+    }
+}
+
+fn is_at(keys: &[Key], place: usize, key: Key) -> bool
+    ensures { IsTrue result → slice_get keys.now place ≡ Some key }
+{
+    match keys.get(place) {
+        Some(other) => *other == key,
+        None => false,
+    }
+}

@@ -1,0 +1,100 @@
+//! Lists of IDs by owners.
+ghost use Rattle.std.specs.Prelude.{◌≡◌, ◌≤◌, ℕ, [], None, OnOk, OnErr, nat_eq, length, if◌then◌else◌};
+ghost use Rattle.std.specs.List.{filter};
+ghost use Rattle.indexmap.specs.IndexMap.{get};
+ghost use Rattle.row_index.specs.Lists.{of_owner, is_id, is_not_id, AddsToOwner, SameOwnerLists, Changes};
+
+use crate::id_list::IdList;
+use indexmap::IndexMap;
+use std::alloc::{AllocError, Global};
+use std::marker::Model;
+
+/// The IDs of each owner, by its number, in the order of adding. An owner without one takes no memory.
+#[derive(Drop)]
+pub(crate) struct OwnerIds {
+    lists: IndexMap<u32, IdList>,
+    alloc: Global,
+}
+
+impl Model for OwnerIds {
+    ghost use Rattle.std.specs.Prelude.{ℕ, List, nat_eq};
+    ghost use Rattle.row_index.specs.Lists.{HasNoEmptyList};
+
+    ghost Value = { List (ℕ × List ℕ) };
+
+    ghost view = { λ l. l.lists.entries };
+
+    ghost invariant = { λ l. HasNoEmptyList nat_eq l.lists.entries };
+}
+
+impl OwnerIds {
+    /// No ID. This takes no memory.
+    pub(crate) fn new(alloc: Global) -> OwnerIds
+        ensures { (owner : ℕ) → of_owner result owner ≡ [] }
+    {
+        OwnerIds {
+            lists: IndexMap::new(alloc),
+            alloc,
+        }
+    }
+
+    /// The IDs of this owner, in the order of adding.
+    pub(crate) fn of(&self, owner: u32) -> &[u32]
+        ensures { result.now ≡ of_owner self.now owner }
+    {
+        match self.lists.get(&owner) {
+            Some(ids) => ids.as_slice(),
+            None => &[],
+        }
+    }
+
+    /// Adds an ID to those of this owner, as its last. At an error nothing changes.
+    pub(crate) fn add(&mut self, owner: u32, id: u32) -> Result<(), AllocError>
+        ensures ok { OnOk result (AddsToOwner owner id self.old self.new) }
+        ensures err { OnErr result (SameOwnerLists self.old self.new) }
+    {
+        match self.lists.get_mut(&owner) {
+            Some(ids) => {
+                ids.push(self.alloc, id)?;
+                Ok(())
+            }
+            None => self.add_first(owner, id),
+        }
+    }
+
+    // Adds the first ID of this owner.
+    fn add_first(&mut self, owner: u32, id: u32) -> Result<(), AllocError>
+        requires { of_owner self.old owner ≡ [] }
+        ensures ok { OnOk result (AddsToOwner owner id self.old self.new) }
+        ensures err { OnErr result (SameOwnerLists self.old self.new) }
+    {
+        let mut ids = IdList::new();
+        ids.push(self.alloc, id)?;
+        match self.lists.insert(owner, ids) {
+            Ok(_) => Ok(()),
+            Err(_) => Err(AllocError),
+        }
+    }
+
+    /// Removes an ID that the owner has once at most. The one that was added last, and where IDs rise
+    /// any, goes without a walk.
+    pub(crate) fn remove(&mut self, owner: u32, id: u32)
+        requires { length (filter (is_id id) (of_owner self.old owner)) ≤ 1 }
+        ensures { Changes nat_eq owner (filter (is_not_id id)) self.old self.new }
+    {
+        let Some(ids) = self.lists.get_mut(&owner) else {
+            return;
+        };
+        ids.remove(id);
+        if ids.is_empty() {
+            forget(&mut self.lists, owner);
+        }
+    }
+}
+
+// Takes out an owner's list.
+fn forget(lists: &mut IndexMap<u32, IdList>, owner: u32)
+    ensures { (o : ℕ) → get nat_eq lists.new o ≡ (if nat_eq owner o then None else get nat_eq lists.old o) }
+{
+    lists.swap_remove(&owner);
+}

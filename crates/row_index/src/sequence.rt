@@ -1,0 +1,126 @@
+//! Lists that give up their first ones.
+ghost use Rattle.std.specs.Prelude.{◌≡◌, ◌<◌, ◌≤◌, suc, [], ◌∷◌, ◌++◌, IfOk, OnOk, OnErr, length, take, drop};
+ghost use Rattle.std.specs.List.{filter};
+ghost use Rattle.row_index.specs.Lists.{is_not_id, is_not_key};
+
+use crate::key::Key;
+use std::alloc::{AllocError, Global};
+use std::marker::Model;
+
+/// A list in the order of adding. The first one goes without moving the others; at most half of the
+/// memory is for such as went.
+#[derive(Drop)]
+pub(crate) struct Sequence<X> {
+    items: Vec<X>,
+    gone: usize,
+}
+
+impl<X> Model for Sequence<X> {
+    ghost use Rattle.std.specs.Prelude.{◌≤◌, List, length, drop};
+
+    ghost Value = { List X };
+
+    ghost view = { λ l. drop l.gone l.items.items };
+
+    ghost invariant = { λ l. l.gone ≤ length l.items.items };
+}
+
+impl<X: Copy> Sequence<X> {
+    pub(crate) fn new(alloc: Global) -> Sequence<X>
+        ensures { result ≡ [] }
+    {
+        Sequence {
+            items: Vec::new(alloc),
+            gone: 0,
+        }
+    }
+
+    pub(crate) fn of_two(alloc: Global, first: X, second: X) -> Result<Sequence<X>, AllocError>
+        ensures { IfOk result (λ list. list ≡ first ∷ second ∷ []) }
+    {
+        let mut list = Sequence::new(alloc);
+        list.push(first)?;
+        list.push(second)?;
+        Ok(list)
+    }
+
+    pub(crate) fn as_slice(&self) -> &[X]
+        ensures { result.now ≡ self.now }
+    {
+        &self.items[self.gone..]
+    }
+
+    pub(crate) fn push(&mut self, one: X) -> Result<(), AllocError>
+        ensures ok { OnOk result (self.new ≡ self.old ++ one ∷ []) }
+        ensures err { OnErr result (self.new ≡ self.old) }
+    {
+        self.items.push(one)?;
+        Ok(())
+    }
+
+    /// Takes out the one at this place. Those behind it move, but where it is the first.
+    pub(crate) fn remove(&mut self, place: usize)
+        requires { place < length self.old }
+        ensures { self.new ≡ take place self.old ++ drop (suc place) self.old }
+    {
+        if place == 0 {
+            self.gone += 1;
+            self.tighten();
+        } else {
+            self.items.remove(self.gone + place);
+        }
+    }
+
+    // Gives back the memory of those that went, once they are more than half.
+    fn tighten(&mut self)
+        ensures { self.new ≡ self.old }
+    {
+        if self.gone > self.items.len() / 2 {
+            squeeze(&mut self.items, self.gone);
+            self.gone = 0;
+        }
+    }
+}
+
+impl Sequence<Key> {
+    /// Takes out a key wherever it stands. This walks all.
+    pub(crate) fn remove_all(&mut self, key: Key)
+        ensures { self.new ≡ filter (is_not_key key) self.old }
+    {
+        squeeze(&mut self.items, self.gone);
+        self.gone = 0;
+        keep_other_keys(&mut self.items, key);
+    }
+}
+
+impl Sequence<u32> {
+    /// Takes out an ID wherever it stands. This walks all.
+    pub(crate) fn remove_all(&mut self, id: u32)
+        ensures { self.new ≡ filter (is_not_id id) self.old }
+    {
+        squeeze(&mut self.items, self.gone);
+        self.gone = 0;
+        keep_other_ids(&mut self.items, id);
+    }
+}
+
+// Takes the first ones out.
+fn squeeze<X: Copy>(items: &mut Vec<X>, gone: usize)
+    requires { gone ≤ length items.old.items }
+    ensures { items.new.items ≡ drop gone items.old.items }
+{
+    items.rotate_left(gone);
+    items.truncate(items.len() - gone);
+}
+
+fn keep_other_keys(keys: &mut Vec<Key>, key: Key)
+    ensures { keys.new.items ≡ filter (is_not_key key) keys.old.items }
+{
+    keys.retain(|other| *other != key);
+}
+
+fn keep_other_ids(ids: &mut Vec<u32>, id: u32)
+    ensures { ids.new.items ≡ filter (is_not_id id) ids.old.items }
+{
+    ids.retain(|other| *other != id);
+}

@@ -1,0 +1,90 @@
+//! What the gateway tells of itself.
+use gateway_state::RowCounts;
+use std::alloc::Global;
+use std::fmt;
+use std::fmt::Write;
+use std::net::SocketAddr;
+
+/// A server, and whether the gateway is connected to it.
+#[derive(Clone, Copy, Debug, PartialEq, Eq)]
+pub struct ServerReport {
+    pub number: u32,
+    pub address: SocketAddr,
+    pub connected: bool,
+}
+
+impl fmt::Display for ServerReport {
+    fn fmt<W: fmt::Write>(&self, f: &mut fmt::Formatter<W>) -> fmt::Result {
+        let ServerReport {
+            number,
+            address,
+            connected,
+        } = self;
+        write!(
+            f,
+            "{{\"number\":{number},\"address\":\"{address}\",\"connected\":{connected}}}"
+        )
+    }
+}
+
+/// What the gateway tells of itself: it is printed as JSON, without a line feed.
+#[derive(Clone, Copy)]
+pub struct Report<'a> {
+    pub servers: &'a [ServerReport],
+    pub rows: RowCounts,
+    /// How many edits of the rules were taken.
+    pub edits: u64,
+    /// How many messages of clients and servers were performed.
+    pub received: u64,
+    /// How many messages were handed on to be written.
+    pub sent: u64,
+    /// How many bytes wait for the connection for which most wait.
+    pub largest_outbox: u64,
+}
+
+impl<'a> Report<'a> {
+    /// The text of it, with a line feed.
+    ///
+    /// # Errors
+    ///
+    /// Memory was refused.
+    pub fn line(&self, alloc: Global) -> Result<String, fmt::Error> {
+        let mut line = String::new(alloc);
+        writeln!(line, "{self}")?;
+        Ok(line)
+    }
+}
+
+impl<'a> fmt::Display for Report<'a> {
+    fn fmt<W: fmt::Write>(&self, f: &mut fmt::Formatter<W>) -> fmt::Result {
+        write!(f, "{{\"clients\":{},\"upstreams\":[", self.rows.sessions)?;
+        let mut comma = "";
+        for server in self.servers {
+            write!(f, "{comma}{server}")?;
+            comma = ",";
+        }
+        let RowCounts {
+            channels,
+            links,
+            subs,
+            reads,
+            writes,
+            searches,
+            sessions: _,
+            servers: _,
+        } = self.rows;
+        write!(
+            f,
+            "],\"channels\":{channels},\"links\":{links},\"subscriptions\":{subs}"
+        )?;
+        write!(
+            f,
+            ",\"reads_waiting\":{reads},\"writes_waiting\":{writes},\"names_remembered\":{searches}"
+        )?;
+        write!(
+            f,
+            ",\"edits\":{},\"messages_in\":{},\"messages_out\":{},\"largest_outbox_bytes\":{}}}",
+            self.edits, self.received, self.sent, self.largest_outbox
+        )
+    }
+}
