@@ -1,5 +1,7 @@
 //! Which row of a rule file decides.
-ghost use Rattle.std.specs.Prelude.{◌≡◌, ◌&&◌, option_copied, IfOk};
+ghost use Rattle.std.specs.Prelude.{◌≡◌, ◌&&◌, is_some, option_copied, IfOk};
+ghost use Rattle.regex.specs.Patterns.{find_str};
+ghost use Rattle.regex.specs.Strings.{regex_pattern};
 ghost use Rattle.pvlist.specs.Ruling.{matches};
 ghost use Rattle.pv_alias.specs.Resolution.{resolution, is_refused, refuses, matching, deciding, is_grant, lead_by};
 
@@ -8,6 +10,7 @@ use crate::lead::Lead;
 use crate::real_name::real_name;
 use pv_name::{Host, Name};
 use pvlist::{Order, Row, Rules, Verb};
+use regex::Regex;
 use std::alloc::Global;
 
 /// Where the name leads that a client on this host asks for; `None` where the rules refuse it.
@@ -100,20 +103,17 @@ fn is_grant(verb: &Verb) -> bool
 fn matches(alloc: Global, row: &Row, name: &Name) -> Result<bool, NoMemory>
     ensures { IfOk result (λ found. found ≡ matches row.now name.now) }
 {
-    let mut matcher = row.regex.matcher(alloc)?;
-    Ok(matcher.is_match(name.text()))
+    if row.passes_over(name) {
+        return Ok(false);
+    }
+    is_match(alloc, &row.regex, name)
 }
 
-/// Where a row leads that matches the name.
-fn lead_by(alloc: Global, row: &Row, name: &Name) -> Result<Option<Lead>, NoMemory>
-    ensures { IfOk result (λ lead. lead ≡ lead_by name.now row.now) }
+/// Whether the regular expression matches the name. It isn't inlined, since a matcher is large.
+#[inline(never)]
+fn is_match(alloc: Global, regex: &Regex, name: &Name) -> Result<bool, NoMemory>
+    ensures { IfOk result (λ found. found ≡ is_some (find_str (regex_pattern regex.now) name.now 0)) }
 {
-    match &row.verb {
-        Verb::Allow(group) => Ok(Some(Lead::to_itself(name, group)?)),
-        Verb::Alias(real, group) => match real_name(alloc, &row.regex, real, name)? {
-            Some(real) => Ok(Some(Lead::to_real(real, group)?)),
-            None => Ok(None),
-        },
-        Verb::Deny(_) => Ok(None),
-    }
+    let mut matcher = regex.matcher(alloc)?;
+    Ok(matcher.is_match(name.text()))
 }

@@ -14,6 +14,7 @@ pub mod RuleFile
 pub mod RuleLine
 pub mod Ruling
 pub mod Separators
+pub mod Signs
 pub mod Syntax
 pub mod Translation
 pub mod Words

@@ -3,8 +3,10 @@ ghost use Rattle.std.specs.Prelude.{◌≡◌, IfOk, IfErr};
 ghost use Rattle.pvlist.specs.Captures.{group_count};
 ghost use Rattle.pvlist.specs.Compiled.{IsCompiled};
 ghost use Rattle.pvlist.specs.RuleLine.{IsPatternFault};
+ghost use Rattle.pvlist.specs.Signs.{AreSigns};
 
 use crate::fault::{LineFault, RuleCause};
+use crate::signs::Signs;
 use crate::syntax::Syntax;
 use crate::translation::translate_counted;
 use regex::Regex;
@@ -15,6 +17,7 @@ use std::alloc::Global;
 pub(crate) struct Compiled {
     /// It matches whole names.
     pub(crate) regex: Regex,
+    pub(crate) signs: Signs,
     /// How many groups the pattern has.
     pub(crate) groups: usize,
 }
@@ -22,15 +25,20 @@ pub(crate) struct Compiled {
 impl Compiled {
     pub(crate) fn new(alloc: Global, pattern: &str, syntax: Syntax) -> Result<Compiled, LineFault>
         ensures ok { IfOk result (λ compiled. IsCompiled syntax pattern.now compiled.regex) }
+        ensures signs { IfOk result (λ compiled. AreSigns compiled.regex compiled.signs) }
         ensures groups { IfOk result (λ compiled. compiled.groups ≡ group_count syntax pattern.now) }
         ensures err { IfErr result (IsPatternFault syntax pattern.now) }
     {
         let translated = translate_counted(alloc, pattern, syntax)?;
         match Regex::new(alloc, translated.text.as_str()) {
-            Ok(regex) => Ok(Compiled {
-                regex,
-                groups: translated.groups,
-            }),
+            Ok(regex) => {
+                let signs = Signs::of(alloc, &regex)?;
+                Ok(Compiled {
+                    regex,
+                    signs,
+                    groups: translated.groups,
+                })
+            }
             Err(regex::Error::OutOfMemory) => Err(LineFault::OutOfMemory),
             Err(_) => Err(LineFault::Cause(RuleCause::BadPattern)),
         }

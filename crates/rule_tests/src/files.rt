@@ -6,10 +6,12 @@
 //! - `bare TEXT`: the number of a rule file's first row with a `(`, `)` or `|` that no backslash
 //!   stands before, outside brackets; `-` where there is none;
 //! - `rows`: the rows of the policy, each with its regular expression and what it does;
+//! - `tried NAME`: the numbers of the rows whose regular expression has to be tried on the name, counted
+//!   from 1; the others' patterns pass it over by its bytes;
 //! - `groups-read TEXT`: the same of a group file, answered only by its fault;
 //! - `bits`: the rights of a group by their words, as numbers.
 use crate::words::Told;
-use pv_name::Group;
+use pv_name::{Group, Name};
 use pvlist::{
     GroupRight, Groups, Row, RuleFault, Rules, Syntax, TranslateFault, Verb, first_bare_group,
     translate, translate_as,
@@ -38,6 +40,10 @@ pub(crate) fn call(
         },
         "groups-read" => read_groups(Groups::read(alloc, text), policy, told),
         "rows" => rows(policy.rules.rows(), told),
+        "tried" => match Name::read(alloc, text.as_bytes()) {
+            Ok(name) => tried(policy.rules.rows(), &name, told),
+            Err(fault) => told.line(&fault),
+        },
         _ => bits(told),
     }
 }
@@ -80,6 +86,17 @@ fn rows(rows: &[Row], told: &mut Told) {
         told.put(&row.regex.as_str());
         verb(&row.verb, told);
     }
+}
+
+fn tried(rows: &[Row], name: &Name, told: &mut Told) {
+    for (place, row) in rows.iter().enumerate() {
+        if !row.passes_over(name) {
+            told.put(&(place + 1));
+            told.put(&' ');
+        }
+    }
+    told.put(&"of ");
+    told.line(&rows.len());
 }
 
 fn verb(verb: &Verb, told: &mut Told) {

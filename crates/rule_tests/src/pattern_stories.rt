@@ -88,3 +88,67 @@ translate a[b-
 ",
     );
 }
+
+#[test]
+fn names_are_passed_over_by_their_bytes(rt: HostRuntime) {
+    tells(
+        &rt,
+        rt.alloc(),
+        r"# How a name begins and ends, and what stands in it.
+| X1 ALLOW
+| SR:.* ALLOW
+| .*:SET ALLOW
+| SR:.*:SET ALLOW
+| .*0001\(A\|B\).* ALLOW
+| \(A\|B\):[0-9]* ALLOW
+| [A-Z]+1 ALLOW
+read .* ALLOW
+> 8 rows, ALLOW, DENY
+tried X1
+> 1 7 8 of 8
+tried X12
+> 8 of 8
+tried AX1
+> 7 8 of 8
+tried SR:A
+> 2 8 of 8
+tried SR:A:SET
+> 2 3 4 8 of 8
+tried SR
+> 8 of 8
+tried A:SET
+> 3 8 of 8
+tried B:17
+> 6 8 of 8
+tried XX0001BY
+> 5 8 of 8
+tried XX0002BY
+> 8 of 8
+# Where there are many ways to begin, or one that takes nothing, no start is known.
+| [A-Z]X.* ALLOW
+| [a-z].[0-9] ALLOW
+read \(S\|T\|\)1 ALLOW
+> 3 rows, ALLOW, DENY
+tried 1
+> 2 3 of 3
+tried b.b
+> of 3
+tried BXB
+> 1 of 3
+# No row passes over what it matches.
+| A[^B]C ALLOW
+| \(AB\)*C ALLOW
+| AB?C ALLOW
+read A.*C\|X ALLOW
+> 4 rows, ALLOW, DENY
+tried AAC
+> 1 4 of 4
+tried C
+> 2 of 4
+tried ABC
+> 1 2 3 4 of 4
+tried X
+> 4 of 4
+",
+    );
+}

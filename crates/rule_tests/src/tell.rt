@@ -58,7 +58,7 @@ fn call(alloc: Global, office: &mut Office, verb: &str, told: &mut Told) {
     match verb {
         "plain" => office.desk = Desk::with_syntax(alloc, Syntax::Plain),
         "name" | "same" | "listed" => names::call(alloc, verb, text, told),
-        "translate" | "read" | "bare" | "groups-read" | "rows" | "bits" => {
+        "translate" | "read" | "bare" | "groups-read" | "rows" | "tried" | "bits" => {
             files::call(alloc, syntax, &mut office.policy, verb, text, told);
         }
         "lead" | "rights" => leads::call(alloc, &office.policy, verb, text, told),
