@@ -1,5 +1,5 @@
 -- What the gateway's tables, messages and rules hold may go to another thread.
-use denote.Param.Send.{IsSend, sendable}
+use denote.Param.Send.{IsSend, sendable, view_send}
 use denote.Param.SendFields.{declared_send}
 use Rattle.std.proofs.Crossing.{crosses, send}
 use Rattle.bytes.proofs.Crosses as shared
@@ -18,8 +18,11 @@ use Rattle.channel_table.specs.contracts.table.Table as table
 use Rattle.link_table.specs.contracts.table.Links as links
 use Rattle.pvlist.specs.contracts.rules.Rules as rules
 use Rattle.pvlist.specs.contracts.groups.Groups as groups
+use Rattle.pvlist.specs.contracts.pattern.Pattern as pattern
+use Rattle.pvlist.specs.contracts.pattern.Pattern.TheInside as pattern_parts
 use Rattle.pvlist.specs.contracts.row.Row as row
 use Rattle.pvlist.specs.contracts.row.Verb as verb
+use Rattle.pvlist.specs.contracts.signs.Signs as signs
 use Rattle.rule_desk.specs.contracts.policy.Policy as policy
 use Rattle.gate_board.proofs.PatternsCross.{regex_send}
 
@@ -67,8 +70,17 @@ groups_send = search (sendable, crosses) depth 60 fits 20000
 verb_send : IsSend verb.the_row
 verb_send = search (sendable, crosses) depth 60 fits 20000
 
+signs_send : IsSend signs.the_row
+signs_send = search (sendable, crosses) depth 60 fits 20000
+
+pattern_parts_send : IsSend pattern_parts.the_row
+pattern_parts_send = declared_send pattern_parts.the_type (regex_send, (signs_send, tt))
+
+pattern_send : IsSend pattern.the_row
+pattern_send = search (view_send, pattern_parts_send) depth 5
+
 row_send : IsSend row.the_row
-row_send = declared_send row.the_type (regex_send, (verb_send, tt))
+row_send = declared_send row.the_type (pattern_send, (verb_send, tt))
 
 rules_send : IsSend rules.the_row
 rules_send = search (sendable, crosses, row_send) depth 60 fits 20000

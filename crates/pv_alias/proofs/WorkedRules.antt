@@ -16,9 +16,9 @@ rules order set deny x = record {
   order = order;
   is_open = false;
   rows =
-      (record { regex = set; verb = Alias (codes "\\1:SP") (Some (codes "ops")) })
-      ∷ (record { regex = deny; verb = Deny (codes "lab7" ∷ []) })
-      ∷ (record { regex = x; verb = Deny [] })
+      (record { pattern = set; verb = Alias (codes "\\1:SP") (Some (codes "ops")) })
+      ∷ (record { pattern = deny; verb = Deny (codes "lab7" ∷ []) })
+      ∷ (record { pattern = x; verb = Deny [] })
       ∷ [];
 }
 

@@ -56,7 +56,7 @@ leads name regex (Alias real group) = option_map (λ bytes. record { real = byte
 leads name regex (Deny hosts) = None
 
 abbrev pub lead_by : List ℕ → Row → Option Lead
-lead_by name row = leads name row.regex row.verb
+lead_by name row = leads name row.pattern row.verb
 
 -- where the rows lead that match the name
 abbrev pub lead_among : Order → List ℕ → List ℕ → List Row → Option Lead

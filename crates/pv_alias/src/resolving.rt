@@ -103,10 +103,10 @@ fn is_grant(verb: &Verb) -> bool
 fn matches(alloc: Global, row: &Row, name: &Name) -> Result<bool, NoMemory>
     ensures { IfOk result (λ found. found ≡ matches row.now name.now) }
 {
-    if row.passes_over(name) {
+    if row.pattern.passes_over(name) {
         return Ok(false);
     }
-    is_match(alloc, &row.regex, name)
+    is_match(alloc, row.pattern.regex(), name)
 }
 
 /// Whether the regular expression matches the name. It isn't inlined, since a matcher is large.
@@ -116,4 +116,18 @@ fn is_match(alloc: Global, regex: &Regex, name: &Name) -> Result<bool, NoMemory>
 {
     let mut matcher = regex.matcher(alloc)?;
     Ok(matcher.is_match(name.text()))
+}
+
+/// Where a row leads that matches the name.
+fn lead_by(alloc: Global, row: &Row, name: &Name) -> Result<Option<Lead>, NoMemory>
+    ensures { IfOk result (λ lead. lead ≡ lead_by name.now row.now) }
+{
+    match &row.verb {
+        Verb::Allow(group) => Ok(Some(Lead::to_itself(name, group)?)),
+        Verb::Alias(real, group) => match real_name(alloc, row.pattern.regex(), real, name)? {
+            Some(real) => Ok(Some(Lead::to_real(real, group)?)),
+            None => Ok(None),
+        },
+        Verb::Deny(_) => Ok(None),
+    }
 }

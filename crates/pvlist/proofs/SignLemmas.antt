@@ -1,5 +1,5 @@
 -- From a match of a regular expression to the signs of the name.
-use Rattle.std.proofs.Common.{◌≡◌, ℕ, zero, suc, ◌+◌, ◌-◌, ◌<◌, ◌≤◌, Bool, true, false, ◌||◌, List, [], ◌∷◌, drop, take, length, get_or, nat_eq, All, Option, None, Some, IsSomeAnd, IfSome, is_some, option_map, refl, sym, ap, ◌∙◌, subst, arith, get_or-drop, slice_index, Result, Ok, Err, IfOk, Vec}
+use Rattle.std.proofs.Common.{◌≡◌, ℕ, zero, suc, ◌+◌, ◌-◌, ◌<◌, ◌≤◌, true, false, List, [], ◌∷◌, drop, take, length, nat_eq, All, Option, None, Some, IsSomeAnd, IfSome, is_some, refl, sym, ap, ◌∙◌, subst, arith, get_or-drop, slice_index, Result, Ok, Err, IfOk, Vec}
 use Rattle.std.proofs.lemmas.Bool.{or_left, or_right}
 use Rattle.std.proofs.lemmas.Cmp.{nat_list_eq_equiv}
 use Rattle.std.proofs.lemmas.List.{ext_get_or, get_or-take, length-take-le, length-drop}
@@ -16,7 +16,6 @@ use Rattle.regex.proofs.OnLiterals.{IfSome-weaker}
 use Rattle.regex.proofs.SearchLemmas.{leftmost_attempt}
 use Rattle.regex_extract.specs.Bounds.{IsAnchored}
 use Rattle.regex_extract.specs.Needles.{needles_of, AreFilled, StartsWithNeedle, EndsWithNeedle, ContainsNeedle}
-use Rattle.regex_hir.proofs.MatchesLemmas.{Matches-IsSpan}
 use Rattle.regex_hir.proofs.OptionLemmas.{value_of_IsSome}
 use Rattle.regex_hir.specs.declared.hir.Hir.{Hir}
 use Rattle.regex_hir.specs.Meaning.{meaning}
@@ -28,7 +27,7 @@ use Rattle.regex_syntax.specs.Grammar.{Names, group_count, read}
 use Rattle.pvlist.specs.declared.signs.Signs.{Signs}
 use Rattle.pvlist.specs.declared.signs.Place.{Place}
 use Rattle.pvlist.specs.declared.signs.Place.TheVariants.{Start, End, Anywhere}
-use Rattle.pvlist.specs.Signs.{is_there, stands_in, has_one, has_signs, AreSigns, AreSignsOf}
+use Rattle.pvlist.specs.Signs.{is_there, stands_in, has_one, AreSigns, AreSignsOf}
 
 -- ---- two trees that are read from one text
 

@@ -113,7 +113,7 @@ entry syntax full line =
 -- the row that a draft becomes, with this pattern
 pub record IsRow (syntax : Syntax) (pattern : List ℕ) (drawn : Result Entry RuleCause) (row : Row) : Type 0 where
   pub verb : drawn ≡ Ok (Drafted (Some row.verb))
-  pub compiled : IsCompiled syntax pattern row.regex
+  pub compiled : IsCompiled syntax pattern row.pattern
 
 -- the item of an entry, with this pattern
 abbrev pub IsItemOf : Syntax → List ℕ → Result Entry RuleCause → Item → Type 0

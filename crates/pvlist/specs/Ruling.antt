@@ -13,4 +13,4 @@ pub record Ruling : Type 0 where
 
 -- the row matches the name: a text that is translated from a pattern matches whole names or nothing
 abbrev pub matches : Row → List ℕ → Bool
-matches row name = is_some (find_str (regex_pattern row.regex) name 0)
+matches row name = is_some (find_str (regex_pattern row.pattern) name 0)

@@ -1,5 +1,5 @@
 -- What a name has that a pattern matches, as far as its bytes alone tell it.
-use Rattle.std.specs.Prelude.{◌≡◌, ℕ, ◌≤◌, ◌<◌, Bool, true, false, ◌||◌, ◌&&◌, List, [], ◌∷◌, length, All, nat_eq, Option, Some, None, is_some, IsTrue, Vec}
+use Rattle.std.specs.Prelude.{◌≡◌, ℕ, ◌≤◌, ◌<◌, Bool, true, false, ◌||◌, ◌&&◌, List, [], ◌∷◌, length, All, nat_eq, Option, Some, None, is_some, Vec}
 use Rattle.std.specs.List.{list_any, starts_with, ends_with}
 use Rattle.std.specs.declared.alloc.Global.{Global}
 use Rattle.regex.specs.Patterns.{Re, Matches, find_str}

@@ -3,10 +3,9 @@ ghost use Rattle.std.specs.Prelude.{◌≡◌, IfOk, IfErr};
 ghost use Rattle.pvlist.specs.Captures.{group_count};
 ghost use Rattle.pvlist.specs.Compiled.{IsCompiled};
 ghost use Rattle.pvlist.specs.RuleLine.{IsPatternFault};
-ghost use Rattle.pvlist.specs.Signs.{AreSigns};
 
 use crate::fault::{LineFault, RuleCause};
-use crate::signs::Signs;
+use crate::pattern::Pattern;
 use crate::syntax::Syntax;
 use crate::translation::translate_counted;
 use regex::Regex;
@@ -15,30 +14,23 @@ use std::alloc::Global;
 /// A pattern as a regular expression.
 #[derive(Drop)]
 pub(crate) struct Compiled {
-    /// It matches whole names.
-    pub(crate) regex: Regex,
-    pub(crate) signs: Signs,
+    pub(crate) pattern: Pattern,
     /// How many groups the pattern has.
     pub(crate) groups: usize,
 }
 
 impl Compiled {
     pub(crate) fn new(alloc: Global, pattern: &str, syntax: Syntax) -> Result<Compiled, LineFault>
-        ensures ok { IfOk result (λ compiled. IsCompiled syntax pattern.now compiled.regex) }
-        ensures signs { IfOk result (λ compiled. AreSigns compiled.regex compiled.signs) }
+        ensures ok { IfOk result (λ compiled. IsCompiled syntax pattern.now compiled.pattern) }
         ensures groups { IfOk result (λ compiled. compiled.groups ≡ group_count syntax pattern.now) }
         ensures err { IfErr result (IsPatternFault syntax pattern.now) }
     {
         let translated = translate_counted(alloc, pattern, syntax)?;
         match Regex::new(alloc, translated.text.as_str()) {
-            Ok(regex) => {
-                let signs = Signs::of(alloc, &regex)?;
-                Ok(Compiled {
-                    regex,
-                    signs,
-                    groups: translated.groups,
-                })
-            }
+            Ok(regex) => Ok(Compiled {
+                pattern: Pattern::new(alloc, regex)?,
+                groups: translated.groups,
+            }),
             Err(regex::Error::OutOfMemory) => Err(LineFault::OutOfMemory),
             Err(_) => Err(LineFault::Cause(RuleCause::BadPattern)),
         }

@@ -6,7 +6,7 @@
 //! ```text
 //! let rules = Rules::read(alloc, "T.* ALLOW\nS\\(.\\) ALIAS T\\1 ops\nS9 DENY FROM lab7")?;
 //! let groups = Groups::read(alloc, "ops READ")?;
-//! rules.rows()[0].regex.as_str()          // "^(?:T.*)$", a row that allows
+//! rules.rows()[0].pattern.regex().as_str() // "^(?:T.*)$", a row that allows
 //! groups.rights(&Group::read(alloc, b"ops")?)  // Some(1)
 //! Rules::read(alloc, "T1 PERMIT").err()   // Some(RuleFault::At(1, RuleCause::NoVerb))
 //! ```
@@ -32,10 +32,9 @@ mod hosts;
 mod keyword;
 pub mod laws;
 mod line;
-mod matching;
+mod pattern;
 mod real_text;
 mod row;
-mod row_words;
 mod rules;
 mod signs;
 mod syntax;
@@ -48,6 +47,7 @@ pub use fault::{RuleCause, RuleFault, TranslateFault};
 pub use groups::{GroupRight, Groups};
 pub use hosts::Hosts;
 pub use line::{LINE_LIMIT, ROW_LIMIT};
+pub use pattern::Pattern;
 pub use real_text::RealText;
 pub use row::{Row, Verb};
 pub use rules::{Order, Rules};

@@ -83,14 +83,14 @@ fn read_groups(read: Result<Groups, RuleFault>, policy: &mut Policy, told: &mut 
 
 fn rows(rows: &[Row], told: &mut Told) {
     for row in rows {
-        told.put(&row.regex.as_str());
+        told.put(&row.pattern.regex().as_str());
         verb(&row.verb, told);
     }
 }
 
 fn tried(rows: &[Row], name: &Name, told: &mut Told) {
     for (place, row) in rows.iter().enumerate() {
-        if !row.passes_over(name) {
+        if !row.pattern.passes_over(name) {
             told.put(&(place + 1));
             told.put(&' ');
         }
