@@ -4,11 +4,11 @@
 //! - `add_session`, `add_channel`, `add_sub` and `add_read` put a row last. They refuse one whose
 //!   session or channel doesn't stand, and one past its limit ([`TableFault`]).
 //! - `session`, `channel` and `sub` find a row by its IDs; `channels`, `subs` and `reads` are all rows
-//!   in the order of adding, `reads_for` the reads that wait for a real name, and `channel_count` and the
-//!   like count those of a session.
+//!   in the order of adding, `subs_to` the subscriptions to a real name, `reads_for` the reads that wait
+//!   for one, and `channel_count` and the like count those of a session.
 //! - `nth_session` gives the sessions one by one, by rising number.
-//! - `channel_of`, `sub_of` and `read_of` give the rows of a session one by one, and `channel_on`,
-//!   `sub_on` and `read_on` those of a real name: of the channels on it, and of what hangs on these.
+//! - `channel_of`, `sub_of` and `read_of` give the rows of a session one by one, and `channel_on` and
+//!   `read_on` those of a real name: of the channels on it, and of what waits on these.
 //! - `want_on` tells what the subscriptions to a real name and the channels on it want together, and
 //!   `props_on` whether any of them needs the properties of the variable.
 //! - `put_session`, `put_channel` and `put_sub` change a row that stands.

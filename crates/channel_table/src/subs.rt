@@ -5,12 +5,11 @@ ghost use Rattle.std.specs.Option.{option_copied};
 ghost use Rattle.rows.specs.Rows.{change_first};
 ghost use Rattle.row_index.specs.Lists.{of, AddsTo, RemovesFrom, SameLists};
 ghost use Rattle.row_index.specs.Rows.{has_key, value_at};
-ghost use Rattle.channel_table.specs.Indexes.{changed_by, sub_key, row_at, rows_at, IsApart};
+ghost use Rattle.channel_table.specs.Indexes.{changed_by, sub_key, rows_at, IsApart};
 ghost use Rattle.channel_table.specs.Subs.{is_sub, is_not_sub, is_sub_of, is_sub_on, with_owed};
 ghost use Rattle.channel_table.specs.Demand.{all_exchanged, exchanged_on};
 
 use crate::asks;
-use crate::keys::nth_key;
 use mask_merge::Tally;
 use pv_name::Name;
 use row_index::{Key, NameLists, RowMap};
@@ -110,13 +109,11 @@ impl Subs {
         self.on.of(name).len()
     }
 
-    pub(crate) fn nth_on(&self, name: &Name, n: usize) -> Option<&ClientSub>
-        ensures { option_copied result ≡ row_at sub_key self.now.rows (slice_get (of self.now.on name.now) n) }
+    /// The subscriptions that lead to a real name.
+    pub(crate) fn all_on(&self, name: &Name, alloc: Global) -> Result<Vec<ClientSub>, AllocError>
+        ensures { IfOk result (λ subs. subs.items ≡ rows_at sub_key self.now.rows (of self.now.on name.now)) }
     {
-        match nth_key(&self.on, name, n) {
-            Some(key) => self.rows.get(key),
-            None => None,
-        }
+        subs_at(&self.rows, self.on.of(name), alloc)
     }
 
     /// The first subscription on a channel, among those that lead to its real name.
@@ -182,6 +179,23 @@ impl Subs {
         self.on.remove(name, key);
         self.rows.remove(key);
     }
+}
+
+/// The subscriptions under these keys.
+fn subs_at(
+    rows: &RowMap<ClientSub>,
+    keys: &[Key],
+    alloc: Global,
+) -> Result<Vec<ClientSub>, AllocError>
+    ensures { IfOk result (λ subs. subs.items ≡ filter_map (λ key. value_at key rows.now) keys.now) }
+{
+    let mut subs = Vec::with_capacity(alloc, keys.len())?;
+    for key in keys {
+        if let Some(sub) = rows.get(*key) {
+            subs.push(*sub)?;
+        }
+    }
+    Ok(subs)
 }
 
 /// The first of these rows that is on a channel.

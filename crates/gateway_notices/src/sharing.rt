@@ -9,7 +9,8 @@ use pv_name::Name;
 use std::alloc::AllocError;
 
 /// Keeps what the subscriptions to a variable that wait for its value are given of it, before it is
-/// told: so all of one type and count are told the same payload. What the gateway knows is as before.
+/// told: so all of one type and count are told the same payload; one that is of those that were kept last
+/// isn't looked at further. What the gateway knows is as before.
 pub(crate) fn share_on(rows: &mut Rows, visits: &mut Visits, name: &Name) -> Result<(), AllocError>
     ensures same { rows.new ≡ rows.old }
     ensures bound { OnOk result (visits.new ≤ visits.old + 2 * subs_on rows.old name.now) }
@@ -19,8 +20,8 @@ pub(crate) fn share_on(rows: &mut Rows, visits: &mut Visits, name: &Name) -> Res
         return Ok(());
     };
     let mut kept = None;
-    for n in 0..rows.clients.subs_on(name) {
-        if let Some(sub) = nth_waiting(rows, visits, name, n, kept) {
+    for sub in &rows.subs_on(visits, name)? {
+        if kept != Some((sub.dtype, sub.count)) && is_waiting(rows, visits, sub) {
             rows.keep_value(cid, native, sub.dtype, sub.count)?;
             kept = Some((sub.dtype, sub.count));
         }
@@ -56,25 +57,6 @@ fn value_on(rows: &Rows, name: &Name) -> Option<(u32, u32)> {
     let link = rows.link_of(name)?;
     let native = native_in(link.state)?;
     Some((link.cid, native.count))
-}
-
-// The nth subscription, where it may be told an update and isn't of the type and count that were kept last.
-fn nth_waiting(
-    rows: &Rows,
-    visits: &mut Visits,
-    name: &Name,
-    n: usize,
-    kept: Option<(u16, u32)>,
-) -> Option<ClientSub>
-    ensures ok { visits.new ≤ visits.old + 2 }
-    ensures no_less { visits.old ≤ visits.new }
-{
-    let sub = rows.clients.sub_on(visits, name, n)?;
-    if kept != Some((sub.dtype, sub.count)) && is_waiting(rows, visits, sub) {
-        Some(*sub)
-    } else {
-        None
-    }
 }
 
 // Whether a subscription may be told an update, by the rights that were told last. What is kept for

@@ -44,19 +44,12 @@ impl Rows {
     }
 
     /// The subscriptions to a variable, in the order in which they were made.
-    #[tactic(auto, using(crate::proofs::Counted::taken_one_more, crate::proofs::Counted::taken_none))]
     pub fn subs_on(&self, visits: &mut Visits, name: &Name) -> Result<Vec<ClientSub>, AllocError>
         ensures found { IfOk result (λ subs. subs.items ≡ filter (is_sub_to self.now name.now) self.now.clients.subs) }
         ensures bound { IfOk result (λ subs. visits.new ≤ visits.old + length subs.items) }
         ensures no_less { visits.old ≤ visits.new }
     {
-        let mut subs = Vec::new(self.alloc);
-        for n in 0..self.clients.subs_on(name) {
-            if let Some(sub) = self.clients.sub_on(visits, name, n) {
-                subs.push(*sub)?;
-            }
-        }
-        Ok(subs)
+        self.clients.subs_to(visits, self.alloc, name)
     }
 
     /// The subscriptions of a session, in the order in which they were made.

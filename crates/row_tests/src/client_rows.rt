@@ -310,6 +310,12 @@ fn show_subs(rows: &[&ClientSub], told: &mut Told) {
     }
 }
 
+fn show_subs_of_name(rows: &[ClientSub], told: &mut Told) {
+    for row in rows {
+        show_sub(row, told);
+    }
+}
+
 fn show_reads(rows: &[WaitingRead], told: &mut Told) {
     for row in rows {
         show_read(row, told);
@@ -319,7 +325,7 @@ fn show_reads(rows: &[WaitingRead], told: &mut Told) {
 /// What a call answers that names a variable.
 fn show_name(alloc: Global, table: &Table, visits: &mut Visits, line: &str, told: &mut Told) {
     match (Name::read(alloc, word(line, 1).as_bytes()), word(line, 0)) {
-        (Ok(name), "on") => show_on(table, visits, &name, told),
+        (Ok(name), "on") => show_on(alloc, table, visits, &name, told),
         (Ok(name), "props") => told.line(&table.props_on(&name, word(line, 2) == "states")),
         (Ok(name), _) => show_want(table, &name, number(line, 2), told),
         (Err(_), _) => told.line(&"no name"),
@@ -327,23 +333,21 @@ fn show_name(alloc: Global, table: &Table, visits: &mut Visits, line: &str, told
 }
 
 /// The rows on a variable, one by one, and how many there are.
-fn show_on(table: &Table, visits: &mut Visits, name: &Name, told: &mut Told) {
+fn show_on(alloc: Global, table: &Table, visits: &mut Visits, name: &Name, told: &mut Told) {
     let channels = table.channels_on(name);
-    let subs = table.subs_on(name);
     let reads = table.reads_on(name);
     told.word(&table.is_used(name));
     told.word(&channels);
-    told.word(&subs);
+    told.word(&table.subs_on(name));
     told.line(&reads);
     for n in 0..=channels {
         if let Some(row) = table.channel_on(visits, name, n) {
             show_channel(row, told);
         }
     }
-    for n in 0..=subs {
-        if let Some(row) = table.sub_on(visits, name, n) {
-            show_sub(row, told);
-        }
+    match table.subs_to(visits, alloc, name) {
+        Ok(rows) => show_subs_of_name(&rows, told),
+        Err(_) => told.line(&"out of memory"),
     }
     for n in 0..=reads {
         if let Some(row) = table.read_on(visits, name, n) {

@@ -78,16 +78,23 @@ impl Table {
         self.subs.count_on(name)
     }
 
-    /// The nth subscription to a channel on this real name.
-    pub fn sub_on<'a>(&'a self, visits: &mut Visits, name: &Name, n: usize) -> Option<&'a ClientSub>
-        ensures nth { option_copied result ≡ slice_get (filter (is_sub_to self.now name.now) self.now.subs) n }
-        ensures visits { visits.new ≡ u64_saturate (visits.old + 1) }
-        ensures bound { visits.new ≤ visits.old + 1 }
+    /// The subscriptions to channels on this real name, in the order in which they were added. They are
+    /// counted as looked at.
+    pub fn subs_to(
+        &self,
+        visits: &mut Visits,
+        alloc: Global,
+        name: &Name,
+    ) -> Result<Vec<ClientSub>, AllocError>
+        ensures found { IfOk result (λ subs. subs.items ≡ filter (is_sub_to self.now name.now) self.now.subs) }
+        ensures visits { IfOk result (λ subs. visits.new ≡ u64_saturate (visits.old + length subs.items)) }
+        ensures bound { IfOk result (λ subs. visits.new ≤ visits.old + length subs.items) }
         ensures no_less { visits.old ≤ visits.new }
     {
-        visits.count(1);
         self.subs.are_apart();
-        self.subs.nth_on(name, n)
+        let subs = self.subs.all_on(name, alloc)?;
+        visits.count(subs.len());
+        Ok(subs)
     }
 
     /// Adds a subscription to the channel that it names. The caller sees to it that none of its ID
