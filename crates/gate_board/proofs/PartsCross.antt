@@ -22,7 +22,7 @@ use Rattle.pvlist.specs.contracts.pattern.Pattern as pattern
 use Rattle.pvlist.specs.contracts.pattern.Pattern.TheInside as pattern_parts
 use Rattle.pvlist.specs.contracts.row.Row as row
 use Rattle.pvlist.specs.contracts.row.Verb as verb
-use Rattle.pvlist.specs.contracts.signs.Signs as signs
+use Rattle.pvlist.specs.contracts.clues.Clues as clues
 use Rattle.rule_desk.specs.contracts.policy.Policy as policy
 use Rattle.gate_board.proofs.PatternsCross.{regex_send}
 
@@ -70,11 +70,11 @@ groups_send = search (sendable, crosses) depth 60 fits 20000
 verb_send : IsSend verb.the_row
 verb_send = search (sendable, crosses) depth 60 fits 20000
 
-signs_send : IsSend signs.the_row
-signs_send = search (sendable, crosses) depth 60 fits 20000
+clues_send : IsSend clues.the_row
+clues_send = search (sendable, crosses) depth 60 fits 20000
 
 pattern_parts_send : IsSend pattern_parts.the_row
-pattern_parts_send = declared_send pattern_parts.the_type (regex_send, (signs_send, tt))
+pattern_parts_send = declared_send pattern_parts.the_type (regex_send, (clues_send, tt))
 
 pattern_send : IsSend pattern.the_row
 pattern_send = search (view_send, pattern_parts_send) depth 5

@@ -1,6 +1,6 @@
+pub mod ClueLemmas
 pub mod FileLemmas
 pub mod LineLemmas
-pub mod SignLemmas
 pub mod TranslationLemmas
-pub mod WorkedPatterns
 pub mod WordLemmas
+pub mod WorkedPatterns

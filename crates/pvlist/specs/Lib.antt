@@ -1,6 +1,7 @@
 pub mod BareGroups
 pub mod Captures
 pub mod Cause
+pub mod Clues
 pub mod Compiled
 pub mod Fault
 pub mod File
@@ -14,7 +15,6 @@ pub mod RuleFile
 pub mod RuleLine
 pub mod Ruling
 pub mod Separators
-pub mod Signs
 pub mod Syntax
 pub mod Translation
 pub mod Words

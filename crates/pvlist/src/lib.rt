@@ -22,6 +22,7 @@
 
 mod bare_groups;
 mod bracket;
+mod clues;
 mod compiled;
 mod fault;
 mod group_line;
@@ -36,7 +37,6 @@ mod pattern;
 mod real_text;
 mod row;
 mod rules;
-mod signs;
 mod syntax;
 mod translation;
 mod words;

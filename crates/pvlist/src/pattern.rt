@@ -3,7 +3,7 @@ ghost use Rattle.std.specs.Prelude.{◌≡◌, false, is_some, IsTrue, IfOk};
 ghost use Rattle.regex.specs.Patterns.{find_str, default_config};
 ghost use Rattle.regex.specs.Strings.{regex_config, regex_pattern, IsReadFromSource};
 
-use crate::signs::Signs;
+use crate::clues::Clues;
 use pv_name::Name;
 use regex::Regex;
 use std::alloc::{AllocError, Global};
@@ -14,11 +14,11 @@ use std::marker::Model;
 #[derive(Drop)]
 pub struct Pattern {
     regex: Regex,
-    signs: Signs,
+    clues: Clues,
 }
 
 impl Model for Pattern {
-    ghost use Rattle.pvlist.specs.Signs.{AreSigns};
+    ghost use Rattle.pvlist.specs.Clues.{AreClues};
     ghost use Rattle.regex.specs.contracts.Regex.{the_row};
     ghost use Rattle.regex.specs.declared.string.regex.Regex.{Regex as Read};
 
@@ -28,7 +28,7 @@ impl Model for Pattern {
 
     ghost view = { λ p. p.regex };
 
-    ghost invariant = { λ p. AreSigns p.regex p.signs };
+    ghost invariant = { λ p. AreClues p.regex p.clues };
 }
 
 impl Pattern {
@@ -37,8 +37,8 @@ impl Pattern {
         requires read { IsReadFromSource regex }
         ensures { IfOk result (λ pattern. pattern ≡ regex) }
     {
-        let signs = Signs::of(alloc, &regex)?;
-        Ok(Pattern { regex, signs })
+        let clues = Clues::of(alloc, &regex)?;
+        Ok(Pattern { regex, clues })
     }
 
     /// It matches whole names.
@@ -53,6 +53,6 @@ impl Pattern {
     pub fn passes_over(&self, name: &Name) -> bool
         ensures { IsTrue result → is_some (find_str (regex_pattern self.now) name.now 0) ≡ false }
     {
-        !self.signs.are_in(name.text().as_bytes())
+        !self.clues.are_in(name.text().as_bytes())
     }
 }

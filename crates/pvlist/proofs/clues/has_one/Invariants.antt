@@ -1,8 +1,8 @@
 use Rattle.std.proofs.Common.{◌≡◌, ℕ, drop, map, Vec}
 use Rattle.std.specs.List.{list_any}
 use Rattle.std.specs.declared.alloc.Global.{Global}
-use Rattle.pvlist.specs.Signs.{is_there}
-use Rattle.pvlist.proofs.signs.has_one.Given as goal
+use Rattle.pvlist.specs.Clues.{is_there}
+use Rattle.pvlist.proofs.clues.has_one.Given as goal
 
 -- what is left decides
 abbrev pub invariant-loop-text : goal.invariant-loop-text

@@ -1,10 +1,9 @@
-//! What a name has that a pattern matches, as far as its bytes alone tell it.
-ghost use Rattle.std.specs.Prelude.{◌≡◌, true, IfOk, IfSome, IsTrue};
+//! What the bytes of a name tell of whether a pattern may match it, before its regular expression is tried.
+ghost use Rattle.std.specs.Prelude.{◌≡◌, IfOk, IfSome};
 ghost use Rattle.regex.specs.Patterns.{default_config};
 ghost use Rattle.regex.specs.Strings.{regex_config, IsReadFromSource};
 ghost use Rattle.regex_hir.specs.Meaning.{meaning};
-ghost use Rattle.regex_extract.specs.Needles.{needles_of};
-ghost use Rattle.pvlist.specs.Signs.{stands_in, is_there, has_one, has_signs, AreSigns, AreSignsOf};
+ghost use Rattle.pvlist.specs.Clues.{stands_in, is_there, has_one, has_clues, AreClues, AreCluesOf};
 
 use regex::Regex;
 use regex_extract::{Needles, is_anchored_end, is_anchored_start, prefixes, required, suffixes};
@@ -18,7 +17,7 @@ const MOST_TEXTS: usize = 16;
 /// Texts of which a name has one that a pattern matches: at its start, at its end, and anywhere. Where
 /// none are known, every name is as good as another.
 #[derive(Drop)]
-pub(crate) struct Signs {
+pub(crate) struct Clues {
     pub(crate) starts: Option<Needles>,
     pub(crate) ends: Option<Needles>,
     pub(crate) inside: Option<Needles>,
@@ -32,26 +31,26 @@ enum Place {
     Anywhere,
 }
 
-impl Signs {
+impl Clues {
     /// Those of a regular expression.
-    pub(crate) fn of(alloc: Global, regex: &Regex) -> Result<Signs, AllocError>
+    pub(crate) fn of(alloc: Global, regex: &Regex) -> Result<Clues, AllocError>
         requires config { regex_config regex.now ≡ default_config }
         requires read { IsReadFromSource regex.now }
-        ensures { IfOk result (AreSigns regex.now) }
+        ensures { IfOk result (AreClues regex.now) }
     {
         match parse(alloc, regex.as_str(), &Config::default()) {
-            Ok(parsed) => signs_of(alloc, &parsed.hir),
+            Ok(parsed) => clues_of(alloc, &parsed.hir),
             Err(error) => match error.kind {
                 ErrorKind::OutOfMemory => Err(AllocError),
-                _ => Ok(Signs::unknown()),
+                _ => Ok(Clues::unknown()),
             },
         }
     }
 
-    fn unknown() -> Signs
+    fn unknown() -> Clues
         ensures { result ≡ record { starts = None; ends = None; inside = None } }
     {
-        Signs {
+        Clues {
             starts: None,
             ends: None,
             inside: None,
@@ -60,7 +59,7 @@ impl Signs {
 
     /// Whether the name has what is known of those that the pattern matches.
     pub(crate) fn are_in(&self, name: &[u8]) -> bool
-        ensures { result ≡ has_signs self.now name.now }
+        ensures { result ≡ has_clues self.now name.now }
     {
         has_one(Place::Start, &self.starts, name)
             && has_one(Place::End, &self.ends, name)
@@ -69,13 +68,13 @@ impl Signs {
 }
 
 /// Those of a tree that matches whole names; of another nothing is told.
-fn signs_of(alloc: Global, tree: &Hir) -> Result<Signs, AllocError>
-    ensures { IfOk result (AreSignsOf (meaning tree.now)) }
+fn clues_of(alloc: Global, tree: &Hir) -> Result<Clues, AllocError>
+    ensures { IfOk result (AreCluesOf (meaning tree.now)) }
 {
     if !is_anchored_start(tree) || !is_anchored_end(tree) {
-        return Ok(Signs::unknown());
+        return Ok(Clues::unknown());
     }
-    Ok(Signs {
+    Ok(Clues {
         starts: few(prefixes(alloc, tree)?),
         ends: few(suffixes(alloc, tree)?),
         inside: few(required(alloc, tree)?),

@@ -1,6 +1,6 @@
 use Rattle.std.proofs.Common.{◌≡◌, length}
-use Rattle.pvlist.specs.Signs.{stands_in}
-use Rattle.pvlist.proofs.signs.stands_in.Given as goal
+use Rattle.pvlist.specs.Clues.{stands_in}
+use Rattle.pvlist.proofs.clues.stands_in.Given as goal
 
 -- what is left decides
 abbrev pub invariant-loop-rest : goal.invariant-loop-rest

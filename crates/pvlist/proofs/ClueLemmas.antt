@@ -1,4 +1,4 @@
--- From a match of a regular expression to the signs of the name.
+-- From a match of a regular expression to the clues of the name.
 use Rattle.std.proofs.Common.{◌≡◌, ℕ, zero, suc, ◌+◌, ◌-◌, ◌<◌, ◌≤◌, true, false, List, [], ◌∷◌, drop, take, length, nat_eq, All, Option, None, Some, IsSomeAnd, IfSome, is_some, refl, sym, ap, ◌∙◌, subst, arith, get_or-drop, slice_index, Result, Ok, Err, IfOk, Vec}
 use Rattle.std.proofs.lemmas.Bool.{or_left, or_right}
 use Rattle.std.proofs.lemmas.Cmp.{nat_list_eq_equiv}
@@ -24,10 +24,10 @@ use Rattle.regex_syntax.proofs.CapturesLemmas as seen
 use Rattle.regex_syntax.proofs.Written.{is_some-option_map}
 use Rattle.regex_syntax.specs.Brackets.{Nested}
 use Rattle.regex_syntax.specs.Grammar.{Names, group_count, read}
-use Rattle.pvlist.specs.declared.signs.Signs.{Signs}
-use Rattle.pvlist.specs.declared.signs.Place.{Place}
-use Rattle.pvlist.specs.declared.signs.Place.TheVariants.{Start, End, Anywhere}
-use Rattle.pvlist.specs.Signs.{is_there, stands_in, has_one, AreSigns, AreSignsOf}
+use Rattle.pvlist.specs.declared.clues.Clues.{Clues}
+use Rattle.pvlist.specs.declared.clues.Place.{Place}
+use Rattle.pvlist.specs.declared.clues.Place.TheVariants.{Start, End, Anywhere}
+use Rattle.pvlist.specs.Clues.{is_there, stands_in, has_one, AreClues, AreCluesOf}
 
 -- ---- two trees that are read from one text
 
@@ -55,9 +55,9 @@ matched a b same name bytes h =
     let m = (find_str_sound b name 0 found.0 found.1).1 in
     (found.0.start, found.0.trace.end, (leftmost_attempt b name true 0 found.0 found.1).1, m)
 
--- the signs of a tree are those of a regular expression that matches alike
-signs_alike : (regex : Regex) (re : Re) (signs : Signs) → SameCaptures (regex_pattern regex) re → AreSignsOf re signs → AreSigns regex signs
-signs_alike regex re signs same are name bytes h =
+-- the clues of a tree are those of a regular expression that matches alike
+clues_alike : (regex : Regex) (re : Re) (clues : Clues) → SameCaptures (regex_pattern regex) re → AreCluesOf re clues → AreClues regex clues
+clues_alike regex re clues same are name bytes h =
     let m = matched (regex_pattern regex) re same name bytes h in
     are name m.0 m.1 bytes m.2 m.3
 
@@ -114,7 +114,7 @@ stands_of_match re texts filled needles name i j bytes m =
     let n = needles name bytes i j m in
     list_any_at (stands_in name) texts n.0 [] n.2.numbered (stands_of_occurs name _ n.1 (filled n.0 [] n.2.numbered) n.2.occurs)
 
--- ---- the signs of a tree
+-- ---- the clues of a tree
 
 has_known : (place : Place) (texts : Option (Vec (Vec ℕ Global) Global)) (name : List ℕ)
     → IfSome texts (λ them. list_any (is_there place name) (needles_of them) ≡ true) → has_one place texts name ≡ true
@@ -130,24 +130,24 @@ both_of : {X : Type 0} (P Q : X → Type 0) (o : Option X) → IfSome o P → If
 both_of P Q None p q = tt
 both_of P Q (Some x) p q = (p, q)
 
-pub signs_of_tree : (re : Re) (signs : Signs) → IsAnchored true re → IsAnchored false re
-    → IfSome signs.starts (λ them. StartsWithNeedle re (needles_of them))
-    → IfSome signs.ends (λ them. EndsWithNeedle re (needles_of them))
-    → IfSome signs.inside (λ them. AreFilled (needles_of them))
-    → IfSome signs.inside (λ them. ContainsNeedle re (needles_of them)) → AreSignsOf re signs
-signs_of_tree re signs first last starts ends filled inside name i j bytes le m =
-    let start : has_one Start signs.starts name ≡ true = has_known Start signs.starts name
-    (IfSome-weaker signs.starts _ _ (λ them h. begins_of_match re _ first h name i j bytes le m) starts) in
-    let end : has_one End signs.ends name ≡ true = has_known End signs.ends name
-    (IfSome-weaker signs.ends _ _ (λ them h. ends_of_match re _ last h name i j bytes le m) ends) in
-    let anywhere : has_one Anywhere signs.inside name ≡ true = has_known Anywhere signs.inside name
-    (IfSome-weaker signs.inside _ _ (λ them (h : AreFilled (needles_of them) × ContainsNeedle re (needles_of them)). stands_of_match re _ h.0 h.1 name i j bytes m)
-    (both_of _ _ signs.inside filled inside)) in
+pub clues_of_tree : (re : Re) (clues : Clues) → IsAnchored true re → IsAnchored false re
+    → IfSome clues.starts (λ them. StartsWithNeedle re (needles_of them))
+    → IfSome clues.ends (λ them. EndsWithNeedle re (needles_of them))
+    → IfSome clues.inside (λ them. AreFilled (needles_of them))
+    → IfSome clues.inside (λ them. ContainsNeedle re (needles_of them)) → AreCluesOf re clues
+clues_of_tree re clues first last starts ends filled inside name i j bytes le m =
+    let start : has_one Start clues.starts name ≡ true = has_known Start clues.starts name
+    (IfSome-weaker clues.starts _ _ (λ them h. begins_of_match re _ first h name i j bytes le m) starts) in
+    let end : has_one End clues.ends name ≡ true = has_known End clues.ends name
+    (IfSome-weaker clues.ends _ _ (λ them h. ends_of_match re _ last h name i j bytes le m) ends) in
+    let anywhere : has_one Anywhere clues.inside name ≡ true = has_known Anywhere clues.inside name
+    (IfSome-weaker clues.inside _ _ (λ them (h : AreFilled (needles_of them) × ContainsNeedle re (needles_of them)). stands_of_match re _ h.0 h.1 name i j bytes m)
+    (both_of _ _ clues.inside filled inside)) in
     rw (start, end, anywhere) refl
 
--- the signs of the tree that was read from its text
-pub of_parsed : (regex : Regex) (tree : Hir) (names : Names) (signs : Result Signs AllocError) → regex_config regex ≡ default_config
-    → IsReadFromSource regex → Reads default_config (regex_source regex) tree names → IfOk signs (AreSignsOf (meaning tree))
-    → IfOk signs (AreSigns regex)
-of_parsed regex tree names (Ok signs) config read parsed are = signs_alike regex _ signs (same_reading regex tree names config read parsed) are
+-- the clues of the tree that was read from its text
+pub of_parsed : (regex : Regex) (tree : Hir) (names : Names) (clues : Result Clues AllocError) → regex_config regex ≡ default_config
+    → IsReadFromSource regex → Reads default_config (regex_source regex) tree names → IfOk clues (AreCluesOf (meaning tree))
+    → IfOk clues (AreClues regex)
+of_parsed regex tree names (Ok clues) config read parsed are = clues_alike regex _ clues (same_reading regex tree names config read parsed) are
 of_parsed regex tree names (Err e) config read parsed are = tt

@@ -6,9 +6,9 @@ use Rattle.regex.specs.Patterns.{Re, Matches, find_str}
 use Rattle.regex.specs.Strings.{regex_pattern}
 use Rattle.regex.specs.declared.string.regex.Regex.{Regex}
 use Rattle.regex_extract.specs.Needles.{needles_of}
-use Rattle.pvlist.specs.declared.signs.Place.{Place}
-use Rattle.pvlist.specs.declared.signs.Place.TheVariants.{Start, End, Anywhere}
-use Rattle.pvlist.specs.declared.signs.Signs.{Signs}
+use Rattle.pvlist.specs.declared.clues.Place.{Place}
+use Rattle.pvlist.specs.declared.clues.Place.TheVariants.{Start, End, Anywhere}
+use Rattle.pvlist.specs.declared.clues.Clues.{Clues}
 
 -- the text stands somewhere in the name
 abbrev pub stands_in : List ℕ → List ℕ → Bool
@@ -27,15 +27,15 @@ has_one place None name = true
 has_one place (Some texts) name = list_any (is_there place name) (needles_of texts)
 
 -- the name begins with one, ends with one, and one stands in it
-abbrev pub has_signs : Signs → List ℕ → Bool
-has_signs signs name = has_one Start signs.starts name && has_one End signs.ends name && has_one Anywhere signs.inside name
+abbrev pub has_clues : Clues → List ℕ → Bool
+has_clues clues name = has_one Start clues.starts name && has_one End clues.ends name && has_one Anywhere clues.inside name
 
 -- each name that the regular expression matches has them
-abbrev pub AreSigns : Regex → Signs → Type 0
-AreSigns regex signs =
-    (name : List ℕ) → All (λ b. b < 256) name → is_some (find_str (regex_pattern regex) name 0) ≡ true → has_signs signs name ≡ true
+abbrev pub AreClues : Regex → Clues → Type 0
+AreClues regex clues =
+    (name : List ℕ) → All (λ b. b < 256) name → is_some (find_str (regex_pattern regex) name 0) ≡ true → has_clues clues name ≡ true
 
 -- each name has them that a tree matches somewhere
-abbrev pub AreSignsOf : Re → Signs → Type 0
-AreSignsOf re signs =
-    (name : List ℕ) (i j : ℕ) → All (λ b. b < 256) name → i ≤ length name → Matches name re i j → has_signs signs name ≡ true
+abbrev pub AreCluesOf : Re → Clues → Type 0
+AreCluesOf re clues =
+    (name : List ℕ) (i j : ℕ) → All (λ b. b < 256) name → i ≤ length name → Matches name re i j → has_clues clues name ≡ true
