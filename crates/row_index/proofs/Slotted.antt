@@ -1,5 +1,6 @@
 -- Rows in slots: what stands where, and what a change of a slot does.
 use Rattle.std.proofs.Common.{◌≡◌, ℕ, zero, suc, ◌+◌, ◌<◌, List, [], ◌∷◌, ◌++◌, length, get_or, set, take, Bool, true, false, cond, Option, Some, None, filter, refl, sym, ap, subst, ◌∙◌, true≢false, arith}
+use Rattle.std.specs.Bool.{OnTrue}
 use Rattle.std.specs.List.{find}
 use Rattle.std.specs.Option.{option_map, option_or}
 use Rattle.row_index.specs.declared.key.Key.{Key}
@@ -211,3 +212,27 @@ module _ {V : Type 0} where
       none_of (has_key key) row_of (k, v) (filled (take i slots))
       (same_key_flips k key ∙ fails_at k slots i d key value apart.0 (omega arith) here)
       (new_there slots i d key value (omega arith) here apart.1)
+
+  -- a slot with a key is where the row of that key stands
+  has_at : (key : Key) (slots : List (Slot V)) (i : ℕ) (d : Slot V) → i < length slots → slot_has_key key (get_or slots i d) ≡ true → HasKeysApart (filled slots) → place_of key slots ≡ Some i
+  has_at key [] i d within has apart = absurd (omega arith)
+  has_at key (slot ∷ slots) zero d within has apart = rw has refl
+  has_at key (Empty ∷ slots) (suc i) d within has apart = ap (option_map suc) (has_at key slots i d (omega arith) has apart)
+  has_at key (Full k v ∷ slots) (suc i) d within has apart =
+      let later : place_of key slots ≡ Some i = has_at key slots i d (omega arith) has apart.1 in
+      elim (same_key k key) as (λ t. same_key k key ≡ t → cond t (Some 0) (option_map suc (place_of key slots)) ≡ Some (suc i)) [
+        | true ↦ λ e. let none : value_at key (filled slots) ≡ None = subst (λ x. value_at x (filled slots) ≡ None) (same_key_is_same k key e) apart.0 in let nowhere : place_of key slots ≡ None = nowhere_found key slots (unmapped row_of _ none) in cc
+        | false ↦ λ e. ap (option_map suc) later
+      ] refl
+
+  pub place_there : (key : Key) (slots : List (Slot V)) (i : ℕ) (slot : Slot V) (has : Bool) → has ≡ slot_has_key key slot → slot ≡ get_or slots i slot → i < length slots → HasKeysApart (filled slots) → OnTrue has (place_of key slots ≡ Some i)
+  place_there key slots i slot true is here within apart = has_at key slots i slot within (ap (slot_has_key key) (sym here) ∙ sym is) apart
+  place_there key slots i slot false is here within apart = tt
+
+  -- a place that is found in a copy of the slots
+  pub place_here : (key : Key) (slots copy : List (Slot V)) (i : ℕ) → copy ≡ slots → Some i ≡ place_of key copy → place_of key slots ≡ Some i
+  place_here key slots copy i same at = ap (place_of key) (sym same) ∙ sym at
+
+  -- and with none there is no row
+  pub none_here : (key : Key) (slots copy : List (Slot V)) → copy ≡ slots → None ≡ place_of key copy → None ≡ value_at key (filled slots)
+  none_here key slots copy same at = sym (ap (option_map row_of) (found_nowhere key slots (ap (place_of key) (sym same) ∙ sym at)))

@@ -26,6 +26,7 @@
 //! ```
 #![tactic(auto)]
 
+mod hints;
 mod id_list;
 mod key;
 mod key_list;

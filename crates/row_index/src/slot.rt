@@ -14,7 +14,7 @@ pub(crate) enum Slot<V> {
 
 impl<V> Slot<V> {
     ghost use Rattle.row_index.specs.SlotLends.{lends_value_in};
-    ghost use Rattle.row_index.specs.Slots.{is_full, value_in};
+    ghost use Rattle.row_index.specs.Slots.{is_full, slot_has_key, value_in};
 
     pub(crate) fn is_full(&self) -> bool
         ensures { result ≡ is_full self.now }
@@ -25,6 +25,17 @@ impl<V> Slot<V> {
         }
     }
 
+    #[inline]
+    pub(crate) fn has_key(&self, key: Key) -> bool
+        ensures { result ≡ slot_has_key key self.now }
+    {
+        match self {
+            Slot::Full(found, _) => *found == key,
+            Slot::Empty => false,
+        }
+    }
+
+    #[inline]
     pub(crate) fn value(&self) -> Option<&V>
         ensures { option_copied result ≡ value_in self.now }
     {
@@ -34,6 +45,7 @@ impl<V> Slot<V> {
         }
     }
 
+    #[inline]
     pub(crate) fn value_mut(&mut self) -> Option<&mut V>
         ensures* writes_back { sem 𝓛 (lends_value_in V.row self.entry result) }
         ensures value { option_copied_mut result ≡ value_in self.old }

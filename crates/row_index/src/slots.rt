@@ -1,13 +1,15 @@
 //! Rows in slots, with the place of each.
 ghost use Rattle.std.specs.Prelude.{◌≡◌, ◌+◌, ◌<◌, ◌≤◌, [], ◌∷◌, ◌++◌, Some, None, if◌then◌else◌, IfOk, OnOk, OnErr, length, map, slice_get};
+ghost use Rattle.std.specs.Bool.{OnTrue};
 ghost use Rattle.std.specs.List.{filter};
 ghost use Rattle.std.specs.Option.{option_copied, option_copied_mut};
 ghost use Rattle.std.specs.Borrow.{sem};
 ghost use Rattle.indexmap.specs.IndexMap.{get, index_map_len, spare};
 ghost use Rattle.row_index.specs.declared.key.Key.{Key as RowKey};
 ghost use Rattle.row_index.specs.Rows.{same_key, lacks_key, value_at, row_of, HasKeysApart};
-ghost use Rattle.row_index.specs.Slots.{is_full, filled, Agrees};
+ghost use Rattle.row_index.specs.Slots.{is_full, filled, place_of, Agrees};
 
+use crate::hints::Hints;
 use crate::key::Key;
 use crate::slot::Slot;
 use indexmap::IndexMap;
@@ -20,6 +22,7 @@ use std::marker::Model;
 pub(crate) struct Slots<V> {
     slots: Vec<Slot<V>>,
     places: IndexMap<Key, usize>,
+    hints: Hints,
 }
 
 impl<V> Model for Slots<V> {
@@ -43,6 +46,7 @@ impl<V> Slots<V> {
         Slots {
             slots: Vec::new(alloc),
             places: IndexMap::new(alloc),
+            hints: Hints::new(alloc),
         }
     }
 
@@ -52,24 +56,23 @@ impl<V> Slots<V> {
         self.places.len()
     }
 
+    #[inline]
     pub(crate) fn get(&self, key: Key) -> Option<&V>
         ensures { option_copied result ≡ value_at key self.now }
     {
-        match self.places.get(&key) {
-            Some(place) => self.slots[*place].value(),
+        match find_place(&self.slots, &self.places, &self.hints, key) {
+            Some(place) => self.slots[place].value(),
             None => None,
         }
     }
 
+    #[inline]
     pub(crate) fn get_mut(&mut self, key: Key) -> Option<&mut V>
         ensures* writes_back { sem 𝓛 (lends_value V.row self.entry key result) }
         ensures value { option_copied_mut result ≡ value_at key self.old }
     {
-        match self.places.get(&key) {
-            Some(place) => {
-                let place = *place;
-                self.slots[place].value_mut()
-            }
+        match find_place(&self.slots, &self.places, &self.hints, key) {
+            Some(place) => self.slots[place].value_mut(),
             None => None,
         }
     }
@@ -85,6 +88,7 @@ impl<V> Slots<V> {
         let place = self.slots.len();
         self.slots.push(Slot::Full(key, value))?;
         put_place(&mut self.places, key, place);
+        note_new(&mut self.hints, &self.slots, key, place);
         Ok(())
     }
 
@@ -96,6 +100,7 @@ impl<V> Slots<V> {
         take_out(&mut self.slots, &mut self.places, key);
         if self.slots.len() / 2 > self.places.len() {
             squeeze(&mut self.slots, &mut self.places);
+            note_all(&mut self.hints, &self.slots);
         }
     }
 
@@ -131,6 +136,48 @@ impl<V> Slots<V> {
     {
         let _ = &self.slots;
     }
+}
+
+// The place of a row, by a hint if one is right.
+#[inline]
+fn find_place<V>(
+    slots: &[Slot<V>],
+    places: &IndexMap<Key, usize>,
+    hints: &Hints,
+    key: Key,
+) -> Option<usize>
+    requires agree { Agrees slots.now places.now.entries }
+    ensures { result ≡ place_of key slots.now }
+{
+    let first = hints.by_id(key);
+    if stands_at(slots, key, first) {
+        return Some(first);
+    }
+    let second = hints.by_both(key);
+    if stands_at(slots, key, second) {
+        return Some(second);
+    }
+    find_by_hash(places, key)
+}
+
+// Whether the row of this key is in that slot.
+#[inline]
+fn stands_at<V>(slots: &[Slot<V>], key: Key, place: usize) -> bool
+    requires apart { HasKeysApart (filled slots.now) }
+    ensures { OnTrue result (place_of key slots.now ≡ Some place) }
+{
+    match slots.get(place) {
+        Some(slot) => slot.has_key(key),
+        None => false,
+    }
+}
+
+// A function of its own, so that the hashing doesn't stand wherever a row is looked up.
+#[inline(never)]
+fn find_by_hash(places: &IndexMap<Key, usize>, key: Key) -> Option<usize>
+    ensures { result ≡ get same_key places.now key }
+{
+    places.get(&key).copied()
 }
 
 // Empties the slot of a row.
@@ -184,5 +231,32 @@ fn renew<V>(slots: &[Slot<V>], places: &mut IndexMap<Key, usize>)
             Slot::Full(key, _) => put_place(places, *key, place),
             Slot::Empty => {}
         }
+    }
+}
+
+// Notes where a new row stands, and where all others do if there are more spots now.
+fn note_new<V>(hints: &mut Hints, slots: &[Slot<V>], key: Key, place: usize) {
+    if hints.widen(slots.len()) {
+        note_all(hints, slots);
+    } else {
+        note(hints, slots, key, place);
+    }
+}
+
+// Notes where all rows stand.
+fn note_all<V>(hints: &mut Hints, slots: &[Slot<V>]) {
+    hints.forget_all();
+    for (place, slot) in slots.iter().enumerate() {
+        if let Slot::Full(key, _) = slot {
+            note(hints, slots, *key, place);
+        }
+    }
+}
+
+// Notes where a row stands: by its ID, unless the hint there is of another row that has not gone.
+fn note<V>(hints: &mut Hints, slots: &[Slot<V>], key: Key, place: usize) {
+    match slots.get(hints.by_id(key)) {
+        Some(slot) if slot.is_full() => hints.note_by_both(key, place),
+        _ => hints.note_by_id(key, place),
     }
 }
