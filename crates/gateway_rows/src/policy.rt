@@ -8,7 +8,7 @@ use crate::state::Rows;
 use channel_table::{Table, Visits};
 use pv_alias::Lead;
 use pv_name::{Host, Name};
-use state_tables::Searches;
+use state_tables::{Asked, Searches};
 use std::alloc::{AllocError, Global};
 
 impl Rows {
@@ -73,10 +73,14 @@ fn learn_leads(
     ensures ok { searches.new ≡ searches.old }
     ensures no_less { visits.old ≤ visits.new }
 {
+    let mut asked = Vec::new(alloc);
     for channel in &clients.channels(visits, alloc)? {
         if let Some(session) = clients.session(visits, channel.session) {
-            let _lead = searches.learn_lead(alloc, &session.host, &channel.asked)?;
+            asked.push(Asked {
+                host: &session.host,
+                name: &channel.asked,
+            })?;
         }
     }
-    Ok(())
+    searches.learn_leads(alloc, &asked)
 }

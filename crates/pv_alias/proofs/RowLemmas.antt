@@ -1,7 +1,7 @@
 -- The row that decides, from the end of the rows.
-use Rattle.std.proofs.Common.{◌≡◌, ℕ, Bool, true, false, cond, ◌&&◌, List, [], ◌∷◌, ◌++◌, filter, Option, Some, None, refl}
+use Rattle.std.proofs.Common.{◌≡◌, ℕ, Bool, true, false, cond, ◌&&◌, List, [], ◌∷◌, ◌++◌, filter, length, take, get_or, Option, Some, None, refl, sym, ap, ◌∙◌, ◌+◌, ◌-◌, ◌<◌, ◌≤◌, arith}
 use Rattle.std.specs.List.{last_or}
-use Rattle.std.proofs.lemmas.List.{append-nil}
+use Rattle.std.proofs.lemmas.List.{append-nil, take_more}
 use Rattle.std.proofs.lemmas.List.Elements.{filter-append}
 use Rattle.pvlist.specs.declared.row.Row.{Row}
 use Rattle.pvlist.specs.Ruling.{matches}
@@ -33,3 +33,12 @@ pub deciding_from_last : (rows before : List Row) (row : Row) (name : List ℕ) 
     → deciding (matching rows name) ≡ cond (is_grant row.verb && matches row name) (Some row) (deciding (matching before name))
 deciding_from_last rows before row name split =
     rw split (last_of_two_tests (λ row. matches row name) (λ row. is_grant row.verb) before row)
+
+-- the same for the first rows of all
+pub deciding_up_to : (rows : List Row) (end : ℕ) (row : Row) (name : List ℕ) → 0 < end → end ≤ length rows → row ≡ get_or rows (end - 1) row
+    → deciding (matching (take end rows) name) ≡ cond (is_grant row.verb && matches row name) (Some row) (deciding (matching (take (end - 1) rows) name))
+deciding_up_to rows end row name some within at =
+    let same : end ≡ (end - 1) + 1 = omega arith in
+    let before : end - 1 < length rows = omega arith in
+    deciding_from_last (take end rows) (take (end - 1) rows) row name
+    (ap (λ (n : ℕ). take n rows) same ∙ take_more rows (end - 1) row before ∙ ap (λ (last : Row). take (end - 1) rows ++ last ∷ []) (sym at))

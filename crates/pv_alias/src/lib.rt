@@ -11,16 +11,21 @@
 //! `resolve` promises the lead that the whole list of rows gives (`resolution`): a DENY row that
 //! matches may refuse the name to the host, and else the last ALLOW or ALIAS row that matches
 //! decides; `None` is a refusal. It compiles no pattern, and its only error is want of memory.
+//! A `Resolver` answers the same for many names under the same rules. It keeps what `resolve` makes anew
+//! for each name, the matchers of the rows that names were tried on.
 //! `group_rights` promises the rights of the group's last line (`specs/Rights.antt`), and takes no
 //! memory.
 #![tactic(auto)]
 
 mod lead;
 mod real_name;
+mod resolver;
 mod resolving;
 mod rights;
+mod tried;
 
 pub use lead::Lead;
+pub use resolver::Resolver;
 pub use resolving::resolve;
 pub use rights::group_rights;
 

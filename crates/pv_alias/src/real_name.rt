@@ -1,23 +1,26 @@
 //! The real name that an alias gives a name.
 ghost use Rattle.std.specs.Prelude.{◌≡◌, ◌≤◌, ◌∷◌, ◌++◌, length, IfOk};
 ghost use Rattle.pv_alias.specs.RealName.{captured, replaced, as_name, real_name};
+ghost use Rattle.regex.specs.Strings.{matcher_pattern, regex_pattern};
+ghost use Rattle.regex.specs.declared.string.regex.Regex.{Regex};
 
 use crate::NoMemory;
 use pv_name::{Name, NameFault};
 use pvlist::RealText;
-use regex::{Captures, Regex};
+use regex::{Captures, Matcher};
 use std::alloc::{AllocError, Global};
 
-/// What the real text makes of a name that the pattern matches; `None` where that is no name.
+/// What the real text makes of a name that the matcher's pattern matches; `None` where that is no name.
 pub(crate) fn real_name(
     alloc: Global,
-    regex: &Regex,
+    matcher: &mut Matcher<'_>,
     real: &RealText,
     name: &Name,
 ) -> Result<Option<Name>, NoMemory>
-    ensures { IfOk result (λ found. found ≡ real_name name.now regex.now real.now) }
+    ensures found { (regex : Regex) → matcher_pattern matcher.old ≡ regex_pattern regex →
+        IfOk result (λ found. found ≡ real_name name.now regex real.now) }
+    ensures same { matcher_pattern matcher.new ≡ matcher_pattern matcher.old }
 {
-    let mut matcher = regex.matcher(alloc)?;
     let Some(groups) = matcher.captures(name.text()) else {
         return Ok(None);
     };

@@ -1,16 +1,13 @@
 //! Which row of a rule file decides.
-ghost use Rattle.std.specs.Prelude.{◌≡◌, ◌&&◌, is_some, option_copied, IfOk};
-ghost use Rattle.regex.specs.Patterns.{find_str};
-ghost use Rattle.regex.specs.Strings.{regex_pattern};
+ghost use Rattle.std.specs.Prelude.{◌≡◌, ◌&&◌, option_copied, IfOk};
 ghost use Rattle.pvlist.specs.Ruling.{matches};
-ghost use Rattle.pv_alias.specs.Resolution.{resolution, is_refused, refuses, matching, deciding, is_grant, lead_by};
+ghost use Rattle.pv_alias.specs.Resolution.{resolution, is_refused, refuses, matching, deciding, is_grant};
 
 use crate::NoMemory;
 use crate::lead::Lead;
-use crate::real_name::real_name;
+use crate::tried::Tried;
 use pv_name::{Host, Name};
 use pvlist::{Order, Row, Rules, Verb};
-use regex::Regex;
 use std::alloc::Global;
 
 /// Where the name leads that a client on this host asks for; `None` where the rules refuse it.
@@ -31,7 +28,7 @@ pub fn resolve(
         return Ok(None);
     }
     match deciding(alloc, rules.rows(), name)? {
-        Some(row) => lead_by(alloc, row, name),
+        Some(row) => Tried::new(row).lead(alloc, name),
         None => Ok(None),
     }
 }
@@ -48,7 +45,7 @@ fn is_refused(
         (λ refused. refused ≡ is_refused order host.now (matching rows.now name.now)) }
 {
     for row in rows {
-        if refuses(order, &row.verb, host) && matches(alloc, row, name)? {
+        if refuses(order, &row.verb, host) && Tried::new(row).matches(alloc, name)? {
             return Ok(true);
         }
     }
@@ -56,7 +53,7 @@ fn is_refused(
 }
 
 /// Whether a row with this verb refuses a name that it matches to the host.
-fn refuses(order: Order, verb: &Verb, host: &Host) -> bool
+pub(crate) fn refuses(order: Order, verb: &Verb, host: &Host) -> bool
     ensures { result ≡ refuses order host.now verb.now }
 {
     match (order, verb) {
@@ -86,48 +83,5 @@ fn deciding<'a>(alloc: Global, rows: &'a [Row], name: &Name) -> Result<Option<&'
 fn decides(alloc: Global, row: &Row, name: &Name) -> Result<bool, NoMemory>
     ensures { IfOk result (λ yes. yes ≡ (is_grant row.now.verb && matches row.now name.now)) }
 {
-    Ok(is_grant(&row.verb) && matches(alloc, row, name)?)
-}
-
-/// Whether the verb is ALLOW or ALIAS.
-fn is_grant(verb: &Verb) -> bool
-    ensures { result ≡ is_grant verb.now }
-{
-    match verb {
-        Verb::Allow(_) | Verb::Alias(_, _) => true,
-        Verb::Deny(_) => false,
-    }
-}
-
-/// Whether the row's pattern matches the name.
-fn matches(alloc: Global, row: &Row, name: &Name) -> Result<bool, NoMemory>
-    ensures { IfOk result (λ found. found ≡ matches row.now name.now) }
-{
-    if row.pattern.passes_over(name) {
-        return Ok(false);
-    }
-    is_match(alloc, row.pattern.regex(), name)
-}
-
-/// Whether the regular expression matches the name. It isn't inlined, since a matcher is large.
-#[inline(never)]
-fn is_match(alloc: Global, regex: &Regex, name: &Name) -> Result<bool, NoMemory>
-    ensures { IfOk result (λ found. found ≡ is_some (find_str (regex_pattern regex.now) name.now 0)) }
-{
-    let mut matcher = regex.matcher(alloc)?;
-    Ok(matcher.is_match(name.text()))
-}
-
-/// Where a row leads that matches the name.
-fn lead_by(alloc: Global, row: &Row, name: &Name) -> Result<Option<Lead>, NoMemory>
-    ensures { IfOk result (λ lead. lead ≡ lead_by name.now row.now) }
-{
-    match &row.verb {
-        Verb::Allow(group) => Ok(Some(Lead::to_itself(name, group)?)),
-        Verb::Alias(real, group) => match real_name(alloc, row.pattern.regex(), real, name)? {
-            Some(real) => Ok(Some(Lead::to_real(real, group)?)),
-            None => Ok(None),
-        },
-        Verb::Deny(_) => Ok(None),
-    }
+    Tried::new(row).decides(alloc, name)
 }

@@ -1,11 +1,11 @@
 //! Calls on where names lead under the policy, and on the rights of groups.
 //!
 //! - `lead HOST NAME, HOST NAME ..`: for each the real name and its group, `-` where there is none; or
-//!   `refused`;
+//!   `refused`; or `two answers`, where all asked of one resolver and each asked alone differ;
 //! - `rights GROUP`: the rights in the group file, and those that hold; of `-`, those without a group.
 use crate::files::group_text;
 use crate::words::{Told, two_words};
-use pv_alias::{group_rights, resolve};
+use pv_alias::{Lead, NoMemory, Resolver, group_rights, resolve};
 use pv_name::{Group, Host, Name};
 use pvlist::{Groups, Rules};
 use rule_desk::Policy;
@@ -24,12 +24,19 @@ pub(crate) fn call(alloc: Global, policy: &Policy, verb: &str, text: &str, told:
 }
 
 fn leads(alloc: Global, rules: &Rules, text: &str, told: &mut Told) {
+    let Ok(mut resolver) = Resolver::new(alloc, rules) else {
+        return told.line(&"out of memory");
+    };
     for (place, asked) in text.split(", ").enumerate() {
         if place > 0 {
             told.put(&", ");
         }
         match asked_in(alloc, asked) {
-            Some((host, name)) => lead(alloc, rules, &host, &name, told),
+            Some((host, name)) => {
+                let alone = lead(alloc, resolve(alloc, rules, &host, &name));
+                let among_others = lead(alloc, resolver.resolve(&host, &name));
+                put_same(&alone, &among_others, told);
+            }
             None => told.put(&"no host and name"),
         }
     }
@@ -43,8 +50,9 @@ fn asked_in(alloc: Global, text: &str) -> Option<(Host, Name)> {
     Some((host, Name::read(alloc, name.as_bytes()).ok()?))
 }
 
-fn lead(alloc: Global, rules: &Rules, host: &Host, name: &Name, told: &mut Told) {
-    match resolve(alloc, rules, host, name) {
+fn lead(alloc: Global, lead: Result<Option<Lead>, NoMemory>) -> Told {
+    let mut told = Told::new(alloc);
+    match lead {
         Ok(Some(lead)) => {
             let (real, group) = (lead.real.text(), group_text(&lead.group));
             let written = write!(told.text, "{real} {group}");
@@ -52,6 +60,16 @@ fn lead(alloc: Global, rules: &Rules, host: &Host, name: &Name, told: &mut Told)
         }
         Ok(None) => told.put(&"refused"),
         Err(_) => told.put(&"out of memory"),
+    }
+    told
+}
+
+fn put_same(alone: &Told, among_others: &Told, told: &mut Told) {
+    told.is_whole &= alone.is_whole && among_others.is_whole;
+    if alone.text.as_str() == among_others.text.as_str() {
+        told.put(&alone.text.as_str());
+    } else {
+        told.put(&"two answers");
     }
 }
 

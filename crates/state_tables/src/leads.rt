@@ -15,6 +15,13 @@ use std::marker::Model;
 /// The most names, each with the host that asks for it, of which it is remembered what they lead to.
 pub const LEADS_LIMIT: usize = 262_144;
 
+/// A name, and the host that asks for it.
+#[derive(Drop)]
+pub struct Asked<'a> {
+    pub host: &'a Host,
+    pub name: &'a Name,
+}
+
 /// What a name was found to lead to that a host asks for.
 #[derive(Drop)]
 pub(crate) struct LeadRow {

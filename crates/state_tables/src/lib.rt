@@ -22,5 +22,5 @@ mod searches;
 
 pub use cache::Cache;
 pub use connections::Connections;
-pub use leads::LEADS_LIMIT;
+pub use leads::{Asked, LEADS_LIMIT};
 pub use searches::Searches;

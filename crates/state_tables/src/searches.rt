@@ -4,12 +4,13 @@ ghost use Rattle.std.specs.List.{cons_option, list_any};
 ghost use Rattle.gateway_state.specs.Resolution.{lead_of, real_in};
 ghost use Rattle.gateway_state.specs.Searches.{leads_to, same_search};
 ghost use Rattle.gateway_state.specs.Variables.{search_names};
+ghost use Rattle.state_tables.specs.Leads.{AreLeads};
 
-use crate::leads::Leads;
+use crate::leads::{Asked, Leads};
 use crate::places::Places;
 use crate::reals::Reals;
 use gateway_state::{Search, lead_of};
-use pv_alias::Lead;
+use pv_alias::{Lead, Resolver};
 use pv_name::{Host, Name};
 use rule_desk::Policy;
 use std::alloc::{AllocError, Global};
@@ -135,6 +136,14 @@ impl Searches {
         Ok(lead)
     }
 
+    /// Remembers what all of these names lead to, as `learn_lead` does for one. Those that are remembered
+    /// already run no rule, and the others share what is made to run them.
+    pub fn learn_leads(&mut self, alloc: Global, asked: &[Asked<'_>]) -> Result<(), AllocError>
+        ensures { self.new ≡ self.old }
+    {
+        learn_all(alloc, &self.policy, &mut self.leads, asked)
+    }
+
     /// Remembers one more.
     #[tactic(auto, using(gateway_state::proofs::SearchedNames::names_with_one_more))]
     pub fn add(&mut self, alloc: Global, search: Search) -> Result<(), AllocError>
@@ -189,12 +198,50 @@ fn add_real(reals: &mut Reals, lead: Option<Lead>) -> Result<(), AllocError>
     }
 }
 
+fn learn_all(
+    alloc: Global,
+    policy: &Policy,
+    leads: &mut Leads,
+    asked: &[Asked<'_>],
+) -> Result<(), AllocError>
+    requires { AreLeads policy.now leads.old }
+    ensures { AreLeads policy.now leads.new }
+{
+    let mut resolver = Resolver::new(alloc, &policy.rules)?;
+    for one in asked {
+        learn(policy, &mut resolver, leads, one)?;
+    }
+    Ok(())
+}
+
+fn learn(
+    policy: &Policy,
+    resolver: &mut Resolver<'_>,
+    leads: &mut Leads,
+    asked: &Asked<'_>,
+) -> Result<(), AllocError>
+    requires leads { AreLeads policy.now leads.old }
+    requires rules { resolver.old ≡ policy.now.rules }
+    ensures leads { AreLeads policy.now leads.new }
+    ensures rules { resolver.new ≡ policy.now.rules }
+{
+    let known = leads.get(policy, asked.host, asked.name)?;
+    if known.is_some() {
+        return Ok(());
+    }
+    match resolver.resolve(asked.host, asked.name)? {
+        Some(lead) => leads.add(policy, asked.host, asked.name, &lead),
+        None => Ok(()),
+    }
+}
+
 fn names(rows: &[Search], alloc: Global, policy: &Policy) -> Result<Reals, AllocError>
     ensures { IfOk result (λ names. names ≡ search_names policy.now rows.now) }
 {
+    let mut resolver = Resolver::new(alloc, &policy.rules)?;
     let mut names = Reals::new(alloc);
     for row in rows {
-        if let Some(lead) = lead_of(alloc, policy, &row.host, &row.name)? {
+        if let Some(lead) = resolver.resolve(&row.host, &row.name)? {
             names.add(lead.real)?;
         }
     }

@@ -1,8 +1,6 @@
-use Rattle.std.proofs.Common.{◌≡◌, ◌≤◌}
+use Rattle.std.proofs.Common.{◌≤◌}
 use Rattle.gateway_rows.proofs.policy.learn_leads.Given as goal
 
--- what is remembered beside searches is no part of what they are
+-- visits never fall
 abbrev pub invariant-loop-channel : goal.invariant-loop-channel
-invariant-loop-channel l =
-    (l.searches ≡ l.fn.searches)
-    × (l.fn.visits ≤ l.visits)
+invariant-loop-channel l = l.fn.visits ≤ l.visits
