@@ -48,11 +48,12 @@ impl Hints {
         self.put(spot, place);
     }
 
-    /// Takes memory for more spots if a quarter of them is not left by so many slots, and answers
-    /// whether it did. Where memory is refused the spots stay as many as they are.
+    /// Takes memory for more spots if there are not two for each of so many slots, and answers whether
+    /// it did: with fewer, many keys would share one. Where memory is refused the spots stay as many
+    /// as they are.
     pub(crate) fn widen(&mut self, slots: usize) -> bool {
         let spots = self.spots.len();
-        if slots <= spots - spots / 4 {
+        if slots <= spots / 2 {
             return false;
         }
         let more = spots.saturating_mul(2).max(FEWEST);
