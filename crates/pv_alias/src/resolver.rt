@@ -46,7 +46,7 @@ impl<'r> Resolver<'r> {
     }
 
     /// Where the name leads that a client on this host asks for; `None` where the rules refuse it.
-    /// It is what `resolve` gives under the same rules.
+    /// It is what `resolve` gives under the same rules. Its only error is want of memory.
     #[tactic(auto, unfolding(crate::specs::Resolution::resolution))]
     pub fn resolve(&mut self, host: &Host, name: &Name) -> Result<Option<Lead>, NoMemory>
         ensures lead { IfOk result (λ lead. lead ≡ resolution self.old host.now name.now) }
@@ -95,7 +95,6 @@ fn is_refused(
 }
 
 /// Where the last ALLOW or ALIAS row leads that matches the name.
-#[tactic(auto, using(crate::proofs::RowLemmas::deciding_up_to))]
 fn last_lead(alloc: Global, rows: &mut [Tried<'_>], name: &Name) -> Result<Option<Lead>, NoMemory>
     ensures lead { IfOk result (λ lead. lead ≡ option_and_then (lead_by name.now)
         (deciding (matching rows.old name.now))) }
