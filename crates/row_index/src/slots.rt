@@ -17,7 +17,8 @@ use std::alloc::{AllocError, Global};
 use std::marker::Model;
 
 /// Rows in the order of adding. A row that goes leaves its slot empty, so that no other row moves; at
-/// least half of the slots have a row, so that walking them costs what there is.
+/// least half of the slots have a row, so that walking them costs what there is. A row is found by a hint
+/// of its place, and where that is not right by its key's hash.
 #[derive(Drop)]
 pub(crate) struct Slots<V> {
     slots: Vec<Slot<V>>,
