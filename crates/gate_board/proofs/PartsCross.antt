@@ -15,6 +15,9 @@ use Rattle.channel_table.specs.contracts.subs.Subs as subs
 use Rattle.channel_table.specs.contracts.demand.Demand as demand
 use Rattle.channel_table.specs.contracts.reads.Reads as reads
 use Rattle.channel_table.specs.contracts.table.Table as table
+use Rattle.link_table.specs.contracts.link_set.LinkSet as link_set
+use Rattle.link_table.specs.contracts.sub_leads.SubLeads as sub_leads
+use Rattle.link_table.specs.contracts.writes.Writes as writes
 use Rattle.link_table.specs.contracts.table.Links as links
 use Rattle.pvlist.specs.contracts.rules.Rules as rules
 use Rattle.pvlist.specs.contracts.groups.Groups as groups
@@ -61,8 +64,17 @@ reads_send = search (sendable, crosses, name_send, name_lists_send) depth 60 fit
 pub table_send : IsSend table.the_row
 table_send = search (sendable, crosses, sessions_send, channels_send, subs_send, demand_send, reads_send) depth 60 fits 20000
 
+sub_leads_send : IsSend sub_leads.the_row
+sub_leads_send = search (sendable, crosses) depth 60 fits 20000
+
+link_set_send : IsSend link_set.the_row
+link_set_send = search (sendable, crosses, name_send, name_lists_send, sub_leads_send) depth 60 fits 20000
+
+writes_send : IsSend writes.the_row
+writes_send = search (sendable, crosses) depth 60 fits 20000
+
 pub links_send : IsSend links.the_row
-links_send = search (sendable, crosses, name_send) depth 60 fits 20000
+links_send = search (sendable, crosses, link_set_send, writes_send) depth 60 fits 20000
 
 groups_send : IsSend groups.the_row
 groups_send = search (sendable, crosses) depth 60 fits 20000
