@@ -98,7 +98,7 @@ on A:SP
 > read 1 12 12
 > read 2 21 21
 visits
-> 27
+> 26
 show
 > session 1 10.0.0.5
 > session 2 10.0.0.6 fixed paused
@@ -111,7 +111,7 @@ show
 > read 1 12 12
 > read 2 21 21
 visits
-> 45
+> 44
 ",
     );
 }

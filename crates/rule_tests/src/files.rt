@@ -81,7 +81,7 @@ fn read_groups(read: Result<Groups, RuleFault>, policy: &mut Policy, told: &mut 
     }
 }
 
-fn rows(rows: &[Row], told: &mut Told) {
+pub(crate) fn rows(rows: &[Row], told: &mut Told) {
     for row in rows {
         told.put(&row.pattern.regex().as_str());
         verb(&row.verb, told);

@@ -6,11 +6,14 @@
 use crate::files::group_text;
 use crate::words::{Told, two_words};
 use pv_alias::{Lead, NoMemory, Resolver, group_rights, resolve};
-use pv_name::{Group, Host, Name};
+use pv_name::{Group, Host, Name, NameFault};
 use pvlist::{Groups, Rules};
 use rule_desk::Policy;
 use std::alloc::Global;
 use std::fmt::Write;
+
+/// What is told where memory was refused.
+const REFUSED: &str = "out of memory";
 
 pub(crate) fn call(alloc: Global, policy: &Policy, verb: &str, text: &str, told: &mut Told) {
     match (verb, text) {
@@ -25,29 +28,29 @@ pub(crate) fn call(alloc: Global, policy: &Policy, verb: &str, text: &str, told:
 
 fn leads(alloc: Global, rules: &Rules, text: &str, told: &mut Told) {
     let Ok(mut resolver) = Resolver::new(alloc, rules) else {
-        return told.line(&"out of memory");
+        return told.line(&REFUSED);
     };
     for (place, asked) in text.split(", ").enumerate() {
         if place > 0 {
             told.put(&", ");
         }
         match asked_in(alloc, asked) {
-            Some((host, name)) => {
+            Ok((host, name)) => {
                 let alone = lead(alloc, resolve(alloc, rules, &host, &name));
                 let among_others = lead(alloc, resolver.resolve(&host, &name));
                 put_same(&alone, &among_others, told);
             }
-            None => told.put(&"no host and name"),
+            Err(fault) => told.put(&fault),
         }
     }
     told.put(&'\n');
 }
 
 /// A host and a name.
-fn asked_in(alloc: Global, text: &str) -> Option<(Host, Name)> {
+fn asked_in(alloc: Global, text: &str) -> Result<(Host, Name), NameFault> {
     let (host, name) = two_words(text);
-    let host = Host::read(alloc, host.as_bytes()).ok()?;
-    Some((host, Name::read(alloc, name.as_bytes()).ok()?))
+    let host = Host::read(alloc, host.as_bytes())?;
+    Ok((host, Name::read(alloc, name.as_bytes())?))
 }
 
 fn lead(alloc: Global, lead: Result<Option<Lead>, NoMemory>) -> Told {
@@ -59,7 +62,7 @@ fn lead(alloc: Global, lead: Result<Option<Lead>, NoMemory>) -> Told {
             told.keep(written);
         }
         Ok(None) => told.put(&"refused"),
-        Err(_) => told.put(&"out of memory"),
+        Err(_) => told.put(&REFUSED),
     }
     told
 }
@@ -68,12 +71,14 @@ fn put_same(alone: &Told, among_others: &Told, told: &mut Told) {
     told.is_whole &= alone.is_whole && among_others.is_whole;
     if alone.text.as_str() == among_others.text.as_str() {
         told.put(&alone.text.as_str());
+    } else if alone.text.as_str() == REFUSED || among_others.text.as_str() == REFUSED {
+        told.put(&REFUSED);
     } else {
         told.put(&"two answers");
     }
 }
 
-fn rights(groups: &Groups, group: &Group, told: &mut Told) {
+pub(crate) fn rights(groups: &Groups, group: &Group, told: &mut Told) {
     match groups.rights(group) {
         Some(rights) => told.put(&rights),
         None => told.put(&"none"),

@@ -21,20 +21,20 @@ pub(crate) fn call(alloc: Global, verb: &str, text: &str, told: &mut Told) {
             told.keep(written);
         }
         "same" => match two_hosts(alloc, text) {
-            Some((first, second)) => same(&first, &second, told),
-            None => told.line(&"no hosts"),
+            Ok((first, second)) => same(&first, &second, told),
+            Err(fault) => told.line(&fault),
         },
         _ => match two_hosts(alloc, text) {
-            Some((first, second)) => listed(alloc, first, &second, told),
-            None => told.line(&"no hosts"),
+            Ok((first, second)) => listed(alloc, first, &second, told),
+            Err(fault) => told.line(&fault),
         },
     }
 }
 
-fn two_hosts(alloc: Global, text: &str) -> Option<(Host, Host)> {
+fn two_hosts(alloc: Global, text: &str) -> Result<(Host, Host), NameFault> {
     let (first, second) = two_words(text);
-    let first = Host::read(alloc, first.as_bytes()).ok()?;
-    Some((first, Host::read(alloc, second.as_bytes()).ok()?))
+    let first = Host::read(alloc, first.as_bytes())?;
+    Ok((first, Host::read(alloc, second.as_bytes())?))
 }
 
 fn name(read: Result<Name, NameFault>, told: &mut Told) {

@@ -10,11 +10,15 @@
 use crate::words::{Told, two_words};
 use pv_name::{Host, Name, NameFault};
 use pvlist::{RuleFault, Rules, Syntax, TranslateFault};
+use rule_check::status::FAILED;
 use rule_check::{Asked, check};
 use rule_desk::{Desk, DeskFault, Policy};
 use std::alloc::Global;
 use std::fmt::Write;
 use std::{io, str};
+
+/// How much is printed of a check, at most.
+const PRINTED: usize = 4_096;
 
 /// The texts of a rule file and of a group file, where there are any.
 #[derive(Drop)]
@@ -85,19 +89,35 @@ pub(crate) fn show(desk: &Desk, rules: &Rules, told: &mut Told) {
 }
 
 /// Who asks for what, nothing where that isn't said.
-fn asked(alloc: Global, text: &str) -> Option<Asked> {
-    let (host, name) = text.split_once(' ')?;
-    let host = Host::read(alloc, host.as_bytes()).ok()?;
-    let name = Name::read(alloc, name.as_bytes()).ok()?;
-    Some(Asked { name, host })
+fn asked(alloc: Global, text: &str) -> Result<Option<Asked>, NameFault> {
+    let Some((host, name)) = text.split_once(' ') else {
+        return Ok(None);
+    };
+    let host = Host::read(alloc, host.as_bytes())?;
+    let name = Name::read(alloc, name.as_bytes())?;
+    Ok(Some(Asked { name, host }))
 }
 
 fn check_texts(alloc: Global, syntax: Syntax, texts: &Texts, text: &str, told: &mut Told) {
-    let asked = asked(alloc, text);
-    let rules = texts.rules().unwrap_or("");
-    let mut out = Vec::new(alloc);
-    let groups = texts.groups();
-    let status = check(alloc, rules, groups, asked.as_ref(), &mut out, syntax);
+    match (asked(alloc, text), Vec::with_capacity(alloc, PRINTED)) {
+        (Ok(asked), Ok(out)) => check_asked(alloc, syntax, texts, asked.as_ref(), out, told),
+        _ => told.line(&"out of memory"),
+    }
+}
+
+fn check_asked(
+    alloc: Global,
+    syntax: Syntax,
+    texts: &Texts,
+    asked: Option<&Asked>,
+    mut out: Vec<u8>,
+    told: &mut Told,
+) {
+    let (rules, groups) = (texts.rules().unwrap_or(""), texts.groups());
+    let status = check(alloc, rules, groups, asked, &mut out, syntax);
+    if status == FAILED && out.is_empty() {
+        return told.line(&"out of memory");
+    }
     match str::from_utf8(&out) {
         Ok(printed) => told.put(&printed),
         Err(_) => told.line(&"no text"),
@@ -109,14 +129,31 @@ fn check_texts(alloc: Global, syntax: Syntax, texts: &Texts, text: &str, told: &
 fn rooms(alloc: Global, syntax: Syntax, texts: &Texts, text: &str, told: &mut Told) {
     let (first, text) = two_words(text);
     let (last, text) = two_words(text);
-    let asked = asked(alloc, text);
-    let rules = texts.rules().unwrap_or("");
+    let Ok(asked) = asked(alloc, text) else {
+        return told.line(&"out of memory");
+    };
     for room in first.parse().unwrap_or(0)..=last.parse().unwrap_or(0) {
-        let out = &mut Narrow(room);
-        let groups = texts.groups();
-        told.put(&check(alloc, rules, groups, asked.as_ref(), out, syntax));
+        check_in(alloc, syntax, texts, asked.as_ref(), room, told);
     }
     told.put(&'\n');
+}
+
+fn check_in(
+    alloc: Global,
+    syntax: Syntax,
+    texts: &Texts,
+    asked: Option<&Asked>,
+    room: usize,
+    told: &mut Told,
+) {
+    let (rules, groups) = (texts.rules().unwrap_or(""), texts.groups());
+    let mut out = Narrow(room);
+    let status = check(alloc, rules, groups, asked, &mut out, syntax);
+    if status == FAILED && out.0 == room {
+        told.put(&"out of memory");
+    } else {
+        told.put(&status);
+    }
 }
 
 /// Takes so many bytes, and then fails; at last the flush.

@@ -19,6 +19,26 @@ impl Told {
         }
     }
 
+    /// Told into memory that is taken beforehand, so that telling so much takes none.
+    pub(crate) fn with_room(alloc: Global, room: usize) -> Told {
+        match String::with_capacity(alloc, room) {
+            Ok(text) => Told {
+                text,
+                is_whole: true,
+            },
+            Err(_) => Told {
+                text: String::new(alloc),
+                is_whole: false,
+            },
+        }
+    }
+
+    /// What was told elsewhere.
+    pub(crate) fn add(&mut self, other: &Told) {
+        self.put(&other.text);
+        self.is_whole &= other.is_whole;
+    }
+
     /// What became of a write to the text.
     pub(crate) fn keep(&mut self, written: Result<(), AllocError>) {
         self.is_whole &= written.is_ok();

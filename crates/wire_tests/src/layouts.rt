@@ -165,6 +165,7 @@ fn conversion(alloc: Global, from: Base, to: Base, told: &mut Told) {
     ) {
         (true, Ok(_)) => told.name(&to),
         (false, Err(LayoutFault::BadType)) => {}
+        (true, Err(LayoutFault::OutOfMemory)) => told.word(&"out of memory"),
         (_, _) => told.word(&"otherwise"),
     }
 }

@@ -42,6 +42,8 @@ mod property_stories;
 #[cfg(test)]
 mod readings;
 #[cfg(test)]
+mod refusal_stories;
+#[cfg(test)]
 mod search_stories;
 #[cfg(test)]
 mod searches;

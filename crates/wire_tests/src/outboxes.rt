@@ -1,6 +1,6 @@
 //! Calls on an outbox. A message is a header without a payload, told by its bytes.
 //!
-//! - `append COUNT HEADER`: so many of them; those that are handed back are told;
+//! - `append COUNT HEADER`: so many of them, each by a call; those that are handed back are told;
 //! - `mark`;
 //! - `length`: how many wait, and whether the outbox is marked;
 //! - `bytes`: how many bytes wait;
@@ -14,12 +14,7 @@ use fanout::{AppendFault, Out, Outbox};
 
 pub(crate) fn call(outbox: &mut Outbox, verb: &str, call: &Call, told: &mut Told) {
     match verb {
-        "append" => {
-            let head = header(call, 1);
-            for _ in 0..call.number(0) {
-                append(outbox, &head, told);
-            }
-        }
+        "append" => append(outbox, &header(call, 1), told),
         "mark" => outbox.mark(),
         "length" => {
             told.word(&outbox.len());
