@@ -3,18 +3,19 @@
 use crate::key::Key;
 use std::alloc::Global;
 
-/// No place: no slot stands so far back.
+/// No place: no slot is so far back.
 const NOWHERE: u32 = u32::MAX;
 
-/// The least spots that hints take memory for.
-const FEWEST: usize = 4;
+/// The least spots that memory is taken for: fewer are soon shared, and save little.
+const FEWEST: usize = 16;
 
-/// Where the rows of keys were put last, which is found without hashing. A hint may be old, or that of
-/// another row: whoever takes one looks at the slot there first. So it costs no more than time if it is
-/// wrong, and nothing is promised of it.
+/// Where rows were put, which is found without hashing. A hint may be old, or that of another row:
+/// whoever takes one looks at the slot there first. So a wrong one costs no more than time, and nothing
+/// is promised of hints.
 ///
-/// A key has a spot by its ID alone, since many IDs are counted up over all owners, and another by both
-/// of its numbers, for the IDs that each owner counts for itself.
+/// Each key has two spots. The first goes by one number alone: many IDs are counted up over all owners,
+/// and rows that are the only one of their owner have the ID 0. The second goes by both numbers, for
+/// IDs that each owner counts for itself.
 #[derive(Drop)]
 pub(crate) struct Hints {
     spots: Vec<u32>,
@@ -27,44 +28,47 @@ impl Hints {
         }
     }
 
-    /// The hint by the key's ID.
+    /// The hint at the key's first spot.
     #[inline]
-    pub(crate) fn by_id(&self, key: Key) -> usize {
-        self.at(spot_by_id(key))
+    pub(crate) fn first(&self, key: Key) -> usize {
+        self.at(first_spot(key))
     }
 
-    /// The hint by the key's owner and ID.
+    /// The hint at its second spot.
     #[inline]
-    pub(crate) fn by_both(&self, key: Key) -> usize {
-        self.at(spot_by_both(key, self.spots.len()))
+    pub(crate) fn second(&self, key: Key) -> usize {
+        self.at(second_spot(key, self.spots.len()))
     }
 
-    pub(crate) fn note_by_id(&mut self, key: Key, place: usize) {
-        self.put(spot_by_id(key), place);
+    pub(crate) fn note_first(&mut self, key: Key, place: usize) {
+        self.put(first_spot(key), place);
     }
 
-    pub(crate) fn note_by_both(&mut self, key: Key, place: usize) {
-        let spot = spot_by_both(key, self.spots.len());
+    pub(crate) fn note_second(&mut self, key: Key, place: usize) {
+        let spot = second_spot(key, self.spots.len());
         self.put(spot, place);
     }
 
-    /// Takes memory for more spots if there are not two for each of so many slots, and answers whether
-    /// it did: with fewer, many keys would share one. Where memory is refused the spots stay as many
-    /// as they are.
+    /// Takes memory for twice the spots, unless a quarter of them is left over by so many slots, and
+    /// answers whether it did. Where memory is refused there are as many as before.
     pub(crate) fn widen(&mut self, slots: usize) -> bool {
         let spots = self.spots.len();
-        if slots <= spots / 2 {
+        if slots <= spots - spots / 4 {
             return false;
         }
         let more = spots.saturating_mul(2).max(FEWEST);
         self.spots.resize(more, NOWHERE).is_ok()
     }
 
-    pub(crate) fn forget_all(&mut self) {
+    /// Forgets all hints, and leaves no more spots than suit so many slots: what this costs is in
+    /// proportion to these. It takes no memory.
+    pub(crate) fn begin(&mut self, slots: usize) {
+        let suits = slots.saturating_mul(2).checked_next_power_of_two();
+        self.spots.truncate(suits.unwrap_or(usize::MAX).max(FEWEST));
         self.spots.fill(NOWHERE);
     }
 
-    // The spots are a power of two, so that this goes round among them. With none, none is found.
+    // The number of spots is a power of two, so that this counts round among them.
     #[inline]
     fn at(&self, spot: usize) -> usize {
         match self.spots.get(spot & self.spots.len().wrapping_sub(1)) {
@@ -75,20 +79,25 @@ impl Hints {
 
     fn put(&mut self, spot: usize, place: usize) {
         let spot = spot & self.spots.len().wrapping_sub(1);
-        if let Some(kept) = self.spots.get_mut(spot) {
-            *kept = place.min(NOWHERE as usize) as u32;
+        if let Some(noted) = self.spots.get_mut(spot) {
+            *noted = place.min(NOWHERE as usize) as u32;
         }
     }
 }
 
 #[inline]
-fn spot_by_id(key: Key) -> usize {
-    key.id as usize
+fn first_spot(key: Key) -> usize {
+    if key.id == 0 {
+        key.owner as usize
+    } else {
+        key.id as usize
+    }
 }
 
-// The golden section of 2^32 keeps the owners that are counted up apart, however many spots there are.
+// Owners that are counted up are spread by the golden section, which keeps them apart however many
+// there are.
 #[inline]
-fn spot_by_both(key: Key, spots: usize) -> usize {
-    let first = (key.owner.wrapping_mul(0x9E37_79B1) as usize).wrapping_mul(spots) >> 32;
-    first.wrapping_add(key.id as usize)
+fn second_spot(key: Key, spots: usize) -> usize {
+    let spread = key.owner.wrapping_mul(0x9E37_79B1) as usize;
+    (spread.wrapping_mul(spots) >> 32).wrapping_add(key.id as usize)
 }

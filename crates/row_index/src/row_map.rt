@@ -54,6 +54,7 @@ impl<V> RowMap<V> {
     }
 
     /// The row under this key, if there is one.
+    #[inline]
     pub fn get(&self, key: Key) -> Option<&V>
         ensures { option_copied result ≡ value_at key self.now }
     {
@@ -61,6 +62,7 @@ impl<V> RowMap<V> {
     }
 
     /// Whether there is a row under this key.
+    #[inline]
     pub fn contains(&self, key: Key) -> bool
         ensures { result ≡ is_some (value_at key self.now) }
     {
@@ -68,6 +70,7 @@ impl<V> RowMap<V> {
     }
 
     /// The row under this key for writing, if there is one.
+    #[inline]
     pub fn get_mut(&mut self, key: Key) -> Option<&mut V>
         ensures* writes_back { sem 𝓛 (lends_value V.row self.entry key result) }
         ensures value { option_copied_mut result ≡ value_at key self.old }

@@ -17,8 +17,8 @@ use std::alloc::{AllocError, Global};
 use std::marker::Model;
 
 /// Rows in the order of adding. A row that goes leaves its slot empty, so that no other row moves; at
-/// least half of the slots have a row, so that walking them costs what there is. A row is found by a hint
-/// of its place, and where that is not right by its key's hash.
+/// least half of the slots have a row, so that walking them costs what there is. A row is looked up by a
+/// hint of its place if the slot there has the key, and else by `places`, where the key is hashed.
 #[derive(Drop)]
 pub(crate) struct Slots<V> {
     slots: Vec<Slot<V>>,
@@ -139,7 +139,7 @@ impl<V> Slots<V> {
     }
 }
 
-// The place of a row, by a hint if one is right.
+// The place of a row, mostly by the first hint.
 #[inline]
 fn find_place<V>(
     slots: &[Slot<V>],
@@ -150,15 +150,30 @@ fn find_place<V>(
     requires agree { Agrees slots.now places.now.entries }
     ensures { result ≡ place_of key slots.now }
 {
-    let first = hints.by_id(key);
+    let first = hints.first(key);
     if stands_at(slots, key, first) {
         return Some(first);
     }
-    let second = hints.by_both(key);
+    find_further(slots, places, hints, key)
+}
+
+// The same without the first hint: a function of its own, so that it doesn't stand wherever a row is
+// looked up.
+#[inline(never)]
+fn find_further<V>(
+    slots: &[Slot<V>],
+    places: &IndexMap<Key, usize>,
+    hints: &Hints,
+    key: Key,
+) -> Option<usize>
+    requires agree { Agrees slots.now places.now.entries }
+    ensures { result ≡ place_of key slots.now }
+{
+    let second = hints.second(key);
     if stands_at(slots, key, second) {
         return Some(second);
     }
-    find_by_hash(places, key)
+    places.get(&key).copied()
 }
 
 // Whether the row of this key is in that slot.
@@ -171,14 +186,6 @@ fn stands_at<V>(slots: &[Slot<V>], key: Key, place: usize) -> bool
         Some(slot) => slot.has_key(key),
         None => false,
     }
-}
-
-// A function of its own, so that the hashing doesn't stand wherever a row is looked up.
-#[inline(never)]
-fn find_by_hash(places: &IndexMap<Key, usize>, key: Key) -> Option<usize>
-    ensures { result ≡ get same_key places.now key }
-{
-    places.get(&key).copied()
 }
 
 // Empties the slot of a row.
@@ -246,7 +253,7 @@ fn note_new<V>(hints: &mut Hints, slots: &[Slot<V>], key: Key, place: usize) {
 
 // Notes where all rows stand.
 fn note_all<V>(hints: &mut Hints, slots: &[Slot<V>]) {
-    hints.forget_all();
+    hints.begin(slots.len());
     for (place, slot) in slots.iter().enumerate() {
         if let Slot::Full(key, _) = slot {
             note(hints, slots, *key, place);
@@ -254,10 +261,10 @@ fn note_all<V>(hints: &mut Hints, slots: &[Slot<V>]) {
     }
 }
 
-// Notes where a row stands: by its ID, unless the hint there is of another row that has not gone.
+// Notes where a row stands: at the first spot of its key, unless a row that has not gone is noted there.
 fn note<V>(hints: &mut Hints, slots: &[Slot<V>], key: Key, place: usize) {
-    match slots.get(hints.by_id(key)) {
-        Some(slot) if slot.is_full() => hints.note_by_both(key, place),
-        _ => hints.note_by_id(key, place),
+    match slots.get(hints.first(key)) {
+        Some(slot) if slot.is_full() => hints.note_second(key, place),
+        _ => hints.note_first(key, place),
     }
 }
