@@ -4,11 +4,12 @@
     .ci/refused_tests.py [--binary CRATE=PATH ..] [--jobs N] [--most N] [--list] [WORD ..]
     .ci/refused_tests.py [--binary CRATE=PATH ..] --only CRATE:TEST:AT
 
-A test of `wire_tests` or `rule_tests` is a story. Where one of its calls answers that memory was refused, all that the story's values hold
-is listed, as it was before the call, and the call is made once more: so the story comes out as without the refusal, but for a line
-`refused CALL as before`. A run is as it must be if its test passes, having done without the memory; if it tells such lines,
-and else what it tells without; or if the memory was the test's own, for its lines and lists. Calls with much in the values
-aren't compared. Anything else is a fault: another answer, a value that changed, a signal, a test that doesn't end.
+A test of `wire_tests`, `row_tests` or `rule_tests` is a story. Where one of its calls answers that memory was refused, all that the
+story's values hold is listed, as it was before the call, and the call is made once more: so the story comes out as without the
+refusal, but for a line `refused CALL as before`. A run is as it must be if its test passes, having done without the memory; if it tells
+such lines, and else what it tells without; or if the memory was the test's own, for its lines and lists. Calls on large values, as those
+that fill a table up to its limit, aren't compared. Anything else is a fault: another answer, a value that changed, a signal, a test that
+doesn't end.
 
 Binaries are those of `rt test` (crates/CRATE/out/CRATE_tests), if not given. Of a test with more than --most allocations (1,000) so
 many are refused: half of them the first, the others evenly spread. --list counts the allocations, --only shows one run, WORDs
@@ -32,7 +33,7 @@ HERE = os.path.dirname(os.path.abspath(__file__))
 ROOT = os.path.dirname(HERE)
 SECONDS = 120
 # The tests of each crate that are meant.
-CRATES = {"wire_tests": "", "rule_tests": ""}
+CRATES = {"wire_tests": "", "row_tests": "", "rule_tests": ""}
 
 # How a test ends that answers an error, and one that asserts what isn't so.
 ENDS = (101, -signal.SIGABRT)

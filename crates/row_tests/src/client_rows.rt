@@ -14,6 +14,7 @@
 //! - `find session N`, `find channel S SID`, `find sub S ID`: the row, or `none`;
 //! - `remove` before what a row is named by;
 //! - `count S`: how many channels, subscriptions and reads the session has;
+//! - `reads NAME`: the reads that wait on the variable;
 //! - `on NAME`: whether a channel is on the variable, how many channels, subscriptions and reads are,
 //!   and these one by one. Channels 50 to 99 are on B:SP, others on A:SP;
 //! - `want NAME NATIVE`: the events and the count that its rows want together where its native count is
@@ -22,49 +23,124 @@
 //!   states, or are states;
 //! - `of S`: the channels and subscriptions of the session, one by one;
 //! - `show`: all rows, of sessions the ten of the lowest numbers, in order;
-//! - `visits`: how many rows were looked at since the beginning.
+//! - `visits`: how many rows were looked at since the beginning, but by calls that were refused memory.
 //!
 //! Numbers and words that aren't there are 0 and empty. The functions return no error, as in `link_rows`:
 //! what they tell would show one.
+use crate::listed::{list_name, list_sessions};
+use crate::seen;
+use crate::seen::Kept;
+use crate::shown::{show_channel, show_read, show_session, show_sub};
 use crate::words::Told;
 use channel_table::{Channel, ClientSub, Reach, Session, Table, TableFault, Visits, WaitingRead};
 use pv_name::{Host, Name};
 use std::alloc::Global;
 use std::process::Abort;
 
-/// Asserts that a story comes out as it is told, behind what it begins with.
-pub(crate) fn tells(rt: &impl Abort, alloc: Global, beginning: &str, story: &str) {
-    let mut told = Told::new(alloc);
-    let mut wanted = Told::new(alloc);
-    tell(alloc, [beginning, story], &mut told, &mut wanted);
-    assert_eq!(rt; told.text.as_str(), wanted.text.as_str());
-    assert!(rt; told.is_whole && wanted.is_whole);
+/// A table, and what it is listed by.
+#[derive(Drop)]
+struct Clients {
+    alloc: Global,
+    table: Table,
+    visits: Visits,
+    looks: Looks,
+    names: Names,
 }
 
-fn tell(alloc: Global, texts: [&str; 2], told: &mut Told, wanted: &mut Told) {
-    let (mut table, mut visits) = Table::new(alloc);
-    for text in texts {
-        for line in text.lines() {
-            match line.strip_prefix("> ") {
-                Some(answer) => wanted.line(&answer),
-                None => call(alloc, &mut table, &mut visits, line, told),
-            }
-        }
+/// How many rows were looked at so far, and how many of them to list the table, or by calls that were refused.
+#[derive(Clone, Copy)]
+struct Looks {
+    so_far: u64,
+    skipped: u64,
+}
+
+/// The variables that are listed.
+#[derive(Drop)]
+struct Names {
+    first: Option<Name>,
+    second: Option<Name>,
+}
+
+/// Asserts that a story comes out as it is told, behind what it begins with.
+pub(crate) fn tells(rt: &impl Abort, alloc: Global, beginning: &str, story: &str) {
+    let mut clients = new_clients(alloc);
+    seen::tells(rt, alloc, &mut clients, [beginning, story]);
+}
+
+fn new_clients(alloc: Global) -> Clients {
+    let (table, visits) = Table::new(alloc);
+    let looks = Looks {
+        so_far: 0,
+        skipped: 0,
+    };
+    let names = new_names(alloc);
+    Clients {
+        alloc,
+        table,
+        visits,
+        looks,
+        names,
     }
 }
 
-fn call(alloc: Global, table: &mut Table, visits: &mut Visits, line: &str, told: &mut Told) {
+fn new_names(alloc: Global) -> Names {
+    Names {
+        first: Name::read(alloc, b"A:SP").ok(),
+        second: Name::read(alloc, b"B:SP").ok(),
+    }
+}
+
+impl Kept for Clients {
+    fn numbers(&self, line: &str) -> (u32, u32) {
+        match word(line, 0) {
+            "session" | "channel" | "sub" | "read" => last_numbers(line),
+            _ => (0, 0),
+        }
+    }
+
+    fn call(&mut self, line: &str, number: u32, told: &mut Told) {
+        let (table, visits) = (&mut self.table, &mut self.visits);
+        match word(line, 0) {
+            "visits" => told.line(&visits.visited().saturating_sub(self.looks.skipped)),
+            _ => call(self.alloc, table, visits, line, number, told),
+        }
+    }
+
+    fn list(&mut self, told: &mut Told) {
+        list_sessions(&self.table, &mut self.visits, told);
+        list_name(&self.table, &mut self.visits, &self.names.first, told);
+        list_name(&self.table, &mut self.visits, &self.names.second, told);
+    }
+
+    fn skip(&mut self) {
+        let looks = self.visits.visited().saturating_sub(self.looks.so_far);
+        self.looks.skipped = self.looks.skipped.saturating_add(looks);
+        self.looks.so_far = self.visits.visited();
+    }
+
+    fn count(&mut self) {
+        self.looks.so_far = self.visits.visited();
+    }
+}
+
+fn call(
+    alloc: Global,
+    table: &mut Table,
+    visits: &mut Visits,
+    line: &str,
+    last: u32,
+    told: &mut Told,
+) {
     match word(line, 0) {
         "put" => put(alloc, table, visits, line, told),
         "find" => find(table, visits, line, told),
         "remove" => remove(table, line),
         "count" => count(table, number(line, 1), told),
         "show" => show(alloc, table, visits, told),
-        "visits" => told.line(&visits.visited()),
-        "on" | "want" | "props" => show_name(alloc, table, visits, line, told),
+        "on" | "want" | "props" | "reads" => show_name(alloc, table, visits, line, told),
         "of" => show_of(table, visits, number(line, 1), told),
         "typed" => refused(add_sub(table, visits, typed_sub(line)), told),
-        _ => add(alloc, table, visits, line, told),
+        _ => add_one(alloc, table, visits, line, last, told),
     }
 }
 
@@ -81,13 +157,6 @@ fn last_numbers(line: &str) -> (u32, u32) {
     let (_, last) = line.rsplit_once(' ').unwrap_or(("", line));
     let (first, last) = last.split_once('-').unwrap_or((last, last));
     (first.parse().unwrap_or(0), last.parse().unwrap_or(0))
-}
-
-fn add(alloc: Global, table: &mut Table, visits: &mut Visits, line: &str, told: &mut Told) {
-    let (first, last) = last_numbers(line);
-    for last_number in first..=last {
-        add_one(alloc, table, visits, line, last_number, told);
-    }
 }
 
 /// Adds the row whose last number is this.
@@ -231,7 +300,7 @@ fn put(alloc: Global, table: &mut Table, visits: &mut Visits, line: &str, told: 
     match word(line, 1) {
         "session" => match Host::read(alloc, word(line, 3).as_bytes()) {
             Ok(host) => table.put_session(visits, session, host, true, true),
-            Err(_) => told.line(&"no host"),
+            Err(fault) => told.line(&fault),
         },
         "channel" => {
             let reach = Reach {
@@ -327,8 +396,12 @@ fn show_name(alloc: Global, table: &Table, visits: &mut Visits, line: &str, told
     match (Name::read(alloc, word(line, 1).as_bytes()), word(line, 0)) {
         (Ok(name), "on") => show_on(alloc, table, visits, &name, told),
         (Ok(name), "props") => told.line(&table.props_on(&name, word(line, 2) == "states")),
+        (Ok(name), "reads") => match table.reads_for(visits, alloc, &name) {
+            Ok(rows) => show_reads(&rows, told),
+            Err(_) => told.line(&"out of memory"),
+        },
         (Ok(name), _) => show_want(table, &name, number(line, 2), told),
-        (Err(_), _) => told.line(&"no name"),
+        (Err(fault), _) => told.line(&fault),
     }
 }
 
@@ -357,7 +430,7 @@ fn show_on(alloc: Global, table: &Table, visits: &mut Visits, name: &Name, told:
 }
 
 /// What is wanted of a variable.
-fn show_want(table: &Table, name: &Name, native: u32, told: &mut Told) {
+pub(crate) fn show_want(table: &Table, name: &Name, native: u32, told: &mut Told) {
     match table.want_on(name, native) {
         Some(want) => {
             told.word(&"want");
@@ -369,7 +442,7 @@ fn show_want(table: &Table, name: &Name, native: u32, told: &mut Told) {
 }
 
 /// The channels and subscriptions of a session, one by one.
-fn show_of(table: &Table, visits: &mut Visits, session: u32, told: &mut Told) {
+pub(crate) fn show_of(table: &Table, visits: &mut Visits, session: u32, told: &mut Told) {
     for n in 0..=table.channel_count(session) {
         if let Some(row) = table.channel_of(visits, session, n) {
             show_channel(row, told);
@@ -380,48 +453,4 @@ fn show_of(table: &Table, visits: &mut Visits, session: u32, told: &mut Told) {
             show_sub(row, told);
         }
     }
-}
-
-fn show_session(row: &Session, told: &mut Told) {
-    told.word(&"session");
-    told.word(&row.number);
-    told.word(&row.host.text());
-    match (row.host_fixed, row.paused) {
-        (false, false) => {}
-        (true, true) => told.word(&"fixed paused"),
-        _ => told.word(&"otherwise"),
-    }
-    told.end();
-}
-
-fn show_channel(row: &Channel, told: &mut Told) {
-    told.word(&"channel");
-    told.word(&row.session);
-    told.word(&row.sid);
-    told.word(&row.real.text());
-    told.word(&"reach");
-    told.word(&row.reach.count);
-    if row.reach.props {
-        told.word(&"with props");
-    }
-    told.word(&"rights");
-    told.line(&row.rights_told);
-}
-
-fn show_read(row: &WaitingRead, told: &mut Told) {
-    told.word(&"read");
-    told.word(&row.session);
-    told.word(&row.sid);
-    told.line(&row.ioid);
-}
-
-fn show_sub(row: &ClientSub, told: &mut Told) {
-    told.word(&"sub");
-    told.word(&row.session);
-    told.word(&row.sid);
-    told.word(&row.id);
-    if row.owed {
-        told.word(&"owed");
-    }
-    told.end();
 }

@@ -353,6 +353,10 @@ on B:SP
 > sub 2 51 7 owed
 > sub 2 51 8 owed
 > read 2 51 71
+reads A:SP
+> read 1 11 11
+> read 1 12 12
+> read 2 21 21
 on C:SP
 > false 0 0 0
 remove channel 2 51

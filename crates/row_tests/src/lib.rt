@@ -11,7 +11,13 @@ mod link_rows;
 #[cfg(test)]
 mod links;
 #[cfg(test)]
+mod listed;
+#[cfg(test)]
 mod readers;
+#[cfg(test)]
+mod seen;
+#[cfg(test)]
+mod shown;
 #[cfg(test)]
 mod wants;
 #[cfg(test)]

@@ -18,8 +18,11 @@
 //! - `show server N`: its minor version; `show link SERVER CID`: its state, its rights, and its
 //!   subscriptions to values and to properties;
 //!   `show write SERVER ID`: the write; or `None`;
-//! - `count links`, `count of SERVER`: its links, `count writes SESSION`;
+//! - `count links`, `count of SERVER`: its links, `count writes SESSION`; `all links`: how many are in the
+//!   list of all;
 //! - `give COUNTER`: its next number.
+use crate::seen;
+use crate::seen::Kept;
 use crate::words::{Call, Told};
 use link_table::{
     Counter, LinkState, Links, Server, Subject, Subscription, TableFault, WaitingWrite,
@@ -28,33 +31,89 @@ use pv_name::Name;
 use std::alloc::Global;
 use std::process::Abort;
 
+const BEGINNING: &str = "add servers 1 1\nadd links 1 1 2";
+
+#[derive(Drop)]
+struct Rows {
+    alloc: Global,
+    links: Links,
+}
+
 /// Asserts that a story comes out as it is told.
 pub(crate) fn tells(rt: &impl Abort, alloc: Global, story: &str) {
-    let mut told = Told::new(alloc);
-    let mut wanted = Told::new(alloc);
-    tell(alloc, story, &mut told, &mut wanted);
-    assert_eq!(rt; told.text.as_str(), wanted.text.as_str());
-    assert!(rt; told.is_whole && wanted.is_whole);
+    let links = Links::new(alloc, 1);
+    let mut rows = Rows { alloc, links };
+    seen::tells(rt, alloc, &mut rows, [BEGINNING, story]);
 }
 
-fn tell(alloc: Global, story: &str, told: &mut Told, wanted: &mut Told) {
-    let mut links = Links::new(alloc, 1);
-    for line in ["add servers 1 1", "add links 1 1 2"] {
-        call(alloc, &mut links, line, told);
-    }
-    for line in story.lines() {
-        match line.strip_prefix("> ") {
-            Some(answer) => wanted.line(&answer),
-            None => call(alloc, &mut links, line, told),
+impl Kept for Rows {
+    fn numbers(&self, line: &str) -> (u32, u32) {
+        let call = Call::read(line);
+        let [first, second, third, ..] = call.numbers;
+        match (call.verb, call.what) {
+            ("add", "servers") => (first, second),
+            ("add", _) => (second, third),
+            _ => (0, 0),
         }
     }
+
+    fn call(&mut self, line: &str, number: u32, told: &mut Told) {
+        call(self.alloc, &mut self.links, line, number, told);
+    }
+
+    fn list(&mut self, told: &mut Told) {
+        list(&self.links, told);
+    }
+
+    fn skip(&mut self) {}
+
+    fn count(&mut self) {}
 }
 
-fn call(alloc: Global, links: &mut Links, line: &str, told: &mut Told) {
+/// How many rows there are, the first links, and what has a number. This takes no memory.
+fn list(links: &Links, told: &mut Told) {
+    told.word(&links.server_count());
+    told.word(&links.link_count());
+    told.line(&links.write_count());
+    for n in 0..20 {
+        list_link(links, n, told);
+    }
+    for number in 0..20 {
+        list_by_number(links, number, told);
+        list_at_server(links, 1, number, told);
+        list_at_server(links, 2, number, told);
+    }
+}
+
+/// A link by its place, and by its name.
+fn list_link(links: &Links, n: usize, told: &mut Told) {
+    if let Some(link) = links.link(n) {
+        told.name(link);
+        told.name(&links.by_name(&link.name).map(|named| named.cid));
+        told.end();
+    }
+}
+
+/// What has this number: a server with its first link, and writes of a session.
+fn list_by_number(links: &Links, number: u32, told: &mut Told) {
+    told.name(&links.server(number));
+    told.word(&links.link_count_of(number));
+    told.name(&links.link_of(number, 0).map(|link| link.cid));
+    told.line(&links.writes(number));
+}
+
+/// What has this number at a server: a write, and the link that a subscription leads to.
+fn list_at_server(links: &Links, server: u32, number: u32, told: &mut Told) {
+    told.name(&links.write(server, number));
+    told.name(&links.by_sub(server, number).map(|link| link.cid));
+    told.end();
+}
+
+fn call(alloc: Global, links: &mut Links, line: &str, number: u32, told: &mut Told) {
     let call = Call::read(line);
     match call.verb {
         "empty" => *links = Links::new(alloc, call.numbers[0]),
-        "add" => add(alloc, links, &call, told),
+        "add" => add(alloc, links, &call, number, told),
         "put" => put(links, &call, told),
         "remove" => remove(links, &call),
         "find" => find(alloc, links, &call, told),
@@ -64,29 +123,32 @@ fn call(alloc: Global, links: &mut Links, line: &str, told: &mut Told) {
             "of" => told.line(&links.link_count_of(call.numbers[0])),
             _ => told.line(&links.writes(call.numbers[0])),
         },
+        "all" => match links.links(alloc) {
+            Ok(links) => told.line(&links.len()),
+            Err(_) => told.line(&"out of memory"),
+        },
         _ => give(links, &call, told),
     }
 }
 
-fn add(alloc: Global, links: &mut Links, call: &Call<'_>, told: &mut Told) {
-    let [of, first, last, session, sid, _] = call.numbers;
+/// Adds the row of this number.
+fn add(alloc: Global, links: &mut Links, call: &Call<'_>, number: u32, told: &mut Told) {
+    let [server, _, _, session, sid, _] = call.numbers;
     match call.what {
-        "servers" => for number in of..=first {
-            refused(links.add_server(Server { number, minor: 0 }), told);
-        },
-        "links" => for cid in first..=last {
-            add_link(alloc, links, of, cid, told);
-        },
-        _ => for id in first..=last {
-            add_new_write(links, write(of, id, session, sid), told);
-        },
+        "servers" => refused(links.add_server(Server { number, minor: 0 }), told),
+        "links" => add_link(alloc, links, server, number, told),
+        _ => add_new_write(links, write(server, number, session, sid), told),
     }
 }
 
 fn refused(done: Result<(), TableFault>, told: &mut Told) {
-    if let Err(fault) = done {
-        told.name(&fault);
-        told.end();
+    match done {
+        Ok(()) => {}
+        Err(TableFault::OutOfMemory) => told.line(&"out of memory"),
+        Err(fault) => {
+            told.name(&fault);
+            told.end();
+        }
     }
 }
 
@@ -230,7 +292,7 @@ fn find(alloc: Global, links: &Links, call: &Call<'_>, told: &mut Told) {
         "sub" => links.by_sub(first, second),
         _ => match Name::read(alloc, call.text.as_bytes()) {
             Ok(name) => links.by_name(&name),
-            Err(_) => return told.line(&"no name"),
+            Err(fault) => return told.line(&fault),
         },
     };
     match found {

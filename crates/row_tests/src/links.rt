@@ -9,6 +9,8 @@ fn a_link_is_found_by_id_name_and_place(rt: HostRuntime) {
         "\
 count links
 > 2
+all links
+> 2
 find cid 1 2
 > 2
 find cid 2 2

@@ -40,11 +40,24 @@ pub(crate) struct Told {
 }
 
 impl Told {
-    pub(crate) fn new(alloc: Global) -> Told {
-        Told {
-            text: String::new(alloc),
-            is_whole: true,
+    /// Told into memory that is taken beforehand, so that telling so much takes none.
+    pub(crate) fn with_room(alloc: Global, room: usize) -> Told {
+        match String::with_capacity(alloc, room) {
+            Ok(text) => Told {
+                text,
+                is_whole: true,
+            },
+            Err(_) => Told {
+                text: String::new(alloc),
+                is_whole: false,
+            },
         }
+    }
+
+    /// What was told elsewhere.
+    pub(crate) fn add(&mut self, other: &Told) {
+        let written = write!(self.text, "{}", other.text);
+        self.is_whole &= written.is_ok() && other.is_whole;
     }
 
     pub(crate) fn word<T: Display>(&mut self, value: &T) {
