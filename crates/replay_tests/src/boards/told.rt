@@ -17,6 +17,25 @@ impl Told {
         }
     }
 
+    /// Told into memory that is taken beforehand, so that telling so much takes none.
+    pub(crate) fn with_room(alloc: Global, room: usize) -> Told {
+        match String::with_capacity(alloc, room) {
+            Ok(text) => Told {
+                text,
+                is_whole: true,
+            },
+            Err(_) => Told {
+                text: String::new(alloc),
+                is_whole: false,
+            },
+        }
+    }
+
+    pub(crate) fn put<T: Display>(&mut self, value: &T) {
+        let written = write!(self.text, "{value}");
+        self.is_whole &= written.is_ok();
+    }
+
     pub(crate) fn line<T: Display>(&mut self, value: &T) {
         let written = writeln!(self.text, "{value}");
         self.is_whole &= written.is_ok();

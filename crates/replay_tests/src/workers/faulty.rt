@@ -8,12 +8,12 @@ use std::process::Abort;
 use std::sync::Wait;
 use std::test::Fail;
 
-const CLIENT: Dest = Dest::Session(1);
+pub(super) const CLIENT: Dest = Dest::Session(1);
 
-const OTHER: Dest = Dest::Session(2);
+pub(super) const OTHER: Dest = Dest::Session(2);
 
 /// How many items a client hands over: three messages, and that it is gone.
-const ITEMS: usize = 4;
+pub(super) const ITEMS: usize = 4;
 
 /// What a client says: three ECHO messages, of which the second has 8 bytes of payload, and the third many.
 /// It gets the same, behind the greeting.
@@ -22,7 +22,7 @@ const ONE: &str = "00170000000000000000000100000000";
 const TWO: &str = "001700080000000000000002000000001122334455667788";
 
 /// The third with 40 bytes, and with 20,000, which is more than a writer holds.
-const SMALL: &str = "00170028000000000000000300000000";
+pub(super) const SMALL: &str = "00170028000000000000000300000000";
 
 const LARGE: &str = "00174E20000000000000000300000000";
 
@@ -34,7 +34,7 @@ const SECOND_END: usize = 40;
 /// More calls than any of these links gets.
 const MOST_CALLS: usize = 1_000;
 
-fn said(alloc: Global, third: &str, size: usize) -> Result<Vec<u8>, Fail> {
+pub(super) fn said(alloc: Global, third: &str, size: usize) -> Result<Vec<u8>, Fail> {
     let payload = "5A".repeat(alloc, size)?;
     bytes(alloc, &format!(in alloc; "{ONE}{TWO}{third}{payload}")?)
 }
@@ -53,7 +53,7 @@ fn whole(all: usize, came: usize) -> usize {
 }
 
 // What a client gets: the greeting, and then what it said.
-fn told(alloc: Global, said: &[u8]) -> Result<Vec<u8>, Fail> {
+pub(super) fn told(alloc: Global, said: &[u8]) -> Result<Vec<u8>, Fail> {
     let mut told = bytes(alloc, GREETING)?;
     told.extend_from_slice(said)?;
     Ok(told)
@@ -61,15 +61,15 @@ fn told(alloc: Global, said: &[u8]) -> Result<Vec<u8>, Fail> {
 
 /// A gate with two clients.
 #[derive(Drop)]
-struct Clients {
-    gate: Gate,
-    inlet: Inlet,
+pub(super) struct Clients {
+    pub(super) gate: Gate,
+    pub(super) inlet: Inlet,
     outlet: Outlet,
-    other_inlet: Inlet,
+    pub(super) other_inlet: Inlet,
     other_outlet: Outlet,
 }
 
-fn two_clients<R: Wait>(rt: &R, alloc: Global) -> Result<Clients, Fail> {
+pub(super) fn two_clients<R: Wait>(rt: &R, alloc: Global) -> Result<Clients, Fail> {
     let gate = gate(alloc, 1)?;
     let (inlet, outlet) = attach(rt, alloc, &gate, CLIENT)?;
     let (other_inlet, other_outlet) = attach(rt, alloc, &gate, OTHER)?;
@@ -110,7 +110,7 @@ impl Clients {
     }
 
     // Writes to both what they get.
-    fn tell<R: Wait>(
+    pub(super) fn tell<R: Wait>(
         &mut self,
         rt: &R,
         link: &mut MemoryLink,

@@ -7,6 +7,7 @@
 //! - `gates`: each call of a gate, and `put` and `take` where they wait or are stopped.
 //! - `writers`: a writer to its end, and to a fault, and the buffer that it writes by.
 //! - `faulty`: each read and each write of a link fails in turn, beside a client whose link has no fault.
+//! - `refused`: memory is refused to a worker, or to a turn of the gate.
 //! - `rings`: what both ends of a ring say of what lies between.
 //!
 //! A new test gets a gate from `stand`, and does what it has to in functions that are generic over the
@@ -15,7 +16,8 @@ mod faulty;
 mod gates;
 mod meeting;
 mod paced;
-mod rings;
+mod refused;
+pub(crate) mod rings;
 mod serving;
-mod stand;
+pub(crate) mod stand;
 mod writers;

@@ -33,7 +33,7 @@ fn move_some(
 }
 
 // How much lies in the ring in and in the ring out of a connection that is retired.
-fn left_between(
+pub(crate) fn left_between(
     board: &mut Board,
     dest: Dest,
     inlet: &mut Inlet,
