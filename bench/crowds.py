@@ -175,8 +175,15 @@ def idle(room):
         link.close()
 
 
-def going(room):
+def serving(room):
+    """A gateway whose server is there, so that what it holds for it counts from the beginning."""
     server = room.server(room.upstream(variable("V", values=[1])))
+    room.client(server).open("V")
+    return server
+
+
+def going(room):
+    server = serving(room)
     files, running = server.files(), threads(server)
     come_and_go(server.address, 1000)
     wait(lambda: server.files() <= files and threads(server) <= running)
@@ -192,7 +199,7 @@ def going(room):
 
 
 def announced(room):
-    server = room.server(room.upstream(variable("V", values=[1])))
+    server = serving(room)
     size, files = most_announced(room, server), server.files()
     none = server.resident()
     links = connected(room, server, 1000)
