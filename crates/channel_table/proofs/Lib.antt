@@ -12,6 +12,7 @@ pub mod Removal
 pub mod Rising
 pub mod Somebody
 pub mod TalliesByName
+pub mod Unchanged
 pub mod Waiting
 pub mod Walked
 pub mod WorkedSessions

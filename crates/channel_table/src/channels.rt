@@ -1,5 +1,5 @@
 //! Rows of channels.
-ghost use Rattle.std.specs.Prelude.{◌≡◌, ◌-◌, [], ◌∷◌, ◌++◌, false, length, map, slice_get, IfOk, OnOk, OnErr};
+ghost use Rattle.std.specs.Prelude.{◌≡◌, ◌-◌, [], ◌∷◌, ◌++◌, false, length, map, slice_get, IfOk, IsTrue, OnOk, OnErr};
 ghost use Rattle.std.specs.List.{list_any, filter, find, count_by};
 ghost use Rattle.std.specs.Option.{option_copied};
 ghost use Rattle.rows.specs.Rows.{change_first};
@@ -170,6 +170,18 @@ impl Channels {
                 self.rows.remove(key);
                 Err(e)
             }
+        }
+    }
+
+    /// Whether it would change nothing to put this reach and these rights: no such channel stands, or it has
+    /// them.
+    #[tactic(auto, using(crate::proofs::Unchanged::unchanged_found, crate::proofs::Unchanged::unchanged_absent))]
+    pub(crate) fn has(&self, session: u32, sid: u32, reach: Reach, rights: u32) -> bool
+        ensures { IsTrue result → change_first (is_channel session sid) (with_reach_and_rights reach rights) self.now ≡ self.now }
+    {
+        match self.get(session, sid) {
+            Some(channel) => channel.reach == reach && channel.rights_told == rights,
+            None => true,
         }
     }
 

@@ -10,6 +10,7 @@ use crate::subs::Subs;
 use indexmap::IndexMap;
 use mask_merge::{Ask, Tally, Want};
 use pv_name::Name;
+use row_index::NameHints;
 use std::alloc::{AllocError, Global};
 use std::marker::Model;
 
@@ -18,6 +19,7 @@ use std::marker::Model;
 #[derive(Drop)]
 pub(crate) struct Demand {
     tallies: IndexMap<Name, Tally>,
+    hints: NameHints,
     alloc: Global,
 }
 
@@ -39,6 +41,7 @@ impl Demand {
     {
         Demand {
             tallies: IndexMap::new(alloc),
+            hints: NameHints::new(alloc),
             alloc,
         }
     }
@@ -47,7 +50,7 @@ impl Demand {
     pub(crate) fn want_of(&self, name: &Name, native: u32) -> Option<Want>
         ensures { result ≡ wanted_of native (demand_of self.now name.now) }
     {
-        match self.tallies.get(name) {
+        match self.hints.find(&self.tallies, name) {
             Some(tally) => tally.want_of(native),
             None => None,
         }
@@ -57,7 +60,7 @@ impl Demand {
     pub(crate) fn props_of(&self, name: &Name, states: bool) -> bool
         ensures { result ≡ props_wanted states (demand_of self.now name.now) }
     {
-        match self.tallies.get(name) {
+        match self.hints.find(&self.tallies, name) {
             Some(tally) => tally.props_of(states),
             None => false,
         }
@@ -86,7 +89,10 @@ impl Demand {
         let mut tally = Tally::new(self.alloc);
         add_to(&mut tally, ask)?;
         match self.tallies.insert(copy, tally) {
-            Ok(_) => Ok(()),
+            Ok(_) => {
+                self.hints.note_last(&self.tallies);
+                Ok(())
+            }
             Err(_) => Err(AllocError),
         }
     }
@@ -100,7 +106,7 @@ impl Demand {
         };
         remove_from(tally, ask);
         if tally.is_empty() {
-            forget(&mut self.tallies, name);
+            forget(&mut self.tallies, &mut self.hints, name);
         }
     }
 
@@ -153,9 +159,11 @@ fn remove_from(tally: &mut Tally, ask: Option<Ask>)
     }
 }
 
-// Takes out a tally, with its name.
-fn forget(tallies: &mut IndexMap<Name, Tally>, name: &Name)
+// Takes out a tally, with its name. The last one stands in its place then.
+fn forget(tallies: &mut IndexMap<Name, Tally>, hints: &mut NameHints, name: &Name)
     ensures { (n : List ℕ) → get bytes_eq tallies.new n ≡ (if bytes_eq name.now n then None else get bytes_eq tallies.old n) }
 {
-    tallies.swap_remove(name);
+    if let Some((place, _, _)) = tallies.swap_remove_full(name) {
+        hints.note(tallies, place);
+    }
 }

@@ -8,6 +8,8 @@
 //!   no memory.
 //! - An [`OwnerKeys`] has such a list for each owner, by its number: the keys of rows that an owner has
 //!   and that stand under the keys of others.
+//! - [`NameHints`] beside a map by names spare it most of its hashing. Nothing is promised of them but that
+//!   what they find is what the map has.
 //!
 //! `add` may be refused memory, and then changes nothing. `remove` takes none. A contract sees a
 //! `RowMap` as the list of its entries, each a key and a value (`specs/Rows.antt`), `NameLists` by the
@@ -31,6 +33,7 @@ mod id_list;
 mod key;
 mod key_list;
 mod long_keys;
+mod name_hints;
 mod name_lists;
 mod owner_ids;
 mod owner_keys;
@@ -40,6 +43,7 @@ mod slot;
 mod slots;
 
 pub use key::Key;
+pub use name_hints::NameHints;
 pub use name_lists::NameLists;
 pub use owner_keys::OwnerKeys;
 pub use row_map::RowMap;

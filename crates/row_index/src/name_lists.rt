@@ -5,15 +5,18 @@ ghost use Rattle.row_index.specs.Lists.{of, AddsTo, RemovesFrom, SameLists};
 
 use crate::key::Key;
 use crate::key_list::KeyList;
+use crate::name_hints::NameHints;
 use indexmap::IndexMap;
 use pv_name::Name;
 use std::alloc::{AllocError, Global};
 use std::marker::Model;
 
-/// Lists of keys, each under a name, in the order of adding. A name with no key takes no memory.
+/// Lists of keys, each under a name, in the order of adding. A name with no key takes no memory but a
+/// hint's.
 #[derive(Drop)]
 pub struct NameLists {
     lists: IndexMap<Name, KeyList>,
+    hints: NameHints,
     alloc: Global,
 }
 
@@ -37,6 +40,7 @@ impl NameLists {
     {
         NameLists {
             lists: IndexMap::new(alloc),
+            hints: NameHints::new(alloc),
             alloc,
         }
     }
@@ -45,7 +49,7 @@ impl NameLists {
     pub fn of(&self, name: &Name) -> &[Key]
         ensures { result.now ≡ of self.now name.now }
     {
-        match self.lists.get(name) {
+        match self.hints.find(&self.lists, name) {
             Some(keys) => keys.as_slice(),
             None => &[],
         }
@@ -77,7 +81,10 @@ impl NameLists {
         let mut keys = KeyList::new();
         keys.push(self.alloc, key)?;
         match self.lists.insert(copy, keys) {
-            Ok(_) => Ok(()),
+            Ok(_) => {
+                self.hints.note_last(&self.lists);
+                Ok(())
+            }
             Err(_) => Err(AllocError),
         }
     }
@@ -92,14 +99,16 @@ impl NameLists {
         };
         keys.remove(key);
         if keys.is_empty() {
-            forget(&mut self.lists, name);
+            forget(&mut self.lists, &mut self.hints, name);
         }
     }
 }
 
-// Takes out a list, with its name.
-fn forget(lists: &mut IndexMap<Name, KeyList>, name: &Name)
+// Takes out a list, with its name. The last one stands in its place then.
+fn forget(lists: &mut IndexMap<Name, KeyList>, hints: &mut NameHints, name: &Name)
     ensures { (n : List ℕ) → get bytes_eq lists.new n ≡ (if bytes_eq name.now n then None else get bytes_eq lists.old n) }
 {
-    lists.swap_remove(name);
+    if let Some((place, _, _)) = lists.swap_remove_full(name) {
+        hints.note(lists, place);
+    }
 }

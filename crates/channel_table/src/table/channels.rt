@@ -127,7 +127,8 @@ impl Table {
         }
     }
 
-    /// Changes a channel that stands: its reach and the rights last told.
+    /// Changes a channel that stands: its reach and the rights last told. Where it has these, nothing is
+    /// counted anew.
     pub fn put_channel(
         &mut self,
         visits: &mut Visits,
@@ -145,6 +146,9 @@ impl Table {
         ensures no_less { visits.old ≤ visits.new }
     {
         visits.count(1);
+        if self.channels.has(session, sid, reach, rights) {
+            return;
+        }
         self.channels.are_apart();
         self.subs.are_apart();
         let (channels, demand) = (&mut self.channels, &mut self.demand);

@@ -111,10 +111,10 @@ impl Table {
         }
     }
 
-    /// Adds a read past the limit too, to a channel that stands: for a caller that tests both itself,
-    /// and answers what is past the limit before anything else happens.
+    /// Adds a read past the limit too: for a caller that tests itself whether its channel stands, and
+    /// answers what is past the limit before anything else happens. A read on a channel that doesn't stand
+    /// is refused as if memory were short.
     pub fn keep_read(&mut self, read: WaitingRead) -> Result<(), AllocError>
-        requires there { has_channel read.session read.sid self.old ≡ true }
         ensures ok { OnOk result (self.new ≡ record self.old { reads = self.old.reads ++ read ∷ [] }) }
         ensures err { OnErr result (self.new ≡ self.old) }
     {

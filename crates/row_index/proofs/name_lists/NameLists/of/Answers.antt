@@ -4,8 +4,8 @@ use Rattle.row_index.proofs.name_lists.NameLists.of.Goals as goal
 
 pub returns-in-Some : goal.returns-in-Some
 returns-in-Some c =
-    rw (← c.self.view_is) (c.as_slice.ensures ∙ of_there bytes_eq same_bytes c.args.name.now c.self.inside.lists.entries c.in-Some.keys.now c.in-Some.ensures.value)
+    rw (← c.self.view_is) (c.as_slice.ensures ∙ of_there bytes_eq same_bytes c.args.name.now c.self.inside.lists.entries c.in-Some.keys.now c.in-Some.ensures)
 
 pub returns-in-None : goal.returns-in-None
 returns-in-None c =
-    rw (← c.self.view_is) (of_nowhere bytes_eq same_bytes c.args.name.now c.self.inside.lists.entries c.in-None.ensures.value)
+    rw (← c.self.view_is) (of_nowhere bytes_eq same_bytes c.args.name.now c.self.inside.lists.entries c.in-None.ensures)

@@ -1,0 +1,14 @@
+use Rattle.std.proofs.Common.{sym}
+use Rattle.channel_table.specs.Indexes.{read_home, read_key}
+use Rattle.channel_table.proofs.Following.{follow_added}
+use Rattle.channel_table.proofs.table.Table.keep_read.Goals as goal
+
+-- listed under the real name of its channel
+pub invariant_of-self-2 : goal.invariant_of-self-2
+invariant_of-self-2 c =
+    let added = c.in_ok-add.ensures in
+    record {
+      subs_follow = c.self.invariant.subs_follow;
+      reads_follow = follow_added read_key read_home _ _ _ _ _ (record { id = c.in_ok-id.id; read = c.args.read }) c.in-Some.channel.now (sym c.in-Some.ensures) added.ok_rows added.ok_on c.self.invariant.reads_follow;
+      demand = c.self.invariant.demand;
+    }
