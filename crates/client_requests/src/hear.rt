@@ -7,7 +7,7 @@ ghost use Rattle.gateway_state.specs.Requests.{client_said, requested, unreadabl
 ghost use Rattle.gateway_state.specs.Settled.{HasSidsInOrder, HasWriteIdsBelow};
 ghost use Rattle.gateway_state.specs.Telling.{told};
 ghost use Rattle.gateway_state.specs.Told.{KnowRights};
-ghost use Rattle.touched_rows.specs.Touches.{request_touches};
+ghost use Rattle.touched_rows.specs.Touches.{request_touches, with_touched};
 
 use crate::clear_channel::clear_channel;
 use crate::create_channel::{create_channel, fail_creation};
@@ -29,7 +29,7 @@ use gateway_state::{Dest, LOWEST_MINOR};
 use std::alloc::AllocError;
 use touched_rows::Touched;
 
-/// A client sent a message.
+/// A client sent a message. A read that is touched isn't kept yet.
 pub fn hear_client(
     rows: &mut Rows,
     visits: &mut Visits,
@@ -39,7 +39,7 @@ pub fn hear_client(
     requires order { HasSidsInOrder rows.old }
     requires ids { HasWriteIdsBelow rows.old }
     requires told { KnowRights rows.old }
-    ensures ok { OnOk result (rows.new ≡ client_said rows.old number message) }
+    ensures ok { IfOk result (λ touched. with_touched touched rows.new ≡ client_said rows.old number message) }
     ensures touched { IfOk result (λ touched. touched ≡ request_touches rows.old number (request_of message.head message.payload)) }
     ensures used_up { IsErrOf result Refusal.NumbersUsedUp → is_past_numbers (client_said rows.old number message) ≡ true }
     ensures bound { visits.new ≤ visits.old + 4 }
@@ -55,6 +55,7 @@ pub fn hear_client(
 }
 
 /// A client asked for something.
+#[tactic(auto, using(touched_rows::proofs::KeptLate::sub_keeps_none, touched_rows::proofs::KeptLate::cancel_keeps_none, touched_rows::proofs::KeptLate::clear_keeps_none))]
 fn hear_request(
     rows: &mut Rows,
     visits: &mut Visits,
@@ -65,7 +66,7 @@ fn hear_request(
     requires order { HasSidsInOrder rows.old }
     requires ids { HasWriteIdsBelow rows.old }
     requires told { KnowRights rows.old }
-    ensures ok { OnOk result (rows.new ≡ requested rows.old number message.now (Ok request.entry)) }
+    ensures ok { IfOk result (λ touched. with_touched touched rows.new ≡ requested rows.old number message.now (Ok request.entry)) }
     ensures touched { IfOk result (λ touched. touched ≡ request_touches rows.old number (Ok request.entry)) }
     ensures used_up { IsErrOf result Refusal.NumbersUsedUp → is_past_numbers (requested rows.old number message.now (Ok request.entry)) ≡ true }
     ensures bound { visits.new ≤ visits.old + 4 }

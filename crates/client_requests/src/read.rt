@@ -1,11 +1,10 @@
 //! READ_NOTIFY.
 ghost use Rattle.std.specs.Prelude.{◌≡◌, ◌≤◌, ◌+◌, true, Some, OnOk, IfOk};
-ghost use Rattle.channel_table.specs.ClientRows.{has_channel};
 ghost use Rattle.gateway_state.specs.Answer.{cached_value};
 ghost use Rattle.gateway_state.specs.Clients.{accepted, is_one_too_many, read_asked, read_refused, read_verdict, verdict_natively};
 ghost use Rattle.gateway_state.specs.Rights.{channel_of};
 ghost use Rattle.gateway_state.specs.Told.{KnowRights, KnowsRights};
-ghost use Rattle.touched_rows.specs.Touches.{accepted_touches, new_read, read_touches};
+ghost use Rattle.touched_rows.specs.Touches.{accepted_touches, new_read, read_touches, with_read, with_touched};
 
 use crate::refusals::refuse_channel;
 use ca_header::Header;
@@ -107,25 +106,18 @@ fn refuse_read(
     rows.tell(number, &said)
 }
 
-fn accept_read(
-    rows: &mut Rows,
-    visits: &mut Visits,
-    read: WaitingRead,
-    reach: Reach,
-    rights: u32,
-) -> Result<(), AllocError>
-    requires there { has_channel read.session read.sid rows.old.clients ≡ true }
-    ensures ok { OnOk result (rows.new ≡ accepted read.session read.sid read.ioid read.dtype read.count reach rights rows.old) }
+/// Raises a channel's reach for a read that is accepted, which isn't kept yet.
+fn accept_read(rows: &mut Rows, visits: &mut Visits, read: WaitingRead, reach: Reach, rights: u32)
+    ensures ok { with_read read rows.new ≡ accepted read.session read.sid read.ioid read.dtype read.count reach rights rows.old }
     ensures bound { visits.new ≤ visits.old + 1 }
     ensures no_less { visits.old ≤ visits.new }
 {
-    rows.clients.keep_read(read)?;
     rows.clients
         .put_channel(visits, read.session, read.sid, reach, rights);
-    Ok(())
 }
 
-/// A client wants a value.
+/// A client wants a value. A read that is accepted is touched, and not kept yet.
+#[tactic(auto, using(crate::proofs::Accepted::accepted_touches_it))]
 pub(crate) fn read(
     rows: &mut Rows,
     visits: &mut Visits,
@@ -137,7 +129,7 @@ pub(crate) fn read(
     head: &Header,
 ) -> Result<Touched, AllocError>
     requires told { KnowRights rows.old }
-    ensures ok { OnOk result (rows.new ≡ read_asked number sid ioid dtype count head.now rows.old) }
+    ensures ok { IfOk result (λ touched. with_touched touched rows.new ≡ read_asked number sid ioid dtype count head.now rows.old) }
     ensures touched { IfOk result (λ touched. touched ≡ read_touches rows.old (new_read number sid ioid dtype count)) }
     ensures bound { visits.new ≤ visits.old + 3 }
     ensures no_less { visits.old ≤ visits.new }
@@ -161,7 +153,7 @@ pub(crate) fn read(
                 ioid,
             };
             let touched = accepted_touches(rows, visits, read)?;
-            accept_read(rows, visits, read, reach, rights)?;
+            accept_read(rows, visits, read, reach, rights);
             Ok(touched)
         }
     }

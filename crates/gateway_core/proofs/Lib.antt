@@ -1,3 +1,4 @@
+pub mod BeforeReads
 pub mod Looked
 pub mod Named
 pub mod ReadyStates

@@ -8,7 +8,7 @@ ghost use Rattle.gateway_state.specs.Direct.{direct_effect, searched};
 ghost use Rattle.gateway_state.specs.Reached.{IsReached};
 ghost use Rattle.gateway_state.specs.Step.{step, taken};
 ghost use Rattle.gateway_state.specs.Variables.{search_names};
-ghost use Rattle.touched_rows.specs.Touches.{drain_touches, event_touches};
+ghost use Rattle.touched_rows.specs.Touches.{drain_touches, event_touches, with_touched};
 
 use crate::connections::{lose_server, lose_session, open_server, open_session};
 use channel_table::Visits;
@@ -23,7 +23,7 @@ use std::alloc::AllocError;
 use touched_rows::{Names, Touched};
 
 /// Performs one event, in a state that a run reaches.
-#[tactic(auto, using(gateway_state::proofs::NumberLemmas::consequences_past, touched_rows::proofs::ToldAlone::step_alone, crate::proofs::Looked::looked_in_all), unfolding(gateway_state::specs::Step::step))]
+#[tactic(auto, using(gateway_state::proofs::NumberLemmas::consequences_past, touched_rows::proofs::ToldAlone::step_alone, crate::proofs::Looked::looked_in_all, crate::proofs::BeforeReads::looked_without), unfolding(gateway_state::specs::Step::step))]
 pub(crate) fn step(rows: &mut Rows, visits: &mut Visits, event: Event) -> Result<(), Refusal>
     requires reached { IsReached rows.old }
     ensures ok { OnOk result (rows.new ≡ step rows.old event) }
@@ -70,11 +70,11 @@ fn drain_touches(rows: &Rows, dest: Dest) -> Touched
     }
 }
 
-/// What the event does by itself. It answers what was touched.
-#[tactic(auto, using(gateway_rows::proofs::OwnStays::within_none))]
+/// What the event does by itself. It answers what was touched. A read that was touched isn't kept yet.
+#[tactic(auto, using(gateway_rows::proofs::OwnStays::within_none, touched_rows::proofs::KeptLate::reply_keeps_none, touched_rows::proofs::KeptLate::drain_keeps_none))]
 fn perform(rows: &mut Rows, visits: &mut Visits, event: Event) -> Result<Touched, Refusal>
     requires ready { IsReadyForEvent rows.old }
-    ensures ok { OnOk result (rows.new ≡ direct_effect rows.old event) }
+    ensures ok { IfOk result (λ touched. with_touched touched rows.new ≡ direct_effect rows.old event) }
     ensures touched { IfOk result (λ touched. touched ≡ event_touches rows.old event) }
     ensures used_up { IsErrOf result Refusal.NumbersUsedUp → is_past_numbers (direct_effect rows.old event) ≡ true }
     ensures bound { OnOk result (IsWithin (direct_looks rows.old event) visits.old visits.new) }

@@ -1,1 +1,3 @@
+pub mod InTurn
+pub mod LateReads
 pub mod Looks

@@ -1,18 +1,18 @@
 //! What follows from an event, by what it touched.
-ghost use Rattle.std.specs.Prelude.{◌≡◌, ◌≤◌, true, OnOk, IsErrOf};
+ghost use Rattle.std.specs.Prelude.{◌≡◌, ◌≤◌, ◌+◌, ◌*◌, true, OnOk, IsErrOf};
 ghost use Rattle.gateway_notices.specs.Looks.{looks_after};
-ghost use Rattle.gateway_rows.specs.Own.{IsWithin};
+ghost use Rattle.gateway_rows.specs.Own.{IsWithin, reads_on, subs_on};
 ghost use Rattle.gateway_state.specs.Numbers.{is_past_numbers};
 ghost use Rattle.gateway_state.specs.Settled.{AreInOrder};
 ghost use Rattle.gateway_state.specs.Step.{consequences};
 ghost use Rattle.gateway_state.specs.Told.{KnowRights};
-ghost use Rattle.touched_rows.specs.Touched.{channels_told_on, variable_told};
-ghost use Rattle.touched_rows.specs.Touches.{IsReady, follows};
+ghost use Rattle.touched_rows.specs.Touched.{channels_told_on, reads_told_on, updates_told_on, variable_told};
+ghost use Rattle.touched_rows.specs.Touches.{IsReady, follows, with_touched};
 
 use crate::channels::{tell_channels, tell_channels_on};
 use crate::gone::tell_gone;
 use crate::links::{tell_interest, tell_link_on, tell_links, tell_links_among};
-use crate::reads::{tell_one_read, tell_reads, tell_reads_on};
+use crate::reads::{tell_new_read, tell_reads, tell_reads_on};
 use crate::sharing::{share_on, share_with};
 use crate::updates::{
     tell_one_update, tell_updates, tell_updates_on, tell_updates_to, withhold_updates,
@@ -21,6 +21,7 @@ use crate::updates::{
 use channel_table::Visits;
 use gateway_rows::{Refusal, Rows};
 use pv_name::Name;
+use std::alloc::AllocError;
 use touched_rows::Touched;
 
 /// All passes, over all rows.
@@ -52,7 +53,7 @@ fn follow_anew(rows: &mut Rows, visits: &mut Visits) -> Result<(), Refusal>
 }
 
 /// All passes, over the rows of one variable.
-#[tactic(auto, using(touched_rows::proofs::Numbers::variable_follows_past, touched_rows::proofs::Ready::order_before_link, touched_rows::proofs::Ready::told_after_withheld, touched_rows::proofs::Ready::told_after_link, touched_rows::proofs::Ready::told_after_reads))]
+#[tactic(auto, using(touched_rows::proofs::Numbers::variable_follows_past, touched_rows::proofs::Ready::order_before_link, touched_rows::proofs::Ready::told_after_withheld, touched_rows::proofs::Ready::told_after_link))]
 fn follow_variable(rows: &mut Rows, visits: &mut Visits, name: &Name) -> Result<(), Refusal>
     requires order { AreInOrder rows.old }
     requires told { KnowRights (channels_told_on name.now rows.old) }
@@ -63,19 +64,30 @@ fn follow_variable(rows: &mut Rows, visits: &mut Visits, name: &Name) -> Result<
     tell_channels_on(rows, visits, name)?;
     withhold_updates_on(rows, visits, name)?;
     tell_link_on(rows, name)?;
-    share_on(rows, visits, name)?;
-    tell_reads_on(rows, visits, name)?;
-    tell_updates_on(rows, visits, name)?;
-    Ok(())
+    Ok(tell_value(rows, visits, name)?)
 }
 
-/// What follows from an event that touched this.
-#[tactic(auto, using(touched_rows::proofs::Numbers::read_follows_past, touched_rows::proofs::Numbers::update_follows_past, touched_rows::proofs::Ready::told_after_reads, touched_rows::proofs::Ready::told_after_interest, crate::proofs::SubsStay::subs_after_reads))]
+/// Answers the reads that wait for a variable and are covered, and gives the updates that are due on it.
+#[tactic(auto, using(touched_rows::proofs::Ready::told_after_reads, crate::proofs::SubsStay::subs_after_reads, crate::proofs::SubsStay::list_after_reads))]
+fn tell_value(rows: &mut Rows, visits: &mut Visits, name: &Name) -> Result<(), AllocError>
+    requires told { KnowRights rows.old }
+    ensures ok { OnOk result (rows.new ≡ updates_told_on name.now (reads_told_on name.now rows.old)) }
+    ensures bound { OnOk result (visits.new ≤ visits.old + 5 * subs_on rows.old name.now + 2 * reads_on rows.old name.now) }
+    ensures no_less { visits.old ≤ visits.new }
+{
+    let subs = rows.subs_on(visits, name)?;
+    share_on(rows, visits, name, &subs)?;
+    tell_reads_on(rows, visits, name)?;
+    tell_updates_on(rows, visits, name, &subs)
+}
+
+/// What follows from an event that touched this. A read that was touched isn't kept yet.
+#[tactic(auto, using(touched_rows::proofs::Numbers::update_follows_past, touched_rows::proofs::Ready::told_after_interest))]
 pub fn follow(rows: &mut Rows, visits: &mut Visits, touched: Touched) -> Result<(), Refusal>
     requires order { AreInOrder rows.old }
     requires told { IsReady touched rows.old }
-    ensures ok { OnOk result (rows.new ≡ follows touched rows.old) }
-    ensures used_up { IsErrOf result Refusal.NumbersUsedUp → is_past_numbers (follows touched rows.old) ≡ true }
+    ensures ok { OnOk result (rows.new ≡ follows touched (with_touched touched rows.old)) }
+    ensures used_up { IsErrOf result Refusal.NumbersUsedUp → is_past_numbers (follows touched (with_touched touched rows.old)) ≡ true }
     ensures bound { OnOk result (IsWithin (looks_after touched rows.old) visits.old visits.new) }
     ensures no_less { visits.old ≤ visits.new }
 {
@@ -85,18 +97,11 @@ pub fn follow(rows: &mut Rows, visits: &mut Visits, touched: Touched) -> Result<
         Touched::Nothing => Ok(()),
         Touched::Session(number) => Ok(tell_updates_to(rows, visits, number)?),
         Touched::Variable(name) => follow_variable(rows, visits, &name),
-        Touched::Value(name) => {
-            share_on(rows, visits, &name)?;
-            tell_reads_on(rows, visits, &name)?;
-            Ok(tell_updates_on(rows, visits, &name)?)
-        }
+        Touched::Value(name) => Ok(tell_value(rows, visits, &name)?),
         Touched::Interest(name) => tell_interest(rows, &name),
         Touched::Link(name) => tell_link_on(rows, &name),
         Touched::Links(names) => tell_links_among(rows, &names),
-        Touched::Read(name, read) => {
-            tell_interest(rows, &name)?;
-            Ok(tell_one_read(rows, visits, read)?)
-        }
+        Touched::Read(name, read) => tell_new_read(rows, visits, &name, read),
         Touched::Subscription(name, sub) => {
             tell_interest(rows, &name)?;
             share_with(rows, visits, &name, &sub)?;

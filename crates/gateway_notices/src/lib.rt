@@ -7,7 +7,8 @@
 //! pass makes its list of notices from the rows as it begins, and then gives them one by one. Else the
 //! same is done for one variable, session, read or subscription alone, or for the links of several
 //! variables, by the rights that clients were last told (`IsReady`); or the channels on several variables
-//! are gone (`gone`). A refusal leaves the rows half done; it says that numbers are used up only where a
+//! are gone (`gone`); and what is due to the subscriptions to one variable is worked out for each when its
+//! turn comes. A read that was touched isn't kept yet, and is only if it has to wait. A refusal leaves the rows half done; it says that numbers are used up only where a
 //! number past the last one would be given out.
 #![tactic(auto)]
 
@@ -17,6 +18,7 @@ mod gone;
 mod links;
 mod reads;
 mod sharing;
+mod source;
 mod updates;
 
 pub use consequences::follow;

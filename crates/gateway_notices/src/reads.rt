@@ -1,15 +1,20 @@
 //! What clients are owed about reads that wait.
-ghost use Rattle.std.specs.Prelude.{◌≡◌, ◌≤◌, ◌+◌, ◌*◌, fold, OnOk, IfOk};
+ghost use Rattle.std.specs.Prelude.{◌≡◌, ◌≤◌, ◌+◌, ◌*◌, true, fold, OnOk, IfOk, IsErrOf};
+ghost use Rattle.gateway_notices.specs.LateReads.{read_said};
 ghost use Rattle.gateway_rows.specs.Own.{reads_on};
 ghost use Rattle.gateway_state.specs.Notices.{answered_over, read_notice, read_notices, read_told, reads_told};
+ghost use Rattle.gateway_state.specs.Numbers.{is_past_numbers};
+ghost use Rattle.gateway_state.specs.Settled.{AreInOrder};
 ghost use Rattle.gateway_state.specs.Told.{KnowRights};
 ghost use Rattle.gateway_state.specs.Variables.{link_of};
-ghost use Rattle.touched_rows.specs.Touched.{one_read_told, read_notices_on, reads_told_on};
+ghost use Rattle.touched_rows.specs.Touched.{interest_told, one_read_told, read_notices_on, reads_told_on};
+ghost use Rattle.touched_rows.specs.Touches.{with_read};
 
+use crate::links::tell_interest;
 use ca_message::ToClient;
 use ca_message::codes::ECA_NORDACCESS;
 use channel_table::{Visits, WaitingRead};
-use gateway_rows::Rows;
+use gateway_rows::{Refusal, Rows};
 use gateway_state::ReadNotice;
 use gateway_values::{may_read, native_in};
 use pv_name::Name;
@@ -91,12 +96,12 @@ fn read_notices_on(
     Ok(notices)
 }
 
-fn tell_read(rows: &mut Rows, notice: ReadNotice) -> Result<(), AllocError>
-    ensures { OnOk result (rows.new ≡ read_told rows.old notice) }
+/// Tells a client of a read, which stands in no row.
+fn say_read(rows: &mut Rows, notice: ReadNotice) -> Result<(), AllocError>
+    ensures { OnOk result (rows.new ≡ read_said notice rows.old) }
 {
     match notice {
         ReadNotice::Refused(read, code) => {
-            rows.remove_read(&read);
             let said = ToClient::ReadNotifyRefused {
                 ioid: read.ioid,
                 dtype: read.dtype,
@@ -106,7 +111,6 @@ fn tell_read(rows: &mut Rows, notice: ReadNotice) -> Result<(), AllocError>
             rows.tell(read.session, &said)
         }
         ReadNotice::Answered(read, count, value) => {
-            rows.remove_read(&read);
             let said = ToClient::ReadNotify {
                 ioid: read.ioid,
                 dtype: read.dtype,
@@ -116,6 +120,16 @@ fn tell_read(rows: &mut Rows, notice: ReadNotice) -> Result<(), AllocError>
             rows.tell(read.session, &said)
         }
     }
+}
+
+fn tell_read(rows: &mut Rows, notice: ReadNotice) -> Result<(), AllocError>
+    ensures { OnOk result (rows.new ≡ read_told rows.old notice) }
+{
+    match &notice {
+        ReadNotice::Refused(read, _) => rows.remove_read(read),
+        ReadNotice::Answered(read, _, _) => rows.remove_read(read),
+    }
+    say_read(rows, notice)
 }
 
 fn tell_each(rows: &mut Rows, mut notices: VecDeque<ReadNotice>) -> Result<(), AllocError>
@@ -167,4 +181,56 @@ pub(crate) fn tell_one_read(
         Some(notice) => tell_read(rows, notice),
         None => Ok(()),
     }
+}
+
+/// Tells the server of a variable what its readers want, and then the client of a new read, which isn't kept
+/// yet: it is only if there is nothing to tell. Where others of its session wait, one like it may be among
+/// them, and the first of these goes: then it is kept at once.
+pub(crate) fn tell_new_read(
+    rows: &mut Rows,
+    visits: &mut Visits,
+    name: &Name,
+    read: WaitingRead,
+) -> Result<(), Refusal>
+    requires order { AreInOrder rows.old }
+    requires told { KnowRights rows.old }
+    ensures ok { OnOk result (rows.new ≡ one_read_told read (interest_told name.now (with_read read rows.old))) }
+    ensures used_up { IsErrOf result Refusal.NumbersUsedUp → is_past_numbers (one_read_told read (interest_told name.now (with_read read rows.old))) ≡ true }
+    ensures bound { visits.new ≤ visits.old + 1 }
+    ensures no_less { visits.old ≤ visits.new }
+{
+    if rows.clients.read_count(read.session) > 0 {
+        return tell_kept_read(rows, visits, name, read);
+    }
+    tell_interest(rows, name)?;
+    match read_notice(rows, visits, read)? {
+        Some(notice) => Ok(say_read(rows, notice)?),
+        None => Ok(keep_read(rows, read)?),
+    }
+}
+
+fn keep_read(rows: &mut Rows, read: WaitingRead) -> Result<(), AllocError>
+    ensures { OnOk result (rows.new ≡ with_read read rows.old) }
+{
+    rows.clients.keep_read(read)
+}
+
+/// The same of a read that is kept first.
+#[tactic(auto, using(touched_rows::proofs::Numbers::read_follows_past))]
+fn tell_kept_read(
+    rows: &mut Rows,
+    visits: &mut Visits,
+    name: &Name,
+    read: WaitingRead,
+) -> Result<(), Refusal>
+    requires order { AreInOrder rows.old }
+    requires told { KnowRights rows.old }
+    ensures ok { OnOk result (rows.new ≡ one_read_told read (interest_told name.now (with_read read rows.old))) }
+    ensures used_up { IsErrOf result Refusal.NumbersUsedUp → is_past_numbers (one_read_told read (interest_told name.now (with_read read rows.old))) ≡ true }
+    ensures bound { visits.new ≤ visits.old + 1 }
+    ensures no_less { visits.old ≤ visits.new }
+{
+    keep_read(rows, read)?;
+    tell_interest(rows, name)?;
+    Ok(tell_one_read(rows, visits, read)?)
 }

@@ -1,35 +1,43 @@
 //! Payloads that several readers of a variable share.
-ghost use Rattle.std.specs.Prelude.{◌≡◌, ◌≤◌, ◌+◌, ◌*◌, OnOk};
-ghost use Rattle.gateway_rows.specs.Own.{subs_on};
+ghost use Rattle.std.specs.Prelude.{◌≡◌, ◌≤◌, ◌+◌, length, OnOk};
 
+use crate::source::source_of;
 use channel_table::{ClientSub, Visits};
 use gateway_rows::Rows;
-use gateway_values::{may_read, native_in};
+use gateway_values::may_read;
 use pv_name::Name;
 use std::alloc::AllocError;
 
 /// Keeps what the subscriptions to a variable that wait for its value are given of it, before it is
 /// told: so all of one type and count are told the same payload; one that is of those that were kept last
-/// isn't looked at further. What the gateway knows is as before.
-pub(crate) fn share_on(rows: &mut Rows, visits: &mut Visits, name: &Name) -> Result<(), AllocError>
+/// isn't looked at further. Nothing is kept for one that is alone. What the gateway knows is as before.
+pub(crate) fn share_on(
+    rows: &mut Rows,
+    visits: &mut Visits,
+    name: &Name,
+    subs: &[ClientSub],
+) -> Result<(), AllocError>
     ensures same { rows.new ≡ rows.old }
-    ensures bound { OnOk result (visits.new ≤ visits.old + 2 * subs_on rows.old name.now) }
+    ensures bound { OnOk result (visits.new ≤ visits.old + length subs.now) }
     ensures no_less { visits.old ≤ visits.new }
 {
-    let Some((cid, native)) = value_on(rows, name) else {
+    if subs.len() < 2 {
+        return Ok(());
+    }
+    let Some(source) = source_of(rows, name) else {
         return Ok(());
     };
     let mut kept = None;
-    for sub in &rows.subs_on(visits, name)? {
+    for sub in subs {
         if kept != Some((sub.dtype, sub.count)) && is_waiting(rows, visits, sub) {
-            rows.keep_value(cid, native, sub.dtype, sub.count)?;
+            rows.keep_value(source.cid, source.native, sub.dtype, sub.count)?;
             kept = Some((sub.dtype, sub.count));
         }
     }
     Ok(())
 }
 
-/// The same of one subscription.
+/// The same of one subscription, where the variable has others.
 pub(crate) fn share_with(
     rows: &mut Rows,
     visits: &mut Visits,
@@ -40,23 +48,13 @@ pub(crate) fn share_with(
     ensures bound { visits.new ≤ visits.old + 1 }
     ensures no_less { visits.old ≤ visits.new }
 {
-    match value_on(rows, name) {
-        Some((cid, native)) if is_waiting(rows, visits, sub) => {
-            rows.keep_value(cid, native, sub.dtype, sub.count)
-        }
-        _ => Ok(()),
+    if rows.clients.subs_on(name) < 2 || !is_waiting(rows, visits, sub) {
+        return Ok(());
     }
-}
-
-// Under which CID a variable's value is, and of how many elements; nothing where it has one
-// subscription or none, which would share with nobody.
-fn value_on(rows: &Rows, name: &Name) -> Option<(u32, u32)> {
-    if rows.clients.subs_on(name) < 2 {
-        return None;
+    match source_of(rows, name) {
+        Some(source) => rows.keep_value(source.cid, source.native, sub.dtype, sub.count),
+        None => Ok(()),
     }
-    let link = rows.link_of(name)?;
-    let native = native_in(link.state)?;
-    Some((link.cid, native.count))
 }
 
 // Whether a subscription may be told an update, by the rights that were told last. What is kept for

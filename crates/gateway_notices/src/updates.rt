@@ -1,21 +1,19 @@
 //! What clients are owed about their subscriptions.
-ghost use Rattle.std.specs.Prelude.{◌≡◌, ◌≤◌, ◌+◌, ◌*◌, length, Some, fold, OnOk, IfOk, IfSome};
-ghost use Rattle.std.specs.List.{find};
-ghost use Rattle.std.specs.Option.{option_copied};
+ghost use Rattle.std.specs.Prelude.{◌≡◌, ◌≤◌, ◌+◌, ◌*◌, filter, length, Some, fold, OnOk, IfOk};
+ghost use Rattle.gateway_notices.specs.InTurn.{source_over, told_in_turn};
 ghost use Rattle.gateway_rows.specs.Own.{subs_on};
-ghost use Rattle.gateway_state.specs.CachedRows.{is_cached_of};
 ghost use Rattle.gateway_state.specs.Rights.{channel_of};
 ghost use Rattle.gateway_state.specs.Told.{KnowRights, KnowsRights};
-ghost use Rattle.gateway_state.specs.Updates.{is_open_to, is_paused, is_unreadable, is_withheld, update_notice, update_notices, update_on, update_over, update_told, updates_told, updates_withheld, withheld};
+ghost use Rattle.gateway_state.specs.Updates.{is_open_to, is_paused, is_sub_to, is_unreadable, is_withheld, update_notice, update_notices, update_on, update_over, update_told, updates_told, updates_withheld, withheld};
 ghost use Rattle.gateway_state.specs.Variables.{link_of};
-ghost use Rattle.touched_rows.specs.Touched.{one_update_told, update_notices_on, update_notices_to, updates_told_on, updates_told_to, updates_withheld_on, withheld_on};
+ghost use Rattle.touched_rows.specs.Touched.{one_update_told, update_notices_to, updates_told_on, updates_told_to, updates_withheld_on, withheld_on};
 
+use crate::source::{Source, source_of};
 use ca_message::ToClient;
 use channel_table::{Channel, ClientSub, Visits};
 use gateway_rows::Rows;
-use gateway_state::{LastMessage, UpdateNotice};
-use gateway_values::{cached_as, may_read, native_in};
-use link_table::Link;
+use gateway_state::UpdateNotice;
+use gateway_values::{may_read, native_in};
 use pv_name::Name;
 use std::alloc::AllocError;
 use std::collections::VecDeque;
@@ -155,23 +153,21 @@ fn update_on(
     }
 }
 
-/// The same by a link and what it was told last.
+/// The same by where the value is.
+#[tactic(auto, using(crate::proofs::TellingInTurn::update_from, crate::proofs::TellingInTurn::update_from_nowhere))]
 fn update_from(
     rows: &Rows,
     sub: &ClientSub,
-    link: Option<&Link>,
-    last: Option<&LastMessage>,
+    name: &Name,
+    source: Option<Source>,
 ) -> Result<Option<UpdateNotice>, AllocError>
-    requires last { IfSome (option_copied link) (λ l. option_copied last ≡ find (is_cached_of l.cid) rows.now.cache) }
-    ensures { IfOk result (λ notice. notice ≡ update_over rows.now sub.now (option_copied link.entry)) }
+    requires source { source ≡ source_over (link_of rows.now name.now) }
+    ensures { IfOk result (λ notice. notice ≡ update_over rows.now sub.now (link_of rows.now name.now)) }
 {
-    let Some(link) = link else {
+    let Some(source) = source else {
         return Ok(None);
     };
-    let (Some(native), Some(last)) = (native_in(link.state), last) else {
-        return Ok(None);
-    };
-    match cached_as(rows.alloc, native.count, sub.dtype, sub.count, last)? {
+    match rows.cached_value(source.cid, source.native, sub.dtype, sub.count)? {
         Some(given) => Ok(Some(UpdateNotice {
             session: sub.session,
             id: sub.id,
@@ -183,19 +179,17 @@ fn update_from(
     }
 }
 
-/// The same of a subscription on a channel, where the link and what it was told last are those of a name:
-/// they are looked up once for all who are told of it.
+/// The same of a subscription on a channel, by where the value of a name is: that is looked up once for all
+/// who are told of it.
 fn update_on_name(
     rows: &Rows,
     sub: &ClientSub,
     channel: &Channel,
     name: &Name,
-    link: Option<&Link>,
-    last: Option<&LastMessage>,
+    source: Option<Source>,
 ) -> Result<Option<UpdateNotice>, AllocError>
     requires told { KnowsRights rows.now channel.now }
-    requires link { option_copied link ≡ link_of rows.now name.now }
-    requires last { IfSome (option_copied link) (λ l. option_copied last ≡ find (is_cached_of l.cid) rows.now.cache) }
+    requires source { source ≡ source_over (link_of rows.now name.now) }
     ensures { IfOk result (λ notice. notice ≡ update_on rows.now sub.now (Some channel.now)) }
 {
     if channel.real != *name {
@@ -204,22 +198,20 @@ fn update_on_name(
     if !may_read(channel.rights_told) {
         return Ok(None);
     }
-    update_from(rows, sub, link, last)
+    update_from(rows, sub, name, source)
 }
 
-/// The update that is due to a subscription, where the link and what it was told last are those of a name.
+/// The update that is due to a subscription, by where the value of a name is.
 #[tactic(auto, unfolding(gateway_state::specs::Updates::update_notice))]
 fn update_notice_of(
     rows: &Rows,
     visits: &mut Visits,
     sub: ClientSub,
     name: &Name,
-    link: Option<&Link>,
-    last: Option<&LastMessage>,
+    source: Option<Source>,
 ) -> Result<Option<UpdateNotice>, AllocError>
     requires told { KnowRights rows.now }
-    requires link { option_copied link ≡ link_of rows.now name.now }
-    requires last { IfSome (option_copied link) (λ l. option_copied last ≡ find (is_cached_of l.cid) rows.now.cache) }
+    requires source { source ≡ source_over (link_of rows.now name.now) }
     ensures found { IfOk result (λ notice. notice ≡ update_notice rows.now sub) }
     ensures bound { visits.new ≤ visits.old + 2 }
     ensures no_less { visits.old ≤ visits.new }
@@ -228,7 +220,7 @@ fn update_notice_of(
         return Ok(None);
     }
     match rows.told_channel(visits, sub.session, sub.sid) {
-        Some(channel) => update_on_name(rows, &sub, channel, name, link, last),
+        Some(channel) => update_on_name(rows, &sub, channel, name, source),
         None => Ok(None),
     }
 }
@@ -262,38 +254,6 @@ fn update_notices(rows: &Rows, visits: &mut Visits) -> Result<VecDeque<UpdateNot
     let mut notices = VecDeque::new(rows.alloc);
     for sub in rows.clients.subs(visits, rows.alloc)? {
         if let Some(notice) = update_notice(rows, visits, *sub)? {
-            notices.push_back(notice)?;
-        }
-    }
-    Ok(notices)
-}
-
-fn last_of<'a>(rows: &'a Rows, link: Option<&Link>) -> Option<&'a LastMessage>
-    ensures { IfSome (option_copied link.entry) (λ l. option_copied result ≡ find (is_cached_of l.cid) rows.now.cache) }
-{
-    match link {
-        Some(link) => rows.cache.get(link.cid),
-        None => None,
-    }
-}
-
-/// The updates that are due to subscriptions to a variable.
-fn update_notices_on(
-    rows: &Rows,
-    visits: &mut Visits,
-    name: &Name,
-) -> Result<VecDeque<UpdateNotice>, AllocError>
-    requires told { KnowRights rows.now }
-    ensures found { IfOk result (λ notices. notices.items ≡ update_notices_on name.now rows.now) }
-    ensures bound { OnOk result (visits.new ≤ visits.old + 3 * subs_on rows.now name.now) }
-    ensures fewer { IfOk result (λ notices. length notices.items ≤ subs_on rows.now name.now) }
-    ensures no_less { visits.old ≤ visits.new }
-{
-    let mut notices = VecDeque::new(rows.alloc);
-    let link = rows.link_of(name);
-    let last = last_of(rows, link);
-    for sub in &rows.subs_on(visits, name)? {
-        if let Some(notice) = update_notice_of(rows, visits, *sub, name, link, last)? {
             notices.push_back(notice)?;
         }
     }
@@ -363,19 +323,61 @@ pub(crate) fn tell_updates(rows: &mut Rows, visits: &mut Visits) -> Result<(), A
     tell_each(rows, visits, notices)
 }
 
-/// The same of one variable.
+/// Tells a subscription to a variable what is due to it now.
+fn tell_in_turn(
+    rows: &mut Rows,
+    visits: &mut Visits,
+    sub: ClientSub,
+    name: &Name,
+    source: Option<Source>,
+) -> Result<(), AllocError>
+    requires told { KnowRights rows.old }
+    requires source { source ≡ source_over (link_of rows.old name.now) }
+    ensures ok { OnOk result (rows.new ≡ told_in_turn rows.old sub) }
+    ensures bound { visits.new ≤ visits.old + 3 }
+    ensures no_less { visits.old ≤ visits.new }
+{
+    match update_notice_of(rows, visits, sub, name, source)? {
+        Some(notice) => tell_update(rows, visits, notice),
+        None => Ok(()),
+    }
+}
+
+/// The same of each of these, in their order.
+#[tactic(auto, using(crate::proofs::TellingInTurn::know_rights_next, crate::proofs::TellingInTurn::source_next))]
+fn tell_each_in_turn(
+    rows: &mut Rows,
+    visits: &mut Visits,
+    subs: &[ClientSub],
+    name: &Name,
+) -> Result<(), AllocError>
+    requires told { KnowRights rows.old }
+    ensures ok { OnOk result (rows.new ≡ fold told_in_turn rows.old subs.now) }
+    ensures bound { OnOk result (visits.new ≤ visits.old + 3 * length subs.now) }
+    ensures no_less { visits.old ≤ visits.new }
+{
+    let source = source_of(rows, name);
+    for sub in subs {
+        tell_in_turn(rows, visits, *sub, name, source)?;
+    }
+    Ok(())
+}
+
+/// Gives the updates that are due on a variable, whose subscriptions these are.
+#[tactic(auto, using(crate::proofs::TellingInTurn::told_one_by_one))]
 pub(crate) fn tell_updates_on(
     rows: &mut Rows,
     visits: &mut Visits,
     name: &Name,
+    subs: &[ClientSub],
 ) -> Result<(), AllocError>
     requires told { KnowRights rows.old }
+    requires subs { subs.now ≡ filter (is_sub_to rows.old name.now) rows.old.clients.subs }
     ensures ok { OnOk result (rows.new ≡ updates_told_on name.now rows.old) }
-    ensures bound { OnOk result (visits.new ≤ visits.old + 4 * subs_on rows.old name.now) }
+    ensures bound { OnOk result (visits.new ≤ visits.old + 3 * subs_on rows.old name.now) }
     ensures no_less { visits.old ≤ visits.new }
 {
-    let notices = update_notices_on(rows, visits, name)?;
-    tell_each(rows, visits, notices)
+    tell_each_in_turn(rows, visits, subs, name)
 }
 
 /// The same of one session.

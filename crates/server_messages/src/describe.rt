@@ -1,5 +1,5 @@
 //! Messages that tell properties.
-ghost use Rattle.std.specs.Prelude.{◌≡◌, ◌≤◌, ◌+◌, length, OnOk, IfOk};
+ghost use Rattle.std.specs.Prelude.{◌≡◌, ◌≤◌, ◌+◌, filter, length, OnOk, IfOk};
 ghost use Rattle.mask_merge.specs.declared.want.TheConstants.{PROPERTY_EVENT};
 ghost use Rattle.gateway_rows.specs.Own.{subs_on};
 ghost use Rattle.gateway_state.specs.Updates.{asks_for, concerned};
@@ -24,11 +24,14 @@ pub(crate) fn concerned_by_properties(
     ensures fewer { IfOk result (λ subs. length subs.items ≤ subs_on rows.now name.now) }
     ensures no_less { visits.old ≤ visits.new }
 {
-    let mut subs = Vec::new(rows.alloc);
-    for sub in &rows.subs_on(visits, name)? {
-        if asks_for(PROPERTY_EVENT, sub) {
-            subs.push(*sub)?;
-        }
-    }
+    let mut subs = rows.subs_on(visits, name)?;
+    keep_asking(&mut subs);
     Ok(subs)
+}
+
+fn keep_asking(subs: &mut Vec<ClientSub>)
+    ensures kept { subs.new.items ≡ filter (asks_for PROPERTY_EVENT) subs.old.items }
+    ensures fewer { length subs.new.items ≤ length subs.old.items }
+{
+    subs.retain(|sub| asks_for(PROPERTY_EVENT, sub));
 }

@@ -103,13 +103,16 @@ fn concerned_by_value(
     ensures fewer { IfOk result (λ subs. length subs.items ≤ subs_on rows.now name.now) }
     ensures no_less { visits.old ≤ visits.new }
 {
-    let mut subs = Vec::new(rows.alloc);
-    for sub in &rows.subs_on(visits, name)? {
-        if is_concerned(differs, sub) {
-            subs.push(*sub)?;
-        }
-    }
+    let mut subs = rows.subs_on(visits, name)?;
+    keep_concerned(&mut subs, differs);
     Ok(subs)
+}
+
+fn keep_concerned(subs: &mut Vec<ClientSub>, differs: bool)
+    ensures kept { subs.new.items ≡ filter (is_concerned differs) subs.old.items }
+    ensures fewer { length subs.new.items ≤ length subs.old.items }
+{
+    subs.retain(|sub| is_concerned(differs, sub));
 }
 
 /// The subscriptions to a link's variable that an update concerns.

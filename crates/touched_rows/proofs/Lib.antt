@@ -9,6 +9,7 @@ pub mod Drained
 pub mod Failed
 pub mod Found
 pub mod HeldRows
+pub mod KeptLate
 pub mod LessGiven
 pub mod LinkChanged
 pub mod LinksQuiet
@@ -23,8 +24,8 @@ pub mod Owing
 pub mod Passes
 pub mod ReadAsked
 pub mod ReadersOf
-pub mod Renamed
 pub mod Ready
+pub mod Renamed
 pub mod Searched
 pub mod ServerLost
 pub mod Sessions

@@ -1,5 +1,5 @@
 -- What each event touches.
-use Rattle.std.specs.Prelude.{ℕ, List, filter, map, ◌==◌, if◌then◌else◌, Option, Some, None, Result, Ok, Err}
+use Rattle.std.specs.Prelude.{ℕ, List, [], ◌∷◌, ◌++◌, filter, map, ◌==◌, if◌then◌else◌, Option, Some, None, Result, Ok, Err}
 use Rattle.std.specs.List.{find}
 use Rattle.ca_message.specs.declared.codes.TheConstants.{ECA_NORMAL}
 use Rattle.ca_message.specs.declared.reply.ReplyFault.{ReplyFault}
@@ -57,6 +57,14 @@ follows (Links names) w = links_told_among names w
 follows (Gone names) w = channels_gone_on names w
 follows (Read name read) w = one_read_told read (interest_told name w)
 follows (SubscriptionTo name sub) w = one_update_told sub (interest_told name w)
+
+abbrev pub with_read : WaitingRead → Gateway → Gateway
+with_read read w = record w { clients = record w.clients { reads = w.clients.reads ++ read ∷ [] } }
+
+-- a read that is touched isn't kept yet, since most are answered at once: the rows are those with it
+abbrev pub with_touched : Touched → Gateway → Gateway
+with_touched (Read name read) w = with_read read w
+with_touched touched w = w
 
 -- clients know their rights, and no name has two links
 pub record AreReady (w : Gateway) : Type 0 where

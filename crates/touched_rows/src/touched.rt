@@ -25,7 +25,8 @@ pub enum Touched {
     Links(Names),
     /// That their channels are gone, to those who have channels on these variables, whose links are gone.
     Gone(Names),
-    /// What the readers of this variable want together, and then the answer to this read.
+    /// What the readers of this variable want together, and then the answer to this read. It isn't kept
+    /// yet, and is only if it has to wait.
     Read(Name, WaitingRead),
     /// What the readers of this variable want together, and then an update to this subscription.
     Subscription(Name, ClientSub),

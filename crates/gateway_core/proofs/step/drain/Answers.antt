@@ -4,25 +4,30 @@ use Rattle.gateway_state.specs.declared.event.Event.TheVariants.{Drain}
 use Rattle.gateway_state.specs.Numbers.{is_past_numbers}
 use Rattle.gateway_state.specs.Settled.{AreInOrder}
 use Rattle.gateway_state.proofs.OrderKept.{order_after_effect}
-use Rattle.touched_rows.specs.Touches.{follows}
+use Rattle.touched_rows.specs.Touches.{follows, with_touched}
+use Rattle.touched_rows.proofs.KeptLate.{drain_keeps_none}
 use Rattle.touched_rows.proofs.Ready.{ready_as}
 use Rattle.touched_rows.proofs.ToldAlone.{step_alone}
 use Rattle.gateway_core.proofs.step.drain.Goals as goal
 
--- what was refused is what follows from the drain
+-- what was refused is what follows from the drain, which touches no read
 pub returns-in_err-follow-clause-used_up : goal.returns-in_err-follow-clause-used_up
 returns-in_err-follow-clause-used_up c = λ e.
     let refused = err_from_is_err_and c.from_residual-in_err-follow.result c.from_residual-in_err-follow.ensures.1 in
     let returned = refused.1 in
     let converted = refused.2 in
     let was = c.in_err-follow.was in
+    let kept = ap (λ t. with_touched t c.take.new.self) c.drain_touches-touched.ensures ∙ drain_keeps_none c.take.new.self c.args.rows.now c.args.dest in
     ap is_past_numbers (step_alone c.args.rows.now (Drain c.args.dest c.args.count) c.requires.reached)
     ∙ (λ i. is_past_numbers (follows (sym c.drain_touches-touched.ensures i) (sym c.in_ok-outs.ensures.ok i)))
+    ∙ ap (λ w. is_past_numbers (follows c.drain_touches-touched.result w)) (sym kept)
     ∙ c.follow.ensures.used_up cc
 
 pub returns-clause-ok : goal.returns-clause-ok
 returns-clause-ok c =
+    let kept = ap (λ t. with_touched t c.take.new.self) c.drain_touches-touched.ensures ∙ drain_keeps_none c.take.new.self c.args.rows.now c.args.dest in
     c.in_ok-follow.ensures.ok
+    ∙ ap (follows c.drain_touches-touched.result) kept
     ∙ (λ i. follows (c.drain_touches-touched.ensures i) (c.in_ok-outs.ensures.ok i))
     ∙ sym (step_alone c.args.rows.now (Drain c.args.dest c.args.count) c.requires.reached)
 

@@ -2,6 +2,7 @@ use Rattle.std.proofs.Common.{sym, subst}
 use Rattle.gateway_state.specs.Settled.{AreInOrder}
 use Rattle.gateway_state.proofs.OrderKept.{order_after_effect}
 use Rattle.touched_rows.proofs.Ready.{ready_as}
+use Rattle.gateway_core.proofs.BeforeReads.{order_without, ready_without}
 use Rattle.gateway_core.proofs.ReadyStates.{reached_is_ready}
 use Rattle.gateway_core.proofs.step.step.Goals as goal
 
@@ -12,6 +13,10 @@ perform-requires c = record { ready = reached_is_ready c.args.rows.now c.require
 -- numbers are in order after an event's direct effect, and clients know their rights
 pub follow-requires : goal.follow-requires
 follow-requires c = record {
-  order = subst AreInOrder (sym c.in_ok-touched.ensures.ok) (order_after_effect c.args.rows.now c.args.event c.requires.reached);
-  told = ready_as c.args.rows.now c.args.event c.requires.reached _ _ c.in_ok-touched.ensures.touched c.in_ok-touched.ensures.ok;
+  order =
+      order_without c.in_ok-touched.touched c.perform.new.rows
+      (subst AreInOrder (sym c.in_ok-touched.ensures.ok) (order_after_effect c.args.rows.now c.args.event c.requires.reached));
+  told =
+      ready_without c.in_ok-touched.touched c.perform.new.rows
+      (ready_as c.args.rows.now c.args.event c.requires.reached _ _ c.in_ok-touched.ensures.touched c.in_ok-touched.ensures.ok);
 }

@@ -2,7 +2,7 @@ use Rattle.std.proofs.Common.{sym, ap, subst, ◌∙◌}
 use Rattle.gateway_state.specs.Settled.{AreInOrder}
 use Rattle.gateway_state.specs.Told.{KnowRights}
 use Rattle.touched_rows.specs.Touched.{updates_withheld_on}
-use Rattle.touched_rows.proofs.Ready.{order_before_link, told_after_link, told_after_reads, told_after_withheld}
+use Rattle.touched_rows.proofs.Ready.{order_before_link, told_after_link, told_after_withheld}
 use Rattle.gateway_notices.proofs.consequences.follow_variable.Goals as goal
 
 -- the passes before leave numbers in order
@@ -12,13 +12,11 @@ tell_link_on-requires-clause-order c =
     subst AreInOrder (sym before) (order_before_link c.args.name.now c.args.rows.now c.requires.order)
 
 -- and clients know their rights from the pass over channels on
-pub tell_updates_on-requires : goal.tell_updates_on-requires
-tell_updates_on-requires c =
+pub tell_value-requires : goal.tell_value-requires
+tell_value-requires c =
     let name = c.args.name.now in
     let before = c.in_ok-withhold_updates_on.ensures.ok ∙ ap (updates_withheld_on name) c.in_ok-tell_channels_on.ensures.ok in
     let order = subst AreInOrder (sym before) (order_before_link name c.args.rows.now c.requires.order) in
     let first = subst KnowRights (sym c.in_ok-tell_channels_on.ensures.ok) c.requires.told in
     let held = subst KnowRights (sym c.in_ok-withhold_updates_on.ensures.ok) (told_after_withheld name _ first) in
-    let linked = subst KnowRights (sym c.in_ok-tell_link_on.ensures.ok) (told_after_link name _ order held) in
-    let shared = subst KnowRights (sym c.in_ok-share_on.ensures.same) linked in
-    record { told = subst KnowRights (sym c.in_ok-tell_reads_on.ensures.ok) (told_after_reads name _ shared) }
+    record { told = subst KnowRights (sym c.in_ok-tell_link_on.ensures.ok) (told_after_link name _ order held) }

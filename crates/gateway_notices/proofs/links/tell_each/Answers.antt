@@ -3,6 +3,7 @@ use Rattle.std.proofs.lemmas.Result.{err_from_is_err_and}
 use Rattle.gateway_state.specs.Settled.{AreInOrder}
 use Rattle.gateway_state.proofs.NumberLemmas.{notices_told_past_at}
 use Rattle.gateway_state.proofs.OrderKept.{order_told}
+use Rattle.gateway_state.specs.Notices.{link_told}
 use Rattle.gateway_notices.proofs.NextNotice.{told_next}
 use Rattle.gateway_notices.proofs.links.tell_each.Goals as goal
 
@@ -19,5 +20,5 @@ returns-in_err-tell_link-clause-used_up c = λ e.
 pub loop-notice-preserved : goal.loop-notice-preserved
 loop-notice-preserved c = record {
   order = subst AreInOrder (sym c.in_ok-tell_link.ensures.ok) (order_told c.loop-notice.rows _ c.loop-notice.invariant.order);
-  rest = told_next c.tell_link.new.rows c.loop-notice.rows _ c.args.notices.now c.loop-notice.notice-index _ (omega (arith, c.loop-notice-test.true)) c.in_ok-tell_link.ensures.ok c.loop-notice.invariant.rest;
+  rest = told_next link_told c.tell_link.new.rows c.loop-notice.rows _ c.args.notices.now c.loop-notice.notice-index _ (omega (arith, c.loop-notice-test.true)) c.in_ok-tell_link.ensures.ok c.loop-notice.invariant.rest;
 }

@@ -1,0 +1,155 @@
+-- Updates of which each is worked out when its turn comes are those that were worked out before the first
+-- was told: an outbox only grows meanwhile, so who takes one at its turn took it at the start.
+use Rattle.std.proofs.Common.{◌≡◌, ℕ, List, [], ◌∷◌, Bool, true, false, cond, not, ◌&&◌, Option, Some, None, IfSome, refl, sym, ap, ◌∙◌}
+use Rattle.std.specs.List.{cons_option, filter_map, fold}
+use Rattle.std.proofs.lemmas.Bool.{true≢false}
+use Rattle.ca_message.specs.declared.to_client.ToClient.TheVariants as replies
+use Rattle.channel_table.specs.declared.channels.Channel.{Channel}
+use Rattle.channel_table.specs.declared.subs.ClientSub.{ClientSub}
+use Rattle.link_table.specs.declared.links.Link.{Link}
+use Rattle.gateway_state.specs.declared.event.Dest.TheVariants.{Session as ToSession}
+use Rattle.gateway_state.specs.declared.notice.UpdateNotice.{UpdateNotice}
+use Rattle.gateway_state.specs.declared.reading.Given.{Given}
+use Rattle.gateway_state.specs.declared.reading.Native.{Native}
+use Rattle.gateway_state.specs.Answer.{cached_value, native_in}
+use Rattle.gateway_state.specs.Gateway.{Gateway}
+use Rattle.gateway_state.specs.Rights.{channel_of, may_read, rights_of}
+use Rattle.gateway_state.specs.Telling.{outgoing, sent, told}
+use Rattle.gateway_state.specs.Told.{KnowRights}
+use Rattle.gateway_state.specs.Updates.{is_open_to, is_paused, is_taking, update_by, update_natively, update_notice, update_on, update_over, update_told, with_owed_of}
+use Rattle.gateway_state.specs.Variables.{link_of}
+use Rattle.gateway_notices.specs.InTurn.{source_natively, source_over, told_in_turn}
+use Rattle.gateway_notices.specs.declared.source.Source.{Source}
+use Rattle.touched_rows.specs.Touched.{update_told_if}
+use Rattle.touched_rows.proofs.Connections.{no_more_room_given}
+
+-- v tells subscriptions what w does, but that fewer outboxes may take updates
+pub record IsLater (w v : Gateway) : Type 0 where
+  pub updates : (sub : ClientSub) → update_on v sub (channel_of v sub.session sub.sid) ≡ update_on w sub (channel_of w sub.session sub.sid)
+  pub paused : (number : ℕ) → is_paused v number ≡ is_paused w number
+  pub room : (number : ℕ) → is_taking v number ≡ true → is_taking w number ≡ true
+
+same : (w : Gateway) → IsLater w w
+same w = record { updates = λ sub. refl; paused = λ number. refl; room = λ number taking. taking }
+
+later : (u v w : Gateway) → IsLater u v → IsLater v w → IsLater u w
+later u v w first second = record {
+  updates = λ sub. second.updates sub ∙ first.updates sub;
+  paused = λ number. second.paused number ∙ first.paused number;
+  room = λ number taking. first.room number (second.room number taking);
+}
+
+told_later : (w : Gateway) (notice : UpdateNotice) → IsLater w (update_told w notice)
+unfolding sent
+told_later w notice = by (is_taking w notice.session)
+  where
+    by : (taking : Bool) → IsLater w (cond taking (sent (ToSession notice.session) (outgoing (replies.Update notice.id notice.dtype notice.count notice.payload)) (with_owed_of notice.session notice.id false w)) w)
+    by true = record {
+      updates = λ sub. refl;
+      paused = λ number. refl;
+      room = λ number taking. no_more_room_given (ToSession notice.session) (outgoing (replies.Update notice.id notice.dtype notice.count notice.payload)) w.connections number taking;
+    }
+    by false = same w
+
+-- an update is for the session of its subscription
+abbrev IsFor : ℕ → Option UpdateNotice → Type 0
+IsFor number notice = IfSome notice (λ n. n.session ≡ number)
+
+given_for : (sub : ClientSub) (given : Option Given) → IsFor sub.session (update_by sub given)
+given_for sub None = tt
+given_for sub (Some given) = refl
+
+natively_for : (w : Gateway) (sub : ClientSub) (link : Link) (native : Option Native) → IsFor sub.session (update_natively w sub link native)
+natively_for w sub link None = tt
+natively_for w sub link (Some native) = given_for sub (cached_value w link.cid native.count sub.dtype sub.count)
+
+over_for : (w : Gateway) (sub : ClientSub) (link : Option Link) → IsFor sub.session (update_over w sub link)
+over_for w sub None = tt
+over_for w sub (Some link) = natively_for w sub link (native_in link.state)
+
+on_for : (w : Gateway) (sub : ClientSub) (channel : Option Channel) → IsFor sub.session (update_on w sub channel)
+on_for w sub None = tt
+on_for w sub (Some c) =
+    elim (may_read (rights_of w c)) as (λ t. IsFor sub.session (cond t (update_over w sub (link_of w c.real)) None)) [ true ↦ over_for w sub (link_of w c.real) | false ↦ tt ]
+
+-- an outbox that takes none is given none
+module _ (v : Gateway) (number : ℕ) where
+  not_given : (notice : Option UpdateNotice) → IsFor number notice → is_taking v number ≡ false → v ≡ update_told_if notice v
+  not_given None is full = refl
+  not_given (Some n) is full =
+      let none : is_taking v n.session ≡ false = ap (is_taking v) is ∙ full in
+      sym (ap (λ (t : Bool). cond t (told n.session (replies.Update n.id n.dtype n.count n.payload) (with_owed_of n.session n.id false v)) v) none)
+
+  by_room : (notice : Option UpdateNotice) → IsFor number notice → (owed paused now before : Bool) → is_taking v number ≡ now → (now ≡ true → before ≡ true)
+      → update_told_if (cond (owed && (not paused && now)) notice None) v ≡ update_told_if (cond (owed && (not paused && before)) notice None) v
+  by_room notice is false paused now before at room = refl
+  by_room notice is true true now before at room = refl
+  by_room notice is true false true true at room = refl
+  by_room notice is true false true false at room = absurd (true≢false (sym (room refl)))
+  by_room notice is true false false true at room = not_given notice is at
+  by_room notice is true false false false at room = refl
+
+-- what is due at a subscription's turn is what was due at the start, unless there is no room for it now
+told_at_turn : (w v : Gateway) → IsLater w v → (sub : ClientSub) → told_in_turn v sub ≡ update_told_if (update_notice w sub) v
+unfolding update_notice
+told_at_turn w v is sub =
+    let number : ℕ = sub.session in
+    ap (λ (notice : Option UpdateNotice). update_told_if (cond (sub.owed && is_open_to v sub) notice None) v) (is.updates sub)
+    ∙ ap (λ (paused : Bool). update_told_if (cond (sub.owed && (not paused && is_taking v number)) (update_on w sub (channel_of w number sub.sid)) None) v) (is.paused number)
+    ∙ by_room v number (update_on w sub (channel_of w number sub.sid)) (on_for w sub (channel_of w number sub.sid)) sub.owed (is_paused w number) (is_taking v number) (is_taking w number) refl (is.room number)
+
+from_there : (w v : Gateway) → IsLater w v → (subs : List ClientSub) → fold told_in_turn v subs ≡ fold update_told v (filter_map (update_notice w) subs)
+from_there w v is [] = refl
+from_there w v is (sub ∷ subs) =
+    ap (λ (next : Gateway). fold told_in_turn next subs) (told_at_turn w v is sub)
+    ∙ by (update_notice w sub) (from_there w v is subs) (λ (n : UpdateNotice). from_there w (update_told v n) (later w v (update_told v n) is (told_later v n)) subs)
+  where
+    by : (notice : Option UpdateNotice) → fold told_in_turn v subs ≡ fold update_told v (filter_map (update_notice w) subs)
+        → ((n : UpdateNotice) → fold told_in_turn (update_told v n) subs ≡ fold update_told (update_told v n) (filter_map (update_notice w) subs))
+        → fold told_in_turn (update_told_if notice v) subs ≡ fold update_told v (cons_option notice (filter_map (update_notice w) subs))
+    by None rest one = rest
+    by (Some n) rest one = one n
+
+pub told_one_by_one : (w : Gateway) (subs : List ClientSub) → fold told_in_turn w subs ≡ fold update_told w (filter_map (update_notice w) subs)
+told_one_by_one w subs = from_there w w (same w) subs
+
+-- ---- what the next turn begins with
+
+if_told : (w : Gateway) (notice : Option UpdateNotice) → KnowRights w → KnowRights (update_told_if notice w)
+unfolding sent
+if_told w None told_rights = told_rights
+if_told w (Some n) told_rights =
+    elim (is_taking w n.session) as (λ t. KnowRights (cond t (told n.session (replies.Update n.id n.dtype n.count n.payload) (with_owed_of n.session n.id false w)) w)) [ true ↦ told_rights | false ↦ told_rights ]
+
+-- clients know their rights
+pub know_rights_next : (w : Gateway) (sub : ClientSub) → KnowRights w → KnowRights (told_in_turn w sub)
+know_rights_next w sub told_rights = if_told w (update_notice w sub) told_rights
+
+if_linked : (w : Gateway) (notice : Option UpdateNotice) (name : List ℕ) → link_of (update_told_if notice w) name ≡ link_of w name
+unfolding sent
+if_linked w None name = refl
+if_linked w (Some n) name =
+    elim (is_taking w n.session) as (λ t. link_of (cond t (told n.session (replies.Update n.id n.dtype n.count n.payload) (with_owed_of n.session n.id false w)) w) name ≡ link_of w name) [ true ↦ refl | false ↦ refl ]
+
+-- and the value is where it was
+pub source_next : (w : Gateway) (sub : ClientSub) (name : List ℕ) (source : Option Source) → source ≡ source_over (link_of w name) → source ≡ source_over (link_of (told_in_turn w sub) name)
+source_next w sub name source is = is ∙ ap source_over (sym (if_linked w (update_notice w sub) name))
+
+-- an update by where the value is
+pub update_from : (w : Gateway) (sub : ClientSub) (source : Source) (link : Option Link) → Some source ≡ source_over link → update_by sub (cached_value w source.cid source.native sub.dtype sub.count) ≡ update_over w sub link
+update_from w sub source None is = cc
+update_from w sub source (Some link) is = by (native_in link.state) is
+  where
+    by : (native : Option Native) → Some source ≡ source_natively link native → update_by sub (cached_value w source.cid source.native sub.dtype sub.count) ≡ update_natively w sub link native
+    by None none = cc
+    by (Some native) there =
+        let here : source ≡ record { cid = link.cid; native = native.count } = cc in
+        ap (λ (s : Source). update_by sub (cached_value w s.cid s.native sub.dtype sub.count)) here
+
+pub update_from_nowhere : (w : Gateway) (sub : ClientSub) (link : Option Link) → None ≡ source_over link → None ≡ update_over w sub link
+update_from_nowhere w sub None is = refl
+update_from_nowhere w sub (Some link) is = by (native_in link.state) is
+  where
+    by : (native : Option Native) → None ≡ source_natively link native → None ≡ update_natively w sub link native
+    by None none = refl
+    by (Some native) there = cc

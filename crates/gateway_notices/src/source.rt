@@ -1,0 +1,29 @@
+//! Where a variable's value is.
+ghost use Rattle.std.specs.Prelude.{◌≡◌};
+ghost use Rattle.gateway_notices.specs.InTurn.{source_over};
+ghost use Rattle.gateway_state.specs.Variables.{link_of};
+
+use gateway_rows::Rows;
+use gateway_values::native_in;
+use pv_name::Name;
+
+/// Where a variable's value is: what is looked up once for all who are told of it.
+#[derive(Clone, Copy)]
+pub(crate) struct Source {
+    /// The CID of its link.
+    pub(crate) cid: u32,
+    /// Its native count.
+    pub(crate) native: u32,
+}
+
+/// Nowhere where the variable has no link, or none that is connected.
+pub(crate) fn source_of(rows: &Rows, name: &Name) -> Option<Source>
+    ensures { result ≡ source_over (link_of rows.now name.now) }
+{
+    let link = rows.link_of(name)?;
+    let native = native_in(link.state)?;
+    Some(Source {
+        cid: link.cid,
+        native: native.count,
+    })
+}
