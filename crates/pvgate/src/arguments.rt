@@ -5,7 +5,7 @@ use pvlist::Syntax;
 use std::alloc::Global;
 
 /// The version, and the kit that its sources are proved with: the one that `docs/PROOF.md` names.
-const VERSION: &str = "0.1.0 (proved with rattle-kit-13b)";
+const VERSION: &str = "0.1.0 (proved with rattle-kit-13f)";
 
 const LOCAL: &str = "localhost";
 
