@@ -1,11 +1,13 @@
 -- Updates of which each is worked out when its turn comes are those that were worked out before the first
 -- was told: an outbox only grows meanwhile, so who takes one at its turn took it at the start.
-use Rattle.std.proofs.Common.{◌≡◌, ℕ, List, [], ◌∷◌, Bool, true, false, cond, not, ◌&&◌, Option, Some, None, IfSome, refl, sym, ap, ◌∙◌}
-use Rattle.std.specs.List.{cons_option, filter_map, fold}
+use Rattle.std.proofs.Common.{◌≡◌, ℕ, List, [], ◌∷◌, Bool, true, false, cond, filter, not, ◌&&◌, Option, Some, None, IfSome, slice_index_or, refl, sym, ap, subst, ◌∙◌}
+use Rattle.std.specs.List.{All, cons_option, filter_map, fold}
 use Rattle.std.proofs.lemmas.Bool.{true≢false}
+use Rattle.std.proofs.lemmas.List.Elements.{filter_passes}
 use Rattle.ca_message.specs.declared.to_client.ToClient.TheVariants as replies
 use Rattle.channel_table.specs.declared.channels.Channel.{Channel}
 use Rattle.channel_table.specs.declared.subs.ClientSub.{ClientSub}
+use Rattle.channel_table.specs.Channels.{is_channel_on}
 use Rattle.link_table.specs.declared.links.Link.{Link}
 use Rattle.gateway_state.specs.declared.event.Dest.TheVariants.{Session as ToSession}
 use Rattle.gateway_state.specs.declared.notice.UpdateNotice.{UpdateNotice}
@@ -16,11 +18,12 @@ use Rattle.gateway_state.specs.Gateway.{Gateway}
 use Rattle.gateway_state.specs.Rights.{channel_of, may_read, rights_of}
 use Rattle.gateway_state.specs.Telling.{outgoing, sent, told}
 use Rattle.gateway_state.specs.Told.{KnowRights}
-use Rattle.gateway_state.specs.Updates.{is_open_to, is_paused, is_taking, update_by, update_natively, update_notice, update_on, update_over, update_told, with_owed_of}
+use Rattle.gateway_state.specs.Updates.{is_open_to, is_paused, is_sub_to, is_taking, update_by, update_natively, update_notice, update_on, update_over, update_told, with_owed_of}
 use Rattle.gateway_state.specs.Variables.{link_of}
 use Rattle.gateway_notices.specs.InTurn.{source_natively, source_over, told_in_turn}
 use Rattle.gateway_notices.specs.declared.source.Source.{Source}
 use Rattle.touched_rows.specs.Touched.{update_told_if}
+use Rattle.row_index.proofs.Named.{same_bytes}
 use Rattle.touched_rows.proofs.Connections.{no_more_room_given}
 
 -- v tells subscriptions what w does, but that fewer outboxes may take updates
@@ -113,6 +116,27 @@ from_there w v is (sub ∷ subs) =
 pub told_one_by_one : (w : Gateway) (subs : List ClientSub) → fold told_in_turn w subs ≡ fold update_told w (filter_map (update_notice w) subs)
 told_one_by_one w subs = from_there w w (same w) subs
 
+-- who is told takes updates
+pub takes_it : (w : Gateway) (sub : ClientSub) (notice : UpdateNotice) → Some notice ≡ update_notice w sub → is_taking w notice.session ≡ true
+unfolding update_notice
+takes_it w sub notice is = by sub.owed (is_paused w sub.session) (is_taking w sub.session) refl is
+  where
+    by : (owed paused taking : Bool) → is_taking w sub.session ≡ taking → Some notice ≡ cond (owed && (not paused && taking)) (update_on w sub (channel_of w sub.session sub.sid)) None
+        → is_taking w notice.session ≡ true
+    by false paused taking at given = cc
+    by true true taking at given = cc
+    by true false false at given = cc
+    by true false true at given =
+        let session : notice.session ≡ sub.session = subst (IsFor sub.session) (sym given) (on_for w sub (channel_of w sub.session sub.sid)) in
+        ap (is_taking w) session ∙ at
+
+-- a subscription to a name is on a channel whose real name it is
+pub real_is_name : (w : Gateway) (name : List ℕ) (sub : ClientSub) (c : Channel) → is_sub_to w name sub ≡ true → Some c ≡ channel_of w sub.session sub.sid → c.real ≡ name
+real_is_name w name sub c on found = same_bytes c.real name (ap (is_channel_on name) found ∙ on)
+
+pub all_on : (w : Gateway) (name : List ℕ) (subs : List ClientSub) → subs ≡ filter (is_sub_to w name) w.clients.subs → All (λ sub. is_sub_to w name sub ≡ true) subs
+all_on w name subs are = subst (All (λ sub. is_sub_to w name sub ≡ true)) (sym are) (filter_passes (is_sub_to w name) w.clients.subs)
+
 -- ---- what the next turn begins with
 
 if_told : (w : Gateway) (notice : Option UpdateNotice) → KnowRights w → KnowRights (update_told_if notice w)
@@ -130,6 +154,16 @@ unfolding sent
 if_linked w None name = refl
 if_linked w (Some n) name =
     elim (is_taking w n.session) as (λ t. link_of (cond t (told n.session (replies.Update n.id n.dtype n.count n.payload) (with_owed_of n.session n.id false w)) w) name ≡ link_of w name) [ true ↦ refl | false ↦ refl ]
+
+if_on : (w : Gateway) (notice : Option UpdateNotice) (name : List ℕ) (sub : ClientSub) → is_sub_to (update_told_if notice w) name sub ≡ is_sub_to w name sub
+unfolding sent
+if_on w None name sub = refl
+if_on w (Some n) name sub =
+    elim (is_taking w n.session) as (λ t. is_sub_to (cond t (told n.session (replies.Update n.id n.dtype n.count n.payload) (with_owed_of n.session n.id false w)) w) name sub ≡ is_sub_to w name sub) [ true ↦ refl | false ↦ refl ]
+
+-- subscriptions to a name stay so
+pub on_next : (w : Gateway) (sub : ClientSub) (name : List ℕ) (subs : List ClientSub) → All (λ other. is_sub_to w name other ≡ true) subs → All (λ other. is_sub_to (told_in_turn w sub) name other ≡ true) subs
+on_next w sub name subs on = λ k d within. if_on w (update_notice w sub) name (slice_index_or subs k d) ∙ on k d within
 
 -- and the value is where it was
 pub source_next : (w : Gateway) (sub : ClientSub) (name : List ℕ) (source : Option Source) → source ≡ source_over (link_of w name) → source ≡ source_over (link_of (told_in_turn w sub) name)

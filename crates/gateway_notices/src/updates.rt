@@ -1,10 +1,10 @@
 //! What clients are owed about their subscriptions.
-ghost use Rattle.std.specs.Prelude.{◌≡◌, ◌≤◌, ◌+◌, ◌*◌, filter, length, Some, fold, OnOk, IfOk};
+ghost use Rattle.std.specs.Prelude.{◌≡◌, ◌≤◌, ◌+◌, ◌*◌, All, filter, length, true, Some, fold, OnOk, IfOk};
 ghost use Rattle.gateway_notices.specs.InTurn.{source_over, told_in_turn};
 ghost use Rattle.gateway_rows.specs.Own.{subs_on};
 ghost use Rattle.gateway_state.specs.Rights.{channel_of};
 ghost use Rattle.gateway_state.specs.Told.{KnowRights, KnowsRights};
-ghost use Rattle.gateway_state.specs.Updates.{is_open_to, is_paused, is_sub_to, is_unreadable, is_withheld, update_notice, update_notices, update_on, update_over, update_told, updates_told, updates_withheld, withheld};
+ghost use Rattle.gateway_state.specs.Updates.{is_open_to, is_paused, is_sub_to, is_taking, is_unreadable, is_withheld, update_notice, update_notices, update_on, update_over, update_told, updates_told, updates_withheld, withheld};
 ghost use Rattle.gateway_state.specs.Variables.{link_of};
 ghost use Rattle.touched_rows.specs.Touched.{one_update_told, update_notices_to, updates_told_on, updates_told_to, updates_withheld_on, withheld_on};
 
@@ -179,8 +179,8 @@ fn update_from(
     }
 }
 
-/// The same of a subscription on a channel, by where the value of a name is: that is looked up once for all
-/// who are told of it.
+/// The same of a subscription on a channel on this name, by where its value is: that is looked up once for
+/// all who are told of it.
 fn update_on_name(
     rows: &Rows,
     sub: &ClientSub,
@@ -189,20 +189,18 @@ fn update_on_name(
     source: Option<Source>,
 ) -> Result<Option<UpdateNotice>, AllocError>
     requires told { KnowsRights rows.now channel.now }
+    requires real { channel.now.real ≡ name.now }
     requires source { source ≡ source_over (link_of rows.now name.now) }
     ensures { IfOk result (λ notice. notice ≡ update_on rows.now sub.now (Some channel.now)) }
 {
-    if channel.real != *name {
-        return update_on(rows, sub, channel);
-    }
     if !may_read(channel.rights_told) {
         return Ok(None);
     }
     update_from(rows, sub, name, source)
 }
 
-/// The update that is due to a subscription, by where the value of a name is.
-#[tactic(auto, unfolding(gateway_state::specs::Updates::update_notice))]
+/// The update that is due to a subscription to this name, by where its value is.
+#[tactic(auto, using(crate::proofs::TellingInTurn::real_is_name), unfolding(gateway_state::specs::Updates::update_notice))]
 fn update_notice_of(
     rows: &Rows,
     visits: &mut Visits,
@@ -211,6 +209,7 @@ fn update_notice_of(
     source: Option<Source>,
 ) -> Result<Option<UpdateNotice>, AllocError>
     requires told { KnowRights rows.now }
+    requires on { is_sub_to rows.now name.now sub ≡ true }
     requires source { source ≡ source_over (link_of rows.now name.now) }
     ensures found { IfOk result (λ notice. notice ≡ update_notice rows.now sub) }
     ensures bound { visits.new ≤ visits.old + 2 }
@@ -288,6 +287,16 @@ fn tell_update(rows: &mut Rows, visits: &mut Visits, notice: UpdateNotice) -> Re
     if !rows.is_taking(notice.session) {
         return Ok(());
     }
+    give_update(rows, visits, notice)
+}
+
+/// The same where its session takes updates.
+fn give_update(rows: &mut Rows, visits: &mut Visits, notice: UpdateNotice) -> Result<(), AllocError>
+    requires room { is_taking rows.old notice.session ≡ true }
+    ensures ok { OnOk result (rows.new ≡ update_told rows.old notice) }
+    ensures bound { visits.new ≤ visits.old + 1 }
+    ensures no_less { visits.old ≤ visits.new }
+{
     rows.set_owed(visits, notice.session, notice.id, false);
     let said = ToClient::Update {
         id: notice.id,
@@ -324,6 +333,7 @@ pub(crate) fn tell_updates(rows: &mut Rows, visits: &mut Visits) -> Result<(), A
 }
 
 /// Tells a subscription to a variable what is due to it now.
+#[tactic(auto, using(crate::proofs::TellingInTurn::takes_it))]
 fn tell_in_turn(
     rows: &mut Rows,
     visits: &mut Visits,
@@ -332,13 +342,14 @@ fn tell_in_turn(
     source: Option<Source>,
 ) -> Result<(), AllocError>
     requires told { KnowRights rows.old }
+    requires on { is_sub_to rows.old name.now sub ≡ true }
     requires source { source ≡ source_over (link_of rows.old name.now) }
     ensures ok { OnOk result (rows.new ≡ told_in_turn rows.old sub) }
     ensures bound { visits.new ≤ visits.old + 3 }
     ensures no_less { visits.old ≤ visits.new }
 {
     match update_notice_of(rows, visits, sub, name, source)? {
-        Some(notice) => tell_update(rows, visits, notice),
+        Some(notice) => give_update(rows, visits, notice),
         None => Ok(()),
     }
 }
@@ -352,6 +363,7 @@ fn tell_each_in_turn(
     name: &Name,
 ) -> Result<(), AllocError>
     requires told { KnowRights rows.old }
+    requires on { All (λ sub. is_sub_to rows.old name.now sub ≡ true) subs.now }
     ensures ok { OnOk result (rows.new ≡ fold told_in_turn rows.old subs.now) }
     ensures bound { OnOk result (visits.new ≤ visits.old + 3 * length subs.now) }
     ensures no_less { visits.old ≤ visits.new }
@@ -364,7 +376,7 @@ fn tell_each_in_turn(
 }
 
 /// Gives the updates that are due on a variable, whose subscriptions these are.
-#[tactic(auto, using(crate::proofs::TellingInTurn::told_one_by_one))]
+#[tactic(auto, using(crate::proofs::TellingInTurn::told_one_by_one, crate::proofs::TellingInTurn::all_on))]
 pub(crate) fn tell_updates_on(
     rows: &mut Rows,
     visits: &mut Visits,
@@ -395,6 +407,7 @@ pub(crate) fn tell_updates_to(
 }
 
 /// The same of one subscription.
+#[tactic(auto, using(crate::proofs::TellingInTurn::takes_it))]
 pub(crate) fn tell_one_update(
     rows: &mut Rows,
     visits: &mut Visits,
@@ -406,7 +419,7 @@ pub(crate) fn tell_one_update(
     ensures no_less { visits.old ≤ visits.new }
 {
     match update_notice(rows, visits, sub)? {
-        Some(notice) => tell_update(rows, visits, notice),
+        Some(notice) => give_update(rows, visits, notice),
         None => Ok(()),
     }
 }

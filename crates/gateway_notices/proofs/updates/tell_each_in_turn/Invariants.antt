@@ -1,5 +1,7 @@
-use Rattle.std.proofs.Common.{◌≡◌, ◌≤◌, ◌+◌, ◌*◌, drop, fold}
+use Rattle.std.proofs.Common.{◌≡◌, ◌≤◌, ◌+◌, ◌*◌, true, drop, fold}
+use Rattle.std.specs.List.{All}
 use Rattle.gateway_state.specs.Told.{KnowRights}
+use Rattle.gateway_state.specs.Updates.{is_sub_to}
 use Rattle.gateway_state.specs.Variables.{link_of}
 use Rattle.gateway_notices.specs.InTurn.{source_over, told_in_turn}
 use Rattle.gateway_notices.proofs.updates.tell_each_in_turn.Given as goal
@@ -9,6 +11,7 @@ abbrev pub invariant-loop-sub : goal.invariant-loop-sub
 invariant-loop-sub l =
     (fold told_in_turn l.rows (drop l.sub-index l.subs) ≡ fold told_in_turn l.fn.rows l.subs)
     × KnowRights l.rows
+    × All (λ sub. is_sub_to l.rows l.name sub ≡ true) l.subs
     × (l.source ≡ source_over (link_of l.rows l.name))
     × (l.visits ≤ l.fn.visits + 3 * l.sub-index)
     × (l.fn.visits ≤ l.visits)
