@@ -12,7 +12,8 @@ is cut inside a message is answered as one that is cut before it.
 --budget is in seconds of a processor, for all jobs together: 120 for each job if not given. What is done in a budget is chosen by
 the seed, the commit's hash if not given: each script gets the same time, and of the wide ones, those with many messages in a line
 or many lines, there are two. --all does everything, or goes through all scripts, wide or not, as far as a given budget goes. Of
-many messages or lines only some are damaged, but with --every. WORDs choose scripts whose names contain one. --list counts. --only
+many messages or lines only some are damaged, and of scripts that make a thousand rows and more, on which the plain gateway takes
+seconds, only 64 places in each way of damage, but with --every. WORDs choose scripts whose names contain one. --list counts. --only
 shows one damaged script with what both gateways print. The last line counts the scripts that did as they must, undamaged and
 damaged, and those that didn't; the status is 1 where one didn't.
 """

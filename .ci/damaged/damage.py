@@ -18,6 +18,11 @@ from damaged import lines
 MANY, ENDS_OF_MANY = 64, 2
 MANY_LINES, ENDS_OF_LINES = 160, 16
 
+# With more clients, channels and subscriptions than this the plain gateway takes seconds for a script: of the damage that is left
+# so many of a family are done, evenly chosen.
+MANY_ROWS, FEW = 1_000, 64
+MAKE_ROWS = (b"\0\x01", b"\0\x12")  # EVENT_ADD, CREATE_CHAN
+
 STREAMS = (b"client ", b"server ")
 SET = {"00": 0x00, "ff": 0xFF}
 # Of a longer word only the characters at its ends are damaged.
@@ -67,6 +72,14 @@ def is_wide(script):
         len(messages(data[1])) > MANY for data in map(bytes_of, script.lines) if data and len(data[1]) > 16 * MANY)
 
 
+def is_slow(script):
+    """Whether a script makes so many rows that the plain gateway takes seconds for it."""
+    rows = sum(line.startswith(b"open ") for line in script.lines)
+    for data in [found[1] for found in map(bytes_of, script.lines) if found]:
+        rows += sum(data[begin:begin + 2] in MAKE_ROWS for begin in [0, *messages(data)])
+    return rows > MANY_ROWS
+
+
 def hexadecimal(data):
     return data.hex().encode() or b"-"
 
@@ -82,12 +95,22 @@ def later_lines(script, place):
             yield later
 
 
+def few(spans, most):
+    """So many of the damages at most, evenly chosen."""
+    all_places = [(span, place) for span in spans for place in span.places]
+    count = len(all_places)
+    chosen = all_places if count <= most else [all_places[count * it // most] for it in range(most)]
+    return [Span(span.line, span.kind, [place for of, place in chosen if of is span], span.make) for span in spans]
+
+
 class Damages:
     """All the damage that is done to a script: of streams and datagrams, or of its lines as text."""
 
     def __init__(self, script, family, every=False):
         self.script, self.every = script, every
         self.spans = list({"bytes": self.of_streams, "datagrams": self.of_datagrams, "lines": self.of_lines}[family]())
+        if not every and is_slow(script):
+            self.spans = few(self.spans, FEW)
         self.ends = list(accumulate(len(span.places) for span in self.spans))
         self.count = self.ends[-1] if self.ends else 0
 
