@@ -2,7 +2,8 @@
 //!
 //! `hear_client` takes the rows of the gateway, the number of a client's connection and a message
 //! that came over it. It leaves the rows that `client_said` makes of the old ones: a request has the
-//! effect that its command has, a message that is no request is refused or ignored. What follows for
+//! effect that its command has, a message that is no request is refused or ignored. A read that is accepted
+//! is only touched, and kept by who tells what follows if it has to wait (`with_touched`). What follows for
 //! others, as owed updates, isn't told here; the call answers what was touched (`request_touches`).
 //! A refusal leaves the rows half done; it says that numbers are used up only where the request would
 //! give out a number past the last one.
