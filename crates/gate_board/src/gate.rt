@@ -1,8 +1,9 @@
 //! The board under a lock, for all threads.
 //!
-//! Why no wake-up is lost: whoever waits remembers the count of wakes from before its last try, and goes
-//! to sleep under the lock only while the count is still that one. Each change that could make a try
-//! succeed counts a wake under the lock, and then notifies whoever may wait for it:
+//! Why no wake-up is lost: whoever waits remembers the count of wakes from before its last try, or of
+//! when it tried under the lock, and goes to sleep under the lock only while the count is still that one.
+//! Each change that could make a try succeed counts a wake under the lock, and then notifies whoever may
+//! wait for it:
 //!
 //! - **The core** waits for items and events. `wake` (which a reader calls after it put items), `desk`,
 //!   `attach` and `close` notify it. `take` does so where messages wait that found no place before.
@@ -17,7 +18,7 @@
 //! - Closing and a fault of the gateway notify all.
 //!
 //! Connections that share a seat wake each other for nothing, and look again.
-ghost use Rattle.std.specs.Prelude.{◌≡◌, ◌↔◌, ◌⊎◌, [], ◌∷◌, ◌++◌, OnOk, OnErr, IfOk, IfErr, IsErrOf, IsOk, false};
+ghost use Rattle.std.specs.Prelude.{◌≡◌, ◌↔◌, ◌⊎◌, [], ◌∷◌, ◌++◌, OnOk, OnErr, IfOk, IfErr, IfSome, IsErrOf, IsNone, IsOk, false};
 ghost use Rattle.board_rings.specs.declared.attachment.TheConstants.{RING_SIZE};
 ghost use Rattle.board_history.specs.History.{is_for_desk};
 ghost use Rattle.gate_board.specs.Taking.{IsTaken};
@@ -51,14 +52,6 @@ pub struct GateOver<G: GatewayCalls + Drop> {
     core: Condvar,
     paused: Condvar,
     seats: [Condvar; SEATS],
-}
-
-// Why nothing comes any more for a connection.
-#[derive(Clone, Copy)]
-enum End {
-    None,
-    Closed,
-    Stopped,
 }
 
 impl<G: GatewayCalls + Drop> GateOver<G> {
@@ -263,48 +256,44 @@ impl<G: GatewayCalls + Drop> GateOver<G> {
     pub fn take<R: Wait>(&self, rt: &R, outlet: &mut Outlet, dest: Dest) -> Taken
         ensures { IsTaken outlet.old result outlet.new }
     {
-        if let Some(out) = outlet.next() {
-            return Taken::Item(out);
-        }
-        self.ask_for_more(rt, dest);
         for _ in rt.forever() {
-            let seen = self.count(rt);
-            if let Some(message) = outlet.next() {
-                return Taken::Item(message);
+            if let Some(out) = outlet.next() {
+                return Taken::Item(out);
             }
-            match self.end_of(rt, dest, seen) {
-                End::None => (),
-                End::Closed => return Taken::Closed,
-                End::Stopped => return Taken::Stopped,
+            match self.next_or_wait(rt, outlet, dest) {
+                Some(taken) => return taken,
+                None => (),
             }
         }
         unreachable!()
     }
 
-    // Wakes the core where messages wait for the connection: its ring was full when the core looked.
-    fn ask_for_more<R: Wait>(&self, rt: &R, dest: Dest) {
+    // The next message, or that none comes any more. Where neither is so it waits at the connection's seat
+    // for a wake, and answers nothing. Messages are pushed under the lock, so none comes between the look and
+    // the wait. Where some wait that found no place the core is woken: the ring was full when it looked.
+    fn next_or_wait<R: Wait>(&self, rt: &R, outlet: &mut Outlet, dest: Dest) -> Option<Taken>
+        ensures some { IfSome result (λ taken. IsTaken outlet.old taken outlet.new) }
+        ensures none { IsNone result → outlet.new ≡ outlet.old }
+    {
         let mut kept = self.kept.lock(rt);
-        if kept.has_waiting(dest) {
-            kept.wake();
-            drop(kept);
-            self.core.notify_all();
+        if let Some(out) = outlet.next() {
+            return Some(Taken::Item(out));
         }
-    }
-
-    // Whether nothing comes any more for the connection; else it waits at the connection's seat while the
-    // count of wakes is this one.
-    fn end_of<R: Wait>(&self, rt: &R, dest: Dest, seen: u64) -> End {
-        let mut kept = self.kept.lock(rt);
         if kept.has_stopped() {
-            return End::Stopped;
+            return Some(Taken::Stopped);
         }
         if kept.is_over(dest) {
-            return End::Closed;
+            return Some(Taken::Closed);
         }
+        if kept.has_waiting(dest) {
+            kept.wake();
+            self.core.notify_all();
+        }
+        let seen = kept.wakes();
         let _woken = self
             .seat(dest)
             .wait_while(rt, kept, |kept| kept.wakes() == seen);
-        End::None
+        None
     }
 
     /// Performs rounds until one moves something or meets a fault, or the gate is closed, which is looked
