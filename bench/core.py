@@ -1,7 +1,7 @@
 #!/usr/bin/env python3
 """What an event costs in the core, each figure beside the most that it may be.
 
-    bench/core.py [--program PATH] [--only WORD ..] [--others N] [--whole] [--markdown]
+    bench/core.py [--program PATH] [--only WORD ..] [--others N] [--names TEXT] [--whole] [--markdown]
 
 Run by hand; it needs valgrind, takes some ten minutes, and other work on the machine changes only what is told in seconds. Instructions
 are counted by callgrind in `Engine::step` and all that it calls, which leaves out the reading of lines, the drains and the printing;
@@ -9,8 +9,8 @@ behind them stands what an event costs with these. A script is performed with so
 that its beginning drops out. An exponent is that of the cost of n things as n grows, over three sizes. Seconds are those that the
 processor takes from where a script's beginning was performed to where its end was, printing among them. Where a smaller size tells
 that one would take minutes, it is left out and its figure estimated in proportion (`about`), unless --whole is given. --only takes rows
-whose name has one of the words, --others how many variables stand beside (10,000 if not given), and --markdown prints the table as
-bench/RESULTS.md has it.
+whose name has one of the words, --others how many variables stand beside (10,000 if not given), --names how the names of variables
+begin (V if not given; six digits follow), and --markdown prints the table as bench/RESULTS.md has it.
 """
 import argparse
 import functools
@@ -23,7 +23,7 @@ import tempfile
 import time
 
 import gateway
-from gateway import connected, create, message, subscribe, update
+from gateway import connected, create, message, name_of, subscribe, update
 
 STEP, DRAIN = "gateway_core::engine::Engine::step", "gateway_core::gate::EngineGatewayCalls::drain"
 SIZES = (1, 2, 4)  # of a thing whose growth is measured, in parts of the row's own
@@ -102,11 +102,11 @@ def opened(session):
 
 def one_variable(clients):
     """A connected variable, and clients that each have a channel on it, of the SIDs from 1 on, and a subscription."""
-    yield from [*BEGUN, opened(1), "client s1 " + create(1, "V000001")]
-    yield from connected(1, "V000001")
+    yield from [*BEGUN, opened(1), "client s1 " + create(1, name_of(1))]
+    yield from connected(1, name_of(1))
     for number in range(1, clients + 1):
         yield from [opened(number)] if number > 1 else []
-        yield f"client s{number} " + create(1, "V000001") + subscribe(number, number)
+        yield f"client s{number} " + create(1, name_of(1)) + subscribe(number, number)
 
 
 def updates(clients):
@@ -123,7 +123,7 @@ def many_variables(others):
     for client in range(10):
         session, sid = 500 + client, others + client + 1
         ids = range(1_000 * (client + 1), 1_000 * (client + 1) + 100)
-        lines += [opened(session), f"client s{session} " + create(1, "V000002") + "".join(subscribe(sid, own) for own in ids)]
+        lines += [opened(session), f"client s{session} " + create(1, name_of(2)) + "".join(subscribe(sid, own) for own in ids)]
     return lines
 
 
@@ -159,7 +159,7 @@ def grows(least, cost):
 
 def sessions_of(server, sessions, channels=50):
     """Clients that each have channels on the same variables of a server."""
-    names = [f"V{it:06}" for it in range(1, channels + 1)]
+    names = [name_of(it) for it in range(1, channels + 1)]
     yield from [*BEGUN, opened(1), "client s1 " + "".join(create(1, name) for name in names)]
     for cid, name in enumerate(names, 1):
         yield from connected(cid, name, server=server)
@@ -188,11 +188,11 @@ def cancelled(many):
 
 
 def waiting_answered(many):
-    lines = [*BEGUN, opened(1), "client s1 " + create(1, "V000001"), *connected(1, "V000001")]
+    lines = [*BEGUN, opened(1), "client s1 " + create(1, name_of(1)), *connected(1, name_of(1))]
     for number in range(1, many // 250 + 1):
         reads = (message(15, dtype=5, count=1, p1=number, p2=ioid) for ioid in range(250))
         lines += [opened(number)] if number > 1 else []
-        lines.append(f"client s{number} " + create(1, "V000001") + "".join(reads))
+        lines.append(f"client s{number} " + create(1, name_of(1)) + "".join(reads))
     return of_more(lines, ["server u1 " + update(1)], many).step
 
 
@@ -287,10 +287,11 @@ def main():
     words.add_argument("--program", default=gateway.PROGRAM)
     words.add_argument("--only", nargs="+", default=[""])
     words.add_argument("--others", type=int, default=10_000)
+    words.add_argument("--names", default=gateway.BEGIN)
     words.add_argument("--whole", action="store_true")
     words.add_argument("--markdown", action="store_true")
     args = words.parse_args()
-    gateway.PROGRAM = args.program
+    gateway.PROGRAM, gateway.BEGIN = args.program, args.names
     gateway.need_program()
     if args.markdown:
         print("| What | Measured | At most | | |\n|---|---|---|---|---|", flush=True)

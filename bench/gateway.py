@@ -20,6 +20,11 @@ PROGRAM = os.environ.get("PVGATE", os.path.join(ROOT, "crates", "pvgate", "out",
 CHANNELS = 4_000  # of a client; a session may have 4,096
 SEARCHES = 2_000  # names that are looked for before they are forgotten; 4,096 are remembered
 WRITING = 100  # writes that wait before the server answers them
+BEGIN = "V"  # how the names of variables begin; six digits follow
+
+
+def name_of(number):
+    return f"{BEGIN}{number:06}"
 
 
 def message(command, payload="", dtype=0, count=0, p1=0, p2=0):
@@ -54,7 +59,7 @@ def variables(many):
     """Variables, each with a channel, a subscription and a value."""
     for place in range(many):
         client, cid = f"s{1 + place // CHANNELS}", place + 1
-        name = f"V{cid:06}"
+        name = name_of(cid)
         if place % CHANNELS == 0:
             yield f"open {client} 10.0.0.5"
         yield f"client {client} " + create(cid, name)
@@ -165,9 +170,9 @@ def subscribers(times):
     for count in (8, 10_000):
         alone = None
         for many in (1, 100, 1_000):
-            lines = ["open u1", "server u1 " + message(0, count=13), "open s1 10.0.0.5", "client s1 " + create(1, "V000001")]
-            lines += connected(1, "V000001", count)
-            lines.append("client s1 " + create(1, "V000001"))
+            lines = ["open u1", "server u1 " + message(0, count=13), "open s1 10.0.0.5", "client s1 " + create(1, name_of(1))]
+            lines += connected(1, name_of(1), count)
+            lines.append("client s1 " + create(1, name_of(1)))
             lines += ["client s1 " + subscribe(1, own, count) for own in range(1, many + 1)]
             updates = max(20, (20_000 if count == 8 else 2_000) // many)
             each = cost(lines, ["server u1 " + update(1, 42, count)] * updates, updates * many, updates * many, times)

@@ -1,12 +1,12 @@
 -- Lists of keys by names: what changes with a row, and which rows they give.
-use Rattle.std.proofs.Common.{◌≡◌, ℕ, zero, suc, ◌<◌, List, [], ◌∷◌, ◌++◌, Bool, true, false, cond, not, Some, None, map, length, get_or, bytes_eq, append-nil, refl, sym, ap, subst, ◌∙◌, arith}
-use Rattle.std.specs.List.{filter, find, slice_get}
+use Rattle.std.proofs.Common.{◌≡◌, ℕ, zero, suc, ◌<◌, ◌||◌, List, [], ◌∷◌, ◌++◌, Bool, true, false, cond, not, Some, None, map, length, get_or, bytes_eq, append-nil, refl, sym, ap, subst, ◌∙◌, arith, true≢false}
+use Rattle.std.specs.List.{filter, find, list_any, slice_get}
 use Rattle.std.specs.Option.{option_map}
 use Rattle.std.proofs.lemmas.List.Elements.{filter-append}
 use Rattle.std.proofs.lemmas.Option.{slice_get-map, slice_get_within, get_or_from_slice_get}
 use Rattle.rows.specs.Rows.{change_first}
 use Rattle.row_index.specs.declared.key.Key.{Key}
-use Rattle.row_index.specs.Lists.{of, is_not_key, AddsTo, RemovesFrom}
+use Rattle.row_index.specs.Lists.{of, is_key, is_not_key, AddsTo, RemovesFrom}
 use Rattle.row_index.specs.Rows.{same_key}
 use Rattle.channel_table.specs.Indexes.{IsApart, AreListed, row_at, rows_at}
 use Rattle.channel_table.proofs.Keyed.{Each, each_is_found, fails_alone}
@@ -23,6 +23,24 @@ module _ {V : Type 0} (key : V → Key) where
   keys_without k (row ∷ rows) =
       elim (same_key (key row) k) as (λ t. cond (not t) (key row ∷ filter (is_not_key k) (map key rows)) (filter (is_not_key k) (map key rows)) ≡ map key (cond (not t) (row ∷ filter (λ r. not (same_key (key r) k)) rows) (filter (λ r. not (same_key (key r) k)) rows)))
       [ true ↦ keys_without k rows | false ↦ ap (λ rest. key row ∷ rest) (keys_without k rows) ]
+
+  -- a key that no row has is the key of none that pass
+  key_of_none : (k : Key) (test : V → Bool) (rows : List V) → list_any (λ row. same_key (key row) k) rows ≡ false → length (filter (is_key k) (map key (filter test rows))) ≡ 0
+  key_of_none k test [] absent = refl
+  key_of_none k test (row ∷ rows) absent =
+      elim (same_key (key row) k) as (λ t. same_key (key row) k ≡ t → t || list_any (λ r. same_key (key r) k) rows ≡ false → length (filter (is_key k) (map key (filter test (row ∷ rows)))) ≡ 0) [
+        | true ↦ λ here none. absurd (true≢false none)
+        | false ↦ λ here none.
+            let rest = key_of_none k test rows none in
+            let others = filter (is_key k) (map key (filter test rows)) in
+            elim (test row) as (λ t. length (filter (is_key k) (map key (cond t (row ∷ filter test rows) (filter test rows)))) ≡ 0)
+            [ true ↦ ap (λ t. length (cond t (key row ∷ others) others)) here ∙ rest | false ↦ rest ]
+      ] refl absent
+
+  -- such a key isn't listed
+  pub unlisted : (test : List ℕ → V → Bool) (rows : List V) (lists : List (List ℕ × List Key)) (k : Key) (name : List ℕ) → AreListed key test rows lists → list_any (λ row. same_key (key row) k) rows ≡ false → length (filter (is_key k) (of lists name)) ≡ 0
+  unlisted test rows lists k name listed absent =
+      ap (λ keys. length (filter (is_key k) keys)) (listed name) ∙ key_of_none k (test name) rows absent
 
   -- a row more, whose key is listed under its name
   pub listed_with_more : (test : List ℕ → V → Bool) (rows : List V) (row : V) (name : List ℕ) (old new : List (List ℕ × List Key)) → ((n : List ℕ) → test n row ≡ bytes_eq name n) → AreListed key test rows old → AddsTo name (key row) old new → AreListed key test (rows ++ row ∷ []) new

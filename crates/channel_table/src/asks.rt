@@ -7,11 +7,11 @@ use crate::subs::ClientSub;
 use dbr_layout::{has_properties_by, is_text_by};
 use mask_merge::{ALWAYS_ASKED, Ask, PROPERTY_EVENT, Want};
 
-/// The right to read, a bit of access rights.
+/// The right to read, a bit of access rights: `CA_PROTO_ACCESS_RIGHT_READ` of the protocol.
 pub const READ_RIGHT: u32 = 1;
 
 /// Whether these rights let a client read.
-pub(crate) fn may_read(rights: u32) -> bool
+pub fn may_read(rights: u32) -> bool
     ensures { result ≡ may_read rights }
 {
     rights & READ_RIGHT == READ_RIGHT

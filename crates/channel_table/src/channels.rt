@@ -1,9 +1,9 @@
 //! Rows of channels.
-ghost use Rattle.std.specs.Prelude.{◌≡◌, ◌-◌, [], ◌∷◌, ◌++◌, false, length, map, slice_get, IfOk, IsTrue, OnOk, OnErr};
+ghost use Rattle.std.specs.Prelude.{◌≡◌, ℕ, List, ◌-◌, [], ◌∷◌, ◌++◌, false, length, map, slice_get, IfOk, IsTrue, OnOk, OnErr};
 ghost use Rattle.std.specs.List.{list_any, filter, find, count_by};
 ghost use Rattle.std.specs.Option.{option_copied};
 ghost use Rattle.rows.specs.Rows.{change_first};
-ghost use Rattle.row_index.specs.Lists.{SameLists};
+ghost use Rattle.row_index.specs.Lists.{is_key, of, SameLists};
 ghost use Rattle.row_index.specs.Rows.{has_key, value_at};
 ghost use Rattle.channel_table.specs.Channels.{is_channel, is_not_channel, is_channel_of, is_on, with_reach_and_rights};
 ghost use Rattle.channel_table.specs.Indexes.{changed_by, channel_key, IsApart, IsListedOn, IsUnlistedOn};
@@ -209,13 +209,14 @@ impl Channels {
     }
 }
 
-/// Lists a channel that stands under its real name.
+/// Lists a channel that stands under its real name. It isn't listed yet.
 fn list(rows: &RowMap<Channel>, on: &mut NameLists, key: Key) -> Result<(), AllocError>
+    requires new { (name : List ℕ) → length (filter (is_key key) (of on.old name)) ≡ 0 }
     ensures ok { OnOk result (IsListedOn (value_at key rows.now) key on.old on.new) }
     ensures err { OnErr result (SameLists on.old on.new) }
 {
     match rows.get(key) {
-        Some(channel) => on.add(&channel.real, key),
+        Some(channel) => on.add_new(&channel.real, key),
         None => Ok(()),
     }
 }

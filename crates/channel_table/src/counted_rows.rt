@@ -1,9 +1,9 @@
 //! Channels and subscriptions that come, go or change, with what they ask for.
-ghost use Rattle.std.specs.Prelude.{◌≡◌, [], ◌∷◌, ◌++◌, false, OnOk, OnErr};
+ghost use Rattle.std.specs.Prelude.{◌≡◌, [], ◌∷◌, ◌++◌, false, length, OnOk, OnErr};
 ghost use Rattle.std.specs.List.{filter, find, list_any};
 ghost use Rattle.rows.specs.Rows.{change_first};
 ghost use Rattle.mask_merge.specs.Counts.{counted_with, counted_without};
-ghost use Rattle.row_index.specs.Lists.{AddsTo, RemovesFrom, SameLists};
+ghost use Rattle.row_index.specs.Lists.{is_key, of, AddsTo, RemovesFrom, SameLists};
 ghost use Rattle.channel_table.specs.Channels.{is_channel, is_not_channel, with_reach_and_rights};
 ghost use Rattle.channel_table.specs.Indexes.{sub_key};
 ghost use Rattle.channel_table.specs.Subs.{is_sub, is_not_sub};
@@ -114,6 +114,7 @@ pub(crate) fn add_sub(
     sub: ClientSub,
 ) -> Result<(), AllocError>
     requires new { list_any (is_sub sub.session sub.id) subs.old.rows ≡ false }
+    requires unlisted { length (filter (is_key (sub_key sub)) (of subs.old.on channel.now.real)) ≡ 0 }
     requires counts { AreCounts demand.old }
     ensures ok_rows { OnOk result (subs.new.rows ≡ subs.old.rows ++ sub ∷ []) }
     ensures ok_on { OnOk result (AddsTo channel.now.real (sub_key sub) subs.old.on subs.new.on) }

@@ -46,23 +46,15 @@ impl Demand {
         }
     }
 
-    /// What is asked for of a name together, where its native count is this.
-    pub(crate) fn want_of(&self, name: &Name, native: u32) -> Option<Want>
-        ensures { result ≡ wanted_of native (demand_of self.now name.now) }
+    /// What is asked for of a name together, where its native count is this, and whether properties are,
+    /// where its elements are states or are not.
+    pub(crate) fn of(&self, name: &Name, native: u32, states: bool) -> (Option<Want>, bool)
+        ensures want { result.0 ≡ wanted_of native (demand_of self.now name.now) }
+        ensures props { result.1 ≡ props_wanted states (demand_of self.now name.now) }
     {
         match self.hints.find(&self.tallies, name) {
-            Some(tally) => tally.want_of(native),
-            None => None,
-        }
-    }
-
-    /// Whether properties are asked for of a name, whose elements are states or are not.
-    pub(crate) fn props_of(&self, name: &Name, states: bool) -> bool
-        ensures { result ≡ props_wanted states (demand_of self.now name.now) }
-    {
-        match self.hints.find(&self.tallies, name) {
-            Some(tally) => tally.props_of(states),
-            None => false,
+            Some(tally) => (tally.want_of(native), tally.props_of(states)),
+            None => (None, false),
         }
     }
 

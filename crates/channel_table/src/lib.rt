@@ -61,7 +61,7 @@ mod subs;
 mod table;
 mod visits;
 
-pub use asks::{READ_RIGHT, own_ask, reach_ask};
+pub use asks::{READ_RIGHT, may_read, own_ask, reach_ask};
 pub use channels::{Channel, Reach};
 pub use reads::WaitingRead;
 pub use sessions::Session;

@@ -2,7 +2,7 @@
 ghost use Rattle.std.specs.Prelude.{◌≡◌, ℕ, List, [], ◌∷◌, ◌++◌, false, length, map, slice_get, IfOk, OnOk, OnErr};
 ghost use Rattle.std.specs.List.{filter, filter_map, find, count_by, list_any};
 ghost use Rattle.std.specs.Option.{option_map};
-ghost use Rattle.row_index.specs.Lists.{of, AddsTo, RemovesFrom, SameLists};
+ghost use Rattle.row_index.specs.Lists.{is_key, of, AddsTo, RemovesFrom, SameLists};
 ghost use Rattle.row_index.specs.Rows.{is_owned_by, row_of, value_at};
 ghost use Rattle.channel_table.specs.Indexes.{is_kept, is_kept_like, is_kept_on, is_not_kept, read_in, read_key, reads_in, row_at, rows_at, IsApart};
 ghost use Rattle.channel_table.specs.Reads.{is_read_of};
@@ -176,6 +176,7 @@ impl Reads {
     /// Adds a read that waits for this real name, under an ID that is free. At an error nothing changes.
     pub(crate) fn add(&mut self, name: &Name, row: KeptRead) -> Result<(), AllocError>
         requires new { list_any (is_kept (read_key row)) self.old.rows ≡ false }
+        requires unlisted { length (filter (is_key (read_key row)) (of self.old.on name.now)) ≡ 0 }
         ensures ok_rows { OnOk result (self.new.rows ≡ self.old.rows ++ row ∷ []) }
         ensures ok_on { OnOk result (AddsTo name.now (read_key row) self.old.on self.new.on) }
         ensures err_rows { OnErr result (self.new.rows ≡ self.old.rows) }
@@ -186,7 +187,7 @@ impl Reads {
             id: row.id,
         };
         self.rows.add(key, row)?;
-        match self.on.add(name, key) {
+        match self.on.add_new(name, key) {
             Ok(()) => Ok(()),
             Err(e) => {
                 self.rows.remove(key);

@@ -3,7 +3,7 @@ ghost use Rattle.std.specs.Prelude.{◌≡◌, ℕ, List, [], ◌∷◌, ◌++�
 ghost use Rattle.std.specs.List.{filter, filter_map, find, count_by, list_any};
 ghost use Rattle.std.specs.Option.{option_copied};
 ghost use Rattle.rows.specs.Rows.{change_first};
-ghost use Rattle.row_index.specs.Lists.{of, AddsTo, RemovesFrom, SameLists};
+ghost use Rattle.row_index.specs.Lists.{is_key, of, AddsTo, RemovesFrom, SameLists};
 ghost use Rattle.row_index.specs.Rows.{has_key, value_at};
 ghost use Rattle.channel_table.specs.Indexes.{changed_by, sub_key, rows_at, IsApart};
 ghost use Rattle.channel_table.specs.Subs.{is_sub, is_not_sub, is_sub_of, is_sub_on, with_owed};
@@ -143,6 +143,7 @@ impl Subs {
     /// Adds a subscription that leads to this real name. At an error nothing changes.
     pub(crate) fn add(&mut self, name: &Name, sub: ClientSub) -> Result<(), AllocError>
         requires new { list_any (is_sub sub.session sub.id) self.old.rows ≡ false }
+        requires unlisted { length (filter (is_key (sub_key sub)) (of self.old.on name.now)) ≡ 0 }
         ensures ok_rows { OnOk result (self.new.rows ≡ self.old.rows ++ sub ∷ []) }
         ensures ok_on { OnOk result (AddsTo name.now (sub_key sub) self.old.on self.new.on) }
         ensures err_rows { OnErr result (self.new.rows ≡ self.old.rows) }
@@ -153,7 +154,7 @@ impl Subs {
             id: sub.id,
         };
         self.rows.add(key, sub)?;
-        match self.on.add(name, key) {
+        match self.on.add_new(name, key) {
             Ok(()) => Ok(()),
             Err(e) => {
                 self.rows.remove(key);

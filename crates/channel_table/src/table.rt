@@ -96,19 +96,27 @@ impl Table {
     }
 
     /// What the subscriptions to a real name and the channels on it want of it together, of a native
-    /// count, as far as their clients were told that they may read. It looks at no row.
+    /// count, and whether any of them needs the properties of the variable, whose elements are states or
+    /// are not: as far as their clients were told that they may read. It looks at no row.
+    pub fn demand_on(&self, name: &Name, native: u32, states: bool) -> (Option<Want>, bool)
+        ensures want { result.0 ≡ want_on self.now.channels self.now.subs native name.now }
+        ensures props { result.1 ≡ props_on self.now.channels self.now.subs states name.now }
+    {
+        self.demand.of(name, native, states)
+    }
+
+    /// The first of these alone.
     pub fn want_on(&self, name: &Name, native: u32) -> Option<Want>
         ensures { result ≡ want_on self.now.channels self.now.subs native name.now }
     {
-        self.demand.want_of(name, native)
+        self.demand_on(name, native, false).0
     }
 
-    /// Whether any of them needs the properties of the variable, whose elements are states or are not: as
-    /// far as their clients were told that they may read. It looks at no row.
+    /// The second alone.
     pub fn props_on(&self, name: &Name, states: bool) -> bool
         ensures { result ≡ props_on self.now.channels self.now.subs states name.now }
     {
-        self.demand.props_of(name, states)
+        self.demand_on(name, 0, states).1
     }
 
     /// Removes a session with its channels, subscriptions and reads.

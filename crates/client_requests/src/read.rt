@@ -1,5 +1,6 @@
 //! READ_NOTIFY.
-ghost use Rattle.std.specs.Prelude.{◌≡◌, ◌≤◌, ◌+◌, true, Some, OnOk, IfOk};
+ghost use Rattle.std.specs.Prelude.{◌≡◌, ◌≤◌, ◌+◌, true, Some, IsTrue, OnOk, IfOk};
+ghost use Rattle.client_requests.specs.Reaching.{HasReach};
 ghost use Rattle.gateway_state.specs.Answer.{cached_value};
 ghost use Rattle.gateway_state.specs.Clients.{accepted, is_one_too_many, read_asked, read_refused, read_verdict, verdict_natively};
 ghost use Rattle.gateway_state.specs.Rights.{channel_of};
@@ -106,14 +107,24 @@ fn refuse_read(
     rows.tell(number, &said)
 }
 
-/// Raises a channel's reach for a read that is accepted, which isn't kept yet.
-fn accept_read(rows: &mut Rows, visits: &mut Visits, read: WaitingRead, reach: Reach, rights: u32)
+/// Raises a channel's reach for a read that is accepted, which isn't kept yet, unless it is known to reach so far.
+fn accept_read(
+    rows: &mut Rows,
+    visits: &mut Visits,
+    read: WaitingRead,
+    reach: Reach,
+    rights: u32,
+    is_reached: bool,
+)
+    requires reached { IsTrue is_reached → HasReach read.session read.sid reach rights rows.old }
     ensures ok { with_read read rows.new ≡ accepted read.session read.sid read.ioid read.dtype read.count reach rights rows.old }
     ensures bound { visits.new ≤ visits.old + 1 }
     ensures no_less { visits.old ≤ visits.new }
 {
-    rows.clients
-        .put_channel(visits, read.session, read.sid, reach, rights);
+    if !is_reached {
+        rows.clients
+            .put_channel(visits, read.session, read.sid, reach, rights);
+    }
 }
 
 /// A client wants a value. A read that is accepted is touched, and not kept yet.
@@ -152,25 +163,33 @@ pub(crate) fn read(
                 count,
                 ioid,
             };
-            let touched = accepted_touches(rows, visits, read)?;
-            accept_read(rows, visits, read, reach, rights);
+            let (touched, is_reached) = accepted_touches(rows, visits, read, reach, rights)?;
+            accept_read(rows, visits, read, reach, rights, is_reached);
             Ok(touched)
         }
     }
 }
 
-/// What a read touches that is accepted.
+/// What a read touches that is accepted, and whether its channel has this reach and these rights already, as
+/// after most reads.
+#[tactic(auto, using(channel_table::proofs::Unchanged::unchanged_found))]
 fn accepted_touches(
     rows: &Rows,
     visits: &mut Visits,
     read: WaitingRead,
-) -> Result<Touched, AllocError>
-    ensures found { IfOk result (λ touched. touched ≡ accepted_touches read (channel_of rows.now read.session read.sid)) }
+    reach: Reach,
+    rights: u32,
+) -> Result<(Touched, bool), AllocError>
+    ensures found { IfOk result (λ r. r.0 ≡ accepted_touches read (channel_of rows.now read.session read.sid)) }
+    ensures reached { IfOk result (λ r. IsTrue r.1 → HasReach read.session read.sid reach rights rows.now) }
     ensures bound { visits.new ≤ visits.old + 1 }
     ensures no_less { visits.old ≤ visits.new }
 {
     match rows.channel_of(visits, read.session, read.sid) {
-        Some(channel) => Ok(Touched::Read(channel.real.copy()?, read)),
-        None => Ok(Touched::Nothing),
+        Some(channel) => {
+            let is_reached = channel.reach == reach && channel.rights_told == rights;
+            Ok((Touched::Read(channel.real.copy()?, read), is_reached))
+        }
+        None => Ok((Touched::Nothing, false)),
     }
 }

@@ -2,6 +2,7 @@
 ghost use Rattle.std.specs.Prelude.{◌≡◌, ◌++◌, map, filter, filter_map, true, false, fold, OnOk, IfOk, IfSome, IsErrOf};
 ghost use Rattle.std.specs.List.{list_any};
 ghost use Rattle.link_table.specs.Links.{has_other_sub};
+ghost use Rattle.gateway_state.specs.Interest.{wanted_for};
 ghost use Rattle.gateway_state.specs.Numbers.{is_past_numbers};
 ghost use Rattle.gateway_state.specs.Notices.{dropped, interest_notices, link_notices, link_notices_of, link_told, links_told, subject_notices, subscribed_to, with_subscription_of};
 ghost use Rattle.gateway_state.specs.Settled.{AreInOrder, HasCidsInOrder, HasLinksApart};
@@ -20,20 +21,20 @@ use pv_name::Name;
 use std::alloc::AllocError;
 use touched_rows::Names;
 
-/// What the server of a connected link is owed about a subject.
+/// What the server of a connected link is owed about a subject of which so much is wanted.
 fn add_subject_notices(
     rows: &Rows,
     notices: &mut Vec<LinkNotice>,
     subject: Subject,
+    want: Option<Want>,
     link: &Link,
     sid: u32,
     native: Native,
 ) -> Result<(), AllocError>
-    requires told { KnowRights rows.now }
+    requires wanted { want ≡ wanted_for subject rows.now link.now.name native.dtype native.count }
     ensures { OnOk result (notices.new.items ≡ notices.old.items ++ subject_notices subject rows.now link.now sid native.dtype native.count) }
 {
     let (server, cid) = (link.server, link.cid);
-    let want = rows.wanted_for(subject, &link.name, native.dtype, native.count);
     let present = link.subscriptions.at(subject);
     if is_for(want, present) {
         return Ok(());
@@ -78,8 +79,17 @@ fn add_interest_notices(
         return Ok(());
     };
     let native = Native { dtype, count };
-    add_subject_notices(rows, notices, Subject::Values, link, sid, native)?;
-    add_subject_notices(rows, notices, Subject::Properties, link, sid, native)
+    let (values, properties) = rows.wanted(&link.name, dtype, count);
+    add_subject_notices(rows, notices, Subject::Values, values, link, sid, native)?;
+    add_subject_notices(
+        rows,
+        notices,
+        Subject::Properties,
+        properties,
+        link,
+        sid,
+        native,
+    )
 }
 
 fn add_link_notices(

@@ -1,8 +1,8 @@
 //! What the readers of a variable want together.
-ghost use Rattle.std.specs.Prelude.{◌≡◌};
-ghost use Rattle.gateway_state.specs.Interest.{ask_props, interest_of, minor_of, property_subscription_of, readers, subscription_of, subscription_to, wanted_by, wanted_for};
+ghost use Rattle.std.specs.Prelude.{◌≡◌, None, Some, if◌then◌else◌};
+ghost use Rattle.gateway_state.specs.Interest.{minor_of, property_subscription_of, property_want, subscription_of, subscription_to, wanted_for};
 ghost use Rattle.gateway_state.specs.Told.{KnowRights};
-ghost use Rattle.link_table.specs.declared.links.Subject.TheVariants.{Properties};
+ghost use Rattle.link_table.specs.declared.links.Subject.TheVariants.{Properties, Values};
 
 use crate::state::Rows;
 use dbr_layout::is_state_by;
@@ -13,45 +13,16 @@ use mask_merge::Want;
 use pv_name::Name;
 
 impl Rows {
-    /// What the readers of a variable with this native count want together, nothing where there is
-    /// none. The table of clients has it counted, so this looks at no row.
-    #[tactic(auto, using(crate::proofs::Readers::interest_as_counted))]
-    pub fn interest_of(&self, name: &Name, native: u32) -> Option<Want>
+    /// What the readers of a variable of this native type and count want of its values and of its
+    /// properties, nothing of those that there is no reader of. The table of clients has it counted, so
+    /// this looks at no row.
+    pub fn wanted(&self, name: &Name, dtype: u16, native: u32) -> (Option<Want>, Option<Want>)
         requires told { KnowRights self.now }
-        ensures { result ≡ interest_of self.now name.now native }
+        ensures values { result.0 ≡ wanted_for Values self.now name.now dtype native }
+        ensures properties { result.1 ≡ wanted_for Properties self.now name.now dtype native }
     {
-        self.clients.want_on(name, native)
-    }
-
-    /// Whether one of the readers of a variable of this native type needs its properties. This looks
-    /// at no row either.
-    fn needs_properties(&self, name: &Name, dtype: u16) -> bool
-        requires told { KnowRights self.now }
-        ensures { result ≡ ask_props dtype (readers self.now name.now) }
-    {
-        self.clients.props_on(name, is_state_by(dtype))
-    }
-
-    fn property_interest_of(&self, name: &Name, dtype: u16) -> Option<Want>
-        requires told { KnowRights self.now }
-        ensures { result ≡ wanted_by Properties dtype 0 (readers self.now name.now) }
-    {
-        if self.needs_properties(name, dtype) {
-            Some(property_want())
-        } else {
-            None
-        }
-    }
-
-    /// What the readers of a variable of this native type and count want of a subject.
-    pub fn wanted_for(&self, subject: Subject, name: &Name, dtype: u16, native: u32) -> Option<Want>
-        requires told { KnowRights self.now }
-        ensures { result ≡ wanted_for subject self.now name.now dtype native }
-    {
-        match subject {
-            Subject::Values => self.interest_of(name, native),
-            Subject::Properties => self.property_interest_of(name, dtype),
-        }
+        let (values, needed) = self.clients.demand_on(name, native, is_state_by(dtype));
+        (values, properties_if(needed))
     }
 
     fn subscription_to(&self, subject: Subject, name: &Name) -> Option<Sub>
@@ -95,4 +66,10 @@ impl Rows {
             None => 0,
         }
     }
+}
+
+fn properties_if(needed: bool) -> Option<Want>
+    ensures { result ≡ (if needed then Some property_want else None) }
+{
+    if needed { Some(property_want()) } else { None }
 }

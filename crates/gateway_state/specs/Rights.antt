@@ -1,7 +1,8 @@
 -- What clients may do with their channels.
-use Rattle.std.specs.Prelude.{ℕ, List, Bool, false, ◌==◌, ◌&&◌, bit_and, Option, Some, None}
+-- (that rights let a client read is said where it is counted)
+pub use Rattle.channel_table.specs.Demand.{may_read}
+use Rattle.std.specs.Prelude.{ℕ, List, Bool, false, ◌&&◌, bit_and, Option, Some, None}
 use Rattle.std.specs.List.{find}
-use Rattle.ca_message.specs.declared.commands.TheConstants.{CA_PROTO_ACCESS_RIGHT_READ}
 use Rattle.channel_table.specs.declared.channels.Channel.{Channel}
 use Rattle.channel_table.specs.declared.sessions.Session.{Session}
 use Rattle.channel_table.specs.Channels.{is_channel}
@@ -28,10 +29,6 @@ link_rights (Some link) = link.rights
 -- the rights of a channel: those of its link that the policy leaves to its session
 abbrev pub rights_of : Gateway → Channel → ℕ
 rights_of w c = bit_and (link_rights (link_of w c.real)) (rights_left w.policy (lead_in w c.session c.asked))
-
--- the rights let the client read
-abbrev pub may_read : ℕ → Bool
-may_read rights = bit_and rights CA_PROTO_ACCESS_RIGHT_READ == CA_PROTO_ACCESS_RIGHT_READ
 
 abbrev pub link_connected : Option Link → Bool
 link_connected None = false

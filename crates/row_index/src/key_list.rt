@@ -1,8 +1,8 @@
 //! Keys in the order of adding.
-ghost use Rattle.std.specs.Prelude.{◌≡◌, ◌==◌, [], ◌∷◌, ◌++◌, OnOk, OnErr, IfOk, length};
+ghost use Rattle.std.specs.Prelude.{◌≡◌, ◌==◌, [], ◌∷◌, ◌++◌, IsTrue, OnOk, OnErr, IfOk, length};
 ghost use Rattle.std.specs.List.{filter};
 ghost use Rattle.row_index.specs.HeldKeys.{keys_in};
-ghost use Rattle.row_index.specs.Lists.{is_not_key};
+ghost use Rattle.row_index.specs.Lists.{is_key, is_not_key};
 
 use crate::key::Key;
 use crate::long_keys::LongKeys;
@@ -58,7 +58,9 @@ impl KeyList {
         self.as_slice().is_empty()
     }
 
-    pub(crate) fn push(&mut self, alloc: Global, key: Key) -> Result<(), AllocError>
+    /// Adds a key, which isn't looked for where the caller says that it is new.
+    pub(crate) fn push(&mut self, alloc: Global, key: Key, is_new: bool) -> Result<(), AllocError>
+        requires new { IsTrue is_new → length (filter (is_key key) self.old) ≡ 0 }
         ensures ok { OnOk result (self.new ≡ self.old ++ key ∷ []) }
         ensures err { OnErr result (self.new ≡ self.old) }
     {
@@ -71,7 +73,7 @@ impl KeyList {
                 self.held = both(alloc, *first, key)?;
                 Ok(())
             }
-            Keys::Many(keys) => keys.push(key),
+            Keys::Many(keys) => keys.push(key, is_new),
         }
     }
 

@@ -49,8 +49,8 @@ impl LongKeys {
         ensures { IfOk result (λ keys. keys ≡ first ∷ second ∷ []) }
     {
         let mut keys = LongKeys::new(alloc);
-        keys.push(first)?;
-        keys.push(second)?;
+        keys.push(first, false)?;
+        keys.push(second, false)?;
         Ok(keys)
     }
 
@@ -60,11 +60,13 @@ impl LongKeys {
         self.keys.as_slice()
     }
 
-    pub(crate) fn push(&mut self, key: Key) -> Result<(), AllocError>
+    /// Adds a key, which isn't looked for where the caller says that it is new.
+    pub(crate) fn push(&mut self, key: Key, is_new: bool) -> Result<(), AllocError>
+        requires new { IsTrue is_new → length (filter (is_key key) self.old) ≡ 0 }
         ensures ok { OnOk result (self.new ≡ self.old ++ key ∷ []) }
         ensures err { OnErr result (self.new ≡ self.old) }
     {
-        let apart = self.stays_apart(key);
+        let apart = self.stays_apart(key, is_new);
         self.keys.push(key)?;
         self.apart = apart;
         self.under = self.top;
@@ -87,10 +89,19 @@ impl LongKeys {
 
     // Whether all are known to be apart with this one.
     #[tactic(auto, using(crate::proofs::Known::apart_more))]
-    fn stays_apart(&self, key: Key) -> bool
+    fn stays_apart(&self, key: Key, is_new: bool) -> bool
+        requires { IsTrue is_new → length (filter (is_key key) self.now) ≡ 0 }
         ensures { IsTrue result → AreApart (self.now ++ key ∷ []) }
     {
-        self.apart && self.is_new(key)
+        self.apart && self.is_surely_new(key, is_new)
+    }
+
+    // Whether a key is new: it is said to be, or seen.
+    fn is_surely_new(&self, key: Key, said: bool) -> bool
+        requires { IsTrue said → length (filter (is_key key) self.now) ≡ 0 }
+        ensures { IsTrue result → length (filter (is_key key) self.now) ≡ 0 }
+    {
+        said || self.is_new(key)
     }
 
     // Whether a key is new. Where its owner or its ID is, no key is looked at.

@@ -106,11 +106,11 @@ impl NameHints {
         }
     }
 
-    // Takes memory for twice the spots, unless a quarter of them is left over by so many names, and
-    // answers whether it did.
+    // Takes memory for twice the spots, unless half of them are left over by so many names, and answers
+    // whether it did.
     fn widen(&mut self, names: usize) -> bool {
         let spots = self.spots.len();
-        if names <= spots - spots / 4 {
+        if names <= spots / 2 {
             return false;
         }
         let more = spots.saturating_mul(2).max(FEWEST);
@@ -128,7 +128,8 @@ fn second(mix: usize) -> usize {
     mix >> 16 ^ mix << 3
 }
 
-// All bytes of a name, mixed into one number: eight at a time, the last eight perhaps in part again.
+// All bytes of a name, mixed into one number: eight at a time, the last eight perhaps in part again. What
+// differs in the last bytes alone differs in the high bits of a product, so the last is spread once more.
 #[inline]
 fn mixed(bytes: &[u8]) -> usize {
     let len = bytes.len();
@@ -139,7 +140,7 @@ fn mixed(bytes: &[u8]) -> usize {
     for chunk in bytes.chunks_exact(8) {
         mix = spread(mix ^ eight(chunk));
     }
-    spread(mix ^ eight(&bytes[len - 8..])) as usize
+    spread(spread(mix ^ eight(&bytes[len - 8..]))) as usize
 }
 
 #[inline]

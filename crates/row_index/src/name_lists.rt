@@ -1,7 +1,8 @@
 //! Lists of keys by names.
-ghost use Rattle.std.specs.Prelude.{◌≡◌, ℕ, List, [], None, OnOk, OnErr, bytes_eq, if◌then◌else◌};
+ghost use Rattle.std.specs.Prelude.{◌≡◌, ℕ, List, [], None, IsTrue, OnOk, OnErr, bytes_eq, length, if◌then◌else◌};
+ghost use Rattle.std.specs.List.{filter};
 ghost use Rattle.indexmap.specs.IndexMap.{get};
-ghost use Rattle.row_index.specs.Lists.{of, AddsTo, RemovesFrom, SameLists};
+ghost use Rattle.row_index.specs.Lists.{is_key, of, AddsTo, RemovesFrom, SameLists};
 
 use crate::key::Key;
 use crate::key_list::KeyList;
@@ -60,9 +61,26 @@ impl NameLists {
         ensures ok { OnOk result (AddsTo name.now key self.old self.new) }
         ensures err { OnErr result (SameLists self.old self.new) }
     {
+        self.put(name, key, false)
+    }
+
+    /// The same of a key that doesn't stand under this name, so that none that does is looked at.
+    pub fn add_new(&mut self, name: &Name, key: Key) -> Result<(), AllocError>
+        requires new { length (filter (is_key key) (of self.old name.now)) ≡ 0 }
+        ensures ok { OnOk result (AddsTo name.now key self.old self.new) }
+        ensures err { OnErr result (SameLists self.old self.new) }
+    {
+        self.put(name, key, true)
+    }
+
+    fn put(&mut self, name: &Name, key: Key, is_new: bool) -> Result<(), AllocError>
+        requires new { IsTrue is_new → length (filter (is_key key) (of self.old name.now)) ≡ 0 }
+        ensures ok { OnOk result (AddsTo name.now key self.old self.new) }
+        ensures err { OnErr result (SameLists self.old self.new) }
+    {
         match self.lists.get_mut(name) {
             Some(keys) => {
-                keys.push(self.alloc, key)?;
+                keys.push(self.alloc, key, is_new)?;
                 Ok(())
             }
             None => self.add_first(name, key),
@@ -79,7 +97,7 @@ impl NameLists {
             return Err(AllocError);
         };
         let mut keys = KeyList::new();
-        keys.push(self.alloc, key)?;
+        keys.push(self.alloc, key, false)?;
         match self.lists.insert(copy, keys) {
             Ok(_) => {
                 self.hints.note_last(&self.lists);

@@ -1,10 +1,13 @@
 //! Lists of IDs by owners.
 ghost use Rattle.std.specs.Prelude.{◌≡◌, ◌≤◌, ℕ, [], None, OnOk, OnErr, nat_eq, length, if◌then◌else◌};
 ghost use Rattle.std.specs.List.{filter};
+ghost use Rattle.std.specs.Option.{option_copied};
 ghost use Rattle.indexmap.specs.IndexMap.{get};
 ghost use Rattle.row_index.specs.Lists.{of_owner, is_id, is_not_id, AddsToOwner, SameOwnerLists, Changes};
 
+use crate::hints::Hints;
 use crate::id_list::IdList;
+use crate::key::Key;
 use indexmap::IndexMap;
 use std::alloc::{AllocError, Global};
 use std::marker::Model;
@@ -13,6 +16,7 @@ use std::marker::Model;
 #[derive(Drop)]
 pub(crate) struct OwnerIds {
     lists: IndexMap<u32, IdList>,
+    hints: Hints,
     alloc: Global,
 }
 
@@ -34,6 +38,7 @@ impl OwnerIds {
     {
         OwnerIds {
             lists: IndexMap::new(alloc),
+            hints: Hints::new(alloc),
             alloc,
         }
     }
@@ -42,7 +47,7 @@ impl OwnerIds {
     pub(crate) fn of(&self, owner: u32) -> &[u32]
         ensures { result.now ≡ of_owner self.now owner }
     {
-        match self.lists.get(&owner) {
+        match found(&self.lists, &self.hints, owner) {
             Some(ids) => ids.as_slice(),
             None => &[],
         }
@@ -71,7 +76,10 @@ impl OwnerIds {
         let mut ids = IdList::new();
         ids.push(self.alloc, id)?;
         match self.lists.insert(owner, ids) {
-            Ok(_) => Ok(()),
+            Ok(_) => {
+                note_last(&mut self.hints, &self.lists);
+                Ok(())
+            }
             Err(_) => Err(AllocError),
         }
     }
@@ -87,14 +95,49 @@ impl OwnerIds {
         };
         ids.remove(id);
         if ids.is_empty() {
-            forget(&mut self.lists, owner);
+            forget(&mut self.lists, &mut self.hints, owner);
         }
     }
 }
 
-// Takes out an owner's list.
-fn forget(lists: &mut IndexMap<u32, IdList>, owner: u32)
+// What is listed under an owner, mostly found by a hint.
+fn found<'a>(lists: &'a IndexMap<u32, IdList>, hints: &Hints, owner: u32) -> Option<&'a IdList>
+    ensures { option_copied result ≡ get nat_eq lists.now owner }
+{
+    match lists.get_index(hints.first(alone(owner))) {
+        Some((known, ids)) if *known == owner => Some(ids),
+        _ => lists.get(&owner),
+    }
+}
+
+// The key whose first spot goes by the owner.
+fn alone(owner: u32) -> Key {
+    Key { owner, id: 0 }
+}
+
+// Notes where the owner stands that this place has now, if any.
+fn note(hints: &mut Hints, lists: &IndexMap<u32, IdList>, place: usize) {
+    if let Some((owner, _)) = lists.get_index(place) {
+        hints.note_first(alone(*owner), place);
+    }
+}
+
+// Notes where the last owner stands, and where all others do if there are more spots now.
+fn note_last(hints: &mut Hints, lists: &IndexMap<u32, IdList>) {
+    if hints.widen(lists.len()) {
+        for place in 0..lists.len() {
+            note(hints, lists, place);
+        }
+    } else {
+        note(hints, lists, lists.len().saturating_sub(1));
+    }
+}
+
+// Takes out an owner's list. The last one stands in its place then.
+fn forget(lists: &mut IndexMap<u32, IdList>, hints: &mut Hints, owner: u32)
     ensures { (o : ℕ) → get nat_eq lists.new o ≡ (if nat_eq owner o then None else get nat_eq lists.old o) }
 {
-    lists.swap_remove(&owner);
+    if let Some((place, _, _)) = lists.swap_remove_full(&owner) {
+        note(hints, lists, place);
+    }
 }

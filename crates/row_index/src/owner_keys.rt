@@ -56,7 +56,7 @@ impl OwnerKeys {
     {
         match self.lists.get_mut(&owner) {
             Some(keys) => {
-                keys.push(self.alloc, key)?;
+                keys.push(self.alloc, key, false)?;
                 Ok(())
             }
             None => self.add_first(owner, key),
@@ -70,7 +70,7 @@ impl OwnerKeys {
         ensures err { OnErr result (SameOwnerLists self.old self.new) }
     {
         let mut keys = KeyList::new();
-        keys.push(self.alloc, key)?;
+        keys.push(self.alloc, key, false)?;
         match self.lists.insert(owner, keys) {
             Ok(_) => Ok(()),
             Err(_) => Err(AllocError),

@@ -5,12 +5,18 @@ use Rattle.channel_table.specs.Channels.{is_channel}
 use Rattle.channel_table.specs.Indexes.{channel_key}
 use Rattle.channel_table.proofs.Keyed.{entry_absent, undone_is}
 use Rattle.channel_table.proofs.Indexed.{index_same, index_more}
+use Rattle.channel_table.proofs.Listed.{unlisted}
 use Rattle.channel_table.proofs.channels.Channels.add.Goals as goal
 
 pub add-requires : goal.add-requires
 add-requires c = record {
   new = entry_absent channel_key c.self.inside.rows c.self.invariant.under_keys _ (ap (list_any (is_channel c.args.channel.session c.args.channel.sid)) c.self.view_is ∙ c.requires.new);
 }
+
+pub list-requires : goal.list-requires
+list-requires c =
+    let new = ap (list_any (is_channel c.args.channel.session c.args.channel.sid)) c.self.view_is ∙ c.requires.new in
+    record { new = λ name. unlisted channel_key _ (map row_of c.self.inside.rows) c.self.inside.on (channel_key c.args.channel) name c.self.invariant.listed new }
 
 -- what was added is removed again
 pub invariant_of-self-in-Err : goal.invariant_of-self-in-Err

@@ -5,6 +5,7 @@ use Rattle.channel_table.specs.Indexes.{sub_home, sub_key}
 use Rattle.channel_table.proofs.Following.{follow_added, follow_same}
 use Rattle.channel_table.specs.Demand.{asks_on}
 use Rattle.channel_table.proofs.Asking.{demand_added, demand_same}
+use Rattle.channel_table.proofs.Listed.{unlisted}
 use Rattle.channel_table.proofs.Lists.{found_is_there, unfound_is_absent}
 use Rattle.channel_table.proofs.table.Table.add_sub.Goals.{in-Ok, in-Err}
 use Rattle.channel_table.proofs.table.Table.add_sub.Goals as goal
@@ -49,10 +50,13 @@ invariant_of-self c =
 
 -- what is counted under each name is what rows ask for
 pub add_sub-requires : goal.add_sub-requires
-add_sub-requires c = record {
-  new = ap (has_sub c.args.sub.session c.args.sub.id) c.self.view_is ∙ c.requires.new;
-  counts = λ name. record { asks = asks_on c.self.inside.channels c.self.inside.subs.rows name; is = c.self.invariant.demand name };
-}
+add_sub-requires c =
+    let new = ap (has_sub c.args.sub.session c.args.sub.id) c.self.view_is ∙ c.requires.new in
+    let inside = c.self.inside in record {
+      new = new;
+      unlisted = unlisted sub_key _ inside.subs.rows inside.subs.on (sub_key c.args.sub) c.in-Some.channel.now.real c.self.invariant.subs_follow.listed new;
+      counts = λ name. record { asks = asks_on inside.channels inside.subs.rows name; is = c.self.invariant.demand name };
+    }
 
 pub returns-clause-there : goal.returns-clause-there
 returns-clause-there c =

@@ -3,11 +3,17 @@ use Rattle.std.proofs.lemmas.Result.{MatchResult-from_err}
 use Rattle.row_index.specs.Lists.{of}
 use Rattle.row_index.specs.declared.key.Key.{Key}
 use Rattle.row_index.proofs.Named.{of_there, of_nowhere, of_updated, of_kept, no_empty_updated, none_there, last_there, same_bytes}
-use Rattle.row_index.proofs.name_lists.NameLists.add.Goals as goal
+use Rattle.row_index.proofs.name_lists.NameLists.put.Goals as goal
 
 pub add_first-requires : goal.add_first-requires
 add_first-requires c =
     rw c.get_mut.follows.holds-at-none (sym (of_nowhere bytes_eq same_bytes c.args.name.now c.self.inside.lists.entries c.in-None.ensures.value))
+
+-- a new key is new to the list that the map has
+pub push-requires : goal.push-requires
+push-requires c =
+    let there = of_there bytes_eq same_bytes c.args.name.now c.self.inside.lists.entries c.in-Some.keys.now c.in-Some.ensures.value in
+    record { new = rw there (rw (← c.self.view_is) at c.requires.new) }
 
 pub returns-in_ok-push-in-Some-clause-ok : goal.returns-in_ok-push-in-Some-clause-ok
 returns-in_ok-push-in-Some-clause-ok c =
