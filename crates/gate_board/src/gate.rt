@@ -1,9 +1,9 @@
 //! The board under a lock, for all threads.
 //!
-//! Why no wake-up is lost: whoever waits remembers the count of wakes from before its last try, or of
-//! when it tried under the lock, and goes to sleep under the lock only while the count is still that one.
-//! Each change that could make a try succeed counts a wake under the lock, and then notifies whoever may
-//! wait for it:
+//! Why no wake-up is lost: whoever waits remembers the count of wakes from before its last try, or
+//! tries under the lock and reads the count there, and goes to sleep under the lock only while the count
+//! is still that one. Each change that could make a try succeed counts a wake under the lock, and then
+//! notifies whoever may wait for it:
 //!
 //! - **The core** waits for items and events. `wake` (which a reader calls after it put items), `desk`,
 //!   `attach` and `close` notify it. `take` does so where messages wait that found no place before.
