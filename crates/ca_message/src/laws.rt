@@ -89,17 +89,23 @@ pub fn messages_to_servers_are_whole()
 /// A gateway reads what another one says to it as a server.
 pub fn requests_are_read_back()
     ensures version { asks server.Version (requests.Version MINOR_VERSION) }
-    ensures event { (sid id dtype count mask : ℕ) → mask < 2 ^ 16
-        → asks (server.EventAdd sid id dtype count mask) (requests.EventAdd sid id dtype count mask) }
+    ensures event { (sid id dtype count mask : ℕ) → mask < 2 ^ 16 → asks
+        (server.EventAdd sid id dtype count mask)
+        (requests.EventAdd (record { sid = sid; id = id; dtype = dtype; count = count; mask = mask })) }
     ensures cancel { (sid id dtype count : ℕ) → asks
-        (server.EventCancel sid id dtype count) (requests.EventCancel sid id dtype count) }
-    ensures clear { (sid cid : ℕ) → asks (server.ClearChannel sid cid) (requests.ClearChannel sid cid) }
-    ensures channel { (cid : ℕ) (name : List ℕ) → IsName name
-        → asks (server.CreateChannel cid name) (requests.CreateChannel cid MINOR_VERSION name) }
+        (server.EventCancel sid id dtype count)
+        (requests.EventCancel (record { sid = sid; id = id; dtype = dtype; count = count })) }
+    ensures clear { (sid cid : ℕ) → asks
+        (server.ClearChannel sid cid) (requests.ClearChannel (record { sid = sid; cid = cid })) }
+    ensures channel { (cid : ℕ) (name : List ℕ) → IsName name → asks
+        (server.CreateChannel cid name)
+        (requests.CreateChannel (record { cid = cid; minor = MINOR_VERSION; name = name })) }
     ensures write { (sid : ℕ) (value : Written) → asks
-        (server.Write sid value) (requests.Write sid value.dtype value.count (padded value.bytes)) }
+        (server.Write sid value)
+        (requests.Write (record { sid = sid; dtype = value.dtype; count = value.count; value = padded value.bytes })) }
     ensures write_notify { (sid ioid : ℕ) (value : Written) → asks
-        (server.WriteNotify sid ioid value) (requests.WriteNotify sid ioid value.dtype value.count (padded value.bytes)) }
+        (server.WriteNotify sid ioid value)
+        (requests.WriteNotify (record { sid = sid; ioid = ioid; dtype = value.dtype; count = value.count; value = padded value.bytes })) }
     ensures client { (name : List ℕ) → IsName name
         → asks (server.ClientName name) (requests.ClientName name) }
     ensures host { (name : List ℕ) → IsHost name

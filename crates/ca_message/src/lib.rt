@@ -19,13 +19,16 @@
 //! let asked = ToServer::ClearChannel { sid: 5, cid: 7 };
 //! let payload = asked.payload(rt.alloc())?;
 //! let read = read_request(&asked.head(), payload.as_slice());
-//! assert_eq!(rt; read, Ok(ClientRequest::ClearChannel { sid: 5, cid: 7 }));
+//! assert_eq!(rt; read, Ok(ClientRequest::ClearChannel(ClearChannel { sid: 5, cid: 7 })));
 //! ```
 #![tactic(auto)]
 
 pub use codes::error_text;
 pub use reply::{ReplyFault, ServerReply, read_reply};
-pub use request::{ClientRequest, RequestFault, read_message, read_request};
+pub use request::{
+    ClearChannel, ClientRequest, CreateChannel, EventAdd, EventCancel, ReadNotify, RequestFault,
+    Write, WriteNotify, read_message, read_request,
+};
 pub use text::{HostText, NUL, NameText};
 pub use to_client::ToClient;
 pub use to_server::ToServer;

@@ -15,69 +15,28 @@ use ca_header::{Header, Message};
 use std::fmt;
 
 /// A message from a client, as it is meant. Its texts and values are slices of the payload.
-///
-/// `sid` and `cid` are the server's and the client's ID of a channel, `id` is the client's ID of a
-/// subscription, `ioid` its ID of a request, and `dtype` the number of a DBR type.
 #[derive(Drop)]
 pub enum ClientRequest<'a> {
     /// The client speaks this minor version of the protocol.
-    Version {
-        minor: u32,
-    },
-    /// The client wants updates of the channel, which it calls `id`: at the events of the mask, in
-    /// this type, of so many elements; 0 stands for all. The mask need not name an event.
-    EventAdd {
-        sid: u32,
-        id: u32,
-        dtype: u16,
-        count: u32,
-        mask: u16,
-    },
+    Version { minor: u32 },
+    /// The client wants updates of a channel.
+    EventAdd(EventAdd),
     /// The client gives up its subscription.
-    EventCancel {
-        sid: u32,
-        id: u32,
-        dtype: u16,
-        count: u32,
-    },
-    /// The client writes a value of this type, of so many elements, and wants no reply. The value is
-    /// the payload as it came; `WrittenValue::read` tells whether it may be handed on.
-    Write {
-        sid: u32,
-        dtype: u16,
-        count: u32,
-        value: ValueBytes<'a>,
-    },
+    EventCancel(EventCancel),
+    /// The client writes a value, and wants no reply.
+    Write(Write<'a>),
     /// The client wants no updates for now.
     EventsOff,
     /// The client wants updates again.
     EventsOn,
     /// The client gives up its channel.
-    ClearChannel {
-        sid: u32,
-        cid: u32,
-    },
-    /// The client wants the value in this type, of so many elements; 0 stands for all.
-    ReadNotify {
-        sid: u32,
-        ioid: u32,
-        dtype: u16,
-        count: u32,
-    },
-    /// The client wants a channel on this variable, which it calls `cid`.
-    CreateChannel {
-        cid: u32,
-        minor: u32,
-        name: NameText<'a>,
-    },
-    /// The same as `Write`, but the client wants to be told of it under `ioid`.
-    WriteNotify {
-        sid: u32,
-        ioid: u32,
-        dtype: u16,
-        count: u32,
-        value: ValueBytes<'a>,
-    },
+    ClearChannel(ClearChannel),
+    /// The client wants a value.
+    ReadNotify(ReadNotify),
+    /// The client wants a channel on a variable.
+    CreateChannel(CreateChannel<'a>),
+    /// The client writes a value, and wants to be told how that ended.
+    WriteNotify(WriteNotify<'a>),
     /// The client's user is called so.
     ClientName(NameText<'a>),
     /// The client's host is called so.
@@ -86,20 +45,109 @@ pub enum ClientRequest<'a> {
     Echo,
 }
 
+/// EVENT_ADD: updates that are wanted.
+#[derive(Clone, Copy)]
+pub struct EventAdd {
+    /// The server's ID of the channel.
+    pub sid: u32,
+    /// The client's ID of the subscription.
+    pub id: u32,
+    /// The number of the DBR type that updates shall have.
+    pub dtype: u16,
+    /// How many elements they shall have; 0 stands for all.
+    pub count: u32,
+    /// The events that updates are wanted at. It need not name one.
+    pub mask: u16,
+}
+
+/// EVENT_CANCEL: a subscription that is given up.
+#[derive(Clone, Copy)]
+pub struct EventCancel {
+    /// The server's ID of the channel.
+    pub sid: u32,
+    /// The client's ID of the subscription.
+    pub id: u32,
+    /// The number of the DBR type, as the client says it.
+    pub dtype: u16,
+    /// How many elements, as the client says it.
+    pub count: u32,
+}
+
+/// WRITE: a value that is written, without a reply.
+#[derive(Drop)]
+pub struct Write<'a> {
+    /// The server's ID of the channel.
+    pub sid: u32,
+    /// The number of the value's DBR type.
+    pub dtype: u16,
+    /// How many elements it has.
+    pub count: u32,
+    /// The payload as it came; `WrittenValue::read` tells whether it may be handed on.
+    pub value: ValueBytes<'a>,
+}
+
+/// CLEAR_CHANNEL: a channel that is given up.
+#[derive(Clone, Copy)]
+pub struct ClearChannel {
+    /// The server's ID of the channel.
+    pub sid: u32,
+    /// The client's ID of it.
+    pub cid: u32,
+}
+
+/// READ_NOTIFY: a value that is wanted.
+#[derive(Clone, Copy)]
+pub struct ReadNotify {
+    /// The server's ID of the channel.
+    pub sid: u32,
+    /// The client's ID of the read.
+    pub ioid: u32,
+    /// The number of the DBR type that the value shall have.
+    pub dtype: u16,
+    /// How many elements it shall have; 0 stands for all.
+    pub count: u32,
+}
+
+/// CREATE_CHAN: a channel that is wanted.
+#[derive(Drop)]
+pub struct CreateChannel<'a> {
+    /// The client's ID of the channel.
+    pub cid: u32,
+    /// The minor version of the protocol that the client speaks.
+    pub minor: u32,
+    /// The variable's name.
+    pub name: NameText<'a>,
+}
+
+/// WRITE_NOTIFY: a value that is written, with a reply.
+#[derive(Drop)]
+pub struct WriteNotify<'a> {
+    /// The server's ID of the channel.
+    pub sid: u32,
+    /// The client's ID of the write.
+    pub ioid: u32,
+    /// The number of the value's DBR type.
+    pub dtype: u16,
+    /// How many elements it has.
+    pub count: u32,
+    /// The payload as it came; `WrittenValue::read` tells whether it may be handed on.
+    pub value: ValueBytes<'a>,
+}
+
 /// Prints the variant's name alone.
 impl<'a> fmt::Debug for ClientRequest<'a> {
     fn fmt<W: fmt::Write>(&self, f: &mut fmt::Formatter<W>) -> fmt::Result {
         f.write_str(match self {
             ClientRequest::Version { .. } => "Version",
-            ClientRequest::EventAdd { .. } => "EventAdd",
-            ClientRequest::EventCancel { .. } => "EventCancel",
-            ClientRequest::Write { .. } => "Write",
+            ClientRequest::EventAdd(..) => "EventAdd",
+            ClientRequest::EventCancel(..) => "EventCancel",
+            ClientRequest::Write(..) => "Write",
             ClientRequest::EventsOff => "EventsOff",
             ClientRequest::EventsOn => "EventsOn",
-            ClientRequest::ClearChannel { .. } => "ClearChannel",
-            ClientRequest::ReadNotify { .. } => "ReadNotify",
-            ClientRequest::CreateChannel { .. } => "CreateChannel",
-            ClientRequest::WriteNotify { .. } => "WriteNotify",
+            ClientRequest::ClearChannel(..) => "ClearChannel",
+            ClientRequest::ReadNotify(..) => "ReadNotify",
+            ClientRequest::CreateChannel(..) => "CreateChannel",
+            ClientRequest::WriteNotify(..) => "WriteNotify",
             ClientRequest::ClientName(..) => "ClientName",
             ClientRequest::HostName(..) => "HostName",
             ClientRequest::Echo => "Echo",
@@ -141,42 +189,42 @@ fn read<'a>(head: &Header, payload: ValueBytes<'a>) -> Result<ClientRequest<'a>,
     match head.command {
         CA_PROTO_VERSION => Ok(ClientRequest::Version { minor: head.count }),
         CA_PROTO_EVENT_ADD => read_event_add(head, payload.as_slice()),
-        CA_PROTO_EVENT_CANCEL => Ok(ClientRequest::EventCancel {
+        CA_PROTO_EVENT_CANCEL => Ok(ClientRequest::EventCancel(EventCancel {
             sid: head.p1,
             id: head.p2,
             dtype: head.dtype,
             count: head.count,
-        }),
-        CA_PROTO_WRITE => Ok(ClientRequest::Write {
+        })),
+        CA_PROTO_WRITE => Ok(ClientRequest::Write(Write {
             sid: head.p1,
             dtype: head.dtype,
             count: head.count,
             value: payload,
-        }),
+        })),
         CA_PROTO_EVENTS_OFF => Ok(ClientRequest::EventsOff),
         CA_PROTO_EVENTS_ON => Ok(ClientRequest::EventsOn),
-        CA_PROTO_CLEAR_CHANNEL => Ok(ClientRequest::ClearChannel {
+        CA_PROTO_CLEAR_CHANNEL => Ok(ClientRequest::ClearChannel(ClearChannel {
             sid: head.p1,
             cid: head.p2,
-        }),
-        CA_PROTO_READ_NOTIFY => Ok(ClientRequest::ReadNotify {
+        })),
+        CA_PROTO_READ_NOTIFY => Ok(ClientRequest::ReadNotify(ReadNotify {
             sid: head.p1,
             ioid: head.p2,
             dtype: head.dtype,
             count: head.count,
-        }),
-        CA_PROTO_CREATE_CHAN => Ok(ClientRequest::CreateChannel {
+        })),
+        CA_PROTO_CREATE_CHAN => Ok(ClientRequest::CreateChannel(CreateChannel {
             cid: head.p1,
             minor: head.p2,
             name: NameText::read(payload.as_slice())?,
-        }),
-        CA_PROTO_WRITE_NOTIFY => Ok(ClientRequest::WriteNotify {
+        })),
+        CA_PROTO_WRITE_NOTIFY => Ok(ClientRequest::WriteNotify(WriteNotify {
             sid: head.p1,
             ioid: head.p2,
             dtype: head.dtype,
             count: head.count,
             value: payload,
-        }),
+        })),
         CA_PROTO_CLIENT_NAME => Ok(ClientRequest::ClientName(NameText::read(payload.as_slice())?)),
         CA_PROTO_HOST_NAME => Ok(ClientRequest::HostName(HostText::read(payload.as_slice())?)),
         CA_PROTO_ECHO => Ok(ClientRequest::Echo),
@@ -191,11 +239,11 @@ fn read_event_add<'a>(head: &Header, payload: &[u8]) -> Result<ClientRequest<'a>
         return Err(RequestFault::Short);
     }
     let mask = [payload[EVENT_MASK_OFFSET], payload[EVENT_MASK_OFFSET + 1]];
-    Ok(ClientRequest::EventAdd {
+    Ok(ClientRequest::EventAdd(EventAdd {
         sid: head.p1,
         id: head.p2,
         dtype: head.dtype,
         count: head.count,
         mask: u16::from_be_bytes(mask),
-    })
+    }))
 }

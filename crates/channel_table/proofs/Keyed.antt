@@ -1,5 +1,5 @@
 -- Rows under keys: a look-up by a key is a look-up among the rows.
-use Rattle.std.proofs.Common.{subst, ◌≡◌, ℕ, List, [], ◌∷◌, ◌++◌, Bool, true, false, cond, not, ◌==◌, Some, None, map, length, refl, sym, ap, ◌∙◌}
+use Rattle.std.proofs.Common.{subst, ◌≡◌, ℕ, List, [], ◌∷◌, ◌++◌, Bool, true, false, cond, not, ◌==◌, Some, None, Result, Ok, Err, OnOk, OnErr, map, length, refl, sym, ap, ◌∙◌}
 use Rattle.std.specs.List.{filter, find, count_by, list_any}
 use Rattle.std.specs.Option.{option_map}
 use Rattle.std.proofs.lemmas.List.{length-map}
@@ -7,9 +7,9 @@ use Rattle.std.proofs.lemmas.List.Sums.{length-filter}
 use Rattle.rows.specs.Rows.{change_first, remove_first}
 use Rattle.row_index.specs.declared.key.Key.{Key}
 use Rattle.row_index.specs.Rows.{same_key, row_of, has_key, lacks_key, is_owned_by, value_at, put_at, HasKeysApart}
-use Rattle.row_index.proofs.Keys.{same_key_is_same, same_key_itself}
+use Rattle.row_index.proofs.Keys.{same_key_is_same, same_key_itself, unmapped}
 use Rattle.row_index.proofs.Owned.{undone}
-use Rattle.channel_table.specs.Indexes.{keyed, changed_by, IsApart}
+use Rattle.channel_table.specs.Indexes.{is_at, keyed, changed_by, IsApart}
 use Rattle.channel_table.proofs.Lists.{none_dropped, unfound_is_absent, absent_is_unfound}
 
 -- P holds of each row
@@ -30,6 +30,12 @@ put_is_change k f [] row e = refl
 put_is_change k f (entry ∷ entries) row e =
     elim (has_key k entry) as (λ t. option_map row_of (cond t (Some entry) (find (has_key k) entries)) ≡ Some row → cond t ((entry.0, f row) ∷ entries) (entry ∷ put_at k entries (f row)) ≡ cond t ((entry.0, f entry.1) ∷ entries) (entry ∷ change_first (has_key k) (changed_by f) entries))
     [ true ↦ λ h. let here : entry.1 ≡ row = cc in ap (λ v. (entry.0, f v) ∷ entries) (sym here) | false ↦ λ h. ap (λ rest. entry ∷ rest) (put_is_change k f entries row h) ] e
+
+find_last : {A : Type 0} (p : A → Bool) (xs : List A) (x : A) → find p xs ≡ None → p x ≡ true → find p (xs ++ x ∷ []) ≡ Some x
+find_last p [] x none last = rw last refl
+find_last p (y ∷ ys) x none last =
+    elim (p y) as (λ t. cond t (Some y) (find p ys) ≡ None → cond t (Some y) (find p (ys ++ x ∷ [])) ≡ Some x)
+    [ true ↦ λ h. cc | false ↦ λ h. find_last p ys x h last ] none
 
 module _ {V : Type 0} (key : V → Key) where
   -- the rows come back
@@ -148,6 +154,10 @@ module _ {V : Type 0} (key : V → Key) where
     pub entry_absent : (k : Key) → list_any (λ row. same_key (key row) k) (map row_of entries) ≡ false → value_at k entries ≡ None
     entry_absent k absent = entry_found k ∙ absent_is_unfound (λ row. same_key (key row) k) (map row_of entries) absent
 
+    -- nor where it is the key of a row that is new
+    pub entry_new : (k : Key) (row : V) (rows : List V) → k ≡ key row → map row_of entries ≡ rows → list_any (is_at key (key row)) rows ≡ false → value_at k entries ≡ None
+    entry_new k row rows is seen absent = rw is (entry_absent (key row) (ap (list_any (is_at key (key row))) seen ∙ absent))
+
     -- the entries of an owner are its rows
     pub entries_owned : (owner : ℕ) → map row_of (filter (is_owned_by owner) entries) ≡ filter (λ row. (key row).owner == owner) (map row_of entries)
     entries_owned owner = ap (λ es. map row_of (filter (is_owned_by owner) es)) under ∙ owned_keyed owner (map row_of entries)
@@ -184,3 +194,30 @@ module _ {V : Type 0} (key : V → Key) where
     -- the entries are as before, where one was added and removed again
     pub undone_is : (k : Key) (row : V) (added after : List (Key × V)) → value_at k entries ≡ None → added ≡ entries ++ (k, row) ∷ [] → after ≡ filter (lacks_key k) added → after ≡ entries
     undone_is k row added after none is removed = removed ∙ ap (filter (lacks_key k)) is ∙ undone k row entries none
+
+    -- what was added is found
+    pub found_added : (k : Key) (row : V) (added : List (Key × V)) → value_at k entries ≡ None → added ≡ entries ++ (k, row) ∷ [] → value_at k added ≡ Some row
+    found_added k row added none is =
+        ap (value_at k) is ∙ ap (option_map row_of) (find_last (has_key k) entries (k, row) (unmapped row_of (find (has_key k) entries) none) (same_key_itself k))
+
+    -- where a row was added, and taken out again unless it was listed
+    module _ {E : Type 0} (listed : Result (Unit {0}) E) (k : Key) (row : V) (added after : List (Key × V)) (is_key_of : k ≡ key row) (none : value_at k entries ≡ None) (more : added ≡ entries ++ (k, row) ∷ []) (kept : OnOk listed (after ≡ added)) (gone : OnErr listed (after ≡ filter (lacks_key k) added)) where
+      all_with : after ≡ added → after ≡ entries ++ (key row, row) ∷ []
+      all_with same = same ∙ more ∙ ap (λ j. entries ++ (j, row) ∷ []) is_key_of
+
+      pub under_kept : after ≡ keyed key (map row_of after)
+      under_kept =
+          elim listed as (λ r. OnOk r (after ≡ added) → OnErr r (after ≡ filter (lacks_key k) added) → after ≡ keyed key (map row_of after)) [
+            | Ok _ ↦ λ same _. keyed_again after (map row_of entries ++ row ∷ []) (under_more row after (all_with same))
+            | Err _ ↦ λ _ less. keyed_again after (map row_of entries) (undone_is k row added after none more less ∙ under)
+          ] kept gone
+
+      pub rows_kept : OnOk listed (map row_of after ≡ map row_of entries ++ row ∷ [])
+      rows_kept =
+          elim listed as (λ r. OnOk r (after ≡ added) → OnOk r (map row_of after ≡ map row_of entries ++ row ∷ []))
+          [ Ok _ ↦ λ same. rows_more row after (all_with same) | Err _ ↦ λ same. same ] kept
+
+      pub rows_undone : OnErr listed (map row_of after ≡ map row_of entries)
+      rows_undone =
+          elim listed as (λ r. OnErr r (after ≡ filter (lacks_key k) added) → OnErr r (map row_of after ≡ map row_of entries))
+          [ Ok _ ↦ λ less. less | Err _ ↦ λ less. ap (map row_of) (undone_is k row added after none more less) ] gone

@@ -12,13 +12,19 @@ use Rattle.channel_table.specs.declared.channels.Channel.{Channel}
 use Rattle.channel_table.specs.declared.reads.KeptRead.{KeptRead}
 use Rattle.channel_table.specs.declared.reads.WaitingRead.{WaitingRead}
 use Rattle.channel_table.specs.Channels.{is_channel, is_channel_on}
-use Rattle.channel_table.specs.Reads.{is_not_read_on, same_read}
-use Rattle.channel_table.specs.Indexes.{FollowReads, IsApart, ReadRows, is_kept_like, is_kept_on, is_not_kept, leads, read_home, read_in, read_key, reads_in, row_at, rows_at}
+use Rattle.channel_table.specs.Reads.{is_not_read_on, is_read_of, same_read}
+use Rattle.channel_table.specs.Indexes.{FollowReads, IsApart, ReadRows, is_kept_like, is_kept_on, is_not_kept, is_owned, leads, read_home, read_in, read_key, reads_in, row_at, rows_at}
 use Rattle.channel_table.proofs.Following.{bare_without}
 use Rattle.channel_table.proofs.Keyed.{first_goes}
 use Rattle.channel_table.proofs.Listed.{nth_listed, rows_listed}
 use Rattle.channel_table.proofs.Lists.{any_so, found_passes, there_where_found}
 use Rattle.channel_table.proofs.Mapped.{any_mapped, filter_mapped, remove_first_mapped}
+
+-- the nth row of a session has its nth read
+pub nth_of_session : (session n : ℕ) (reads : ReadRows) → option_map read_in (slice_get (filter (is_owned read_key session) reads.rows) n) ≡ slice_get (filter (is_read_of session) (reads_in reads)) n
+nth_of_session session n reads =
+    sym (slice_get-map read_in (filter (λ (row : KeptRead). is_read_of session row.read) reads.rows) n)
+    ∙ ap (λ rows. slice_get rows n) (sym (filter_mapped read_in (is_read_of session) reads.rows))
 
 -- the read's channel stands, and is on this real name
 abbrev pub waits : List Channel → List ℕ → WaitingRead → Bool

@@ -1,8 +1,8 @@
 -- How the table keeps rows: each under its key, and the keys in lists by real names.
-use Rattle.std.specs.Prelude.{◌≡◌, ℕ, List, Bool, true, not, map, filter, filter_map, Option, Some, None}
+use Rattle.std.specs.Prelude.{◌≡◌, ℕ, List, Bool, true, not, ◌==◌, map, filter, filter_map, length, Option, Some, None}
 use Rattle.std.specs.List.{count_by, find, list_any, list_all}
 use Rattle.row_index.specs.declared.key.Key.{Key}
-use Rattle.row_index.specs.Lists.{of, AddsTo, RemovesFrom, SameLists}
+use Rattle.row_index.specs.Lists.{is_key, of, AddsTo, RemovesFrom, SameLists}
 use Rattle.row_index.specs.Rows.{same_key, row_of, HasKeysApart}
 use Rattle.channel_table.specs.declared.channels.Channel.{Channel}
 use Rattle.channel_table.specs.declared.reads.KeptRead.{KeptRead}
@@ -48,15 +48,31 @@ changed_by f entry = (entry.0, f entry.1)
 abbrev pub IsApart : {V : Type 0} → (V → Key) → List V → Type 0
 IsApart key rows = HasKeysApart (keyed key rows)
 
--- subscriptions, and the lists of their keys by the real names that they lead to
-pub record SubRows : Type 0 where
-  pub rows : List ClientSub
+-- rows, and the lists of their keys by names
+pub record ListedRows (V : Type 0) : Type 0 where
+  pub rows : List V
   pub on : List (List ℕ × List Key)
 
--- waiting reads, and the lists of their keys by the real names that they wait for
-pub record ReadRows : Type 0 where
-  pub rows : List KeptRead
-  pub on : List (List ℕ × List Key)
+-- subscriptions, listed by the real names that they lead to
+abbrev pub SubRows : Type 0
+SubRows = ListedRows ClientSub
+
+-- waiting reads, listed by the real names that they wait for
+abbrev pub ReadRows : Type 0
+ReadRows = ListedRows KeptRead
+
+module _ {V : Type 0} (key : V → Key) where
+  -- the row of this key
+  abbrev pub is_at : Key → V → Bool
+  is_at k row = same_key (key row) k
+
+  -- another
+  abbrev pub is_not_at : Key → V → Bool
+  is_not_at k row = not (is_at k row)
+
+  -- a row of this owner
+  abbrev pub is_owned : ℕ → V → Bool
+  is_owned owner row = (key row).owner == owner
 
 -- the read of a row
 abbrev pub read_in : KeptRead → WaitingRead
@@ -120,28 +136,29 @@ pub record IsSessionIndex (entries : List (Key × Session)) (numbers : List ℕ)
   pub under_keys : entries ≡ keyed session_key (map row_of entries)
   pub numbered : AreNumbersOf numbers (map row_of entries)
 
--- the channels are each under its key, and each name has the keys of the channels on it
-pub record IsChannelIndex (entries : List (Key × Channel)) (lists : List (List ℕ × List Key)) : Type 0 where
-  pub under_keys : entries ≡ keyed channel_key (map row_of entries)
-  pub listed : AreListed channel_key is_on (map row_of entries) lists
+-- the rows are each under its key
+abbrev pub IsUnderKeys : {V : Type 0} → (V → Key) → List (Key × V) → Type 0
+IsUnderKeys key entries = entries ≡ keyed key (map row_of entries)
 
--- the subscriptions are each under its key
-abbrev pub IsSubIndex : List (Key × ClientSub) → Type 0
-IsSubIndex entries = entries ≡ keyed sub_key (map row_of entries)
+-- each name has the keys of the channels on it
+abbrev pub AreChannelsListed : ListedRows Channel → Type 0
+AreChannelsListed channels = AreListed channel_key is_on channels.rows channels.on
 
--- the reads are each under its key
-abbrev pub IsReadIndex : List (Key × KeptRead) → Type 0
-IsReadIndex entries = entries ≡ keyed read_key (map row_of entries)
+module _ {V : Type 0} (name : V → List ℕ) where
+  -- the key of a row that was found isn't listed under its own name
+  abbrev pub IsUnlisted : Option V → Key → List (List ℕ × List Key) → Type 0
+  IsUnlisted None key lists = Unit {0}
+  IsUnlisted (Some row) key lists = length (filter (is_key key) (of lists (name row))) ≡ 0
 
--- a channel that was found is listed under its real name
-abbrev pub IsListedOn : Option Channel → Key → List (List ℕ × List Key) → List (List ℕ × List Key) → Type 0
-IsListedOn None key old new = SameLists old new
-IsListedOn (Some channel) key old new = AddsTo channel.real key old new
+  -- it is listed there now
+  abbrev pub IsListedOn : Option V → Key → List (List ℕ × List Key) → List (List ℕ × List Key) → Type 0
+  IsListedOn None key old new = SameLists old new
+  IsListedOn (Some row) key old new = AddsTo (name row) key old new
 
--- a channel that was found is no longer listed under its real name
-abbrev pub IsUnlistedOn : Option Channel → Key → List (List ℕ × List Key) → List (List ℕ × List Key) → Type 0
-IsUnlistedOn None key old new = SameLists old new
-IsUnlistedOn (Some channel) key old new = RemovesFrom channel.real key old new
+  -- it is listed there no longer
+  abbrev pub IsUnlistedOn : Option V → Key → List (List ℕ × List Key) → List (List ℕ × List Key) → Type 0
+  IsUnlistedOn None key old new = SameLists old new
+  IsUnlistedOn (Some row) key old new = RemovesFrom (name row) key old new
 
 -- each row's channel, of the key home, stands, and each name has the keys of the rows that lead to it
 module _ {V : Type 0} (key home : V → Key) where

@@ -2,6 +2,7 @@ pub mod Channels
 pub mod ClientRows
 pub mod Demand
 pub mod Indexes
+pub mod Looks
 pub mod Numbers
 pub mod Reads
 pub mod Sessions

@@ -1,16 +1,15 @@
 //! Rows of channels.
-ghost use Rattle.std.specs.Prelude.{◌≡◌, ℕ, List, ◌-◌, [], ◌∷◌, ◌++◌, false, length, map, slice_get, IfOk, IsTrue, OnOk, OnErr};
+ghost use Rattle.std.specs.Prelude.{◌≡◌, ◌-◌, [], ◌∷◌, ◌++◌, false, length, map, slice_get, refl, IfOk, IsTrue, OnOk, OnErr};
 ghost use Rattle.std.specs.List.{list_any, filter, find, count_by};
 ghost use Rattle.std.specs.Option.{option_copied};
 ghost use Rattle.rows.specs.Rows.{change_first};
-ghost use Rattle.row_index.specs.Lists.{is_key, of, SameLists};
-ghost use Rattle.row_index.specs.Rows.{has_key, value_at};
 ghost use Rattle.channel_table.specs.Channels.{is_channel, is_not_channel, is_channel_of, is_on, with_reach_and_rights};
-ghost use Rattle.channel_table.specs.Indexes.{changed_by, channel_key, IsApart, IsListedOn, IsUnlistedOn};
+ghost use Rattle.channel_table.specs.Indexes.{channel_key, IsApart};
 
-use crate::keys::nth_key;
+use crate::keys::key_of;
+use crate::named_rows::{Changing, Named, NamedRows, Row};
 use pv_name::Name;
-use row_index::{Key, NameLists, RowMap};
+use row_index::Key;
 use std::alloc::{AllocError, Global};
 use std::marker::Model;
 
@@ -42,24 +41,51 @@ pub struct Channel {
     pub rights_told: u32,
 }
 
+impl Row for Channel {
+    ghost key = { channel_key };
+
+    fn key(&self) -> Key {
+        key_of(self.session, self.sid)
+    }
+}
+
+impl Named for Channel {
+    ghost name = { λ channel. channel.real };
+
+    fn name(&self) -> &Name {
+        &self.real
+    }
+}
+
+impl Changing for Channel {
+    /// The reach and the rights last told.
+    type Change = (Reach, u32);
+
+    ghost changed = { λ change. with_reach_and_rights change.0 change.1 };
+
+    fn put(&mut self, change: (Reach, u32)) {
+        (self.reach, self.rights_told) = change;
+    }
+
+    ghost keeps_key = { λ change row. refl };
+}
+
 /// All channels, found by their IDs and by their real names.
 #[derive(Drop)]
 pub(crate) struct Channels {
-    rows: RowMap<Channel>,
-    on: NameLists,
+    rows: NamedRows<Channel>,
 }
 
 impl Model for Channels {
-    ghost use Rattle.std.specs.Prelude.{List, map};
-    ghost use Rattle.row_index.specs.Rows.{row_of};
+    ghost use Rattle.std.specs.Prelude.{List};
     ghost use Rattle.channel_table.specs.declared.channels.Channel.{Channel};
-    ghost use Rattle.channel_table.specs.Indexes.{IsChannelIndex};
+    ghost use Rattle.channel_table.specs.Indexes.{AreChannelsListed};
 
     ghost Value = { List Channel };
 
-    ghost view = { λ c. map row_of c.rows };
+    ghost view = { λ c. c.rows.rows };
 
-    ghost invariant = { λ c. IsChannelIndex c.rows c.on };
+    ghost invariant = { λ c. AreChannelsListed c.rows };
 }
 
 impl Channels {
@@ -67,8 +93,7 @@ impl Channels {
         ensures { result ≡ [] }
     {
         Channels {
-            rows: RowMap::new(alloc),
-            on: NameLists::new(alloc),
+            rows: NamedRows::new(alloc),
         }
     }
 
@@ -76,7 +101,7 @@ impl Channels {
     pub(crate) fn are_apart(&self)
         ensures { IsApart channel_key self.now }
     {
-        self.rows.has_keys_apart();
+        self.rows.are_apart();
     }
 
     pub(crate) fn len(&self) -> usize
@@ -88,27 +113,19 @@ impl Channels {
     pub(crate) fn all(&self, alloc: Global) -> Result<Vec<&Channel>, AllocError>
         ensures { IfOk result (λ rows. map (λ row. row.now) rows.items ≡ self.now) }
     {
-        self.rows.rows(alloc)
+        self.rows.all(alloc)
     }
 
     pub(crate) fn get(&self, session: u32, sid: u32) -> Option<&Channel>
         ensures { option_copied result ≡ find (is_channel session sid) self.now }
     {
-        let key = Key {
-            owner: session,
-            id: sid,
-        };
-        self.rows.get(key)
+        self.rows.get(key_of(session, sid))
     }
 
     pub(crate) fn contains(&self, session: u32, sid: u32) -> bool
         ensures { result ≡ list_any (is_channel session sid) self.now }
     {
-        let key = Key {
-            owner: session,
-            id: sid,
-        };
-        self.rows.contains(key)
+        self.rows.contains(key_of(session, sid))
     }
 
     pub(crate) fn count_of(&self, session: u32) -> usize
@@ -120,7 +137,7 @@ impl Channels {
     pub(crate) fn nth_of(&self, session: u32, n: usize) -> Option<&Channel>
         ensures { option_copied result ≡ slice_get (filter (is_channel_of session) self.now) n }
     {
-        self.rows.of(session, n)
+        self.rows.nth_of(session, n)
     }
 
     /// The session's last channel.
@@ -140,17 +157,14 @@ impl Channels {
     pub(crate) fn count_on(&self, name: &Name) -> usize
         ensures { result ≡ length (filter (is_on name.now) self.now) }
     {
-        self.on.of(name).len()
+        self.rows.keys_on(name).len()
     }
 
     pub(crate) fn nth_on(&self, name: &Name, n: usize) -> Option<&Channel>
         ensures { option_copied result ≡ slice_get (filter (is_on name.now) self.now) n }
     {
-        self.rows.has_keys_apart();
-        match nth_key(&self.on, name, n) {
-            Some(key) => self.rows.get(key),
-            None => None,
-        }
+        self.rows.are_apart();
+        self.rows.nth_on(name, n)
     }
 
     /// Adds a channel. At an error it is let go, and the others are as before.
@@ -159,18 +173,7 @@ impl Channels {
         ensures ok { OnOk result (self.new ≡ self.old ++ channel ∷ []) }
         ensures err { OnErr result (self.new ≡ self.old) }
     {
-        let key = Key {
-            owner: channel.session,
-            id: channel.sid,
-        };
-        self.rows.add(key, channel)?;
-        match list(&self.rows, &mut self.on, key) {
-            Ok(()) => Ok(()),
-            Err(e) => {
-                self.rows.remove(key);
-                Err(e)
-            }
-        }
+        self.rows.add_named(channel)
     }
 
     /// Whether it would change nothing to put this reach and these rights: no such channel stands, or it has
@@ -189,52 +192,13 @@ impl Channels {
         ensures { self.new ≡
             change_first (is_channel session sid) (with_reach_and_rights reach rights) self.old }
     {
-        let key = Key {
-            owner: session,
-            id: sid,
-        };
-        put(&mut self.rows, key, reach, rights);
+        self.rows.put(key_of(session, sid), (reach, rights));
     }
 
     pub(crate) fn remove(&mut self, session: u32, sid: u32)
         ensures { self.new ≡ filter (is_not_channel session sid) self.old }
     {
-        let key = Key {
-            owner: session,
-            id: sid,
-        };
-        self.rows.has_keys_apart();
-        unlist(&self.rows, &mut self.on, key);
-        self.rows.remove(key);
-    }
-}
-
-/// Lists a channel that stands under its real name. It isn't listed yet.
-fn list(rows: &RowMap<Channel>, on: &mut NameLists, key: Key) -> Result<(), AllocError>
-    requires new { (name : List ℕ) → length (filter (is_key key) (of on.old name)) ≡ 0 }
-    ensures ok { OnOk result (IsListedOn (value_at key rows.now) key on.old on.new) }
-    ensures err { OnErr result (SameLists on.old on.new) }
-{
-    match rows.get(key) {
-        Some(channel) => on.add_new(&channel.real, key),
-        None => Ok(()),
-    }
-}
-
-/// Takes a channel off the list of its real name.
-fn unlist(rows: &RowMap<Channel>, on: &mut NameLists, key: Key)
-    ensures { IsUnlistedOn (value_at key rows.now) key on.old on.new }
-{
-    if let Some(channel) = rows.get(key) {
-        on.remove(&channel.real, key);
-    }
-}
-
-fn put(rows: &mut RowMap<Channel>, key: Key, reach: Reach, rights: u32)
-    ensures { rows.new ≡ change_first (has_key key) (changed_by (with_reach_and_rights reach rights)) rows.old }
-{
-    if let Some(row) = rows.get_mut(key) {
-        row.reach = reach;
-        row.rights_told = rights;
+        self.rows.are_apart();
+        self.rows.remove_named(key_of(session, sid));
     }
 }

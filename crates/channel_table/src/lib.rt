@@ -49,11 +49,13 @@
 #![tactic(auto)]
 
 mod asks;
+mod brand;
 mod channels;
 mod counted_rows;
 mod demand;
 mod keys;
 pub mod laws;
+mod named_rows;
 mod numbers;
 mod reads;
 mod sessions;

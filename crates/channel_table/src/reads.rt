@@ -1,15 +1,15 @@
 //! Rows of waiting reads.
 ghost use Rattle.std.specs.Prelude.{◌≡◌, ℕ, List, [], ◌∷◌, ◌++◌, false, length, map, slice_get, IfOk, OnOk, OnErr};
-ghost use Rattle.std.specs.List.{filter, filter_map, find, count_by, list_any};
+ghost use Rattle.std.specs.List.{filter, find, count_by, list_any};
 ghost use Rattle.std.specs.Option.{option_map};
 ghost use Rattle.row_index.specs.Lists.{is_key, of, AddsTo, RemovesFrom, SameLists};
-ghost use Rattle.row_index.specs.Rows.{is_owned_by, row_of, value_at};
-ghost use Rattle.channel_table.specs.Indexes.{is_kept, is_kept_like, is_kept_on, is_not_kept, read_in, read_key, reads_in, row_at, rows_at, IsApart};
+ghost use Rattle.channel_table.specs.Indexes.{is_kept, is_kept_like, is_kept_on, is_not_kept, is_owned, read_in, read_key, reads_in, row_at, rows_at, IsApart};
 ghost use Rattle.channel_table.specs.Reads.{is_read_of};
 
-use crate::keys::nth_key;
+use crate::keys::key_of;
+use crate::named_rows::{NamedRows, Row};
 use pv_name::Name;
-use row_index::{Key, NameLists, RowMap};
+use row_index::Key;
 use std::alloc::{AllocError, Global};
 use std::marker::Model;
 
@@ -35,23 +35,26 @@ pub(crate) struct KeptRead {
     pub(crate) read: WaitingRead,
 }
 
+impl Row for KeptRead {
+    ghost key = { read_key };
+
+    fn key(&self) -> Key {
+        key_of(self.read.session, self.id)
+    }
+}
+
 /// All waiting reads, found by their sessions and by the real names that they wait for.
 #[derive(Drop)]
 pub(crate) struct Reads {
-    rows: RowMap<KeptRead>,
-    on: NameLists,
+    rows: NamedRows<KeptRead>,
 }
 
 impl Model for Reads {
-    ghost use Rattle.std.specs.Prelude.{map};
-    ghost use Rattle.row_index.specs.Rows.{row_of};
-    ghost use Rattle.channel_table.specs.Indexes.{ReadRows, IsReadIndex};
+    ghost use Rattle.channel_table.specs.Indexes.{ReadRows};
 
     ghost Value = { ReadRows };
 
-    ghost view = { λ r. record { rows = map row_of r.rows; on = r.on } };
-
-    ghost invariant = { λ r. IsReadIndex r.rows };
+    ghost view = { λ r. r.rows };
 }
 
 impl Reads {
@@ -60,8 +63,7 @@ impl Reads {
         ensures on { (name : List ℕ) → of result.on name ≡ [] }
     {
         Reads {
-            rows: RowMap::new(alloc),
-            on: NameLists::new(alloc),
+            rows: NamedRows::new(alloc),
         }
     }
 
@@ -69,7 +71,7 @@ impl Reads {
     pub(crate) fn are_apart(&self)
         ensures { IsApart read_key self.now.rows }
     {
-        self.rows.has_keys_apart();
+        self.rows.are_apart();
     }
 
     pub(crate) fn len(&self) -> usize
@@ -81,7 +83,7 @@ impl Reads {
     pub(crate) fn all(&self, alloc: Global) -> Result<Vec<WaitingRead>, AllocError>
         ensures { IfOk result (λ reads. reads.items ≡ reads_in self.now) }
     {
-        let rows = self.rows.rows(alloc)?;
+        let rows = self.rows.all(alloc)?;
         copied(&rows, alloc)
     }
 
@@ -94,20 +96,23 @@ impl Reads {
     pub(crate) fn nth_of(&self, session: u32, n: usize) -> Option<WaitingRead>
         ensures { result ≡ slice_get (filter (is_read_of session) (reads_in self.now)) n }
     {
-        nth_of(&self.rows, session, n)
+        match self.rows.nth_of(session, n) {
+            Some(row) => Some(row.read),
+            None => None,
+        }
     }
 
     pub(crate) fn count_on(&self, name: &Name) -> usize
         ensures { result ≡ length (of self.now.on name.now) }
     {
-        self.on.of(name).len()
+        self.rows.keys_on(name).len()
     }
 
     pub(crate) fn nth_on(&self, name: &Name, n: usize) -> Option<WaitingRead>
         ensures { result ≡ option_map read_in (row_at read_key self.now.rows (slice_get (of self.now.on name.now) n)) }
     {
-        match nth_key(&self.on, name, n) {
-            Some(key) => read_at(&self.rows, key),
+        match self.rows.nth_on(name, n) {
+            Some(row) => Some(row.read),
             None => None,
         }
     }
@@ -116,7 +121,7 @@ impl Reads {
     pub(crate) fn all_on(&self, name: &Name, alloc: Global) -> Result<Vec<WaitingRead>, AllocError>
         ensures { IfOk result (λ reads. reads.items ≡ map read_in (rows_at read_key self.now.rows (of self.now.on name.now))) }
     {
-        reads_at(&self.rows, self.on.of(name), alloc)
+        reads_at(&self.rows, self.rows.keys_on(name), alloc)
     }
 
     /// The first read on a channel, among those of its session.
@@ -149,7 +154,7 @@ impl Reads {
     // One more than the ID of the session's last read, and 0 behind the type's last.
     fn next_id(&self, session: u32) -> u32 {
         let last = self.rows.count_of(session).saturating_sub(1);
-        match self.rows.of(session, last) {
+        match self.rows.nth_of(session, last) {
             Some(row) => row.id.wrapping_add(1),
             None => 0,
         }
@@ -169,8 +174,7 @@ impl Reads {
     fn contains(&self, session: u32, id: u32) -> bool
         ensures { result ≡ list_any (is_kept (record { owner = session; id = id })) self.now.rows }
     {
-        let key = Key { owner: session, id };
-        self.rows.contains(key)
+        self.rows.contains(key_of(session, id))
     }
 
     /// Adds a read that waits for this real name, under an ID that is free. At an error nothing changes.
@@ -182,18 +186,7 @@ impl Reads {
         ensures err_rows { OnErr result (self.new.rows ≡ self.old.rows) }
         ensures err_on { OnErr result (SameLists self.old.on self.new.on) }
     {
-        let key = Key {
-            owner: row.read.session,
-            id: row.id,
-        };
-        self.rows.add(key, row)?;
-        match self.on.add_new(name, key) {
-            Ok(()) => Ok(()),
-            Err(e) => {
-                self.rows.remove(key);
-                Err(e)
-            }
-        }
+        self.rows.add(name, row)
     }
 
     /// Removes a read that waits for this real name.
@@ -201,12 +194,7 @@ impl Reads {
         ensures rows { self.new.rows ≡ filter (is_not_kept (read_key row)) self.old.rows }
         ensures on { RemovesFrom name.now (read_key row) self.old.on self.new.on }
     {
-        let key = Key {
-            owner: row.read.session,
-            id: row.id,
-        };
-        self.on.remove(name, key);
-        self.rows.remove(key);
+        self.rows.remove(name, row.key());
     }
 }
 
@@ -221,31 +209,13 @@ fn copied(rows: &[&KeptRead], alloc: Global) -> Result<Vec<WaitingRead>, AllocEr
     Ok(reads)
 }
 
-fn nth_of(rows: &RowMap<KeptRead>, session: u32, n: usize) -> Option<WaitingRead>
-    ensures { result ≡ option_map read_in (slice_get (map row_of (filter (is_owned_by session) rows.now)) n) }
-{
-    match rows.of(session, n) {
-        Some(row) => Some(row.read),
-        None => None,
-    }
-}
-
-fn read_at(rows: &RowMap<KeptRead>, key: Key) -> Option<WaitingRead>
-    ensures { result ≡ option_map read_in (value_at key rows.now) }
-{
-    match rows.get(key) {
-        Some(row) => Some(row.read),
-        None => None,
-    }
-}
-
 /// The reads under these keys.
 fn reads_at(
-    rows: &RowMap<KeptRead>,
+    rows: &NamedRows<KeptRead>,
     keys: &[Key],
     alloc: Global,
 ) -> Result<Vec<WaitingRead>, AllocError>
-    ensures { IfOk result (λ reads. reads.items ≡ map read_in (filter_map (λ key. value_at key rows.now) keys.now)) }
+    ensures { IfOk result (λ reads. reads.items ≡ map read_in (rows_at read_key rows.now.rows keys.now)) }
 {
     let mut reads = Vec::new(alloc);
     for key in keys {
@@ -257,11 +227,11 @@ fn reads_at(
 }
 
 /// The first of a session's reads that is on a channel.
-fn first_on(rows: &RowMap<KeptRead>, session: u32, sid: u32) -> Option<KeptRead>
-    ensures { result ≡ find (is_kept_on session sid) (map row_of (filter (is_owned_by session) rows.now)) }
+fn first_on(rows: &NamedRows<KeptRead>, session: u32, sid: u32) -> Option<KeptRead>
+    ensures { result ≡ find (is_kept_on session sid) (filter (is_owned read_key session) rows.now.rows) }
 {
     for n in 0..rows.count_of(session) {
-        if let Some(row) = rows.of(session, n) {
+        if let Some(row) = rows.nth_of(session, n) {
             if is_on(row, session, sid) {
                 return Some(*row);
             }
@@ -277,11 +247,11 @@ fn is_on(row: &KeptRead, session: u32, sid: u32) -> bool
 }
 
 /// The first read of its session that is equal to this one.
-fn first_like(rows: &RowMap<KeptRead>, read: &WaitingRead) -> Option<KeptRead>
-    ensures { result ≡ find (is_kept_like read.now) (map row_of (filter (is_owned_by read.now.session) rows.now)) }
+fn first_like(rows: &NamedRows<KeptRead>, read: &WaitingRead) -> Option<KeptRead>
+    ensures { result ≡ find (is_kept_like read.now) (filter (is_owned read_key read.now.session) rows.now.rows) }
 {
     for n in 0..rows.count_of(read.session) {
-        if let Some(row) = rows.of(read.session, n) {
+        if let Some(row) = rows.nth_of(read.session, n) {
             if is_like(row, read) {
                 return Some(*row);
             }

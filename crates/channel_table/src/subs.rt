@@ -1,18 +1,19 @@
 //! Rows of clients' subscriptions.
-ghost use Rattle.std.specs.Prelude.{◌≡◌, ℕ, List, [], ◌∷◌, ◌++◌, false, length, map, slice_get, IfOk, OnOk, OnErr};
-ghost use Rattle.std.specs.List.{filter, filter_map, find, count_by, list_any};
+ghost use Rattle.std.specs.Prelude.{◌≡◌, ℕ, List, [], ◌∷◌, ◌++◌, false, length, map, slice_get, refl, IfOk, OnOk, OnErr};
+ghost use Rattle.std.specs.List.{filter, find, count_by, list_any};
 ghost use Rattle.std.specs.Option.{option_copied};
 ghost use Rattle.rows.specs.Rows.{change_first};
 ghost use Rattle.row_index.specs.Lists.{is_key, of, AddsTo, RemovesFrom, SameLists};
-ghost use Rattle.row_index.specs.Rows.{has_key, value_at};
-ghost use Rattle.channel_table.specs.Indexes.{changed_by, sub_key, rows_at, IsApart};
+ghost use Rattle.channel_table.specs.Indexes.{sub_key, rows_at, IsApart};
 ghost use Rattle.channel_table.specs.Subs.{is_sub, is_not_sub, is_sub_of, is_sub_on, with_owed};
 ghost use Rattle.channel_table.specs.Demand.{all_exchanged, exchanged_on};
 
 use crate::asks;
+use crate::keys::key_of;
+use crate::named_rows::{Changing, NamedRows, Row};
 use mask_merge::Tally;
 use pv_name::Name;
-use row_index::{Key, NameLists, RowMap};
+use row_index::Key;
 use std::alloc::{AllocError, Global};
 use std::marker::Model;
 
@@ -35,23 +36,39 @@ pub struct ClientSub {
     pub owed: bool,
 }
 
+impl Row for ClientSub {
+    ghost key = { sub_key };
+
+    fn key(&self) -> Key {
+        key_of(self.session, self.id)
+    }
+}
+
+impl Changing for ClientSub {
+    /// Whether an update is owed.
+    type Change = bool;
+
+    ghost changed = { with_owed };
+
+    fn put(&mut self, change: bool) {
+        self.owed = change;
+    }
+
+    ghost keeps_key = { λ owed row. refl };
+}
+
 /// All subscriptions, found by their IDs and by the real names that they lead to.
 #[derive(Drop)]
 pub(crate) struct Subs {
-    rows: RowMap<ClientSub>,
-    on: NameLists,
+    rows: NamedRows<ClientSub>,
 }
 
 impl Model for Subs {
-    ghost use Rattle.std.specs.Prelude.{map};
-    ghost use Rattle.row_index.specs.Rows.{row_of};
-    ghost use Rattle.channel_table.specs.Indexes.{SubRows, IsSubIndex};
+    ghost use Rattle.channel_table.specs.Indexes.{SubRows};
 
     ghost Value = { SubRows };
 
-    ghost view = { λ s. record { rows = map row_of s.rows; on = s.on } };
-
-    ghost invariant = { λ s. IsSubIndex s.rows };
+    ghost view = { λ s. s.rows };
 }
 
 impl Subs {
@@ -60,8 +77,7 @@ impl Subs {
         ensures on { (name : List ℕ) → of result.on name ≡ [] }
     {
         Subs {
-            rows: RowMap::new(alloc),
-            on: NameLists::new(alloc),
+            rows: NamedRows::new(alloc),
         }
     }
 
@@ -69,7 +85,7 @@ impl Subs {
     pub(crate) fn are_apart(&self)
         ensures { IsApart sub_key self.now.rows }
     {
-        self.rows.has_keys_apart();
+        self.rows.are_apart();
     }
 
     pub(crate) fn len(&self) -> usize
@@ -81,14 +97,13 @@ impl Subs {
     pub(crate) fn all(&self, alloc: Global) -> Result<Vec<&ClientSub>, AllocError>
         ensures { IfOk result (λ rows. map (λ row. row.now) rows.items ≡ self.now.rows) }
     {
-        self.rows.rows(alloc)
+        self.rows.all(alloc)
     }
 
     pub(crate) fn get(&self, session: u32, id: u32) -> Option<&ClientSub>
         ensures { option_copied result ≡ find (is_sub session id) self.now.rows }
     {
-        let key = Key { owner: session, id };
-        self.rows.get(key)
+        self.rows.get(key_of(session, id))
     }
 
     pub(crate) fn count_of(&self, session: u32) -> usize
@@ -100,27 +115,27 @@ impl Subs {
     pub(crate) fn nth_of(&self, session: u32, n: usize) -> Option<&ClientSub>
         ensures { option_copied result ≡ slice_get (filter (is_sub_of session) self.now.rows) n }
     {
-        self.rows.of(session, n)
+        self.rows.nth_of(session, n)
     }
 
     pub(crate) fn count_on(&self, name: &Name) -> usize
         ensures { result ≡ length (of self.now.on name.now) }
     {
-        self.on.of(name).len()
+        self.rows.keys_on(name).len()
     }
 
     /// The subscriptions that lead to a real name.
     pub(crate) fn all_on(&self, name: &Name, alloc: Global) -> Result<Vec<ClientSub>, AllocError>
         ensures { IfOk result (λ subs. subs.items ≡ rows_at sub_key self.now.rows (of self.now.on name.now)) }
     {
-        subs_at(&self.rows, self.on.of(name), alloc)
+        subs_at(&self.rows, self.rows.keys_on(name), alloc)
     }
 
     /// The first subscription on a channel, among those that lead to its real name.
     pub(crate) fn first_on(&self, name: &Name, session: u32, sid: u32) -> Option<ClientSub>
         ensures { result ≡ find (is_sub_on session sid) (rows_at sub_key self.now.rows (of self.now.on name.now)) }
     {
-        first(&self.rows, self.on.of(name), session, sid)
+        first(&self.rows, self.rows.keys_on(name), session, sid)
     }
 
     /// What the subscriptions on a channel ask for, in the tally of its name: its client may read now,
@@ -136,7 +151,7 @@ impl Subs {
     )
         ensures { tally.new ≡ all_exchanged before after session sid (rows_at sub_key self.now.rows (of self.now.on name.now)) tally.old }
     {
-        let keys = self.on.of(name);
+        let keys = self.rows.keys_on(name);
         exchange_all(tally, &self.rows, keys, session, sid, before, after);
     }
 
@@ -149,26 +164,14 @@ impl Subs {
         ensures err_rows { OnErr result (self.new.rows ≡ self.old.rows) }
         ensures err_on { OnErr result (SameLists self.old.on self.new.on) }
     {
-        let key = Key {
-            owner: sub.session,
-            id: sub.id,
-        };
-        self.rows.add(key, sub)?;
-        match self.on.add_new(name, key) {
-            Ok(()) => Ok(()),
-            Err(e) => {
-                self.rows.remove(key);
-                Err(e)
-            }
-        }
+        self.rows.add(name, sub)
     }
 
     pub(crate) fn put(&mut self, session: u32, id: u32, owed: bool)
         ensures rows { self.new.rows ≡ change_first (is_sub session id) (with_owed owed) self.old.rows }
         ensures on { self.new.on ≡ self.old.on }
     {
-        let key = Key { owner: session, id };
-        put(&mut self.rows, key, owed);
+        self.rows.put(key_of(session, id), owed);
     }
 
     /// Removes a subscription that leads to this real name.
@@ -176,19 +179,17 @@ impl Subs {
         ensures rows { self.new.rows ≡ filter (is_not_sub session id) self.old.rows }
         ensures on { RemovesFrom name.now (record { owner = session; id = id }) self.old.on self.new.on }
     {
-        let key = Key { owner: session, id };
-        self.on.remove(name, key);
-        self.rows.remove(key);
+        self.rows.remove(name, key_of(session, id));
     }
 }
 
 /// The subscriptions under these keys.
 fn subs_at(
-    rows: &RowMap<ClientSub>,
+    rows: &NamedRows<ClientSub>,
     keys: &[Key],
     alloc: Global,
 ) -> Result<Vec<ClientSub>, AllocError>
-    ensures { IfOk result (λ subs. subs.items ≡ filter_map (λ key. value_at key rows.now) keys.now) }
+    ensures { IfOk result (λ subs. subs.items ≡ rows_at sub_key rows.now.rows keys.now) }
 {
     let mut subs = Vec::with_capacity(alloc, keys.len())?;
     for key in keys {
@@ -200,8 +201,8 @@ fn subs_at(
 }
 
 /// The first of these rows that is on a channel.
-fn first(rows: &RowMap<ClientSub>, keys: &[Key], session: u32, sid: u32) -> Option<ClientSub>
-    ensures { result ≡ find (is_sub_on session sid) (filter_map (λ key. value_at key rows.now) keys.now) }
+fn first(rows: &NamedRows<ClientSub>, keys: &[Key], session: u32, sid: u32) -> Option<ClientSub>
+    ensures { result ≡ find (is_sub_on session sid) (rows_at sub_key rows.now.rows keys.now) }
 {
     keys.iter()
         .filter_map(|key| rows.get(*key).copied())
@@ -211,14 +212,14 @@ fn first(rows: &RowMap<ClientSub>, keys: &[Key], session: u32, sid: u32) -> Opti
 /// Of these rows those on a channel ask for something else.
 fn exchange_all(
     tally: &mut Tally,
-    rows: &RowMap<ClientSub>,
+    rows: &NamedRows<ClientSub>,
     keys: &[Key],
     session: u32,
     sid: u32,
     before: bool,
     after: bool,
 )
-    ensures { tally.new ≡ all_exchanged before after session sid (filter_map (λ key. value_at key rows.now) keys.now) tally.old }
+    ensures { tally.new ≡ all_exchanged before after session sid (rows_at sub_key rows.now.rows keys.now) tally.old }
 {
     for key in keys {
         if let Some(sub) = rows.get(*key) {
@@ -233,13 +234,5 @@ fn exchange(tally: &mut Tally, sub: &ClientSub, session: u32, sid: u32, before: 
 {
     if sub.session == session && sub.sid == sid {
         tally.exchange(asks::of_sub(before, sub), asks::of_sub(after, sub));
-    }
-}
-
-fn put(rows: &mut RowMap<ClientSub>, key: Key, owed: bool)
-    ensures { rows.new ≡ change_first (has_key key) (changed_by (with_owed owed)) rows.old }
-{
-    if let Some(row) = rows.get_mut(key) {
-        row.owed = owed;
     }
 }

@@ -12,6 +12,7 @@ mod reads;
 mod sessions;
 mod subs;
 
+use crate::brand::Brand;
 use crate::channels::Channels;
 use crate::counted_rows;
 use crate::demand::Demand;
@@ -55,38 +56,46 @@ pub struct Table {
     subs: Subs,
     demand: Demand,
     reads: Reads,
+    brand: Brand,
 }
 
 impl Model for Table {
-    ghost use Rattle.channel_table.specs.ClientRows.{ClientRows};
+    ghost use Rattle.channel_table.specs.Looks.{BrandedRows};
     ghost use Rattle.channel_table.specs.Indexes.{reads_in};
     ghost use Rattle.channel_table.specs.Demand.{FollowRows};
 
-    ghost Value = { ClientRows };
+    ghost Value = { BrandedRows };
 
     ghost view = { λ t. record {
-      sessions = t.sessions;
-      channels = t.channels;
-      subs = t.subs.rows;
-      reads = reads_in t.reads;
+      rows = record {
+        sessions = t.sessions;
+        channels = t.channels;
+        subs = t.subs.rows;
+        reads = reads_in t.reads;
+      };
+      brand = t.brand;
     } };
 
     ghost invariant = { λ t. FollowRows t.channels t.subs t.reads t.demand };
 }
 
 impl Table {
-    /// No row, and the count of those that were looked at. There is one count for each table.
+    /// No row, and the count of those that were looked at, which bears the brand of this table.
     pub fn new(alloc: Global) -> (Table, Visits)
-        ensures rows { result.0 ≡ record { sessions = []; channels = []; subs = []; reads = [] } }
-        ensures visits { result.1 ≡ 0 }
+        ensures rows { result.0.rows ≡ record { sessions = []; channels = []; subs = []; reads = [] } }
+        ensures looks { result.1.looks ≡ 0 }
+        ensures own { result.1.brand ≡ result.0.brand }
     {
-        (Table::bare(alloc), Visits::new())
+        let (brand, same) = Brand::pair();
+        (Table::bare(alloc, brand), Visits::new(same))
     }
 
-    fn bare(alloc: Global) -> Table
-        ensures { result ≡ record { sessions = []; channels = []; subs = []; reads = [] } }
+    fn bare(alloc: Global, brand: Brand) -> Table
+        ensures rows { result.rows ≡ record { sessions = []; channels = []; subs = []; reads = [] } }
+        ensures brand { result.brand ≡ brand }
     {
         Table {
+            brand,
             sessions: Sessions::new(alloc),
             channels: Channels::new(alloc),
             subs: Subs::new(alloc),
@@ -99,34 +108,35 @@ impl Table {
     /// count, and whether any of them needs the properties of the variable, whose elements are states or
     /// are not: as far as their clients were told that they may read. It looks at no row.
     pub fn demand_on(&self, name: &Name, native: u32, states: bool) -> (Option<Want>, bool)
-        ensures want { result.0 ≡ want_on self.now.channels self.now.subs native name.now }
-        ensures props { result.1 ≡ props_on self.now.channels self.now.subs states name.now }
+        ensures want { result.0 ≡ want_on self.now.rows.channels self.now.rows.subs native name.now }
+        ensures props { result.1 ≡ props_on self.now.rows.channels self.now.rows.subs states name.now }
     {
         self.demand.of(name, native, states)
     }
 
     /// The first of these alone.
     pub fn want_on(&self, name: &Name, native: u32) -> Option<Want>
-        ensures { result ≡ want_on self.now.channels self.now.subs native name.now }
+        ensures { result ≡ want_on self.now.rows.channels self.now.rows.subs native name.now }
     {
         self.demand_on(name, native, false).0
     }
 
     /// The second alone.
     pub fn props_on(&self, name: &Name, states: bool) -> bool
-        ensures { result ≡ props_on self.now.channels self.now.subs states name.now }
+        ensures { result ≡ props_on self.now.rows.channels self.now.rows.subs states name.now }
     {
         self.demand_on(name, 0, states).1
     }
 
     /// Removes a session with its channels, subscriptions and reads.
     pub fn remove_session(&mut self, number: u32)
-        ensures { self.new ≡ record {
-          sessions = filter (is_not_numbered number) self.old.sessions;
-          channels = filter (is_not_channel_of number) self.old.channels;
-          subs = filter (is_not_sub_of number) self.old.subs;
-          reads = filter (is_not_read_of number) self.old.reads;
+        ensures rows { self.new.rows ≡ record {
+          sessions = filter (is_not_numbered number) self.old.rows.sessions;
+          channels = filter (is_not_channel_of number) self.old.rows.channels;
+          subs = filter (is_not_sub_of number) self.old.rows.subs;
+          reads = filter (is_not_read_of number) self.old.rows.reads;
         } }
+        ensures brand { self.new.brand ≡ self.old.brand }
     {
         while self.remove_channel_of(number) {}
         self.remove_bare_session(number);
@@ -134,11 +144,12 @@ impl Table {
 
     /// Removes a channel with its subscriptions and reads.
     pub fn remove_channel(&mut self, session: u32, sid: u32)
-        ensures { self.new ≡ record self.old {
-          channels = filter (is_not_channel session sid) self.old.channels;
-          subs = filter (is_not_sub_on session sid) self.old.subs;
-          reads = filter (is_not_read_on session sid) self.old.reads;
+        ensures rows { self.new.rows ≡ record self.old.rows {
+          channels = filter (is_not_channel session sid) self.old.rows.channels;
+          subs = filter (is_not_sub_on session sid) self.old.rows.subs;
+          reads = filter (is_not_read_on session sid) self.old.rows.reads;
         } }
+        ensures brand { self.new.brand ≡ self.old.brand }
     {
         self.remove_subs_on(session, sid);
         self.remove_reads_on(session, sid);
@@ -147,23 +158,26 @@ impl Table {
 
     /// Removes the subscriptions on a channel.
     fn remove_subs_on(&mut self, session: u32, sid: u32)
-        ensures { self.new ≡ record self.old { subs = filter (is_not_sub_on session sid) self.old.subs } }
+        ensures rows { self.new.rows ≡ record self.old.rows { subs = filter (is_not_sub_on session sid) self.old.rows.subs } }
+        ensures brand { self.new.brand ≡ self.old.brand }
     {
         while self.remove_sub_on(session, sid) {}
     }
 
     /// Removes the reads that wait on a channel.
     fn remove_reads_on(&mut self, session: u32, sid: u32)
-        ensures { self.new ≡ record self.old { reads = filter (is_not_read_on session sid) self.old.reads } }
+        ensures rows { self.new.rows ≡ record self.old.rows { reads = filter (is_not_read_on session sid) self.old.rows.reads } }
+        ensures brand { self.new.brand ≡ self.old.brand }
     {
         while self.remove_read_on(session, sid) {}
     }
 
     /// Removes a channel on which there is no subscription and no read.
     fn remove_bare_channel(&mut self, session: u32, sid: u32)
-        requires no_sub { list_any (is_sub_on session sid) self.old.subs ≡ false }
-        requires no_read { list_any (is_read_on session sid) self.old.reads ≡ false }
-        ensures { self.new ≡ record self.old { channels = filter (is_not_channel session sid) self.old.channels } }
+        requires no_sub { list_any (is_sub_on session sid) self.old.rows.subs ≡ false }
+        requires no_read { list_any (is_read_on session sid) self.old.rows.reads ≡ false }
+        ensures rows { self.new.rows ≡ record self.old.rows { channels = filter (is_not_channel session sid) self.old.rows.channels } }
+        ensures brand { self.new.brand ≡ self.old.brand }
     {
         self.channels.are_apart();
         counted_rows::remove_channel(&mut self.channels, &mut self.demand, session, sid);
@@ -172,13 +186,14 @@ impl Table {
     /// Removes the last channel of a session with what hangs on it, and tells whether there was one.
     /// The last goes without a walk.
     fn remove_channel_of(&mut self, number: u32) -> bool
-        ensures others { self.new.sessions ≡ self.old.sessions }
-        ensures channels { filter (is_not_channel_of number) self.new.channels ≡
-            filter (is_not_channel_of number) self.old.channels }
-        ensures subs { filter (is_not_sub_of number) self.new.subs ≡ filter (is_not_sub_of number) self.old.subs }
-        ensures reads { filter (is_not_read_of number) self.new.reads ≡ filter (is_not_read_of number) self.old.reads }
-        ensures one { IsTrue result → length self.new.channels < length self.old.channels }
-        ensures none { result ≡ false → list_any (is_channel_of number) self.new.channels ≡ false }
+        ensures others { self.new.rows.sessions ≡ self.old.rows.sessions }
+        ensures channels { filter (is_not_channel_of number) self.new.rows.channels ≡
+            filter (is_not_channel_of number) self.old.rows.channels }
+        ensures subs { filter (is_not_sub_of number) self.new.rows.subs ≡ filter (is_not_sub_of number) self.old.rows.subs }
+        ensures reads { filter (is_not_read_of number) self.new.rows.reads ≡ filter (is_not_read_of number) self.old.rows.reads }
+        ensures one { IsTrue result → length self.new.rows.channels < length self.old.rows.channels }
+        ensures none { result ≡ false → list_any (is_channel_of number) self.new.rows.channels ≡ false }
+        ensures brand { self.new.brand ≡ self.old.brand }
     {
         let Some(channel) = self.channels.last_of(number) else {
             return false;
@@ -190,13 +205,14 @@ impl Table {
 
     /// Removes a session that has no channel, and so nothing else.
     fn remove_bare_session(&mut self, number: u32)
-        requires bare { list_any (is_channel_of number) self.old.channels ≡ false }
-        ensures { self.new ≡ record {
-          sessions = filter (is_not_numbered number) self.old.sessions;
-          channels = filter (is_not_channel_of number) self.old.channels;
-          subs = filter (is_not_sub_of number) self.old.subs;
-          reads = filter (is_not_read_of number) self.old.reads;
+        requires bare { list_any (is_channel_of number) self.old.rows.channels ≡ false }
+        ensures rows { self.new.rows ≡ record {
+          sessions = filter (is_not_numbered number) self.old.rows.sessions;
+          channels = filter (is_not_channel_of number) self.old.rows.channels;
+          subs = filter (is_not_sub_of number) self.old.rows.subs;
+          reads = filter (is_not_read_of number) self.old.rows.reads;
         } }
+        ensures brand { self.new.brand ≡ self.old.brand }
     {
         self.sessions.remove(number);
     }

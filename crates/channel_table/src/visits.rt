@@ -2,45 +2,49 @@
 ghost use Rattle.std.specs.Prelude.{◌≡◌, ◌≤◌, ◌+◌};
 ghost use Rattle.std.specs.Io.Iter.{u64_saturate};
 
+use crate::brand::Brand;
 use std::marker::Model;
 
 /// How many rows of a table were looked at, up to the type's last value. [`Table::new`] makes one
-/// beside each table, and nothing else does; whoever looks at a row hands it in.
+/// beside each table, and nothing else does; whoever looks at a row hands it in. A contract sees the
+/// brand beside the number: a table takes no count but its own.
 ///
 /// [`Table::new`]: crate::Table::new
 #[derive(Debug, Drop)]
 pub struct Visits {
     rows: u64,
+    brand: Brand,
 }
 
 impl Model for Visits {
-    ghost use Rattle.std.specs.Prelude.{ℕ};
+    ghost use Rattle.channel_table.specs.Looks.{Looks};
 
-    ghost Value = { ℕ };
+    ghost Value = { Looks };
 
-    ghost view = { λ v. v.rows };
+    ghost view = { λ v. record { looks = v.rows; brand = v.brand } };
 }
 
 impl Visits {
     /// No row was looked at.
-    pub(crate) fn new() -> Visits
-        ensures { result ≡ 0 }
+    pub(crate) fn new(brand: Brand) -> Visits
+        ensures { result ≡ record { looks = 0; brand = brand } }
     {
-        Visits { rows: 0 }
+        Visits { rows: 0, brand }
     }
 
     /// So many rows were looked at.
     pub fn visited(&self) -> u64
-        ensures { result ≡ self.now }
+        ensures { result ≡ self.now.looks }
     {
         self.rows
     }
 
     /// So many rows more are looked at.
     pub(crate) fn count(&mut self, rows: usize)
-        ensures exact { self.new ≡ u64_saturate (self.old + rows) }
-        ensures bound { self.new ≤ self.old + rows }
-        ensures no_less { self.old ≤ self.new }
+        ensures exact { self.new.looks ≡ u64_saturate (self.old.looks + rows) }
+        ensures bound { self.new.looks ≤ self.old.looks + rows }
+        ensures no_less { self.old.looks ≤ self.new.looks }
+        ensures brand { self.new.brand ≡ self.old.brand }
     {
         self.rows = self.rows.saturating_add(rows as u64);
     }

@@ -5,7 +5,7 @@ ghost use Rattle.touched_rows.specs.Touches.{clear_touches};
 
 use crate::refusals::refuse_channel;
 use ca_header::Header;
-use ca_message::ToClient;
+use ca_message::{ClearChannel, ToClient};
 use channel_table::Visits;
 use gateway_rows::Rows;
 use std::alloc::AllocError;
@@ -16,15 +16,18 @@ pub(crate) fn clear_channel(
     rows: &mut Rows,
     visits: &mut Visits,
     number: u32,
-    sid: u32,
-    cid: u32,
+    clear: ClearChannel,
     head: &Header,
 ) -> Result<Touched, AllocError>
-    ensures ok { OnOk result (rows.new ≡ channel_cleared number sid cid head.now rows.old) }
-    ensures touched { IfOk result (λ touched. touched ≡ clear_touches rows.old number sid) }
-    ensures bound { visits.new ≤ visits.old + 1 }
-    ensures no_less { visits.old ≤ visits.new }
+    requires own { visits.old.brand ≡ rows.old.brand }
+    ensures ok { OnOk result (rows.new.state ≡ channel_cleared number clear.sid clear.cid head.now rows.old.state) }
+    ensures touched { IfOk result (λ touched. touched ≡ clear_touches rows.old.state number clear.sid) }
+    ensures bound { visits.new.looks ≤ visits.old.looks + 1 }
+    ensures no_less { visits.old.looks ≤ visits.new.looks }
+    ensures brand { rows.new.brand ≡ rows.old.brand }
+    ensures own { visits.new.brand ≡ visits.old.brand }
 {
+    let ClearChannel { sid, cid } = clear;
     match rows.channel_of(visits, number, sid) {
         Some(channel) => {
             let name = channel.real.copy()?;

@@ -1,25 +1,27 @@
 //! CREATE_CHAN.
 ghost use Rattle.std.specs.Prelude.{◌≡◌, ◌≤◌, ◌+◌, true, OnOk, IfOk, IsErrOf};
 ghost use Rattle.gateway_state.specs.Numbers.{is_past_numbers};
-ghost use Rattle.gateway_state.specs.Clients.{remembered_by, with_channel, created, created_with, created_on_native, created_on, created_as, creation_failed, not_connected, channel_asked, rights_on};
+ghost use Rattle.gateway_state.specs.Clients.{remembered_by, with_channel, created, created_with, created_over, created_as, creation_failed, not_connected, channel_asked, rights_on};
 ghost use Rattle.gateway_state.specs.Settled.{HasSidsInOrder};
-ghost use Rattle.gateway_state.specs.Variables.{link_of};
+ghost use Rattle.gateway_state.specs.Variables.{connected};
 ghost use Rattle.std.specs.List.{find};
 ghost use Rattle.channel_table.specs.Sessions.{is_numbered};
+ghost use Rattle.touched_rows.specs.declared.touched.Touched.TheVariants.{Nothing};
 
 use crate::host_name::fix_host;
-use ca_message::ToClient;
+use ca_message::{CreateChannel, ToClient};
 use channel_table::{CHANNEL_LIMIT, Channel, Reach, Visits};
 use gateway_rows::{Refusal, Rows};
 use gateway_state::Native;
-use gateway_values::native_in;
 use link_table::{Counter, Link};
 use pv_alias::{Lead, group_rights};
 use pv_name::Name;
 use std::alloc::AllocError;
+use touched_rows::Touched;
 
 pub(crate) fn fail_creation(rows: &mut Rows, number: u32, cid: u32) -> Result<(), AllocError>
-    ensures { OnOk result (rows.new ≡ creation_failed number cid rows.old) }
+    ensures ok { OnOk result (rows.new.state ≡ creation_failed number cid rows.old.state) }
+    ensures brand { rows.new.brand ≡ rows.old.brand }
 {
     rows.tell(number, &ToClient::CreateChannelFail { cid })
 }
@@ -31,9 +33,12 @@ fn remember(
     number: u32,
     name: &Name,
 ) -> Result<(), AllocError>
-    ensures ok { OnOk result (rows.new ≡ remembered_by (find (is_numbered number) rows.old.clients.sessions) name.now rows.old) }
-    ensures bound { visits.new ≤ visits.old + 1 }
-    ensures no_less { visits.old ≤ visits.new }
+    requires own { visits.old.brand ≡ rows.old.brand }
+    ensures ok { OnOk result (rows.new.state ≡ remembered_by (find (is_numbered number) rows.old.state.clients.sessions) name.now rows.old.state) }
+    ensures bound { visits.new.looks ≤ visits.old.looks + 1 }
+    ensures no_less { visits.old.looks ≤ visits.new.looks }
+    ensures brand { rows.new.brand ≡ rows.old.brand }
+    ensures own { visits.new.brand ≡ visits.old.brand }
 {
     if let Some(session) = rows.clients.session(visits, number) {
         let host = session.host.copy()?;
@@ -49,9 +54,12 @@ fn leave_unconnected(
     cid: u32,
     name: &Name,
 ) -> Result<(), AllocError>
-    ensures ok { OnOk result (rows.new ≡ not_connected number cid name.now rows.old) }
-    ensures bound { visits.new ≤ visits.old + 1 }
-    ensures no_less { visits.old ≤ visits.new }
+    requires own { visits.old.brand ≡ rows.old.brand }
+    ensures ok { OnOk result (rows.new.state ≡ not_connected number cid name.now rows.old.state) }
+    ensures bound { visits.new.looks ≤ visits.old.looks + 1 }
+    ensures no_less { visits.old.looks ≤ visits.new.looks }
+    ensures brand { rows.new.brand ≡ rows.old.brand }
+    ensures own { visits.new.brand ≡ visits.old.brand }
 {
     remember(rows, visits, number, name)?;
     fail_creation(rows, number, cid)
@@ -67,10 +75,11 @@ fn add_channel(
     real: Name,
     rights: u32,
 ) -> Result<u32, Refusal>
-    requires order { HasSidsInOrder rows.old }
-    ensures ok { OnOk result (rows.new ≡ with_channel number cid asked real rights rows.old) }
-    ensures sid { IfOk result (λ sid. sid ≡ rows.old.upstream.counters.sid) }
-    ensures used_up { IsErrOf result Refusal.NumbersUsedUp → is_past_numbers (with_channel number cid asked real rights rows.old) ≡ true }
+    requires order { HasSidsInOrder rows.old.state }
+    ensures ok { OnOk result (rows.new.state ≡ with_channel number cid asked real rights rows.old.state) }
+    ensures sid { IfOk result (λ sid. sid ≡ rows.old.state.upstream.counters.sid) }
+    ensures used_up { IsErrOf result Refusal.NumbersUsedUp → is_past_numbers (with_channel number cid asked real rights rows.old.state) ≡ true }
+    ensures brand { rows.new.brand ≡ rows.old.brand }
 {
     let Some(sid) = rows.upstream.give_out(Counter::Sid) else {
         return Err(Refusal::NumbersUsedUp);
@@ -103,9 +112,10 @@ fn create_on(
     rights: u32,
     native: Native,
 ) -> Result<(), Refusal>
-    requires order { HasSidsInOrder rows.old }
-    ensures ok { OnOk result (rows.new ≡ created_with number cid asked real rights native rows.old) }
-    ensures used_up { IsErrOf result Refusal.NumbersUsedUp → is_past_numbers (created_with number cid asked real rights native rows.old) ≡ true }
+    requires order { HasSidsInOrder rows.old.state }
+    ensures ok { OnOk result (rows.new.state ≡ created_with number cid asked real rights native rows.old.state) }
+    ensures used_up { IsErrOf result Refusal.NumbersUsedUp → is_past_numbers (created_with number cid asked real rights native rows.old.state) ≡ true }
+    ensures brand { rows.new.brand ≡ rows.old.brand }
 {
     let sid = add_channel(rows, number, cid, asked, real, rights)?;
     rows.tell(number, &ToClient::AccessRights { cid, rights })?;
@@ -123,7 +133,7 @@ fn create_on(
 
 /// The rights on a link that the policy leaves to who was led to it.
 fn rights_on(rows: &Rows, lead: &Lead, link: &Link) -> u32
-    ensures { result ≡ rights_on rows.now lead.now link.now }
+    ensures { result ≡ rights_on rows.now.state lead.now link.now }
 {
     link.rights & group_rights(&rows.searches.policy().groups, lead.group.as_ref())
 }
@@ -136,21 +146,21 @@ fn create_as(
     asked: &Name,
     lead: Lead,
 ) -> Result<(), Refusal>
-    requires order { HasSidsInOrder rows.old }
-    ensures ok { OnOk result (rows.new ≡ created_on number cid asked.now lead (link_of rows.old lead.real) rows.old) }
-    ensures used_up { IsErrOf result Refusal.NumbersUsedUp → is_past_numbers (created_on number cid asked.now lead (link_of rows.old lead.real) rows.old) ≡ true }
-    ensures bound { visits.new ≤ visits.old + 1 }
-    ensures no_less { visits.old ≤ visits.new }
+    requires order { HasSidsInOrder rows.old.state }
+    requires own { visits.old.brand ≡ rows.old.brand }
+    ensures ok { OnOk result (rows.new.state ≡ created_over number cid asked.now lead (connected rows.old.state lead.real) rows.old.state) }
+    ensures used_up { IsErrOf result Refusal.NumbersUsedUp → is_past_numbers (created_over number cid asked.now lead (connected rows.old.state lead.real) rows.old.state) ≡ true }
+    ensures bound { visits.new.looks ≤ visits.old.looks + 1 }
+    ensures no_less { visits.old.looks ≤ visits.new.looks }
+    ensures brand { rows.new.brand ≡ rows.old.brand }
+    ensures own { visits.new.brand ≡ visits.old.brand }
 {
-    let Some(link) = rows.link_of(&lead.real) else {
+    let Some(variable) = rows.connected(&lead.real) else {
         leave_unconnected(rows, visits, number, cid, asked)?;
         return Ok(());
     };
-    let Some(native) = native_in(link.state) else {
-        leave_unconnected(rows, visits, number, cid, asked)?;
-        return Ok(());
-    };
-    let rights = rights_on(rows, &lead, link);
+    let native = variable.native;
+    let rights = rights_on(rows, &lead, variable.link);
     let asked = asked.copy()?;
     create_on(rows, number, cid, asked, lead.real, rights, native)
 }
@@ -160,14 +170,38 @@ pub(crate) fn create_channel(
     rows: &mut Rows,
     visits: &mut Visits,
     number: u32,
+    create: &CreateChannel<'_>,
+) -> Result<Touched, Refusal>
+    requires order { HasSidsInOrder rows.old.state }
+    requires own { visits.old.brand ≡ rows.old.brand }
+    ensures ok { OnOk result (rows.new.state ≡ channel_asked number create.now.cid create.now.name rows.old.state) }
+    ensures touched { IfOk result (λ touched. touched ≡ Nothing) }
+    ensures used_up { IsErrOf result Refusal.NumbersUsedUp → is_past_numbers (channel_asked number create.now.cid create.now.name rows.old.state) ≡ true }
+    ensures bound { visits.new.looks ≤ visits.old.looks + 4 }
+    ensures no_less { visits.old.looks ≤ visits.new.looks }
+    ensures brand { rows.new.brand ≡ rows.old.brand }
+    ensures own { visits.new.brand ≡ visits.old.brand }
+{
+    let name = create.name.to_name(rows.alloc)?;
+    create_named(rows, visits, number, create.cid, &name)?;
+    Ok(Touched::Nothing)
+}
+
+fn create_named(
+    rows: &mut Rows,
+    visits: &mut Visits,
+    number: u32,
     cid: u32,
     name: &Name,
 ) -> Result<(), Refusal>
-    requires order { HasSidsInOrder rows.old }
-    ensures ok { OnOk result (rows.new ≡ channel_asked number cid name.now rows.old) }
-    ensures used_up { IsErrOf result Refusal.NumbersUsedUp → is_past_numbers (channel_asked number cid name.now rows.old) ≡ true }
-    ensures bound { visits.new ≤ visits.old + 4 }
-    ensures no_less { visits.old ≤ visits.new }
+    requires order { HasSidsInOrder rows.old.state }
+    requires own { visits.old.brand ≡ rows.old.brand }
+    ensures ok { OnOk result (rows.new.state ≡ channel_asked number cid name.now rows.old.state) }
+    ensures used_up { IsErrOf result Refusal.NumbersUsedUp → is_past_numbers (channel_asked number cid name.now rows.old.state) ≡ true }
+    ensures bound { visits.new.looks ≤ visits.old.looks + 4 }
+    ensures no_less { visits.old.looks ≤ visits.new.looks }
+    ensures brand { rows.new.brand ≡ rows.old.brand }
+    ensures own { visits.new.brand ≡ visits.old.brand }
 {
     let lead = rows.learn_lead_in(visits, number, name)?;
     fix_host(rows, visits, number)?;

@@ -7,17 +7,18 @@ ghost use Rattle.gateway_state.specs.Requests.{client_said, requested, unreadabl
 ghost use Rattle.gateway_state.specs.Settled.{HasSidsInOrder, HasWriteIdsBelow};
 ghost use Rattle.gateway_state.specs.Telling.{told};
 ghost use Rattle.gateway_state.specs.Told.{KnowRights};
+ghost use Rattle.touched_rows.specs.declared.touched.Touched.TheVariants.{Nothing};
 ghost use Rattle.touched_rows.specs.Touches.{request_touches, with_touched};
 
 use crate::clear_channel::clear_channel;
 use crate::create_channel::{create_channel, fail_creation};
-use crate::host_name::{fix_host, name_host};
-use crate::pause::pause;
-use crate::read::read;
+use crate::host_name::{fix_host, hear_host_name};
+use crate::pause::{pause, resume};
+use crate::read::{hear_read, new_read};
 use crate::refusals::{refuse_short_subscription, refuse_unknown};
 use crate::subscribe::{new_sub, subscribe_client};
 use crate::unsubscribe::cancel_subscription;
-use crate::write::{Write, hear_write, hear_write_notify};
+use crate::write::{hear_write, hear_write_notify};
 use ca_header::{Header, Message};
 use ca_message::commands::{
     CA_PROTO_CLIENT_NAME, CA_PROTO_CREATE_CHAN, CA_PROTO_EVENT_ADD, CA_PROTO_HOST_NAME,
@@ -36,14 +37,17 @@ pub fn hear_client(
     number: u32,
     message: Message,
 ) -> Result<Touched, Refusal>
-    requires order { HasSidsInOrder rows.old }
-    requires ids { HasWriteIdsBelow rows.old }
-    requires told { KnowRights rows.old }
-    ensures ok { IfOk result (λ touched. with_touched touched rows.new ≡ client_said rows.old number message) }
-    ensures touched { IfOk result (λ touched. touched ≡ request_touches rows.old number (request_of message.head message.payload)) }
-    ensures used_up { IsErrOf result Refusal.NumbersUsedUp → is_past_numbers (client_said rows.old number message) ≡ true }
-    ensures bound { visits.new ≤ visits.old + 4 }
-    ensures no_less { visits.old ≤ visits.new }
+    requires order { HasSidsInOrder rows.old.state }
+    requires ids { HasWriteIdsBelow rows.old.state }
+    requires told { KnowRights rows.old.state }
+    requires own { visits.old.brand ≡ rows.old.brand }
+    ensures ok { IfOk result (λ touched. with_touched touched rows.new.state ≡ client_said rows.old.state number message) }
+    ensures touched { IfOk result (λ touched. touched ≡ request_touches rows.old.state number (request_of message.head message.payload)) }
+    ensures used_up { IsErrOf result Refusal.NumbersUsedUp → is_past_numbers (client_said rows.old.state number message) ≡ true }
+    ensures bound { visits.new.looks ≤ visits.old.looks + 4 }
+    ensures no_less { visits.old.looks ≤ visits.new.looks }
+    ensures brand { rows.new.brand ≡ rows.old.brand }
+    ensures own { visits.new.brand ≡ visits.old.brand }
 {
     match read_message(&message) {
         Ok(request) => hear_request(rows, visits, number, request, &message),
@@ -63,124 +67,63 @@ fn hear_request(
     request: ClientRequest<'_>,
     message: &Message,
 ) -> Result<Touched, Refusal>
-    requires order { HasSidsInOrder rows.old }
-    requires ids { HasWriteIdsBelow rows.old }
-    requires told { KnowRights rows.old }
-    ensures ok { IfOk result (λ touched. with_touched touched rows.new ≡ requested rows.old number message.now (Ok request.entry)) }
-    ensures touched { IfOk result (λ touched. touched ≡ request_touches rows.old number (Ok request.entry)) }
-    ensures used_up { IsErrOf result Refusal.NumbersUsedUp → is_past_numbers (requested rows.old number message.now (Ok request.entry)) ≡ true }
-    ensures bound { visits.new ≤ visits.old + 4 }
-    ensures no_less { visits.old ≤ visits.new }
+    requires order { HasSidsInOrder rows.old.state }
+    requires ids { HasWriteIdsBelow rows.old.state }
+    requires told { KnowRights rows.old.state }
+    requires own { visits.old.brand ≡ rows.old.brand }
+    ensures ok { IfOk result (λ touched. with_touched touched rows.new.state ≡ requested rows.old.state number message.now (Ok request.entry)) }
+    ensures touched { IfOk result (λ touched. touched ≡ request_touches rows.old.state number (Ok request.entry)) }
+    ensures used_up { IsErrOf result Refusal.NumbersUsedUp → is_past_numbers (requested rows.old.state number message.now (Ok request.entry)) ≡ true }
+    ensures bound { visits.new.looks ≤ visits.old.looks + 4 }
+    ensures no_less { visits.old.looks ≤ visits.new.looks }
+    ensures brand { rows.new.brand ≡ rows.old.brand }
+    ensures own { visits.new.brand ≡ visits.old.brand }
 {
     let head = &message.head;
-    match request {
-        ClientRequest::Version { minor } => {
-            hear_version(rows, number, minor);
-            Ok(Touched::Nothing)
+    Ok(match request {
+        ClientRequest::Version { minor } => hear_version(rows, number, minor),
+        ClientRequest::EventAdd(add) => subscribe_client(rows, visits, new_sub(number, add), head)?,
+        ClientRequest::EventCancel(cancel) => {
+            cancel_subscription(rows, visits, number, cancel, head)?
         }
-        ClientRequest::EventAdd {
-            sid,
-            id,
-            dtype,
-            count,
-            mask,
-        } => Ok(subscribe_client(
-            rows,
-            visits,
-            new_sub(number, sid, id, dtype, count, mask),
-            head,
-        )?),
-        ClientRequest::EventCancel {
-            sid,
-            id,
-            dtype,
-            count,
-        } => Ok(cancel_subscription(rows, visits, number, sid, id, dtype, count, head)?),
-        ClientRequest::Write {
-            sid,
-            dtype,
-            count,
-            value,
-        } => {
-            let write = Write {
-                session: number,
-                sid,
-                dtype,
-                count,
-            };
-            hear_write(rows, visits, write, &value, head)?;
-            Ok(Touched::Nothing)
-        }
-        ClientRequest::EventsOff => {
-            pause(rows, visits, number, true)?;
-            Ok(Touched::Nothing)
-        }
-        ClientRequest::EventsOn => {
-            pause(rows, visits, number, false)?;
-            Ok(Touched::Session(number))
-        }
-        ClientRequest::ClearChannel { sid, cid } => {
-            Ok(clear_channel(rows, visits, number, sid, cid, head)?)
-        }
-        ClientRequest::ReadNotify {
-            sid,
-            ioid,
-            dtype,
-            count,
-        } => Ok(read(rows, visits, number, sid, ioid, dtype, count, head)?),
-        ClientRequest::CreateChannel { cid, name, .. } => {
-            let name = name.to_name(rows.alloc)?;
-            create_channel(rows, visits, number, cid, &name)?;
-            Ok(Touched::Nothing)
-        }
-        ClientRequest::WriteNotify {
-            sid,
-            ioid,
-            dtype,
-            count,
-            value,
-        } => {
-            let write = Write {
-                session: number,
-                sid,
-                dtype,
-                count,
-            };
-            hear_write_notify(rows, visits, write, ioid, &value, head)?;
-            Ok(Touched::Nothing)
-        }
-        ClientRequest::ClientName(_) => Ok(Touched::Nothing),
-        ClientRequest::HostName(host) => {
-            let host = host.to_host(rows.alloc)?;
-            name_host(rows, visits, number, host);
-            Ok(Touched::Nothing)
-        }
-        ClientRequest::Echo => {
-            echo(rows, number, message)?;
-            Ok(Touched::Nothing)
-        }
-    }
+        ClientRequest::Write(write) => hear_write(rows, visits, number, &write, head)?,
+        ClientRequest::EventsOff => pause(rows, visits, number)?,
+        ClientRequest::EventsOn => resume(rows, visits, number)?,
+        ClientRequest::ClearChannel(clear) => clear_channel(rows, visits, number, clear, head)?,
+        ClientRequest::ReadNotify(read) => hear_read(rows, visits, new_read(number, read), head)?,
+        ClientRequest::CreateChannel(create) => create_channel(rows, visits, number, &create)?,
+        ClientRequest::WriteNotify(write) => hear_write_notify(rows, visits, number, &write, head)?,
+        ClientRequest::ClientName(_) => Touched::Nothing,
+        ClientRequest::HostName(host) => hear_host_name(rows, visits, number, &host)?,
+        ClientRequest::Echo => echo(rows, number, message)?,
+    })
 }
 
 /// A client gets its own message back.
-fn echo(rows: &mut Rows, number: u32, message: &Message) -> Result<(), AllocError>
-    ensures { OnOk result (rows.new ≡ told number (ToClient.Echo message.now) rows.old) }
+fn echo(rows: &mut Rows, number: u32, message: &Message) -> Result<Touched, AllocError>
+    ensures ok { OnOk result (rows.new.state ≡ told number (ToClient.Echo message.now) rows.old.state) }
+    ensures touched { IfOk result (λ touched. touched ≡ Nothing) }
+    ensures brand { rows.new.brand ≡ rows.old.brand }
 {
     let payload = message.payload.slice(..)?;
     let said = ToClient::Echo(Message {
         head: message.head,
         payload,
     });
-    rows.tell(number, &said)
+    rows.tell(number, &said)?;
+    Ok(Touched::Nothing)
 }
 
 /// A client said which minor version it speaks.
-fn hear_version(rows: &mut Rows, number: u32, minor: u32)
-    ensures { rows.new ≡ versioned rows.old number minor }
+fn hear_version(rows: &mut Rows, number: u32, minor: u32) -> Touched
+    ensures heard { rows.new.state ≡ versioned rows.old.state number minor }
+    ensures touched { result ≡ Nothing }
+    ensures brand { rows.new.brand ≡ rows.old.brand }
 {
     if minor < LOWEST_MINOR {
         rows.mark(Dest::Session(number));
     }
+    Touched::Nothing
 }
 
 /// A message that is no request: texts that can't be read are ignored, but a CREATE_CHAN fails;
@@ -191,9 +134,12 @@ fn hear_unreadable(
     number: u32,
     head: &Header,
 ) -> Result<(), AllocError>
-    ensures ok { OnOk result (rows.new ≡ unreadable rows.old number head.now) }
-    ensures bound { visits.new ≤ visits.old + 2 }
-    ensures no_less { visits.old ≤ visits.new }
+    requires own { visits.old.brand ≡ rows.old.brand }
+    ensures ok { OnOk result (rows.new.state ≡ unreadable rows.old.state number head.now) }
+    ensures bound { visits.new.looks ≤ visits.old.looks + 2 }
+    ensures no_less { visits.old.looks ≤ visits.new.looks }
+    ensures brand { rows.new.brand ≡ rows.old.brand }
+    ensures own { visits.new.brand ≡ visits.old.brand }
 {
     if head.command == CA_PROTO_CREATE_CHAN {
         fix_host(rows, visits, number)?;

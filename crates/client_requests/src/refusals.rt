@@ -13,7 +13,8 @@ use std::alloc::AllocError;
 
 /// A message isn't understood.
 pub(crate) fn refuse_unknown(rows: &mut Rows, number: u32, head: &Header) -> Result<(), AllocError>
-    ensures { OnOk result (rows.new ≡ not_understood rows.old number head.now) }
+    ensures ok { OnOk result (rows.new.state ≡ not_understood rows.old.state number head.now) }
+    ensures brand { rows.new.brand ≡ rows.old.brand }
 {
     let said = ToClient::Error {
         cid: NO_CHANNEL,
@@ -25,7 +26,8 @@ pub(crate) fn refuse_unknown(rows: &mut Rows, number: u32, head: &Header) -> Res
 
 /// The request names no channel of the session.
 pub(crate) fn refuse_channel(rows: &mut Rows, number: u32, head: &Header) -> Result<(), AllocError>
-    ensures { OnOk result (rows.new ≡ no_channel rows.old number head.now) }
+    ensures ok { OnOk result (rows.new.state ≡ no_channel rows.old.state number head.now) }
+    ensures brand { rows.new.brand ≡ rows.old.brand }
 {
     let said = ToClient::Error {
         cid: NO_CHANNEL,
@@ -43,7 +45,8 @@ pub(crate) fn refuse_request(
     code: u32,
     head: &Header,
 ) -> Result<(), AllocError>
-    ensures { OnOk result (rows.new ≡ request_refused number cid code head.now rows.old) }
+    ensures ok { OnOk result (rows.new.state ≡ request_refused number cid code head.now rows.old.state) }
+    ensures brand { rows.new.brand ≡ rows.old.brand }
 {
     let said = ToClient::Error {
         cid,
@@ -60,9 +63,12 @@ pub(crate) fn refuse_short_subscription(
     number: u32,
     head: &Header,
 ) -> Result<(), AllocError>
-    ensures ok { OnOk result (rows.new ≡ short_subscription rows.old number head.now) }
-    ensures bound { visits.new ≤ visits.old + 1 }
-    ensures no_less { visits.old ≤ visits.new }
+    requires own { visits.old.brand ≡ rows.old.brand }
+    ensures ok { OnOk result (rows.new.state ≡ short_subscription rows.old.state number head.now) }
+    ensures bound { visits.new.looks ≤ visits.old.looks + 1 }
+    ensures no_less { visits.old.looks ≤ visits.new.looks }
+    ensures brand { rows.new.brand ≡ rows.old.brand }
+    ensures own { visits.new.brand ≡ visits.old.brand }
 {
     let cid = match rows.channel_of(visits, number, head.p1) {
         Some(channel) => channel.cid,

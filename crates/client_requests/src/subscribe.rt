@@ -2,44 +2,38 @@
 ghost use Rattle.std.specs.Prelude.{◌≡◌, ◌≤◌, ◌+◌, Some, false, OnOk, IfOk};
 ghost use Rattle.channel_table.specs.ClientRows.{has_sub};
 ghost use Rattle.gateway_state.specs.Rights.{channel_of};
-ghost use Rattle.gateway_state.specs.Subscribing.{new_sub, sub_verdict, sub_verdict_natively, subscription_asked, subscription_limit, subscription_refusal, with_sub};
+ghost use Rattle.gateway_state.specs.Subscribing.{new_sub, sub_verdict, sub_verdict_over, subscription_asked, subscription_limit, subscription_refusal, with_sub};
 ghost use Rattle.touched_rows.specs.Touches.{made_touches, sub_touches};
 
 use crate::refusals::{refuse_channel, refuse_request};
 use ca_header::Header;
+use ca_message::EventAdd;
 use ca_message::codes::{ECA_ALLOCMEM, ECA_BADMASK, ECA_INTERNAL};
 use channel_table::{Channel, ClientSub, SUB_LIMIT, TableFault, Visits};
 use gateway_rows::Rows;
 use gateway_state::{Native, SERVED_EVENTS, SubVerdict};
-use gateway_values::{native_in, value_refusal};
+use gateway_values::{ConnectedVariable, value_refusal};
 use std::alloc::AllocError;
 use touched_rows::Touched;
 
 /// A new subscription, which is owed an update.
-pub(crate) fn new_sub(
-    session: u32,
-    sid: u32,
-    id: u32,
-    dtype: u16,
-    count: u32,
-    mask: u16,
-) -> ClientSub
-    ensures { result ≡ new_sub session sid id dtype count mask }
+pub(crate) fn new_sub(session: u32, add: EventAdd) -> ClientSub
+    ensures { result ≡ new_sub session add.sid add.id add.dtype add.count add.mask }
 {
     ClientSub {
         session,
-        id,
-        sid,
-        dtype,
-        count,
-        mask,
+        id: add.id,
+        sid: add.sid,
+        dtype: add.dtype,
+        count: add.count,
+        mask: add.mask,
         owed: true,
     }
 }
 
 /// Why a subscription is refused though its updates could be had.
 fn subscription_limit(rows: &Rows, number: u32, mask: u16) -> Option<u32>
-    ensures { result ≡ subscription_limit rows.now number mask }
+    ensures { result ≡ subscription_limit rows.now.state number mask }
 {
     if mask & SERVED_EVENTS == 0 {
         Some(ECA_BADMASK)
@@ -57,9 +51,11 @@ fn subscription_refusal(
     sub: ClientSub,
     native: Native,
 ) -> Option<u32>
-    ensures found { result ≡ subscription_refusal rows.now sub native }
-    ensures bound { visits.new ≤ visits.old + 1 }
-    ensures no_less { visits.old ≤ visits.new }
+    requires own { visits.old.brand ≡ rows.now.brand }
+    ensures found { result ≡ subscription_refusal rows.now.state sub native }
+    ensures bound { visits.new.looks ≤ visits.old.looks + 1 }
+    ensures no_less { visits.old.looks ≤ visits.new.looks }
+    ensures own { visits.new.brand ≡ visits.old.brand }
 {
     if rows.clients.sub(visits, sub.session, sub.id).is_some() {
         return Some(ECA_INTERNAL);
@@ -70,18 +66,20 @@ fn subscription_refusal(
     }
 }
 
-fn sub_verdict_on(
+fn sub_verdict_over(
     rows: &Rows,
     visits: &mut Visits,
     sub: ClientSub,
     channel: &Channel,
-    native: Native,
+    variable: &ConnectedVariable<'_>,
 ) -> SubVerdict
-    ensures found { result ≡ sub_verdict_natively rows.now sub channel.now (Some native) }
-    ensures bound { visits.new ≤ visits.old + 1 }
-    ensures no_less { visits.old ≤ visits.new }
+    requires own { visits.old.brand ≡ rows.now.brand }
+    ensures found { result ≡ sub_verdict_over rows.now.state sub channel.now (Some variable.now) }
+    ensures bound { visits.new.looks ≤ visits.old.looks + 1 }
+    ensures no_less { visits.old.looks ≤ visits.new.looks }
+    ensures own { visits.new.brand ≡ visits.old.brand }
 {
-    match subscription_refusal(rows, visits, sub, native) {
+    match subscription_refusal(rows, visits, sub, variable.native) {
         None => SubVerdict::Accepted,
         Some(code) => SubVerdict::Refused {
             cid: channel.cid,
@@ -92,25 +90,25 @@ fn sub_verdict_on(
 
 /// What becomes of an EVENT_ADD.
 fn sub_verdict(rows: &Rows, visits: &mut Visits, sub: ClientSub) -> SubVerdict
-    ensures found { result ≡ sub_verdict rows.now sub }
-    ensures bound { visits.new ≤ visits.old + 2 }
-    ensures no_less { visits.old ≤ visits.new }
+    requires own { visits.old.brand ≡ rows.now.brand }
+    ensures found { result ≡ sub_verdict rows.now.state sub }
+    ensures bound { visits.new.looks ≤ visits.old.looks + 2 }
+    ensures no_less { visits.old.looks ≤ visits.new.looks }
+    ensures own { visits.new.brand ≡ visits.old.brand }
 {
     let Some(channel) = rows.channel_of(visits, sub.session, sub.sid) else {
         return SubVerdict::NoChannel;
     };
-    let Some(link) = rows.link_of(&channel.real) else {
-        return SubVerdict::Ignored;
-    };
-    match native_in(link.state) {
-        Some(native) => sub_verdict_on(rows, visits, sub, channel, native),
+    match rows.connected(&channel.real) {
+        Some(variable) => sub_verdict_over(rows, visits, sub, channel, &variable),
         None => SubVerdict::Ignored,
     }
 }
 
 fn add_sub(rows: &mut Rows, sub: ClientSub) -> Result<(), AllocError>
-    requires new { has_sub sub.session sub.id rows.old.clients ≡ false }
-    ensures { OnOk result (rows.new ≡ with_sub sub rows.old) }
+    requires new { has_sub sub.session sub.id rows.old.state.clients ≡ false }
+    ensures ok { OnOk result (rows.new.state ≡ with_sub sub rows.old.state) }
+    ensures brand { rows.new.brand ≡ rows.old.brand }
 {
     match rows.clients.add_sub(sub) {
         Ok(()) => Ok(()),
@@ -126,10 +124,13 @@ pub(crate) fn subscribe_client(
     sub: ClientSub,
     head: &Header,
 ) -> Result<Touched, AllocError>
-    ensures ok { OnOk result (rows.new ≡ subscription_asked sub head.now rows.old) }
-    ensures touched { IfOk result (λ touched. touched ≡ sub_touches rows.old sub) }
-    ensures bound { visits.new ≤ visits.old + 3 }
-    ensures no_less { visits.old ≤ visits.new }
+    requires own { visits.old.brand ≡ rows.old.brand }
+    ensures ok { OnOk result (rows.new.state ≡ subscription_asked sub head.now rows.old.state) }
+    ensures touched { IfOk result (λ touched. touched ≡ sub_touches rows.old.state sub) }
+    ensures bound { visits.new.looks ≤ visits.old.looks + 3 }
+    ensures no_less { visits.old.looks ≤ visits.new.looks }
+    ensures brand { rows.new.brand ≡ rows.old.brand }
+    ensures own { visits.new.brand ≡ visits.old.brand }
 {
     match sub_verdict(rows, visits, sub) {
         SubVerdict::NoChannel => {
@@ -151,9 +152,11 @@ pub(crate) fn subscribe_client(
 
 /// What a subscription touches that is made.
 fn made_touches(rows: &Rows, visits: &mut Visits, sub: ClientSub) -> Result<Touched, AllocError>
-    ensures found { IfOk result (λ touched. touched ≡ made_touches sub (channel_of rows.now sub.session sub.sid)) }
-    ensures bound { visits.new ≤ visits.old + 1 }
-    ensures no_less { visits.old ≤ visits.new }
+    requires own { visits.old.brand ≡ rows.now.brand }
+    ensures found { IfOk result (λ touched. touched ≡ made_touches sub (channel_of rows.now.state sub.session sub.sid)) }
+    ensures bound { visits.new.looks ≤ visits.old.looks + 1 }
+    ensures no_less { visits.old.looks ≤ visits.new.looks }
+    ensures own { visits.new.brand ≡ visits.old.brand }
 {
     match rows.channel_of(visits, sub.session, sub.sid) {
         Some(channel) => Ok(Touched::Subscription(channel.real.copy()?, sub)),

@@ -5,8 +5,8 @@ ghost use Rattle.touched_rows.specs.Touches.{cancel_touches};
 
 use crate::refusals::{refuse_channel, refuse_request};
 use ca_header::Header;
-use ca_message::ToClient;
 use ca_message::codes::ECA_INTERNAL;
+use ca_message::{EventCancel, ToClient};
 use channel_table::Visits;
 use gateway_rows::Rows;
 use std::alloc::AllocError;
@@ -14,9 +14,11 @@ use touched_rows::Touched;
 
 /// Whether the session's subscription of an ID is on this channel.
 fn is_sub_on(rows: &Rows, visits: &mut Visits, number: u32, id: u32, sid: u32) -> bool
-    ensures found { result ≡ is_on_sid sid (sub_of rows.now number id) }
-    ensures bound { visits.new ≤ visits.old + 1 }
-    ensures no_less { visits.old ≤ visits.new }
+    requires own { visits.old.brand ≡ rows.now.brand }
+    ensures found { result ≡ is_on_sid sid (sub_of rows.now.state number id) }
+    ensures bound { visits.new.looks ≤ visits.old.looks + 1 }
+    ensures no_less { visits.old.looks ≤ visits.new.looks }
+    ensures own { visits.new.brand ≡ visits.old.brand }
 {
     match rows.clients.sub(visits, number, id) {
         Some(sub) => sub.sid == sid,
@@ -25,7 +27,8 @@ fn is_sub_on(rows: &Rows, visits: &mut Visits, number: u32, id: u32, sid: u32) -
 }
 
 fn remove_sub(rows: &mut Rows, number: u32, id: u32)
-    ensures { rows.new ≡ without_sub number id rows.old }
+    ensures state { rows.new.state ≡ without_sub number id rows.old.state }
+    ensures brand { rows.new.brand ≡ rows.old.brand }
 {
     rows.clients.remove_sub(number, id);
 }
@@ -35,17 +38,23 @@ pub(crate) fn cancel_subscription(
     rows: &mut Rows,
     visits: &mut Visits,
     number: u32,
-    sid: u32,
-    id: u32,
-    dtype: u16,
-    count: u32,
+    cancel: EventCancel,
     head: &Header,
 ) -> Result<Touched, AllocError>
-    ensures ok { OnOk result (rows.new ≡ subscription_cancelled number sid id dtype count head.now rows.old) }
-    ensures touched { IfOk result (λ touched. touched ≡ cancel_touches rows.old number sid id) }
-    ensures bound { visits.new ≤ visits.old + 2 }
-    ensures no_less { visits.old ≤ visits.new }
+    requires own { visits.old.brand ≡ rows.old.brand }
+    ensures ok { OnOk result (rows.new.state ≡ subscription_cancelled number cancel.sid cancel.id cancel.dtype cancel.count head.now rows.old.state) }
+    ensures touched { IfOk result (λ touched. touched ≡ cancel_touches rows.old.state number cancel.sid cancel.id) }
+    ensures bound { visits.new.looks ≤ visits.old.looks + 2 }
+    ensures no_less { visits.old.looks ≤ visits.new.looks }
+    ensures brand { rows.new.brand ≡ rows.old.brand }
+    ensures own { visits.new.brand ≡ visits.old.brand }
 {
+    let EventCancel {
+        sid,
+        id,
+        dtype,
+        count,
+    } = cancel;
     let Some(channel) = rows.channel_of(visits, number, sid) else {
         refuse_channel(rows, number, head)?;
         return Ok(Touched::Nothing);

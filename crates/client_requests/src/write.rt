@@ -1,29 +1,31 @@
 //! WRITE and WRITE_NOTIFY.
-ghost use Rattle.std.specs.Prelude.{◌≡◌, ◌≤◌, ◌+◌, true, OnOk, IfOk, IsErrOf};
+ghost use Rattle.std.specs.Prelude.{◌≡◌, ◌≤◌, ◌+◌, true, Some, OnOk, IfOk, IsErrOf};
 ghost use Rattle.gateway_state.specs.Gateway.{Gateway};
 ghost use Rattle.gateway_state.specs.Numbers.{is_past_numbers};
 ghost use Rattle.gateway_state.specs.Settled.{HasWriteIdsBelow};
 ghost use Rattle.gateway_state.specs.Told.{KnowRights, KnowsRights};
-ghost use Rattle.gateway_state.specs.Writing.{new_write, notified_by, with_write, write_answered, write_asked, write_handed_on, write_judged, write_notify_asked, write_verdict, write_verdict_in, write_waits, written_by};
+ghost use Rattle.gateway_state.specs.Writing.{new_write, notified_by, with_write, write_answered, write_asked, write_handed_on, write_judged, write_notify_asked, write_verdict, write_verdict_over, write_waits, written_by};
+ghost use Rattle.touched_rows.specs.declared.touched.Touched.TheVariants.{Nothing};
 
 use crate::refusals::{refuse_channel, refuse_request};
 use ca_header::Header;
 use ca_message::codes::{ECA_NOWTACCESS, ECA_PUTFAIL};
-use ca_message::{ToClient, ToServer, ValueBytes, WriteFault, WrittenValue};
+use ca_message::{ToClient, ToServer, ValueBytes, Write, WriteFault, WriteNotify, WrittenValue};
 use channel_table::{Channel, Visits};
 use gateway_rows::{Refusal, Rows};
 use gateway_state::WriteVerdict;
-use gateway_values::may_write;
-use link_table::{Counter, Link, LinkState, WRITE_LIMIT, WaitingWrite};
+use gateway_values::{ConnectedVariable, may_write};
+use link_table::{Counter, WRITE_LIMIT, WaitingWrite};
 use std::alloc::AllocError;
+use touched_rows::Touched;
 
 /// What a client writes: to which of its channels, and which type and how many elements it says.
 #[derive(Clone, Copy, Debug, PartialEq, Eq)]
-pub(crate) struct Write {
-    pub session: u32,
-    pub sid: u32,
-    pub dtype: u16,
-    pub count: u32,
+struct ClientWrite {
+    session: u32,
+    sid: u32,
+    dtype: u16,
+    count: u32,
 }
 
 /// A value that isn't fit to be handed on is refused first, then a write without the right.
@@ -55,38 +57,35 @@ fn judge<'a>(
 
 fn write_verdict_over<'a>(
     channel: &Channel,
-    link: &Link,
-    write: Write,
+    variable: &ConnectedVariable<'_>,
+    write: ClientWrite,
     payload: &ValueBytes<'a>,
 ) -> WriteVerdict<'a>
-    ensures { (w : Gateway) → KnowsRights w channel.now → result ≡ write_verdict_in w channel.now link.now.server write.dtype write.count payload.now link.now.state }
+    ensures { (w : Gateway) → KnowsRights w channel.now → result ≡ write_verdict_over w channel.now write.dtype write.count payload.now (Some variable.now) }
 {
-    match link.state {
-        LinkState::Connected { sid, count, .. } => {
-            let value = WrittenValue::of(write.dtype, write.count, count, payload);
-            judge(channel, link.server, sid, value)
-        }
-        LinkState::Creating | LinkState::Unusable => WriteVerdict::Ignored,
-    }
+    let value = WrittenValue::of(write.dtype, write.count, variable.native.count, payload);
+    judge(channel, variable.link.server, variable.sid, value)
 }
 
 /// What becomes of a write.
 fn write_verdict<'a>(
     rows: &Rows,
     visits: &mut Visits,
-    write: Write,
+    write: ClientWrite,
     payload: &ValueBytes<'a>,
 ) -> WriteVerdict<'a>
-    requires told { KnowRights rows.now }
-    ensures found { result ≡ write_verdict rows.now write.session write.sid write.dtype write.count payload.now }
-    ensures bound { visits.new ≤ visits.old + 1 }
-    ensures no_less { visits.old ≤ visits.new }
+    requires told { KnowRights rows.now.state }
+    requires own { visits.old.brand ≡ rows.now.brand }
+    ensures found { result ≡ write_verdict rows.now.state write.session write.sid write.dtype write.count payload.now }
+    ensures bound { visits.new.looks ≤ visits.old.looks + 1 }
+    ensures no_less { visits.old.looks ≤ visits.new.looks }
+    ensures own { visits.new.brand ≡ visits.old.brand }
 {
     let Some(channel) = rows.told_channel(visits, write.session, write.sid) else {
         return WriteVerdict::NoChannel;
     };
-    match rows.link_of(&channel.real) {
-        Some(link) => write_verdict_over(channel, link, write, payload),
+    match rows.connected(&channel.real) {
+        Some(variable) => write_verdict_over(channel, &variable, write, payload),
         None => WriteVerdict::Ignored,
     }
 }
@@ -95,30 +94,45 @@ fn write_verdict<'a>(
 pub(crate) fn hear_write(
     rows: &mut Rows,
     visits: &mut Visits,
-    write: Write,
-    payload: &ValueBytes<'_>,
+    number: u32,
+    write: &Write<'_>,
     head: &Header,
-) -> Result<(), AllocError>
-    requires told { KnowRights rows.old }
-    ensures ok { OnOk result (rows.new ≡ write_asked write.session write.sid write.dtype write.count payload.now head.now rows.old) }
-    ensures bound { visits.new ≤ visits.old + 1 }
-    ensures no_less { visits.old ≤ visits.new }
+) -> Result<Touched, AllocError>
+    requires told { KnowRights rows.old.state }
+    requires own { visits.old.brand ≡ rows.old.brand }
+    ensures ok { OnOk result (rows.new.state ≡ write_asked number write.now.sid write.now.dtype write.now.count write.now.value head.now rows.old.state) }
+    ensures touched { IfOk result (λ touched. touched ≡ Nothing) }
+    ensures bound { visits.new.looks ≤ visits.old.looks + 1 }
+    ensures no_less { visits.old.looks ≤ visits.new.looks }
+    ensures brand { rows.new.brand ≡ rows.old.brand }
+    ensures own { visits.new.brand ≡ visits.old.brand }
 {
-    match write_verdict(rows, visits, write, payload) {
-        WriteVerdict::NoChannel => refuse_channel(rows, write.session, head),
-        WriteVerdict::Ignored => Ok(()),
-        WriteVerdict::Refused { cid, code } => {
-            refuse_request(rows, write.session, cid, code, head)
-        }
+    let its = ClientWrite {
+        session: number,
+        sid: write.sid,
+        dtype: write.dtype,
+        count: write.count,
+    };
+    match write_verdict(rows, visits, its, &write.value) {
+        WriteVerdict::NoChannel => refuse_channel(rows, number, head)?,
+        WriteVerdict::Ignored => {}
+        WriteVerdict::Refused { cid, code } => refuse_request(rows, number, cid, code, head)?,
         WriteVerdict::Accepted { server, sid, value } => {
-            rows.ask(server, &ToServer::Write { sid, value })
+            rows.ask(server, &ToServer::Write { sid, value })?;
         }
     }
+    Ok(Touched::Nothing)
 }
 
 /// The client is told how its write ended.
-fn answer_write(rows: &mut Rows, write: Write, ioid: u32, status: u32) -> Result<(), AllocError>
-    ensures { OnOk result (rows.new ≡ write_answered write.session ioid write.dtype write.count status rows.old) }
+fn answer_write(
+    rows: &mut Rows,
+    write: ClientWrite,
+    ioid: u32,
+    status: u32,
+) -> Result<(), AllocError>
+    ensures ok { OnOk result (rows.new.state ≡ write_answered write.session ioid write.dtype write.count status rows.old.state) }
+    ensures brand { rows.new.brand ≡ rows.old.brand }
 {
     let said = ToClient::WriteNotify {
         ioid,
@@ -131,11 +145,12 @@ fn answer_write(rows: &mut Rows, write: Write, ioid: u32, status: u32) -> Result
 
 /// Notes that the write waits, under the next ID, which it gives.
 #[tactic(auto, using(gateway_state::proofs::WriteIdsBelow::write_is_new), unfolding(gateway_state::specs::Numbers::is_past_numbers))]
-fn add_write(rows: &mut Rows, write: Write, ioid: u32, server: u32) -> Result<u32, Refusal>
-    requires ids { HasWriteIdsBelow rows.old }
-    ensures ok { OnOk result (rows.new ≡ with_write (new_write rows.old server write.session write.sid write.dtype write.count ioid) rows.old) }
-    ensures id { IfOk result (λ id. id ≡ rows.old.upstream.counters.write) }
-    ensures used_up { IsErrOf result Refusal.NumbersUsedUp → is_past_numbers (with_write (new_write rows.old server write.session write.sid write.dtype write.count ioid) rows.old) ≡ true }
+fn add_write(rows: &mut Rows, write: ClientWrite, ioid: u32, server: u32) -> Result<u32, Refusal>
+    requires ids { HasWriteIdsBelow rows.old.state }
+    ensures ok { OnOk result (rows.new.state ≡ with_write (new_write rows.old.state server write.session write.sid write.dtype write.count ioid) rows.old.state) }
+    ensures id { IfOk result (λ id. id ≡ rows.old.state.upstream.counters.write) }
+    ensures used_up { IsErrOf result Refusal.NumbersUsedUp → is_past_numbers (with_write (new_write rows.old.state server write.session write.sid write.dtype write.count ioid) rows.old.state) ≡ true }
+    ensures brand { rows.new.brand ≡ rows.old.brand }
 {
     let Some(id) = rows.upstream.give_out(Counter::Write) else {
         return Err(Refusal::NumbersUsedUp);
@@ -159,15 +174,16 @@ fn add_write(rows: &mut Rows, write: Write, ioid: u32, server: u32) -> Result<u3
 #[tactic(auto, unfolding(gateway_state::specs::Numbers::is_past_numbers, gateway_state::specs::Telling::sent))]
 fn hand_on(
     rows: &mut Rows,
-    write: Write,
+    write: ClientWrite,
     ioid: u32,
     server: u32,
     sid: u32,
     value: WrittenValue<'_>,
 ) -> Result<(), Refusal>
-    requires ids { HasWriteIdsBelow rows.old }
-    ensures ok { OnOk result (rows.new ≡ write_handed_on write.session write.sid ioid write.dtype write.count server sid value.entry rows.old) }
-    ensures used_up { IsErrOf result Refusal.NumbersUsedUp → is_past_numbers (write_handed_on write.session write.sid ioid write.dtype write.count server sid value.entry rows.old) ≡ true }
+    requires ids { HasWriteIdsBelow rows.old.state }
+    ensures ok { OnOk result (rows.new.state ≡ write_handed_on write.session write.sid ioid write.dtype write.count server sid value.entry rows.old.state) }
+    ensures used_up { IsErrOf result Refusal.NumbersUsedUp → is_past_numbers (write_handed_on write.session write.sid ioid write.dtype write.count server sid value.entry rows.old.state) ≡ true }
+    ensures brand { rows.new.brand ≡ rows.old.brand }
 {
     if rows.upstream.writes(write.session) >= WRITE_LIMIT {
         return Ok(answer_write(rows, write, ioid, ECA_PUTFAIL)?);
@@ -185,24 +201,35 @@ fn hand_on(
 pub(crate) fn hear_write_notify(
     rows: &mut Rows,
     visits: &mut Visits,
-    write: Write,
-    ioid: u32,
-    payload: &ValueBytes<'_>,
+    number: u32,
+    write: &WriteNotify<'_>,
     head: &Header,
-) -> Result<(), Refusal>
-    requires told { KnowRights rows.old }
-    requires ids { HasWriteIdsBelow rows.old }
-    ensures ok { OnOk result (rows.new ≡ write_notify_asked write.session write.sid ioid write.dtype write.count payload.now head.now rows.old) }
-    ensures used_up { IsErrOf result Refusal.NumbersUsedUp → is_past_numbers (write_notify_asked write.session write.sid ioid write.dtype write.count payload.now head.now rows.old) ≡ true }
-    ensures bound { visits.new ≤ visits.old + 1 }
-    ensures no_less { visits.old ≤ visits.new }
+) -> Result<Touched, Refusal>
+    requires told { KnowRights rows.old.state }
+    requires ids { HasWriteIdsBelow rows.old.state }
+    requires own { visits.old.brand ≡ rows.old.brand }
+    ensures ok { OnOk result (rows.new.state ≡ write_notify_asked number write.now.sid write.now.ioid write.now.dtype write.now.count write.now.value head.now rows.old.state) }
+    ensures touched { IfOk result (λ touched. touched ≡ Nothing) }
+    ensures used_up { IsErrOf result Refusal.NumbersUsedUp → is_past_numbers (write_notify_asked number write.now.sid write.now.ioid write.now.dtype write.now.count write.now.value head.now rows.old.state) ≡ true }
+    ensures bound { visits.new.looks ≤ visits.old.looks + 1 }
+    ensures no_less { visits.old.looks ≤ visits.new.looks }
+    ensures brand { rows.new.brand ≡ rows.old.brand }
+    ensures own { visits.new.brand ≡ visits.old.brand }
 {
-    match write_verdict(rows, visits, write, payload) {
-        WriteVerdict::NoChannel => Ok(refuse_channel(rows, write.session, head)?),
-        WriteVerdict::Ignored => Ok(()),
-        WriteVerdict::Refused { code, .. } => Ok(answer_write(rows, write, ioid, code)?),
+    let ioid = write.ioid;
+    let its = ClientWrite {
+        session: number,
+        sid: write.sid,
+        dtype: write.dtype,
+        count: write.count,
+    };
+    match write_verdict(rows, visits, its, &write.value) {
+        WriteVerdict::NoChannel => refuse_channel(rows, number, head)?,
+        WriteVerdict::Ignored => {}
+        WriteVerdict::Refused { code, .. } => answer_write(rows, its, ioid, code)?,
         WriteVerdict::Accepted { server, sid, value } => {
-            hand_on(rows, write, ioid, server, sid, value)
+            hand_on(rows, its, ioid, server, sid, value)?;
         }
     }
+    Ok(Touched::Nothing)
 }

@@ -90,18 +90,20 @@ module _ (then : Gateway) (direct after : ℕ) where
   request_within : (w : Gateway) (before number : ℕ) (request : Result ClientRequest RequestFault) → direct ≤ before + 4
       → IsWithin (looks_after (request_touches w number request) then) direct after → IsWithin (request_looks request) before after
   request_within w before number (Ok (requests.Version minor)) first rest = all_within before first (few rest)
-  request_within w before number (Ok (requests.EventAdd sid id dtype count mask)) first rest =
-      let sub : ClientSub = new_sub number sid id dtype count mask in
-      all_within before first (made_within sub (channel_of w number sid) (sub_verdict w sub) rest)
-  request_within w before number (Ok (requests.EventCancel sid id dtype count)) first rest = all_within before first (cancel_within sid (sub_of w number id) (channel_of w number sid) rest)
-  request_within w before number (Ok (requests.Write sid dtype count value)) first rest = all_within before first (few rest)
+  request_within w before number (Ok (requests.EventAdd add)) first rest =
+      let sub : ClientSub = new_sub number add.sid add.id add.dtype add.count add.mask in
+      all_within before first (made_within sub (channel_of w number add.sid) (sub_verdict w sub) rest)
+  request_within w before number (Ok (requests.EventCancel cancel)) first rest =
+      all_within before first (cancel_within cancel.sid (sub_of w number cancel.id) (channel_of w number cancel.sid) rest)
+  request_within w before number (Ok (requests.Write write)) first rest = all_within before first (few rest)
   request_within w before number (Ok requests.EventsOff) first rest = all_within before first (few rest)
   request_within w before number (Ok requests.EventsOn) first rest = tt
-  request_within w before number (Ok (requests.ClearChannel sid cid)) first rest = all_within before first (clear_within (channel_of w number sid) rest)
-  request_within w before number (Ok (requests.ReadNotify sid ioid dtype count)) first rest =
-      all_within before first (read_within (new_read number sid ioid dtype count) (channel_of w number sid) (read_verdict w number sid dtype count) rest)
-  request_within w before number (Ok (requests.CreateChannel cid minor name)) first rest = all_within before first (few rest)
-  request_within w before number (Ok (requests.WriteNotify sid ioid dtype count value)) first rest = all_within before first (few rest)
+  request_within w before number (Ok (requests.ClearChannel clear)) first rest = all_within before first (clear_within (channel_of w number clear.sid) rest)
+  request_within w before number (Ok (requests.ReadNotify read)) first rest =
+      all_within before first
+      (read_within (new_read number read.sid read.ioid read.dtype read.count) (channel_of w number read.sid) (read_verdict w number read.sid read.dtype read.count) rest)
+  request_within w before number (Ok (requests.CreateChannel create)) first rest = all_within before first (few rest)
+  request_within w before number (Ok (requests.WriteNotify write)) first rest = all_within before first (few rest)
   request_within w before number (Ok (requests.ClientName name)) first rest = all_within before first (few rest)
   request_within w before number (Ok (requests.HostName host)) first rest = all_within before first (few rest)
   request_within w before number (Ok requests.Echo) first rest = all_within before first (few rest)
@@ -110,15 +112,15 @@ module _ (then : Gateway) (direct after : ℕ) where
   -- a client that isn't heard
   unheard_within : (before : ℕ) (request : Result ClientRequest RequestFault) → direct ≤ before + 4 → after ≤ direct + 0 → IsWithin (request_looks request) before after
   unheard_within before (Ok (requests.Version minor)) first rest = all_within before first (few rest)
-  unheard_within before (Ok (requests.EventAdd sid id dtype count mask)) first rest = all_within before first (few rest)
-  unheard_within before (Ok (requests.EventCancel sid id dtype count)) first rest = all_within before first (few rest)
-  unheard_within before (Ok (requests.Write sid dtype count value)) first rest = all_within before first (few rest)
+  unheard_within before (Ok (requests.EventAdd add)) first rest = all_within before first (few rest)
+  unheard_within before (Ok (requests.EventCancel cancel)) first rest = all_within before first (few rest)
+  unheard_within before (Ok (requests.Write write)) first rest = all_within before first (few rest)
   unheard_within before (Ok requests.EventsOff) first rest = all_within before first (few rest)
   unheard_within before (Ok requests.EventsOn) first rest = tt
-  unheard_within before (Ok (requests.ClearChannel sid cid)) first rest = all_within before first (few rest)
-  unheard_within before (Ok (requests.ReadNotify sid ioid dtype count)) first rest = all_within before first (few rest)
-  unheard_within before (Ok (requests.CreateChannel cid minor name)) first rest = all_within before first (few rest)
-  unheard_within before (Ok (requests.WriteNotify sid ioid dtype count value)) first rest = all_within before first (few rest)
+  unheard_within before (Ok (requests.ClearChannel clear)) first rest = all_within before first (few rest)
+  unheard_within before (Ok (requests.ReadNotify read)) first rest = all_within before first (few rest)
+  unheard_within before (Ok (requests.CreateChannel create)) first rest = all_within before first (few rest)
+  unheard_within before (Ok (requests.WriteNotify write)) first rest = all_within before first (few rest)
   unheard_within before (Ok (requests.ClientName name)) first rest = all_within before first (few rest)
   unheard_within before (Ok (requests.HostName host)) first rest = all_within before first (few rest)
   unheard_within before (Ok requests.Echo) first rest = all_within before first (few rest)

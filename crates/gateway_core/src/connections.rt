@@ -20,8 +20,9 @@ use touched_rows::Names;
 /// A client connected from an address.
 #[tactic(auto, using(gateway_state::proofs::SessionsConnected::session_is_new))]
 pub(crate) fn open_session(rows: &mut Rows, number: u32, host: Host) -> Result<(), AllocError>
-    requires connected { HasSessionsConnected rows.old }
-    ensures { OnOk result (rows.new ≡ opened rows.old number host) }
+    requires connected { HasSessionsConnected rows.old.state }
+    ensures ok { OnOk result (rows.new.state ≡ opened rows.old.state number host) }
+    ensures brand { rows.new.brand ≡ rows.old.brand }
 {
     if rows.stands(Dest::Session(number)) {
         return Ok(());
@@ -50,9 +51,11 @@ fn names_of(
     visits: &mut Visits,
     number: u32,
 ) -> Result<Names, AllocError>
-    ensures names { IfOk result (λ names. names ≡ channel_names (filter (is_channel_of number) clients.now.channels)) }
-    ensures bound { OnOk result (visits.new ≤ visits.old + channel_count number clients.now) }
-    ensures no_less { visits.old ≤ visits.new }
+    requires own { visits.old.brand ≡ clients.now.brand }
+    ensures names { IfOk result (λ names. names ≡ channel_names (filter (is_channel_of number) clients.now.rows.channels)) }
+    ensures bound { OnOk result (visits.new.looks ≤ visits.old.looks + channel_count number clients.now.rows) }
+    ensures no_less { visits.old.looks ≤ visits.new.looks }
+    ensures own { visits.new.brand ≡ visits.old.brand }
 {
     let mut names = Names::new(alloc);
     for n in 0..clients.channel_count(number) {
@@ -69,10 +72,13 @@ pub(crate) fn lose_session(
     visits: &mut Visits,
     number: u32,
 ) -> Result<Names, AllocError>
-    ensures ok { OnOk result (rows.new ≡ lost rows.old number) }
-    ensures names { IfOk result (λ names. names ≡ names_of rows.old number) }
-    ensures bound { OnOk result (visits.new ≤ visits.old + channel_count number rows.old.clients) }
-    ensures no_less { visits.old ≤ visits.new }
+    requires own { visits.old.brand ≡ rows.old.brand }
+    ensures ok { OnOk result (rows.new.state ≡ lost rows.old.state number) }
+    ensures names { IfOk result (λ names. names ≡ names_of rows.old.state number) }
+    ensures bound { OnOk result (visits.new.looks ≤ visits.old.looks + channel_count number rows.old.state.clients) }
+    ensures no_less { visits.old.looks ≤ visits.new.looks }
+    ensures brand { rows.new.brand ≡ rows.old.brand }
+    ensures own { visits.new.brand ≡ visits.old.brand }
 {
     let names = names_of(rows.alloc, &rows.clients, visits, number)?;
     rows.connections.remove(Dest::Session(number));
@@ -83,7 +89,8 @@ pub(crate) fn lose_session(
 
 /// A server is connected.
 pub(crate) fn open_server(rows: &mut Rows, number: u32) -> Result<(), AllocError>
-    ensures { OnOk result (rows.new ≡ up_opened rows.old number) }
+    ensures ok { OnOk result (rows.new.state ≡ up_opened rows.old.state number) }
+    ensures brand { rows.new.brand ≡ rows.old.brand }
 {
     if rows.stands(Dest::Upstream(number)) {
         return Ok(());
@@ -100,7 +107,8 @@ pub(crate) fn open_server(rows: &mut Rows, number: u32) -> Result<(), AllocError
 
 /// Says the gateway's version and names to a server.
 fn introduce(rows: &mut Rows, number: u32) -> Result<(), AllocError>
-    ensures { OnOk result (rows.new ≡ introduced number rows.old) }
+    ensures ok { OnOk result (rows.new.state ≡ introduced number rows.old.state) }
+    ensures brand { rows.new.brand ≡ rows.old.brand }
 {
     let client_name = rows.config.client_name.copy()?;
     let host_name = rows.config.host_name.copy()?;
@@ -125,8 +133,9 @@ fn server_names(alloc: Global, upstream: &Links, number: u32) -> Result<Names, A
 
 /// A server's connection is gone. It answers the variables of its links.
 pub(crate) fn lose_server(rows: &mut Rows, number: u32) -> Result<Names, AllocError>
-    ensures ok { OnOk result (rows.new ≡ up_lost rows.old number) }
-    ensures names { IfOk result (λ names. names ≡ server_names rows.old number) }
+    ensures ok { OnOk result (rows.new.state ≡ up_lost rows.old.state number) }
+    ensures names { IfOk result (λ names. names ≡ server_names rows.old.state number) }
+    ensures brand { rows.new.brand ≡ rows.old.brand }
 {
     let names = server_names(rows.alloc, &rows.upstream, number)?;
     rows.connections.remove(Dest::Upstream(number));

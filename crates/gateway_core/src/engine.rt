@@ -39,18 +39,19 @@ impl Model for Engine {
     ghost use Rattle.gateway_core.specs.EngineState.{EngineState};
     ghost use Rattle.rule_desk.specs.contracts.policy.Policy as the_policy;
     ghost use Rattle.std.specs.Coded.{codes};
+    ghost use Rattle.std.specs.Option.{option_map};
 
     ghost Value = { EngineState };
 
     ghost coded = { Prim.hlevel (codes, the_policy.the_row.coded) };
 
-    ghost view = { λ e. record { state = e.rows; visits = e.visits } };
+    ghost view = { λ e. record { state = option_map (λ rows. rows.state) e.rows; visits = e.visits.looks } };
 
     ghost use Rattle.std.specs.Option.{ForSome};
-    ghost use Rattle.gateway_state.specs.Reached.{IsReached};
+    ghost use Rattle.gateway_core.specs.EngineState.{IsRunning};
 
-    // Whatever happened, the rows are those that a run of events reaches.
-    ghost invariant = { λ e. ForSome e.rows IsReached };
+    // Whatever happened, the rows are those that a run of events reaches, and looks at them are counted.
+    ghost invariant = { λ e. ForSome e.rows (IsRunning e.visits) };
 }
 
 impl Engine {

@@ -25,12 +25,15 @@ use touched_rows::{Names, Touched};
 /// Performs one event, in a state that a run reaches.
 #[tactic(auto, using(gateway_state::proofs::NumberLemmas::consequences_past, touched_rows::proofs::ToldAlone::step_alone, crate::proofs::Looked::looked_in_all, crate::proofs::BeforeReads::looked_without), unfolding(gateway_state::specs::Step::step))]
 pub(crate) fn step(rows: &mut Rows, visits: &mut Visits, event: Event) -> Result<(), Refusal>
-    requires reached { IsReached rows.old }
-    ensures ok { OnOk result (rows.new ≡ step rows.old event) }
-    ensures used_up { IsErrOf result Refusal.NumbersUsedUp → is_past_numbers (step rows.old event) ≡ true }
-    ensures in_range { OnOk result (is_past_numbers rows.new ≡ false) }
-    ensures bound { OnOk result (IsWithin (event_looks rows.old event) visits.old visits.new) }
-    ensures no_less { visits.old ≤ visits.new }
+    requires reached { IsReached rows.old.state }
+    requires own { visits.old.brand ≡ rows.old.brand }
+    ensures ok { OnOk result (rows.new.state ≡ step rows.old.state event) }
+    ensures used_up { IsErrOf result Refusal.NumbersUsedUp → is_past_numbers (step rows.old.state event) ≡ true }
+    ensures in_range { OnOk result (is_past_numbers rows.new.state ≡ false) }
+    ensures bound { OnOk result (IsWithin (event_looks rows.old.state event) visits.old.looks visits.new.looks) }
+    ensures no_less { visits.old.looks ≤ visits.new.looks }
+    ensures brand { rows.new.brand ≡ rows.old.brand }
+    ensures own { visits.new.brand ≡ visits.old.brand }
 {
     let touched = perform(rows, visits, event)?;
     follow(rows, visits, touched)?;
@@ -46,12 +49,15 @@ pub(crate) fn drain(
     dest: Dest,
     count: usize,
 ) -> Result<Vec<Out>, Refusal>
-    requires reached { IsReached rows.old }
-    ensures ok { OnOk result (rows.new ≡ step rows.old (Event.Drain dest count)) }
-    ensures found { IfOk result (λ outs. outs.items ≡ taken rows.old (Event.Drain dest count) dest) }
-    ensures used_up { IsErrOf result Refusal.NumbersUsedUp → is_past_numbers (step rows.old (Event.Drain dest count)) ≡ true }
-    ensures in_range { OnOk result (is_past_numbers rows.new ≡ false) }
-    ensures no_less { visits.old ≤ visits.new }
+    requires reached { IsReached rows.old.state }
+    requires own { visits.old.brand ≡ rows.old.brand }
+    ensures ok { OnOk result (rows.new.state ≡ step rows.old.state (Event.Drain dest count)) }
+    ensures found { IfOk result (λ outs. outs.items ≡ taken rows.old.state (Event.Drain dest count) dest) }
+    ensures used_up { IsErrOf result Refusal.NumbersUsedUp → is_past_numbers (step rows.old.state (Event.Drain dest count)) ≡ true }
+    ensures in_range { OnOk result (is_past_numbers rows.new.state ≡ false) }
+    ensures no_less { visits.old.looks ≤ visits.new.looks }
+    ensures brand { rows.new.brand ≡ rows.old.brand }
+    ensures own { visits.new.brand ≡ visits.old.brand }
 {
     let touched = drain_touches(rows, dest);
     let outs = rows.take(dest, count)?;
@@ -62,7 +68,7 @@ pub(crate) fn drain(
 
 /// A client whose outbox took no updates may take them again once it was drained.
 fn drain_touches(rows: &Rows, dest: Dest) -> Touched
-    ensures { result ≡ drain_touches rows.now dest }
+    ensures { result ≡ drain_touches rows.now.state dest }
 {
     match dest {
         Dest::Session(number) if !rows.is_taking(number) => Touched::Session(number),
@@ -73,12 +79,15 @@ fn drain_touches(rows: &Rows, dest: Dest) -> Touched
 /// What the event does by itself. It answers what was touched. A read that was touched isn't kept yet.
 #[tactic(auto, using(gateway_rows::proofs::OwnStays::within_none, touched_rows::proofs::KeptLate::reply_keeps_none, touched_rows::proofs::KeptLate::drain_keeps_none))]
 fn perform(rows: &mut Rows, visits: &mut Visits, event: Event) -> Result<Touched, Refusal>
-    requires ready { IsReadyForEvent rows.old }
-    ensures ok { IfOk result (λ touched. with_touched touched rows.new ≡ direct_effect rows.old event) }
-    ensures touched { IfOk result (λ touched. touched ≡ event_touches rows.old event) }
-    ensures used_up { IsErrOf result Refusal.NumbersUsedUp → is_past_numbers (direct_effect rows.old event) ≡ true }
-    ensures bound { OnOk result (IsWithin (direct_looks rows.old event) visits.old visits.new) }
-    ensures no_less { visits.old ≤ visits.new }
+    requires ready { IsReadyForEvent rows.old.state }
+    requires own { visits.old.brand ≡ rows.old.brand }
+    ensures ok { IfOk result (λ touched. with_touched touched rows.new.state ≡ direct_effect rows.old.state event) }
+    ensures touched { IfOk result (λ touched. touched ≡ event_touches rows.old.state event) }
+    ensures used_up { IsErrOf result Refusal.NumbersUsedUp → is_past_numbers (direct_effect rows.old.state event) ≡ true }
+    ensures bound { OnOk result (IsWithin (direct_looks rows.old.state event) visits.old.looks visits.new.looks) }
+    ensures no_less { visits.old.looks ≤ visits.new.looks }
+    ensures brand { rows.new.brand ≡ rows.old.brand }
+    ensures own { visits.new.brand ≡ visits.old.brand }
 {
     match event {
         Event::Opened(number, host) => {
@@ -138,14 +147,15 @@ fn perform(rows: &mut Rows, visits: &mut Visits, event: Event) -> Result<Touched
 
 /// The variables that searches lead to.
 fn searched_names(rows: &Rows) -> Result<Names, AllocError>
-    ensures { IfOk result (λ names. names ≡ search_names rows.now.policy rows.now.searches) }
+    ensures { IfOk result (λ names. names ≡ search_names rows.now.state.policy rows.now.state.searches) }
 {
     Names::copied(rows.alloc, rows.searches.names())
 }
 
 /// Somebody at a host looks for a name, which is remembered where it leads somewhere.
 fn search_for(rows: &mut Rows, host: &Host, name: &Name) -> Result<(), AllocError>
-    ensures { OnOk result (rows.new ≡ searched host.now name.now rows.old) }
+    ensures ok { OnOk result (rows.new.state ≡ searched host.now name.now rows.old.state) }
+    ensures brand { rows.new.brand ≡ rows.old.brand }
 {
     match rows.lead_of(host, name)? {
         Some(_) => rows.remember(host, name),

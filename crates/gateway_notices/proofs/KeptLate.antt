@@ -16,14 +16,13 @@ use Rattle.gateway_state.specs.declared.notice.LinkNotice.TheVariants.{Cancelled
 use Rattle.gateway_state.specs.declared.notice.ReadNotice.{ReadNotice}
 use Rattle.gateway_state.specs.declared.notice.ReadNotice.TheVariants.{Answered, Refused}
 use Rattle.gateway_state.specs.declared.reading.Given.{Given}
-use Rattle.gateway_state.specs.declared.reading.Native.{Native}
-use Rattle.gateway_state.specs.Answer.{cached_value, native_in}
+use Rattle.gateway_state.specs.Answer.{cached_value}
 use Rattle.gateway_state.specs.Gateway.{Gateway}
-use Rattle.gateway_state.specs.Notices.{answered_by, answered_natively, answered_over, link_told, notice_on, read_notice}
+use Rattle.gateway_state.specs.Notices.{answered_by, answered_over, link_told, notice_on, read_notice}
 use Rattle.gateway_state.specs.Numbers.{is_past_numbers}
 use Rattle.gateway_state.specs.Rights.{channel_of, may_read, rights_of}
 use Rattle.gateway_state.specs.Telling.{sent}
-use Rattle.gateway_state.specs.Variables.{link_of}
+use Rattle.gateway_state.specs.Variables.{ConnectedVariable, connected, link_of}
 use Rattle.gateway_notices.specs.LateReads.{read_said}
 use Rattle.touched_rows.specs.Touched.{interest_notices_over, interest_told, one_read_told, read_told_if}
 use Rattle.touched_rows.specs.Touches.{with_read}
@@ -59,18 +58,14 @@ answer_of : (read : WaitingRead) (given : Option Given) → IfSome (answered_by 
 answer_of read None = tt
 answer_of read (Some given) = refl
 
-natively_of : (w : Gateway) (read : WaitingRead) (link : Link) (native : Option Native) → IfSome (answered_natively w read link native) (IsOf read)
-natively_of w read link None = tt
-natively_of w read link (Some native) = answer_of read (cached_value w link.cid native.count read.dtype read.count)
-
-over_of : (w : Gateway) (read : WaitingRead) (link : Option Link) → IfSome (answered_over w read link) (IsOf read)
+over_of : (w : Gateway) (read : WaitingRead) (over : Option ConnectedVariable) → IfSome (answered_over w read over) (IsOf read)
 over_of w read None = tt
-over_of w read (Some link) = natively_of w read link (native_in link.state)
+over_of w read (Some v) = answer_of read (cached_value w v.link.cid v.native.count read.dtype read.count)
 
 on_of : (w : Gateway) (read : WaitingRead) (on : Option Channel) → IfSome (notice_on w read on) (IsOf read)
 on_of w read None = tt
 on_of w read (Some c) =
-    elim (may_read (rights_of w c)) as (λ t. IfSome (cond t (answered_over w read (link_of w c.real)) (Some (Refused read ECA_NORDACCESS))) (IsOf read)) [ true ↦ over_of w read (link_of w c.real) | false ↦ refl ]
+    elim (may_read (rights_of w c)) as (λ t. IfSome (cond t (answered_over w read (connected w c.real)) (Some (Refused read ECA_NORDACCESS))) (IsOf read)) [ true ↦ over_of w read (connected w c.real) | false ↦ refl ]
 
 -- ---- and one that is told goes, where none like it was there before
 

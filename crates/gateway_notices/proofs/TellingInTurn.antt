@@ -8,19 +8,17 @@ use Rattle.ca_message.specs.declared.to_client.ToClient.TheVariants as replies
 use Rattle.channel_table.specs.declared.channels.Channel.{Channel}
 use Rattle.channel_table.specs.declared.subs.ClientSub.{ClientSub}
 use Rattle.channel_table.specs.Channels.{is_channel_on}
-use Rattle.link_table.specs.declared.links.Link.{Link}
 use Rattle.gateway_state.specs.declared.event.Dest.TheVariants.{Session as ToSession}
 use Rattle.gateway_state.specs.declared.notice.UpdateNotice.{UpdateNotice}
 use Rattle.gateway_state.specs.declared.reading.Given.{Given}
-use Rattle.gateway_state.specs.declared.reading.Native.{Native}
-use Rattle.gateway_state.specs.Answer.{cached_value, native_in}
+use Rattle.gateway_state.specs.Answer.{cached_value}
 use Rattle.gateway_state.specs.Gateway.{Gateway}
 use Rattle.gateway_state.specs.Rights.{channel_of, may_read, rights_of}
 use Rattle.gateway_state.specs.Telling.{outgoing, sent, told}
 use Rattle.gateway_state.specs.Told.{KnowRights}
-use Rattle.gateway_state.specs.Updates.{is_open_to, is_paused, is_sub_to, is_taking, update_by, update_natively, update_notice, update_on, update_over, update_told, with_owed_of}
-use Rattle.gateway_state.specs.Variables.{link_of}
-use Rattle.gateway_notices.specs.InTurn.{source_natively, source_over, told_in_turn}
+use Rattle.gateway_state.specs.Updates.{is_open_to, is_paused, is_sub_to, is_taking, update_by, update_notice, update_on, update_over, update_told, with_owed_of}
+use Rattle.gateway_state.specs.Variables.{ConnectedVariable, connected}
+use Rattle.gateway_notices.specs.InTurn.{source_over, told_in_turn}
 use Rattle.gateway_notices.specs.declared.source.Source.{Source}
 use Rattle.touched_rows.specs.Touched.{update_told_if}
 use Rattle.row_index.proofs.Named.{same_bytes}
@@ -62,18 +60,14 @@ given_for : (sub : ClientSub) (given : Option Given) → IsFor sub.session (upda
 given_for sub None = tt
 given_for sub (Some given) = refl
 
-natively_for : (w : Gateway) (sub : ClientSub) (link : Link) (native : Option Native) → IsFor sub.session (update_natively w sub link native)
-natively_for w sub link None = tt
-natively_for w sub link (Some native) = given_for sub (cached_value w link.cid native.count sub.dtype sub.count)
-
-over_for : (w : Gateway) (sub : ClientSub) (link : Option Link) → IsFor sub.session (update_over w sub link)
+over_for : (w : Gateway) (sub : ClientSub) (over : Option ConnectedVariable) → IsFor sub.session (update_over w sub over)
 over_for w sub None = tt
-over_for w sub (Some link) = natively_for w sub link (native_in link.state)
+over_for w sub (Some v) = given_for sub (cached_value w v.link.cid v.native.count sub.dtype sub.count)
 
 on_for : (w : Gateway) (sub : ClientSub) (channel : Option Channel) → IsFor sub.session (update_on w sub channel)
 on_for w sub None = tt
 on_for w sub (Some c) =
-    elim (may_read (rights_of w c)) as (λ t. IsFor sub.session (cond t (update_over w sub (link_of w c.real)) None)) [ true ↦ over_for w sub (link_of w c.real) | false ↦ tt ]
+    elim (may_read (rights_of w c)) as (λ t. IsFor sub.session (cond t (update_over w sub (connected w c.real)) None)) [ true ↦ over_for w sub (connected w c.real) | false ↦ tt ]
 
 -- an outbox that takes none is given none
 module _ (v : Gateway) (number : ℕ) where
@@ -149,11 +143,11 @@ if_told w (Some n) told_rights =
 pub know_rights_next : (w : Gateway) (sub : ClientSub) → KnowRights w → KnowRights (told_in_turn w sub)
 know_rights_next w sub told_rights = if_told w (update_notice w sub) told_rights
 
-if_linked : (w : Gateway) (notice : Option UpdateNotice) (name : List ℕ) → link_of (update_told_if notice w) name ≡ link_of w name
+if_connected : (w : Gateway) (notice : Option UpdateNotice) (name : List ℕ) → connected (update_told_if notice w) name ≡ connected w name
 unfolding sent
-if_linked w None name = refl
-if_linked w (Some n) name =
-    elim (is_taking w n.session) as (λ t. link_of (cond t (told n.session (replies.Update n.id n.dtype n.count n.payload) (with_owed_of n.session n.id false w)) w) name ≡ link_of w name) [ true ↦ refl | false ↦ refl ]
+if_connected w None name = refl
+if_connected w (Some n) name =
+    elim (is_taking w n.session) as (λ t. connected (cond t (told n.session (replies.Update n.id n.dtype n.count n.payload) (with_owed_of n.session n.id false w)) w) name ≡ connected w name) [ true ↦ refl | false ↦ refl ]
 
 if_on : (w : Gateway) (notice : Option UpdateNotice) (name : List ℕ) (sub : ClientSub) → is_sub_to (update_told_if notice w) name sub ≡ is_sub_to w name sub
 unfolding sent
@@ -166,24 +160,16 @@ pub on_next : (w : Gateway) (sub : ClientSub) (name : List ℕ) (subs : List Cli
 on_next w sub name subs on = λ k d within. if_on w (update_notice w sub) name (slice_index_or subs k d) ∙ on k d within
 
 -- and the value is where it was
-pub source_next : (w : Gateway) (sub : ClientSub) (name : List ℕ) (source : Option Source) → source ≡ source_over (link_of w name) → source ≡ source_over (link_of (told_in_turn w sub) name)
-source_next w sub name source is = is ∙ ap source_over (sym (if_linked w (update_notice w sub) name))
+pub source_next : (w : Gateway) (sub : ClientSub) (name : List ℕ) (source : Option Source) → source ≡ source_over (connected w name) → source ≡ source_over (connected (told_in_turn w sub) name)
+source_next w sub name source is = is ∙ ap source_over (sym (if_connected w (update_notice w sub) name))
 
 -- an update by where the value is
-pub update_from : (w : Gateway) (sub : ClientSub) (source : Source) (link : Option Link) → Some source ≡ source_over link → update_by sub (cached_value w source.cid source.native sub.dtype sub.count) ≡ update_over w sub link
+pub update_from : (w : Gateway) (sub : ClientSub) (source : Source) (over : Option ConnectedVariable) → Some source ≡ source_over over → update_by sub (cached_value w source.cid source.native sub.dtype sub.count) ≡ update_over w sub over
 update_from w sub source None is = cc
-update_from w sub source (Some link) is = by (native_in link.state) is
-  where
-    by : (native : Option Native) → Some source ≡ source_natively link native → update_by sub (cached_value w source.cid source.native sub.dtype sub.count) ≡ update_natively w sub link native
-    by None none = cc
-    by (Some native) there =
-        let here : source ≡ record { cid = link.cid; native = native.count } = cc in
-        ap (λ (s : Source). update_by sub (cached_value w s.cid s.native sub.dtype sub.count)) here
+update_from w sub source (Some v) is =
+    let here : source ≡ record { cid = v.link.cid; native = v.native.count } = cc in
+    ap (λ (s : Source). update_by sub (cached_value w s.cid s.native sub.dtype sub.count)) here
 
-pub update_from_nowhere : (w : Gateway) (sub : ClientSub) (link : Option Link) → None ≡ source_over link → None ≡ update_over w sub link
+pub update_from_nowhere : (w : Gateway) (sub : ClientSub) (over : Option ConnectedVariable) → None ≡ source_over over → None ≡ update_over w sub over
 update_from_nowhere w sub None is = refl
-update_from_nowhere w sub (Some link) is = by (native_in link.state) is
-  where
-    by : (native : Option Native) → None ≡ source_natively link native → None ≡ update_natively w sub link native
-    by None none = refl
-    by (Some native) there = cc
+update_from_nowhere w sub (Some v) is = cc

@@ -29,8 +29,10 @@ fn channel_notice(
     visits: &mut Visits,
     channel: &Channel,
 ) -> Result<Option<ChannelNotice>, AllocError>
-    ensures found { IfOk result (λ notice. notice ≡ channel_notice rows.now channel.now) }
-    ensures no_less { visits.old ≤ visits.new }
+    requires own { visits.old.brand ≡ rows.now.brand }
+    ensures found { IfOk result (λ notice. notice ≡ channel_notice rows.now.state channel.now) }
+    ensures no_less { visits.old.looks ≤ visits.new.looks }
+    ensures own { visits.new.brand ≡ visits.old.brand }
 {
     if !rows.is_link_connected(&channel.real) {
         return Ok(Some(disconnected(channel)));
@@ -53,8 +55,10 @@ fn channel_notice(
 }
 
 fn channel_notices(rows: &Rows, visits: &mut Visits) -> Result<Vec<ChannelNotice>, AllocError>
-    ensures found { IfOk result (λ notices. notices.items ≡ channel_notices rows.now) }
-    ensures no_less { visits.old ≤ visits.new }
+    requires own { visits.old.brand ≡ rows.now.brand }
+    ensures found { IfOk result (λ notices. notices.items ≡ channel_notices rows.now.state) }
+    ensures no_less { visits.old.looks ≤ visits.new.looks }
+    ensures own { visits.new.brand ≡ visits.old.brand }
 {
     let mut notices = Vec::new(rows.alloc);
     for channel in rows.clients.channels(visits, rows.alloc)? {
@@ -71,8 +75,10 @@ fn channel_notices_on(
     visits: &mut Visits,
     name: &Name,
 ) -> Result<Vec<ChannelNotice>, AllocError>
-    ensures found { IfOk result (λ notices. notices.items ≡ channel_notices_on name.now rows.now) }
-    ensures no_less { visits.old ≤ visits.new }
+    requires own { visits.old.brand ≡ rows.now.brand }
+    ensures found { IfOk result (λ notices. notices.items ≡ channel_notices_on name.now rows.now.state) }
+    ensures no_less { visits.old.looks ≤ visits.new.looks }
+    ensures own { visits.new.brand ≡ visits.old.brand }
 {
     let mut notices = Vec::new(rows.alloc);
     for channel in rows.channels_on(visits, name)? {
@@ -91,8 +97,11 @@ fn set_rights(
     reach: Reach,
     rights: u32,
 )
-    ensures ok { rows.new ≡ with_reach session sid reach rights rows.old }
-    ensures no_less { visits.old ≤ visits.new }
+    requires own { visits.old.brand ≡ rows.old.brand }
+    ensures ok { rows.new.state ≡ with_reach session sid reach rights rows.old.state }
+    ensures no_less { visits.old.looks ≤ visits.new.looks }
+    ensures brand { rows.new.brand ≡ rows.old.brand }
+    ensures own { visits.new.brand ≡ visits.old.brand }
 {
     rows.clients
         .put_channel(visits, session, sid, reach, rights);
@@ -103,8 +112,11 @@ fn tell_channel(
     visits: &mut Visits,
     notice: ChannelNotice,
 ) -> Result<(), AllocError>
-    ensures ok { OnOk result (rows.new ≡ channel_told rows.old notice) }
-    ensures no_less { visits.old ≤ visits.new }
+    requires own { visits.old.brand ≡ rows.old.brand }
+    ensures ok { OnOk result (rows.new.state ≡ channel_told rows.old.state notice) }
+    ensures no_less { visits.old.looks ≤ visits.new.looks }
+    ensures brand { rows.new.brand ≡ rows.old.brand }
+    ensures own { visits.new.brand ≡ visits.old.brand }
 {
     match notice {
         ChannelNotice::Disconnected { session, sid, cid } => {
@@ -129,8 +141,11 @@ pub(crate) fn tell_each(
     visits: &mut Visits,
     notices: &[ChannelNotice],
 ) -> Result<(), AllocError>
-    ensures ok { OnOk result (rows.new ≡ fold channel_told rows.old notices.now) }
-    ensures no_less { visits.old ≤ visits.new }
+    requires own { visits.old.brand ≡ rows.old.brand }
+    ensures ok { OnOk result (rows.new.state ≡ fold channel_told rows.old.state notices.now) }
+    ensures no_less { visits.old.looks ≤ visits.new.looks }
+    ensures brand { rows.new.brand ≡ rows.old.brand }
+    ensures own { visits.new.brand ≡ visits.old.brand }
 {
     for notice in notices {
         tell_channel(rows, visits, *notice)?;
@@ -140,8 +155,11 @@ pub(crate) fn tell_each(
 
 /// Tells clients of channels that are gone, and of rights that changed.
 pub(crate) fn tell_channels(rows: &mut Rows, visits: &mut Visits) -> Result<(), AllocError>
-    ensures ok { OnOk result (rows.new ≡ channels_told rows.old) }
-    ensures no_less { visits.old ≤ visits.new }
+    requires own { visits.old.brand ≡ rows.old.brand }
+    ensures ok { OnOk result (rows.new.state ≡ channels_told rows.old.state) }
+    ensures no_less { visits.old.looks ≤ visits.new.looks }
+    ensures brand { rows.new.brand ≡ rows.old.brand }
+    ensures own { visits.new.brand ≡ visits.old.brand }
 {
     let notices = channel_notices(rows, visits)?;
     tell_each(rows, visits, &notices)
@@ -153,8 +171,11 @@ pub(crate) fn tell_channels_on(
     visits: &mut Visits,
     name: &Name,
 ) -> Result<(), AllocError>
-    ensures ok { OnOk result (rows.new ≡ channels_told_on name.now rows.old) }
-    ensures no_less { visits.old ≤ visits.new }
+    requires own { visits.old.brand ≡ rows.old.brand }
+    ensures ok { OnOk result (rows.new.state ≡ channels_told_on name.now rows.old.state) }
+    ensures no_less { visits.old.looks ≤ visits.new.looks }
+    ensures brand { rows.new.brand ≡ rows.old.brand }
+    ensures own { visits.new.brand ≡ visits.old.brand }
 {
     let notices = channel_notices_on(rows, visits, name)?;
     tell_each(rows, visits, &notices)

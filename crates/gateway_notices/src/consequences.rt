@@ -27,10 +27,13 @@ use touched_rows::Touched;
 /// All passes, over all rows.
 #[tactic(auto, using(gateway_state::proofs::NumberLemmas::links_told_past, gateway_state::proofs::OrderKept::order_before_links, gateway_state::proofs::ToldRights::told_before_withheld, gateway_state::proofs::ToldRights::told_before_links, gateway_state::proofs::ToldRights::told_before_reads, gateway_state::proofs::ToldRights::told_before_updates))]
 fn follow_all(rows: &mut Rows, visits: &mut Visits) -> Result<(), Refusal>
-    requires order { AreInOrder rows.old }
-    ensures ok { OnOk result (rows.new ≡ consequences rows.old) }
-    ensures used_up { IsErrOf result Refusal.NumbersUsedUp → is_past_numbers (consequences rows.old) ≡ true }
-    ensures no_less { visits.old ≤ visits.new }
+    requires order { AreInOrder rows.old.state }
+    requires own { visits.old.brand ≡ rows.old.brand }
+    ensures ok { OnOk result (rows.new.state ≡ consequences rows.old.state) }
+    ensures used_up { IsErrOf result Refusal.NumbersUsedUp → is_past_numbers (consequences rows.old.state) ≡ true }
+    ensures no_less { visits.old.looks ≤ visits.new.looks }
+    ensures brand { rows.new.brand ≡ rows.old.brand }
+    ensures own { visits.new.brand ≡ visits.old.brand }
 {
     tell_channels(rows, visits)?;
     withhold_updates(rows, visits)?;
@@ -43,10 +46,13 @@ fn follow_all(rows: &mut Rows, visits: &mut Visits) -> Result<(), Refusal>
 /// The same where names may lead elsewhere. What they lead to is learned first, so that the rules are run
 /// once for each channel.
 fn follow_anew(rows: &mut Rows, visits: &mut Visits) -> Result<(), Refusal>
-    requires order { AreInOrder rows.old }
-    ensures ok { OnOk result (rows.new ≡ consequences rows.old) }
-    ensures used_up { IsErrOf result Refusal.NumbersUsedUp → is_past_numbers (consequences rows.old) ≡ true }
-    ensures no_less { visits.old ≤ visits.new }
+    requires order { AreInOrder rows.old.state }
+    requires own { visits.old.brand ≡ rows.old.brand }
+    ensures ok { OnOk result (rows.new.state ≡ consequences rows.old.state) }
+    ensures used_up { IsErrOf result Refusal.NumbersUsedUp → is_past_numbers (consequences rows.old.state) ≡ true }
+    ensures no_less { visits.old.looks ≤ visits.new.looks }
+    ensures brand { rows.new.brand ≡ rows.old.brand }
+    ensures own { visits.new.brand ≡ visits.old.brand }
 {
     rows.learn_leads(visits)?;
     follow_all(rows, visits)
@@ -55,11 +61,14 @@ fn follow_anew(rows: &mut Rows, visits: &mut Visits) -> Result<(), Refusal>
 /// All passes, over the rows of one variable.
 #[tactic(auto, using(touched_rows::proofs::Numbers::variable_follows_past, touched_rows::proofs::Ready::order_before_link, touched_rows::proofs::Ready::told_after_withheld, touched_rows::proofs::Ready::told_after_link))]
 fn follow_variable(rows: &mut Rows, visits: &mut Visits, name: &Name) -> Result<(), Refusal>
-    requires order { AreInOrder rows.old }
-    requires told { KnowRights (channels_told_on name.now rows.old) }
-    ensures ok { OnOk result (rows.new ≡ variable_told name.now rows.old) }
-    ensures used_up { IsErrOf result Refusal.NumbersUsedUp → is_past_numbers (variable_told name.now rows.old) ≡ true }
-    ensures no_less { visits.old ≤ visits.new }
+    requires order { AreInOrder rows.old.state }
+    requires told { KnowRights (channels_told_on name.now rows.old.state) }
+    requires own { visits.old.brand ≡ rows.old.brand }
+    ensures ok { OnOk result (rows.new.state ≡ variable_told name.now rows.old.state) }
+    ensures used_up { IsErrOf result Refusal.NumbersUsedUp → is_past_numbers (variable_told name.now rows.old.state) ≡ true }
+    ensures no_less { visits.old.looks ≤ visits.new.looks }
+    ensures brand { rows.new.brand ≡ rows.old.brand }
+    ensures own { visits.new.brand ≡ visits.old.brand }
 {
     tell_channels_on(rows, visits, name)?;
     withhold_updates_on(rows, visits, name)?;
@@ -70,10 +79,13 @@ fn follow_variable(rows: &mut Rows, visits: &mut Visits, name: &Name) -> Result<
 /// Answers the reads that wait for a variable and are covered, and gives the updates that are due on it.
 #[tactic(auto, using(touched_rows::proofs::Ready::told_after_reads, crate::proofs::SubsStay::subs_after_reads, crate::proofs::SubsStay::list_after_reads))]
 fn tell_value(rows: &mut Rows, visits: &mut Visits, name: &Name) -> Result<(), AllocError>
-    requires told { KnowRights rows.old }
-    ensures ok { OnOk result (rows.new ≡ updates_told_on name.now (reads_told_on name.now rows.old)) }
-    ensures bound { OnOk result (visits.new ≤ visits.old + 5 * subs_on rows.old name.now + 2 * reads_on rows.old name.now) }
-    ensures no_less { visits.old ≤ visits.new }
+    requires told { KnowRights rows.old.state }
+    requires own { visits.old.brand ≡ rows.old.brand }
+    ensures ok { OnOk result (rows.new.state ≡ updates_told_on name.now (reads_told_on name.now rows.old.state)) }
+    ensures bound { OnOk result (visits.new.looks ≤ visits.old.looks + 5 * subs_on rows.old.state name.now + 2 * reads_on rows.old.state name.now) }
+    ensures no_less { visits.old.looks ≤ visits.new.looks }
+    ensures brand { rows.new.brand ≡ rows.old.brand }
+    ensures own { visits.new.brand ≡ visits.old.brand }
 {
     let subs = rows.subs_on(visits, name)?;
     share_on(rows, visits, name, &subs)?;
@@ -84,12 +96,15 @@ fn tell_value(rows: &mut Rows, visits: &mut Visits, name: &Name) -> Result<(), A
 /// What follows from an event that touched this. A read that was touched isn't kept yet.
 #[tactic(auto, using(touched_rows::proofs::Numbers::update_follows_past, touched_rows::proofs::Ready::told_after_interest))]
 pub fn follow(rows: &mut Rows, visits: &mut Visits, touched: Touched) -> Result<(), Refusal>
-    requires order { AreInOrder rows.old }
-    requires told { IsReady touched rows.old }
-    ensures ok { OnOk result (rows.new ≡ follows touched (with_touched touched rows.old)) }
-    ensures used_up { IsErrOf result Refusal.NumbersUsedUp → is_past_numbers (follows touched (with_touched touched rows.old)) ≡ true }
-    ensures bound { OnOk result (IsWithin (looks_after touched rows.old) visits.old visits.new) }
-    ensures no_less { visits.old ≤ visits.new }
+    requires order { AreInOrder rows.old.state }
+    requires told { IsReady touched rows.old.state }
+    requires own { visits.old.brand ≡ rows.old.brand }
+    ensures ok { OnOk result (rows.new.state ≡ follows touched (with_touched touched rows.old.state)) }
+    ensures used_up { IsErrOf result Refusal.NumbersUsedUp → is_past_numbers (follows touched (with_touched touched rows.old.state)) ≡ true }
+    ensures bound { OnOk result (IsWithin (looks_after touched rows.old.state) visits.old.looks visits.new.looks) }
+    ensures no_less { visits.old.looks ≤ visits.new.looks }
+    ensures brand { rows.new.brand ≡ rows.old.brand }
+    ensures own { visits.new.brand ≡ visits.old.brand }
 {
     match touched {
         Touched::All => follow_anew(rows, visits),

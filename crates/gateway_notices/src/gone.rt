@@ -17,8 +17,10 @@ fn channels_of<'a>(
     visits: &mut Visits,
     names: &Names,
 ) -> Result<Vec<&'a Channel>, AllocError>
-    ensures found { IfOk result (λ channels. map (λ channel. channel.now) channels.items ≡ flat_map (λ name. filter (is_on name) rows.now.clients.channels) names.now) }
-    ensures no_less { visits.old ≤ visits.new }
+    requires own { visits.old.brand ≡ rows.now.brand }
+    ensures found { IfOk result (λ channels. map (λ channel. channel.now) channels.items ≡ flat_map (λ name. filter (is_on name) rows.now.state.clients.channels) names.now) }
+    ensures no_less { visits.old.looks ≤ visits.new.looks }
+    ensures own { visits.new.brand ≡ visits.old.brand }
 {
     let mut channels = Vec::new(rows.alloc);
     for name in names.as_slice() {
@@ -34,9 +36,11 @@ fn channels_among<'a>(
     visits: &mut Visits,
     names: &Names,
 ) -> Result<Vec<&'a Channel>, AllocError>
-    requires order { HasSidsInOrder rows.now }
-    ensures found { IfOk result (λ channels. map (λ channel. channel.now) channels.items ≡ filter (is_channel_among names.now) rows.now.clients.channels) }
-    ensures no_less { visits.old ≤ visits.new }
+    requires order { HasSidsInOrder rows.now.state }
+    requires own { visits.old.brand ≡ rows.now.brand }
+    ensures found { IfOk result (λ channels. map (λ channel. channel.now) channels.items ≡ filter (is_channel_among names.now) rows.now.state.clients.channels) }
+    ensures no_less { visits.old.looks ≤ visits.new.looks }
+    ensures own { visits.new.brand ≡ visits.old.brand }
 {
     let mut channels = channels_of(rows, visits, names)?;
     channels.sort_unstable_by_key(|channel| channel.sid);
@@ -49,9 +53,11 @@ fn gone_notices(
     visits: &mut Visits,
     names: &Names,
 ) -> Result<Vec<ChannelNotice>, AllocError>
-    requires order { HasSidsInOrder rows.now }
-    ensures found { IfOk result (λ notices. notices.items ≡ gone_notices_among names.now rows.now) }
-    ensures no_less { visits.old ≤ visits.new }
+    requires order { HasSidsInOrder rows.now.state }
+    requires own { visits.old.brand ≡ rows.now.brand }
+    ensures found { IfOk result (λ notices. notices.items ≡ gone_notices_among names.now rows.now.state) }
+    ensures no_less { visits.old.looks ≤ visits.new.looks }
+    ensures own { visits.new.brand ≡ visits.old.brand }
 {
     let mut notices = Vec::new(rows.alloc);
     for channel in channels_among(rows, visits, names)? {
@@ -66,9 +72,12 @@ pub(crate) fn tell_gone(
     visits: &mut Visits,
     names: &Names,
 ) -> Result<(), AllocError>
-    requires order { HasSidsInOrder rows.old }
-    ensures ok { OnOk result (rows.new ≡ channels_gone_on names.now rows.old) }
-    ensures no_less { visits.old ≤ visits.new }
+    requires order { HasSidsInOrder rows.old.state }
+    requires own { visits.old.brand ≡ rows.old.brand }
+    ensures ok { OnOk result (rows.new.state ≡ channels_gone_on names.now rows.old.state) }
+    ensures no_less { visits.old.looks ≤ visits.new.looks }
+    ensures brand { rows.new.brand ≡ rows.old.brand }
+    ensures own { visits.new.brand ≡ visits.old.brand }
 {
     let notices = gone_notices(rows, visits, names)?;
     tell_each(rows, visits, &notices)

@@ -31,8 +31,8 @@ fn add_subject_notices(
     sid: u32,
     native: Native,
 ) -> Result<(), AllocError>
-    requires wanted { want ≡ wanted_for subject rows.now link.now.name native.dtype native.count }
-    ensures { OnOk result (notices.new.items ≡ notices.old.items ++ subject_notices subject rows.now link.now sid native.dtype native.count) }
+    requires wanted { want ≡ wanted_for subject rows.now.state link.now.name native.dtype native.count }
+    ensures { OnOk result (notices.new.items ≡ notices.old.items ++ subject_notices subject rows.now.state link.now sid native.dtype native.count) }
 {
     let (server, cid) = (link.server, link.cid);
     let present = link.subscriptions.at(subject);
@@ -72,8 +72,8 @@ fn add_interest_notices(
     notices: &mut Vec<LinkNotice>,
     link: &Link,
 ) -> Result<(), AllocError>
-    requires told { KnowRights rows.now }
-    ensures { OnOk result (notices.new.items ≡ notices.old.items ++ interest_notices rows.now link.now link.now.state) }
+    requires told { KnowRights rows.now.state }
+    ensures { OnOk result (notices.new.items ≡ notices.old.items ++ interest_notices rows.now.state link.now link.now.state) }
 {
     let LinkState::Connected { sid, dtype, count } = link.state else {
         return Ok(());
@@ -97,8 +97,8 @@ fn add_link_notices(
     notices: &mut Vec<LinkNotice>,
     link: &Link,
 ) -> Result<(), AllocError>
-    requires told { KnowRights rows.now }
-    ensures { OnOk result (notices.new.items ≡ notices.old.items ++ link_notices_of rows.now link.now) }
+    requires told { KnowRights rows.now.state }
+    ensures { OnOk result (notices.new.items ≡ notices.old.items ++ link_notices_of rows.now.state link.now) }
 {
     add_interest_notices(rows, notices, link)?;
     if !rows.is_wanted(&link.name) {
@@ -112,8 +112,8 @@ fn add_link_notices(
 }
 
 fn link_notices(rows: &Rows) -> Result<Vec<LinkNotice>, AllocError>
-    requires told { KnowRights rows.now }
-    ensures { IfOk result (λ notices. notices.items ≡ link_notices rows.now) }
+    requires told { KnowRights rows.now.state }
+    ensures { IfOk result (λ notices. notices.items ≡ link_notices rows.now.state) }
 {
     let mut notices = Vec::new(rows.alloc);
     for link in rows.upstream.links(rows.alloc)? {
@@ -132,8 +132,9 @@ fn set_subscription(
     cid: u32,
     subscription: Option<Subscription>,
 ) -> Result<(), AllocError>
-    requires new { IfSome subscription (λ s. list_any (has_other_sub server cid subject s.id) rows.old.upstream.links ≡ false) }
-    ensures { OnOk result (rows.new ≡ with_subscription_of subject server cid subscription rows.old) }
+    requires new { IfSome subscription (λ s. list_any (has_other_sub server cid subject s.id) rows.old.state.upstream.links ≡ false) }
+    ensures ok { OnOk result (rows.new.state ≡ with_subscription_of subject server cid subscription rows.old.state) }
+    ensures brand { rows.new.brand ≡ rows.old.brand }
 {
     match rows.upstream.set_sub(server, cid, subject, subscription) {
         Ok(()) => Ok(()),
@@ -153,9 +154,10 @@ fn subscribe(
     want: Want,
     sent: u32,
 ) -> Result<(), Refusal>
-    requires order { AreInOrder rows.old }
-    ensures ok { OnOk result (rows.new ≡ subscribed_to subject server cid sid dtype want sent rows.old) }
-    ensures used_up { IsErrOf result Refusal.NumbersUsedUp → is_past_numbers (subscribed_to subject server cid sid dtype want sent rows.old) ≡ true }
+    requires order { AreInOrder rows.old.state }
+    ensures ok { OnOk result (rows.new.state ≡ subscribed_to subject server cid sid dtype want sent rows.old.state) }
+    ensures used_up { IsErrOf result Refusal.NumbersUsedUp → is_past_numbers (subscribed_to subject server cid sid dtype want sent rows.old.state) ≡ true }
+    ensures brand { rows.new.brand ≡ rows.old.brand }
 {
     let Some(id) = rows.upstream.give_out(Counter::Subscription) else {
         return Err(Refusal::NumbersUsedUp);
@@ -181,7 +183,8 @@ fn subscribe(
 }
 
 fn drop_link(rows: &mut Rows, server: u32, cid: u32, state: LinkState) -> Result<(), AllocError>
-    ensures { OnOk result (rows.new ≡ dropped server cid state rows.old) }
+    ensures ok { OnOk result (rows.new.state ≡ dropped server cid state rows.old.state) }
+    ensures brand { rows.new.brand ≡ rows.old.brand }
 {
     rows.remove_link(server, cid);
     match state {
@@ -194,9 +197,10 @@ fn drop_link(rows: &mut Rows, server: u32, cid: u32, state: LinkState) -> Result
 }
 
 fn tell_link(rows: &mut Rows, notice: LinkNotice) -> Result<(), Refusal>
-    requires order { AreInOrder rows.old }
-    ensures ok { OnOk result (rows.new ≡ link_told rows.old notice) }
-    ensures used_up { IsErrOf result Refusal.NumbersUsedUp → is_past_numbers (link_told rows.old notice) ≡ true }
+    requires order { AreInOrder rows.old.state }
+    ensures ok { OnOk result (rows.new.state ≡ link_told rows.old.state notice) }
+    ensures used_up { IsErrOf result Refusal.NumbersUsedUp → is_past_numbers (link_told rows.old.state notice) ≡ true }
+    ensures brand { rows.new.brand ≡ rows.old.brand }
 {
     match notice {
         LinkNotice::Cancelled {
@@ -239,9 +243,10 @@ fn tell_link(rows: &mut Rows, notice: LinkNotice) -> Result<(), Refusal>
 
 #[tactic(auto, using(gateway_state::proofs::OrderKept::order_told))]
 fn tell_each(rows: &mut Rows, notices: &[LinkNotice]) -> Result<(), Refusal>
-    requires order { AreInOrder rows.old }
-    ensures ok { OnOk result (rows.new ≡ fold link_told rows.old notices.now) }
-    ensures used_up { IsErrOf result Refusal.NumbersUsedUp → is_past_numbers (fold link_told rows.old notices.now) ≡ true }
+    requires order { AreInOrder rows.old.state }
+    ensures ok { OnOk result (rows.new.state ≡ fold link_told rows.old.state notices.now) }
+    ensures used_up { IsErrOf result Refusal.NumbersUsedUp → is_past_numbers (fold link_told rows.old.state notices.now) ≡ true }
+    ensures brand { rows.new.brand ≡ rows.old.brand }
 {
     for notice in notices {
         tell_link(rows, *notice)?;
@@ -251,18 +256,19 @@ fn tell_each(rows: &mut Rows, notices: &[LinkNotice]) -> Result<(), Refusal>
 
 /// Asks servers for what is wanted of each variable, and drops links that are no longer wanted.
 pub(crate) fn tell_links(rows: &mut Rows) -> Result<(), Refusal>
-    requires order { AreInOrder rows.old }
-    requires told { KnowRights rows.old }
-    ensures ok { OnOk result (rows.new ≡ links_told rows.old) }
-    ensures used_up { IsErrOf result Refusal.NumbersUsedUp → is_past_numbers (links_told rows.old) ≡ true }
+    requires order { AreInOrder rows.old.state }
+    requires told { KnowRights rows.old.state }
+    ensures ok { OnOk result (rows.new.state ≡ links_told rows.old.state) }
+    ensures used_up { IsErrOf result Refusal.NumbersUsedUp → is_past_numbers (links_told rows.old.state) ≡ true }
+    ensures brand { rows.new.brand ≡ rows.old.brand }
 {
     let notices = link_notices(rows)?;
     tell_each(rows, &notices)
 }
 
 fn interest_notices_on(rows: &Rows, name: &Name) -> Result<Vec<LinkNotice>, AllocError>
-    requires told { KnowRights rows.now }
-    ensures { IfOk result (λ notices. notices.items ≡ interest_notices_over rows.now (link_of rows.now name.now)) }
+    requires told { KnowRights rows.now.state }
+    ensures { IfOk result (λ notices. notices.items ≡ interest_notices_over rows.now.state (link_of rows.now.state name.now)) }
 {
     let mut notices = Vec::new(rows.alloc);
     if let Some(link) = rows.link_of(name) {
@@ -273,18 +279,19 @@ fn interest_notices_on(rows: &Rows, name: &Name) -> Result<Vec<LinkNotice>, Allo
 
 /// Asks one variable's server for what is wanted of it.
 pub(crate) fn tell_interest(rows: &mut Rows, name: &Name) -> Result<(), Refusal>
-    requires order { AreInOrder rows.old }
-    requires told { KnowRights rows.old }
-    ensures ok { OnOk result (rows.new ≡ interest_told name.now rows.old) }
-    ensures used_up { IsErrOf result Refusal.NumbersUsedUp → is_past_numbers (interest_told name.now rows.old) ≡ true }
+    requires order { AreInOrder rows.old.state }
+    requires told { KnowRights rows.old.state }
+    ensures ok { OnOk result (rows.new.state ≡ interest_told name.now rows.old.state) }
+    ensures used_up { IsErrOf result Refusal.NumbersUsedUp → is_past_numbers (interest_told name.now rows.old.state) ≡ true }
+    ensures brand { rows.new.brand ≡ rows.old.brand }
 {
     let notices = interest_notices_on(rows, name)?;
     tell_each(rows, &notices)
 }
 
 fn link_notices_on(rows: &Rows, name: &Name) -> Result<Vec<LinkNotice>, AllocError>
-    requires told { KnowRights rows.now }
-    ensures { IfOk result (λ notices. notices.items ≡ link_notices_over rows.now (link_of rows.now name.now)) }
+    requires told { KnowRights rows.now.state }
+    ensures { IfOk result (λ notices. notices.items ≡ link_notices_over rows.now.state (link_of rows.now.state name.now)) }
 {
     let mut notices = Vec::new(rows.alloc);
     if let Some(link) = rows.link_of(name) {
@@ -295,10 +302,11 @@ fn link_notices_on(rows: &Rows, name: &Name) -> Result<Vec<LinkNotice>, AllocErr
 
 /// The same, and drops its link where it is no longer wanted.
 pub(crate) fn tell_link_on(rows: &mut Rows, name: &Name) -> Result<(), Refusal>
-    requires order { AreInOrder rows.old }
-    requires told { KnowRights rows.old }
-    ensures ok { OnOk result (rows.new ≡ link_told_on name.now rows.old) }
-    ensures used_up { IsErrOf result Refusal.NumbersUsedUp → is_past_numbers (link_told_on name.now rows.old) ≡ true }
+    requires order { AreInOrder rows.old.state }
+    requires told { KnowRights rows.old.state }
+    ensures ok { OnOk result (rows.new.state ≡ link_told_on name.now rows.old.state) }
+    ensures used_up { IsErrOf result Refusal.NumbersUsedUp → is_past_numbers (link_told_on name.now rows.old.state) ≡ true }
+    ensures brand { rows.new.brand ≡ rows.old.brand }
 {
     let notices = link_notices_on(rows, name)?;
     tell_each(rows, &notices)
@@ -306,7 +314,7 @@ pub(crate) fn tell_link_on(rows: &mut Rows, name: &Name) -> Result<(), Refusal>
 
 /// The links of these variables, in the order of the names.
 fn links_of<'a>(rows: &'a Rows, names: &Names) -> Result<Vec<&'a Link>, AllocError>
-    ensures { IfOk result (λ links. map (λ link. link.now) links.items ≡ filter_map (link_of rows.now) names.now) }
+    ensures { IfOk result (λ links. map (λ link. link.now) links.items ≡ filter_map (link_of rows.now.state) names.now) }
 {
     let mut links = Vec::new(rows.alloc);
     for name in names.as_slice() {
@@ -319,9 +327,9 @@ fn links_of<'a>(rows: &'a Rows, names: &Names) -> Result<Vec<&'a Link>, AllocErr
 
 /// The same, each once, in the order of links.
 fn links_among<'a>(rows: &'a Rows, names: &Names) -> Result<Vec<&'a Link>, AllocError>
-    requires order { HasCidsInOrder rows.now }
-    requires apart { HasLinksApart rows.now }
-    ensures { IfOk result (λ links. map (λ link. link.now) links.items ≡ filter (is_link_among names.now) rows.now.upstream.links) }
+    requires order { HasCidsInOrder rows.now.state }
+    requires apart { HasLinksApart rows.now.state }
+    ensures { IfOk result (λ links. map (λ link. link.now) links.items ≡ filter (is_link_among names.now) rows.now.state.upstream.links) }
 {
     let mut links = links_of(rows, names)?;
     links.sort_unstable_by_key(|link| link.cid);
@@ -331,10 +339,10 @@ fn links_among<'a>(rows: &'a Rows, names: &Names) -> Result<Vec<&'a Link>, Alloc
 
 /// The notices on the links of these variables.
 fn link_notices_among(rows: &Rows, names: &Names) -> Result<Vec<LinkNotice>, AllocError>
-    requires order { HasCidsInOrder rows.now }
-    requires apart { HasLinksApart rows.now }
-    requires told { KnowRights rows.now }
-    ensures { IfOk result (λ notices. notices.items ≡ link_notices_among names.now rows.now) }
+    requires order { HasCidsInOrder rows.now.state }
+    requires apart { HasLinksApart rows.now.state }
+    requires told { KnowRights rows.now.state }
+    ensures { IfOk result (λ notices. notices.items ≡ link_notices_among names.now rows.now.state) }
 {
     let mut notices = Vec::new(rows.alloc);
     for link in links_among(rows, names)? {
@@ -345,10 +353,11 @@ fn link_notices_among(rows: &Rows, names: &Names) -> Result<Vec<LinkNotice>, All
 
 /// The same of each of these variables, in the order of their links.
 pub(crate) fn tell_links_among(rows: &mut Rows, names: &Names) -> Result<(), Refusal>
-    requires order { AreInOrder rows.old }
-    requires ready { AreReady rows.old }
-    ensures ok { OnOk result (rows.new ≡ links_told_among names.now rows.old) }
-    ensures used_up { IsErrOf result Refusal.NumbersUsedUp → is_past_numbers (links_told_among names.now rows.old) ≡ true }
+    requires order { AreInOrder rows.old.state }
+    requires ready { AreReady rows.old.state }
+    ensures ok { OnOk result (rows.new.state ≡ links_told_among names.now rows.old.state) }
+    ensures used_up { IsErrOf result Refusal.NumbersUsedUp → is_past_numbers (links_told_among names.now rows.old.state) ≡ true }
+    ensures brand { rows.new.brand ≡ rows.old.brand }
 {
     let notices = link_notices_among(rows, names)?;
     tell_each(rows, &notices)

@@ -6,7 +6,7 @@ ghost use Rattle.gateway_state.specs.Notices.{answered_over, read_notice, read_n
 ghost use Rattle.gateway_state.specs.Numbers.{is_past_numbers};
 ghost use Rattle.gateway_state.specs.Settled.{AreInOrder};
 ghost use Rattle.gateway_state.specs.Told.{KnowRights};
-ghost use Rattle.gateway_state.specs.Variables.{link_of};
+ghost use Rattle.gateway_state.specs.Variables.{connected};
 ghost use Rattle.touched_rows.specs.Touched.{interest_told, one_read_told, read_notices_on, reads_told_on};
 ghost use Rattle.touched_rows.specs.Touches.{with_read};
 
@@ -16,7 +16,7 @@ use ca_message::codes::ECA_NORDACCESS;
 use channel_table::{Visits, WaitingRead};
 use gateway_rows::{Refusal, Rows};
 use gateway_state::ReadNotice;
-use gateway_values::{may_read, native_in};
+use gateway_values::may_read;
 use pv_name::Name;
 use std::alloc::AllocError;
 use std::collections::VecDeque;
@@ -27,15 +27,13 @@ fn answer_over(
     read: WaitingRead,
     name: &Name,
 ) -> Result<Option<ReadNotice>, AllocError>
-    ensures { IfOk result (λ notice. notice ≡ answered_over rows.now read (link_of rows.now name.now)) }
+    ensures { IfOk result (λ notice. notice ≡ answered_over rows.now.state read (connected rows.now.state name.now)) }
 {
-    let Some(link) = rows.link_of(name) else {
+    let Some(variable) = rows.connected(name) else {
         return Ok(None);
     };
-    let Some(native) = native_in(link.state) else {
-        return Ok(None);
-    };
-    match rows.cached_value(link.cid, native.count, read.dtype, read.count)? {
+    let native = variable.native.count;
+    match rows.cached_value(variable.link.cid, native, read.dtype, read.count)? {
         Some(given) => Ok(Some(ReadNotice::Answered(read, given.count, given.payload))),
         None => Ok(None),
     }
@@ -47,10 +45,12 @@ fn read_notice(
     visits: &mut Visits,
     read: WaitingRead,
 ) -> Result<Option<ReadNotice>, AllocError>
-    requires told { KnowRights rows.now }
-    ensures found { IfOk result (λ notice. notice ≡ read_notice rows.now read) }
-    ensures bound { visits.new ≤ visits.old + 1 }
-    ensures no_less { visits.old ≤ visits.new }
+    requires told { KnowRights rows.now.state }
+    requires own { visits.old.brand ≡ rows.now.brand }
+    ensures found { IfOk result (λ notice. notice ≡ read_notice rows.now.state read) }
+    ensures bound { visits.new.looks ≤ visits.old.looks + 1 }
+    ensures no_less { visits.old.looks ≤ visits.new.looks }
+    ensures own { visits.new.brand ≡ visits.old.brand }
 {
     let Some(channel) = rows.told_channel(visits, read.session, read.sid) else {
         return Ok(None);
@@ -63,9 +63,11 @@ fn read_notice(
 }
 
 fn read_notices(rows: &Rows, visits: &mut Visits) -> Result<VecDeque<ReadNotice>, AllocError>
-    requires told { KnowRights rows.now }
-    ensures found { IfOk result (λ notices. notices.items ≡ read_notices rows.now) }
-    ensures no_less { visits.old ≤ visits.new }
+    requires told { KnowRights rows.now.state }
+    requires own { visits.old.brand ≡ rows.now.brand }
+    ensures found { IfOk result (λ notices. notices.items ≡ read_notices rows.now.state) }
+    ensures no_less { visits.old.looks ≤ visits.new.looks }
+    ensures own { visits.new.brand ≡ visits.old.brand }
 {
     let mut notices = VecDeque::new(rows.alloc);
     for read in &rows.clients.reads(visits, rows.alloc)? {
@@ -82,10 +84,12 @@ fn read_notices_on(
     visits: &mut Visits,
     name: &Name,
 ) -> Result<VecDeque<ReadNotice>, AllocError>
-    requires told { KnowRights rows.now }
-    ensures found { IfOk result (λ notices. notices.items ≡ read_notices_on name.now rows.now) }
-    ensures bound { OnOk result (visits.new ≤ visits.old + 2 * reads_on rows.now name.now) }
-    ensures no_less { visits.old ≤ visits.new }
+    requires told { KnowRights rows.now.state }
+    requires own { visits.old.brand ≡ rows.now.brand }
+    ensures found { IfOk result (λ notices. notices.items ≡ read_notices_on name.now rows.now.state) }
+    ensures bound { OnOk result (visits.new.looks ≤ visits.old.looks + 2 * reads_on rows.now.state name.now) }
+    ensures no_less { visits.old.looks ≤ visits.new.looks }
+    ensures own { visits.new.brand ≡ visits.old.brand }
 {
     let mut notices = VecDeque::new(rows.alloc);
     for read in &rows.reads_for(visits, name)? {
@@ -98,7 +102,8 @@ fn read_notices_on(
 
 /// Tells a client of a read, which stands in no row.
 fn say_read(rows: &mut Rows, notice: ReadNotice) -> Result<(), AllocError>
-    ensures { OnOk result (rows.new ≡ read_said notice rows.old) }
+    ensures ok { OnOk result (rows.new.state ≡ read_said notice rows.old.state) }
+    ensures brand { rows.new.brand ≡ rows.old.brand }
 {
     match notice {
         ReadNotice::Refused(read, code) => {
@@ -123,7 +128,8 @@ fn say_read(rows: &mut Rows, notice: ReadNotice) -> Result<(), AllocError>
 }
 
 fn tell_read(rows: &mut Rows, notice: ReadNotice) -> Result<(), AllocError>
-    ensures { OnOk result (rows.new ≡ read_told rows.old notice) }
+    ensures ok { OnOk result (rows.new.state ≡ read_told rows.old.state notice) }
+    ensures brand { rows.new.brand ≡ rows.old.brand }
 {
     match &notice {
         ReadNotice::Refused(read, _) => rows.remove_read(read),
@@ -133,7 +139,8 @@ fn tell_read(rows: &mut Rows, notice: ReadNotice) -> Result<(), AllocError>
 }
 
 fn tell_each(rows: &mut Rows, mut notices: VecDeque<ReadNotice>) -> Result<(), AllocError>
-    ensures { OnOk result (rows.new ≡ fold read_told rows.old notices.items) }
+    ensures ok { OnOk result (rows.new.state ≡ fold read_told rows.old.state notices.items) }
+    ensures brand { rows.new.brand ≡ rows.old.brand }
 {
     while let Some(notice) = notices.pop_front() {
         tell_read(rows, notice)?;
@@ -143,9 +150,12 @@ fn tell_each(rows: &mut Rows, mut notices: VecDeque<ReadNotice>) -> Result<(), A
 
 /// Answers reads that are covered, and refuses those whose right is gone.
 pub(crate) fn tell_reads(rows: &mut Rows, visits: &mut Visits) -> Result<(), AllocError>
-    requires told { KnowRights rows.old }
-    ensures ok { OnOk result (rows.new ≡ reads_told rows.old) }
-    ensures no_less { visits.old ≤ visits.new }
+    requires told { KnowRights rows.old.state }
+    requires own { visits.old.brand ≡ rows.old.brand }
+    ensures ok { OnOk result (rows.new.state ≡ reads_told rows.old.state) }
+    ensures no_less { visits.old.looks ≤ visits.new.looks }
+    ensures brand { rows.new.brand ≡ rows.old.brand }
+    ensures own { visits.new.brand ≡ visits.old.brand }
 {
     let notices = read_notices(rows, visits)?;
     tell_each(rows, notices)
@@ -157,10 +167,13 @@ pub(crate) fn tell_reads_on(
     visits: &mut Visits,
     name: &Name,
 ) -> Result<(), AllocError>
-    requires told { KnowRights rows.old }
-    ensures ok { OnOk result (rows.new ≡ reads_told_on name.now rows.old) }
-    ensures bound { OnOk result (visits.new ≤ visits.old + 2 * reads_on rows.old name.now) }
-    ensures no_less { visits.old ≤ visits.new }
+    requires told { KnowRights rows.old.state }
+    requires own { visits.old.brand ≡ rows.old.brand }
+    ensures ok { OnOk result (rows.new.state ≡ reads_told_on name.now rows.old.state) }
+    ensures bound { OnOk result (visits.new.looks ≤ visits.old.looks + 2 * reads_on rows.old.state name.now) }
+    ensures no_less { visits.old.looks ≤ visits.new.looks }
+    ensures brand { rows.new.brand ≡ rows.old.brand }
+    ensures own { visits.new.brand ≡ visits.old.brand }
 {
     let notices = read_notices_on(rows, visits, name)?;
     tell_each(rows, notices)
@@ -172,10 +185,13 @@ pub(crate) fn tell_one_read(
     visits: &mut Visits,
     read: WaitingRead,
 ) -> Result<(), AllocError>
-    requires told { KnowRights rows.old }
-    ensures ok { OnOk result (rows.new ≡ one_read_told read rows.old) }
-    ensures bound { visits.new ≤ visits.old + 1 }
-    ensures no_less { visits.old ≤ visits.new }
+    requires told { KnowRights rows.old.state }
+    requires own { visits.old.brand ≡ rows.old.brand }
+    ensures ok { OnOk result (rows.new.state ≡ one_read_told read rows.old.state) }
+    ensures bound { visits.new.looks ≤ visits.old.looks + 1 }
+    ensures no_less { visits.old.looks ≤ visits.new.looks }
+    ensures brand { rows.new.brand ≡ rows.old.brand }
+    ensures own { visits.new.brand ≡ visits.old.brand }
 {
     match read_notice(rows, visits, read)? {
         Some(notice) => tell_read(rows, notice),
@@ -192,12 +208,15 @@ pub(crate) fn tell_new_read(
     name: &Name,
     read: WaitingRead,
 ) -> Result<(), Refusal>
-    requires order { AreInOrder rows.old }
-    requires told { KnowRights rows.old }
-    ensures ok { OnOk result (rows.new ≡ one_read_told read (interest_told name.now (with_read read rows.old))) }
-    ensures used_up { IsErrOf result Refusal.NumbersUsedUp → is_past_numbers (one_read_told read (interest_told name.now (with_read read rows.old))) ≡ true }
-    ensures bound { visits.new ≤ visits.old + 1 }
-    ensures no_less { visits.old ≤ visits.new }
+    requires order { AreInOrder rows.old.state }
+    requires told { KnowRights rows.old.state }
+    requires own { visits.old.brand ≡ rows.old.brand }
+    ensures ok { OnOk result (rows.new.state ≡ one_read_told read (interest_told name.now (with_read read rows.old.state))) }
+    ensures used_up { IsErrOf result Refusal.NumbersUsedUp → is_past_numbers (one_read_told read (interest_told name.now (with_read read rows.old.state))) ≡ true }
+    ensures bound { visits.new.looks ≤ visits.old.looks + 1 }
+    ensures no_less { visits.old.looks ≤ visits.new.looks }
+    ensures brand { rows.new.brand ≡ rows.old.brand }
+    ensures own { visits.new.brand ≡ visits.old.brand }
 {
     if rows.clients.read_count(read.session) > 0 {
         return tell_kept_read(rows, visits, name, read);
@@ -210,7 +229,8 @@ pub(crate) fn tell_new_read(
 }
 
 fn keep_read(rows: &mut Rows, read: WaitingRead) -> Result<(), AllocError>
-    ensures { OnOk result (rows.new ≡ with_read read rows.old) }
+    ensures ok { OnOk result (rows.new.state ≡ with_read read rows.old.state) }
+    ensures brand { rows.new.brand ≡ rows.old.brand }
 {
     rows.clients.keep_read(read)
 }
@@ -223,12 +243,15 @@ fn tell_kept_read(
     name: &Name,
     read: WaitingRead,
 ) -> Result<(), Refusal>
-    requires order { AreInOrder rows.old }
-    requires told { KnowRights rows.old }
-    ensures ok { OnOk result (rows.new ≡ one_read_told read (interest_told name.now (with_read read rows.old))) }
-    ensures used_up { IsErrOf result Refusal.NumbersUsedUp → is_past_numbers (one_read_told read (interest_told name.now (with_read read rows.old))) ≡ true }
-    ensures bound { visits.new ≤ visits.old + 1 }
-    ensures no_less { visits.old ≤ visits.new }
+    requires order { AreInOrder rows.old.state }
+    requires told { KnowRights rows.old.state }
+    requires own { visits.old.brand ≡ rows.old.brand }
+    ensures ok { OnOk result (rows.new.state ≡ one_read_told read (interest_told name.now (with_read read rows.old.state))) }
+    ensures used_up { IsErrOf result Refusal.NumbersUsedUp → is_past_numbers (one_read_told read (interest_told name.now (with_read read rows.old.state))) ≡ true }
+    ensures bound { visits.new.looks ≤ visits.old.looks + 1 }
+    ensures no_less { visits.old.looks ≤ visits.new.looks }
+    ensures brand { rows.new.brand ≡ rows.old.brand }
+    ensures own { visits.new.brand ≡ visits.old.brand }
 {
     keep_read(rows, read)?;
     tell_interest(rows, name)?;

@@ -17,9 +17,12 @@ pub(crate) fn share_on(
     name: &Name,
     subs: &[ClientSub],
 ) -> Result<(), AllocError>
-    ensures same { rows.new ≡ rows.old }
-    ensures bound { OnOk result (visits.new ≤ visits.old + length subs.now) }
-    ensures no_less { visits.old ≤ visits.new }
+    requires own { visits.old.brand ≡ rows.old.brand }
+    ensures same { rows.new.state ≡ rows.old.state }
+    ensures bound { OnOk result (visits.new.looks ≤ visits.old.looks + length subs.now) }
+    ensures no_less { visits.old.looks ≤ visits.new.looks }
+    ensures brand { rows.new.brand ≡ rows.old.brand }
+    ensures own { visits.new.brand ≡ visits.old.brand }
 {
     if subs.len() < 2 {
         return Ok(());
@@ -44,9 +47,12 @@ pub(crate) fn share_with(
     name: &Name,
     sub: &ClientSub,
 ) -> Result<(), AllocError>
-    ensures same { rows.new ≡ rows.old }
-    ensures bound { visits.new ≤ visits.old + 1 }
-    ensures no_less { visits.old ≤ visits.new }
+    requires own { visits.old.brand ≡ rows.old.brand }
+    ensures same { rows.new.state ≡ rows.old.state }
+    ensures bound { visits.new.looks ≤ visits.old.looks + 1 }
+    ensures no_less { visits.old.looks ≤ visits.new.looks }
+    ensures brand { rows.new.brand ≡ rows.old.brand }
+    ensures own { visits.new.brand ≡ visits.old.brand }
 {
     if rows.clients.subs_on(name) < 2 || !is_waiting(rows, visits, sub) {
         return Ok(());
@@ -60,8 +66,10 @@ pub(crate) fn share_with(
 // Whether a subscription may be told an update, by the rights that were told last. What is kept for
 // one whose client wants none for now is kept in vain.
 fn is_waiting(rows: &Rows, visits: &mut Visits, sub: &ClientSub) -> bool
-    ensures ok { visits.new ≤ visits.old + 1 }
-    ensures no_less { visits.old ≤ visits.new }
+    requires own { visits.old.brand ≡ rows.now.brand }
+    ensures ok { visits.new.looks ≤ visits.old.looks + 1 }
+    ensures no_less { visits.old.looks ≤ visits.new.looks }
+    ensures own { visits.new.brand ≡ visits.old.brand }
 {
     sub.owed
         && rows.is_taking(sub.session)

@@ -1,10 +1,9 @@
 //! Where a variable's value is.
 ghost use Rattle.std.specs.Prelude.{◌≡◌};
 ghost use Rattle.gateway_notices.specs.InTurn.{source_over};
-ghost use Rattle.gateway_state.specs.Variables.{link_of};
+ghost use Rattle.gateway_state.specs.Variables.{connected};
 
 use gateway_rows::Rows;
-use gateway_values::native_in;
 use pv_name::Name;
 
 /// Where a variable's value is: what is looked up once for all who are told of it.
@@ -18,12 +17,11 @@ pub(crate) struct Source {
 
 /// Nowhere where the variable has no link, or none that is connected.
 pub(crate) fn source_of(rows: &Rows, name: &Name) -> Option<Source>
-    ensures { result ≡ source_over (link_of rows.now name.now) }
+    ensures { result ≡ source_over (connected rows.now.state name.now) }
 {
-    let link = rows.link_of(name)?;
-    let native = native_in(link.state)?;
+    let variable = rows.connected(name)?;
     Some(Source {
-        cid: link.cid,
-        native: native.count,
+        cid: variable.link.cid,
+        native: variable.native.count,
     })
 }

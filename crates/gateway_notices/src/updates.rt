@@ -5,7 +5,7 @@ ghost use Rattle.gateway_rows.specs.Own.{subs_on};
 ghost use Rattle.gateway_state.specs.Rights.{channel_of};
 ghost use Rattle.gateway_state.specs.Told.{KnowRights, KnowsRights};
 ghost use Rattle.gateway_state.specs.Updates.{is_open_to, is_paused, is_sub_to, is_taking, is_unreadable, is_withheld, update_notice, update_notices, update_on, update_over, update_told, updates_told, updates_withheld, withheld};
-ghost use Rattle.gateway_state.specs.Variables.{link_of};
+ghost use Rattle.gateway_state.specs.Variables.{connected};
 ghost use Rattle.touched_rows.specs.Touched.{one_update_told, update_notices_to, updates_told_on, updates_told_to, updates_withheld_on, withheld_on};
 
 use crate::source::{Source, source_of};
@@ -13,16 +13,18 @@ use ca_message::ToClient;
 use channel_table::{Channel, ClientSub, Visits};
 use gateway_rows::Rows;
 use gateway_state::UpdateNotice;
-use gateway_values::{may_read, native_in};
+use gateway_values::may_read;
 use pv_name::Name;
 use std::alloc::AllocError;
 use std::collections::VecDeque;
 
 /// Whether a channel stands that may not be read.
 fn is_unreadable(rows: &Rows, visits: &mut Visits, session: u32, sid: u32) -> bool
-    requires told { KnowRights rows.now }
-    ensures found { result ≡ is_unreadable rows.now (channel_of rows.now session sid) }
-    ensures no_less { visits.old ≤ visits.new }
+    requires told { KnowRights rows.now.state }
+    requires own { visits.old.brand ≡ rows.now.brand }
+    ensures found { result ≡ is_unreadable rows.now.state (channel_of rows.now.state session sid) }
+    ensures no_less { visits.old.looks ≤ visits.new.looks }
+    ensures own { visits.new.brand ≡ visits.old.brand }
 {
     match rows.told_channel(visits, session, sid) {
         Some(channel) => !may_read(channel.rights_told),
@@ -32,17 +34,21 @@ fn is_unreadable(rows: &Rows, visits: &mut Visits, session: u32, sid: u32) -> bo
 
 /// Whether a subscription's channel may not be read, and nothing is owed to it yet.
 fn is_withheld(rows: &Rows, visits: &mut Visits, sub: &ClientSub) -> bool
-    requires told { KnowRights rows.now }
-    ensures found { result ≡ is_withheld rows.now sub.now }
-    ensures no_less { visits.old ≤ visits.new }
+    requires told { KnowRights rows.now.state }
+    requires own { visits.old.brand ≡ rows.now.brand }
+    ensures found { result ≡ is_withheld rows.now.state sub.now }
+    ensures no_less { visits.old.looks ≤ visits.new.looks }
+    ensures own { visits.new.brand ≡ visits.old.brand }
 {
     !sub.owed && is_unreadable(rows, visits, sub.session, sub.sid)
 }
 
 fn withheld(rows: &Rows, visits: &mut Visits) -> Result<Vec<ClientSub>, AllocError>
-    requires told { KnowRights rows.now }
-    ensures found { IfOk result (λ subs. subs.items ≡ withheld rows.now) }
-    ensures no_less { visits.old ≤ visits.new }
+    requires told { KnowRights rows.now.state }
+    requires own { visits.old.brand ≡ rows.now.brand }
+    ensures found { IfOk result (λ subs. subs.items ≡ withheld rows.now.state) }
+    ensures no_less { visits.old.looks ≤ visits.new.looks }
+    ensures own { visits.new.brand ≡ visits.old.brand }
 {
     let mut subs = Vec::new(rows.alloc);
     for sub in rows.clients.subs(visits, rows.alloc)? {
@@ -55,9 +61,12 @@ fn withheld(rows: &Rows, visits: &mut Visits) -> Result<Vec<ClientSub>, AllocErr
 
 /// Owes the latest value to subscriptions whose channels may not be read.
 pub(crate) fn withhold_updates(rows: &mut Rows, visits: &mut Visits) -> Result<(), AllocError>
-    requires told { KnowRights rows.old }
-    ensures ok { OnOk result (rows.new ≡ updates_withheld rows.old) }
-    ensures no_less { visits.old ≤ visits.new }
+    requires told { KnowRights rows.old.state }
+    requires own { visits.old.brand ≡ rows.old.brand }
+    ensures ok { OnOk result (rows.new.state ≡ updates_withheld rows.old.state) }
+    ensures no_less { visits.old.looks ≤ visits.new.looks }
+    ensures brand { rows.new.brand ≡ rows.old.brand }
+    ensures own { visits.new.brand ≡ visits.old.brand }
 {
     let subs = withheld(rows, visits)?;
     rows.owe_all(visits, &subs);
@@ -65,9 +74,11 @@ pub(crate) fn withhold_updates(rows: &mut Rows, visits: &mut Visits) -> Result<(
 }
 
 fn withheld_on(rows: &Rows, visits: &mut Visits, name: &Name) -> Result<Vec<ClientSub>, AllocError>
-    requires told { KnowRights rows.now }
-    ensures found { IfOk result (λ subs. subs.items ≡ withheld_on name.now rows.now) }
-    ensures no_less { visits.old ≤ visits.new }
+    requires told { KnowRights rows.now.state }
+    requires own { visits.old.brand ≡ rows.now.brand }
+    ensures found { IfOk result (λ subs. subs.items ≡ withheld_on name.now rows.now.state) }
+    ensures no_less { visits.old.looks ≤ visits.new.looks }
+    ensures own { visits.new.brand ≡ visits.old.brand }
 {
     let mut subs = Vec::new(rows.alloc);
     for sub in &rows.subs_on(visits, name)? {
@@ -84,9 +95,12 @@ pub(crate) fn withhold_updates_on(
     visits: &mut Visits,
     name: &Name,
 ) -> Result<(), AllocError>
-    requires told { KnowRights rows.old }
-    ensures ok { OnOk result (rows.new ≡ updates_withheld_on name.now rows.old) }
-    ensures no_less { visits.old ≤ visits.new }
+    requires told { KnowRights rows.old.state }
+    requires own { visits.old.brand ≡ rows.old.brand }
+    ensures ok { OnOk result (rows.new.state ≡ updates_withheld_on name.now rows.old.state) }
+    ensures no_less { visits.old.looks ≤ visits.new.looks }
+    ensures brand { rows.new.brand ≡ rows.old.brand }
+    ensures own { visits.new.brand ≡ visits.old.brand }
 {
     let subs = withheld_on(rows, visits, name)?;
     rows.owe_all(visits, &subs);
@@ -94,9 +108,11 @@ pub(crate) fn withhold_updates_on(
 }
 
 fn is_paused(rows: &Rows, visits: &mut Visits, number: u32) -> bool
-    ensures found { result ≡ is_paused rows.now number }
-    ensures bound { visits.new ≤ visits.old + 1 }
-    ensures no_less { visits.old ≤ visits.new }
+    requires own { visits.old.brand ≡ rows.now.brand }
+    ensures found { result ≡ is_paused rows.now.state number }
+    ensures bound { visits.new.looks ≤ visits.old.looks + 1 }
+    ensures no_less { visits.old.looks ≤ visits.new.looks }
+    ensures own { visits.new.brand ≡ visits.old.brand }
 {
     match rows.clients.session(visits, number) {
         Some(session) => session.paused,
@@ -106,9 +122,11 @@ fn is_paused(rows: &Rows, visits: &mut Visits, number: u32) -> bool
 
 /// Whether a subscription's session takes updates now.
 fn is_open_to(rows: &Rows, visits: &mut Visits, sub: &ClientSub) -> bool
-    ensures found { result ≡ is_open_to rows.now sub.now }
-    ensures bound { visits.new ≤ visits.old + 1 }
-    ensures no_less { visits.old ≤ visits.new }
+    requires own { visits.old.brand ≡ rows.now.brand }
+    ensures found { result ≡ is_open_to rows.now.state sub.now }
+    ensures bound { visits.new.looks ≤ visits.old.looks + 1 }
+    ensures no_less { visits.old.looks ≤ visits.new.looks }
+    ensures own { visits.new.brand ≡ visits.old.brand }
 {
     !is_paused(rows, visits, sub.session) && rows.is_taking(sub.session)
 }
@@ -118,15 +136,13 @@ fn update_over(
     sub: &ClientSub,
     name: &Name,
 ) -> Result<Option<UpdateNotice>, AllocError>
-    ensures { IfOk result (λ notice. notice ≡ update_over rows.now sub.now (link_of rows.now name.now)) }
+    ensures { IfOk result (λ notice. notice ≡ update_over rows.now.state sub.now (connected rows.now.state name.now)) }
 {
-    let Some(link) = rows.link_of(name) else {
+    let Some(variable) = rows.connected(name) else {
         return Ok(None);
     };
-    let Some(native) = native_in(link.state) else {
-        return Ok(None);
-    };
-    match rows.cached_value(link.cid, native.count, sub.dtype, sub.count)? {
+    let native = variable.native.count;
+    match rows.cached_value(variable.link.cid, native, sub.dtype, sub.count)? {
         Some(given) => Ok(Some(UpdateNotice {
             session: sub.session,
             id: sub.id,
@@ -143,8 +159,8 @@ fn update_on(
     sub: &ClientSub,
     channel: &Channel,
 ) -> Result<Option<UpdateNotice>, AllocError>
-    requires told { KnowsRights rows.now channel.now }
-    ensures { IfOk result (λ notice. notice ≡ update_on rows.now sub.now (Some channel.now)) }
+    requires told { KnowsRights rows.now.state channel.now }
+    ensures { IfOk result (λ notice. notice ≡ update_on rows.now.state sub.now (Some channel.now)) }
 {
     if may_read(channel.rights_told) {
         update_over(rows, sub, &channel.real)
@@ -161,8 +177,8 @@ fn update_from(
     name: &Name,
     source: Option<Source>,
 ) -> Result<Option<UpdateNotice>, AllocError>
-    requires source { source ≡ source_over (link_of rows.now name.now) }
-    ensures { IfOk result (λ notice. notice ≡ update_over rows.now sub.now (link_of rows.now name.now)) }
+    requires source { source ≡ source_over (connected rows.now.state name.now) }
+    ensures { IfOk result (λ notice. notice ≡ update_over rows.now.state sub.now (connected rows.now.state name.now)) }
 {
     let Some(source) = source else {
         return Ok(None);
@@ -188,10 +204,10 @@ fn update_on_name(
     name: &Name,
     source: Option<Source>,
 ) -> Result<Option<UpdateNotice>, AllocError>
-    requires told { KnowsRights rows.now channel.now }
+    requires told { KnowsRights rows.now.state channel.now }
     requires real { channel.now.real ≡ name.now }
-    requires source { source ≡ source_over (link_of rows.now name.now) }
-    ensures { IfOk result (λ notice. notice ≡ update_on rows.now sub.now (Some channel.now)) }
+    requires source { source ≡ source_over (connected rows.now.state name.now) }
+    ensures { IfOk result (λ notice. notice ≡ update_on rows.now.state sub.now (Some channel.now)) }
 {
     if !may_read(channel.rights_told) {
         return Ok(None);
@@ -208,12 +224,14 @@ fn update_notice_of(
     name: &Name,
     source: Option<Source>,
 ) -> Result<Option<UpdateNotice>, AllocError>
-    requires told { KnowRights rows.now }
-    requires on { is_sub_to rows.now name.now sub ≡ true }
-    requires source { source ≡ source_over (link_of rows.now name.now) }
-    ensures found { IfOk result (λ notice. notice ≡ update_notice rows.now sub) }
-    ensures bound { visits.new ≤ visits.old + 2 }
-    ensures no_less { visits.old ≤ visits.new }
+    requires told { KnowRights rows.now.state }
+    requires on { is_sub_to rows.now.state name.now sub ≡ true }
+    requires source { source ≡ source_over (connected rows.now.state name.now) }
+    requires own { visits.old.brand ≡ rows.now.brand }
+    ensures found { IfOk result (λ notice. notice ≡ update_notice rows.now.state sub) }
+    ensures bound { visits.new.looks ≤ visits.old.looks + 2 }
+    ensures no_less { visits.old.looks ≤ visits.new.looks }
+    ensures own { visits.new.brand ≡ visits.old.brand }
 {
     if !(sub.owed && is_open_to(rows, visits, &sub)) {
         return Ok(None);
@@ -231,10 +249,12 @@ fn update_notice(
     visits: &mut Visits,
     sub: ClientSub,
 ) -> Result<Option<UpdateNotice>, AllocError>
-    requires told { KnowRights rows.now }
-    ensures found { IfOk result (λ notice. notice ≡ update_notice rows.now sub) }
-    ensures bound { visits.new ≤ visits.old + 2 }
-    ensures no_less { visits.old ≤ visits.new }
+    requires told { KnowRights rows.now.state }
+    requires own { visits.old.brand ≡ rows.now.brand }
+    ensures found { IfOk result (λ notice. notice ≡ update_notice rows.now.state sub) }
+    ensures bound { visits.new.looks ≤ visits.old.looks + 2 }
+    ensures no_less { visits.old.looks ≤ visits.new.looks }
+    ensures own { visits.new.brand ≡ visits.old.brand }
 {
     if !(sub.owed && is_open_to(rows, visits, &sub)) {
         return Ok(None);
@@ -246,9 +266,11 @@ fn update_notice(
 }
 
 fn update_notices(rows: &Rows, visits: &mut Visits) -> Result<VecDeque<UpdateNotice>, AllocError>
-    requires told { KnowRights rows.now }
-    ensures found { IfOk result (λ notices. notices.items ≡ update_notices rows.now) }
-    ensures no_less { visits.old ≤ visits.new }
+    requires told { KnowRights rows.now.state }
+    requires own { visits.old.brand ≡ rows.now.brand }
+    ensures found { IfOk result (λ notices. notices.items ≡ update_notices rows.now.state) }
+    ensures no_less { visits.old.looks ≤ visits.new.looks }
+    ensures own { visits.new.brand ≡ visits.old.brand }
 {
     let mut notices = VecDeque::new(rows.alloc);
     for sub in rows.clients.subs(visits, rows.alloc)? {
@@ -265,9 +287,11 @@ fn update_notices_to(
     visits: &mut Visits,
     number: u32,
 ) -> Result<VecDeque<UpdateNotice>, AllocError>
-    requires told { KnowRights rows.now }
-    ensures found { IfOk result (λ notices. notices.items ≡ update_notices_to number rows.now) }
-    ensures no_less { visits.old ≤ visits.new }
+    requires told { KnowRights rows.now.state }
+    requires own { visits.old.brand ≡ rows.now.brand }
+    ensures found { IfOk result (λ notices. notices.items ≡ update_notices_to number rows.now.state) }
+    ensures no_less { visits.old.looks ≤ visits.new.looks }
+    ensures own { visits.new.brand ≡ visits.old.brand }
 {
     let mut notices = VecDeque::new(rows.alloc);
     for sub in &rows.subs_of(visits, number)? {
@@ -280,9 +304,12 @@ fn update_notices_to(
 
 /// Gives an update, as long as those given before it leave room for it.
 fn tell_update(rows: &mut Rows, visits: &mut Visits, notice: UpdateNotice) -> Result<(), AllocError>
-    ensures ok { OnOk result (rows.new ≡ update_told rows.old notice) }
-    ensures bound { visits.new ≤ visits.old + 1 }
-    ensures no_less { visits.old ≤ visits.new }
+    requires own { visits.old.brand ≡ rows.old.brand }
+    ensures ok { OnOk result (rows.new.state ≡ update_told rows.old.state notice) }
+    ensures bound { visits.new.looks ≤ visits.old.looks + 1 }
+    ensures no_less { visits.old.looks ≤ visits.new.looks }
+    ensures brand { rows.new.brand ≡ rows.old.brand }
+    ensures own { visits.new.brand ≡ visits.old.brand }
 {
     if !rows.is_taking(notice.session) {
         return Ok(());
@@ -292,10 +319,13 @@ fn tell_update(rows: &mut Rows, visits: &mut Visits, notice: UpdateNotice) -> Re
 
 /// The same where its session takes updates.
 fn give_update(rows: &mut Rows, visits: &mut Visits, notice: UpdateNotice) -> Result<(), AllocError>
-    requires room { is_taking rows.old notice.session ≡ true }
-    ensures ok { OnOk result (rows.new ≡ update_told rows.old notice) }
-    ensures bound { visits.new ≤ visits.old + 1 }
-    ensures no_less { visits.old ≤ visits.new }
+    requires room { is_taking rows.old.state notice.session ≡ true }
+    requires own { visits.old.brand ≡ rows.old.brand }
+    ensures ok { OnOk result (rows.new.state ≡ update_told rows.old.state notice) }
+    ensures bound { visits.new.looks ≤ visits.old.looks + 1 }
+    ensures no_less { visits.old.looks ≤ visits.new.looks }
+    ensures brand { rows.new.brand ≡ rows.old.brand }
+    ensures own { visits.new.brand ≡ visits.old.brand }
 {
     rows.set_owed(visits, notice.session, notice.id, false);
     let said = ToClient::Update {
@@ -312,9 +342,12 @@ fn tell_each(
     visits: &mut Visits,
     mut notices: VecDeque<UpdateNotice>,
 ) -> Result<(), AllocError>
-    ensures ok { OnOk result (rows.new ≡ fold update_told rows.old notices.items) }
-    ensures bound { OnOk result (visits.new ≤ visits.old + length notices.items) }
-    ensures no_less { visits.old ≤ visits.new }
+    requires own { visits.old.brand ≡ rows.old.brand }
+    ensures ok { OnOk result (rows.new.state ≡ fold update_told rows.old.state notices.items) }
+    ensures bound { OnOk result (visits.new.looks ≤ visits.old.looks + length notices.items) }
+    ensures no_less { visits.old.looks ≤ visits.new.looks }
+    ensures brand { rows.new.brand ≡ rows.old.brand }
+    ensures own { visits.new.brand ≡ visits.old.brand }
 {
     while let Some(notice) = notices.pop_front() {
         tell_update(rows, visits, notice)?;
@@ -324,9 +357,12 @@ fn tell_each(
 
 /// Gives the updates that are due.
 pub(crate) fn tell_updates(rows: &mut Rows, visits: &mut Visits) -> Result<(), AllocError>
-    requires told { KnowRights rows.old }
-    ensures ok { OnOk result (rows.new ≡ updates_told rows.old) }
-    ensures no_less { visits.old ≤ visits.new }
+    requires told { KnowRights rows.old.state }
+    requires own { visits.old.brand ≡ rows.old.brand }
+    ensures ok { OnOk result (rows.new.state ≡ updates_told rows.old.state) }
+    ensures no_less { visits.old.looks ≤ visits.new.looks }
+    ensures brand { rows.new.brand ≡ rows.old.brand }
+    ensures own { visits.new.brand ≡ visits.old.brand }
 {
     let notices = update_notices(rows, visits)?;
     tell_each(rows, visits, notices)
@@ -341,12 +377,15 @@ fn tell_in_turn(
     name: &Name,
     source: Option<Source>,
 ) -> Result<(), AllocError>
-    requires told { KnowRights rows.old }
-    requires on { is_sub_to rows.old name.now sub ≡ true }
-    requires source { source ≡ source_over (link_of rows.old name.now) }
-    ensures ok { OnOk result (rows.new ≡ told_in_turn rows.old sub) }
-    ensures bound { visits.new ≤ visits.old + 3 }
-    ensures no_less { visits.old ≤ visits.new }
+    requires told { KnowRights rows.old.state }
+    requires on { is_sub_to rows.old.state name.now sub ≡ true }
+    requires source { source ≡ source_over (connected rows.old.state name.now) }
+    requires own { visits.old.brand ≡ rows.old.brand }
+    ensures ok { OnOk result (rows.new.state ≡ told_in_turn rows.old.state sub) }
+    ensures bound { visits.new.looks ≤ visits.old.looks + 3 }
+    ensures no_less { visits.old.looks ≤ visits.new.looks }
+    ensures brand { rows.new.brand ≡ rows.old.brand }
+    ensures own { visits.new.brand ≡ visits.old.brand }
 {
     match update_notice_of(rows, visits, sub, name, source)? {
         Some(notice) => give_update(rows, visits, notice),
@@ -362,11 +401,14 @@ fn tell_each_in_turn(
     subs: &[ClientSub],
     name: &Name,
 ) -> Result<(), AllocError>
-    requires told { KnowRights rows.old }
-    requires on { All (λ sub. is_sub_to rows.old name.now sub ≡ true) subs.now }
-    ensures ok { OnOk result (rows.new ≡ fold told_in_turn rows.old subs.now) }
-    ensures bound { OnOk result (visits.new ≤ visits.old + 3 * length subs.now) }
-    ensures no_less { visits.old ≤ visits.new }
+    requires told { KnowRights rows.old.state }
+    requires on { All (λ sub. is_sub_to rows.old.state name.now sub ≡ true) subs.now }
+    requires own { visits.old.brand ≡ rows.old.brand }
+    ensures ok { OnOk result (rows.new.state ≡ fold told_in_turn rows.old.state subs.now) }
+    ensures bound { OnOk result (visits.new.looks ≤ visits.old.looks + 3 * length subs.now) }
+    ensures no_less { visits.old.looks ≤ visits.new.looks }
+    ensures brand { rows.new.brand ≡ rows.old.brand }
+    ensures own { visits.new.brand ≡ visits.old.brand }
 {
     let source = source_of(rows, name);
     for sub in subs {
@@ -383,11 +425,14 @@ pub(crate) fn tell_updates_on(
     name: &Name,
     subs: &[ClientSub],
 ) -> Result<(), AllocError>
-    requires told { KnowRights rows.old }
-    requires subs { subs.now ≡ filter (is_sub_to rows.old name.now) rows.old.clients.subs }
-    ensures ok { OnOk result (rows.new ≡ updates_told_on name.now rows.old) }
-    ensures bound { OnOk result (visits.new ≤ visits.old + 3 * subs_on rows.old name.now) }
-    ensures no_less { visits.old ≤ visits.new }
+    requires told { KnowRights rows.old.state }
+    requires subs { subs.now ≡ filter (is_sub_to rows.old.state name.now) rows.old.state.clients.subs }
+    requires own { visits.old.brand ≡ rows.old.brand }
+    ensures ok { OnOk result (rows.new.state ≡ updates_told_on name.now rows.old.state) }
+    ensures bound { OnOk result (visits.new.looks ≤ visits.old.looks + 3 * subs_on rows.old.state name.now) }
+    ensures no_less { visits.old.looks ≤ visits.new.looks }
+    ensures brand { rows.new.brand ≡ rows.old.brand }
+    ensures own { visits.new.brand ≡ visits.old.brand }
 {
     tell_each_in_turn(rows, visits, subs, name)
 }
@@ -398,9 +443,12 @@ pub(crate) fn tell_updates_to(
     visits: &mut Visits,
     number: u32,
 ) -> Result<(), AllocError>
-    requires told { KnowRights rows.old }
-    ensures ok { OnOk result (rows.new ≡ updates_told_to number rows.old) }
-    ensures no_less { visits.old ≤ visits.new }
+    requires told { KnowRights rows.old.state }
+    requires own { visits.old.brand ≡ rows.old.brand }
+    ensures ok { OnOk result (rows.new.state ≡ updates_told_to number rows.old.state) }
+    ensures no_less { visits.old.looks ≤ visits.new.looks }
+    ensures brand { rows.new.brand ≡ rows.old.brand }
+    ensures own { visits.new.brand ≡ visits.old.brand }
 {
     let notices = update_notices_to(rows, visits, number)?;
     tell_each(rows, visits, notices)
@@ -413,10 +461,13 @@ pub(crate) fn tell_one_update(
     visits: &mut Visits,
     sub: ClientSub,
 ) -> Result<(), AllocError>
-    requires told { KnowRights rows.old }
-    ensures ok { OnOk result (rows.new ≡ one_update_told sub rows.old) }
-    ensures bound { visits.new ≤ visits.old + 3 }
-    ensures no_less { visits.old ≤ visits.new }
+    requires told { KnowRights rows.old.state }
+    requires own { visits.old.brand ≡ rows.old.brand }
+    ensures ok { OnOk result (rows.new.state ≡ one_update_told sub rows.old.state) }
+    ensures bound { visits.new.looks ≤ visits.old.looks + 3 }
+    ensures no_less { visits.old.looks ≤ visits.new.looks }
+    ensures brand { rows.new.brand ≡ rows.old.brand }
+    ensures own { visits.new.brand ≡ visits.old.brand }
 {
     match update_notice(rows, visits, sub)? {
         Some(notice) => give_update(rows, visits, notice),

@@ -1,2 +1,3 @@
+pub mod BrandedState
 pub mod Own
 pub mod ToldReaders

@@ -1,13 +1,12 @@
 //! What reads are answered.
 ghost use Rattle.std.specs.Prelude.{◌≡◌, ◌≤◌, Some, IfOk};
-ghost use Rattle.gateway_state.specs.Answer.{cached_value, reading, reading_at, reading_of};
+ghost use Rattle.gateway_state.specs.Answer.{cached_value, reading, reading_on, reading_over};
 ghost use Rattle.gateway_state.specs.Told.{KnowRights, KnowsRights};
 
 use crate::state::Rows;
 use channel_table::{Channel, Visits};
-use gateway_state::{Given, Native, Reading};
-use gateway_values::{cached_as, meant_count, native_in, read_refusal};
-use link_table::Link;
+use gateway_state::{Given, Reading};
+use gateway_values::{ConnectedVariable, cached_as, meant_count, read_refusal};
 use std::alloc::AllocError;
 
 impl Rows {
@@ -19,7 +18,7 @@ impl Rows {
         dtype: u16,
         count: u32,
     ) -> Result<Option<Given>, AllocError>
-        ensures { IfOk result (λ given. given ≡ cached_value self.now cid native dtype count) }
+        ensures { IfOk result (λ given. given ≡ cached_value self.now.state cid native dtype count) }
     {
         match self.cache.get(cid) {
             Some(last) => cached_as(self.alloc, native, dtype, count, last),
@@ -36,7 +35,8 @@ impl Rows {
         dtype: u16,
         count: u32,
     ) -> Result<(), AllocError>
-        ensures { self.new ≡ self.old }
+        ensures state { self.new.state ≡ self.old.state }
+        ensures brand { self.new.brand ≡ self.old.brand }
     {
         match self.cache.get(cid) {
             Some(last) if last.held.covers(dtype, meant_count(native, count)) => self
@@ -46,35 +46,32 @@ impl Rows {
         }
     }
 
-    fn reading_of(
+    fn reading_over(
         &self,
         rights: u32,
         dtype: u16,
         count: u32,
-        link: &Link,
-        native: Native,
+        variable: &ConnectedVariable<'_>,
     ) -> Result<Reading, AllocError>
-        ensures { IfOk result (λ reading. reading ≡ reading_of self.now rights dtype count link.now (Some native)) }
+        ensures { IfOk result (λ reading. reading ≡ reading_over self.now.state rights dtype count (Some variable.now)) }
     {
+        let native = variable.native;
         if let Some(code) = read_refusal(native, rights, dtype, count) {
             return Ok(Reading::Refused(code));
         }
-        match self.cached_value(link.cid, native.count, dtype, count)? {
+        match self.cached_value(variable.link.cid, native.count, dtype, count)? {
             Some(given) => Ok(Reading::Value(given.count, given.payload)),
             None => Ok(Reading::Waits),
         }
     }
 
-    fn reading_at(&self, channel: &Channel, dtype: u16, count: u32) -> Result<Reading, AllocError>
-        requires told { KnowsRights self.now channel.now }
-        ensures { IfOk result (λ reading. reading ≡ reading_at self.now channel.now dtype count) }
+    fn reading_on(&self, channel: &Channel, dtype: u16, count: u32) -> Result<Reading, AllocError>
+        requires told { KnowsRights self.now.state channel.now }
+        ensures { IfOk result (λ reading. reading ≡ reading_on self.now.state dtype count (Some channel.now)) }
     {
         let rights = channel.rights_told;
-        match self.link_of(&channel.real) {
-            Some(link) => match native_in(link.state) {
-                Some(native) => self.reading_of(rights, dtype, count, link, native),
-                None => Ok(Reading::NoChannel),
-            },
+        match self.connected(&channel.real) {
+            Some(variable) => self.reading_over(rights, dtype, count, &variable),
             None => Ok(Reading::NoChannel),
         }
     }
@@ -88,12 +85,14 @@ impl Rows {
         dtype: u16,
         count: u32,
     ) -> Result<Reading, AllocError>
-        requires told { KnowRights self.now }
-        ensures found { IfOk result (λ answer. answer ≡ reading self.now session sid dtype count) }
-        ensures no_less { visits.old ≤ visits.new }
+        requires told { KnowRights self.now.state }
+        requires own { visits.old.brand ≡ self.now.brand }
+        ensures found { IfOk result (λ answer. answer ≡ reading self.now.state session sid dtype count) }
+        ensures no_less { visits.old.looks ≤ visits.new.looks }
+        ensures own { visits.new.brand ≡ visits.old.brand }
     {
         match self.told_channel(visits, session, sid) {
-            Some(channel) => self.reading_at(channel, dtype, count),
+            Some(channel) => self.reading_on(channel, dtype, count),
             None => Ok(Reading::NoChannel),
         }
     }

@@ -16,7 +16,7 @@ impl Rows {
     /// Adds a name where it has no link.
     fn add_unlinked(&self, names: &mut Vec<Name>, name: &Name) -> Result<(), AllocError>
         requires { IsStrictlySortedBy (slice_cmp nat_cmp) names.old.items }
-        ensures { OnOk result (names.new.items ≡ with_unlinked self.now names.old.items name.now) }
+        ensures { OnOk result (names.new.items ≡ with_unlinked self.now.state names.old.items name.now) }
     {
         if self.is_linked(name) {
             return Ok(());
@@ -28,7 +28,7 @@ impl Rows {
     #[tactic(auto, using(crate::proofs::Placed::sorted_with_unlinked))]
     fn add_search_names(&self, names: &mut Vec<Name>) -> Result<(), AllocError>
         requires { IsStrictlySortedBy (slice_cmp nat_cmp) names.old.items }
-        ensures { OnOk result (names.new.items ≡ fold (with_unlinked self.now) names.old.items (search_names self.now.policy self.now.searches)) }
+        ensures { OnOk result (names.new.items ≡ fold (with_unlinked self.now.state) names.old.items (search_names self.now.state.policy self.now.state.searches)) }
     {
         for name in self.searches.names() {
             self.add_unlinked(names, name)?;
@@ -40,8 +40,8 @@ impl Rows {
     /// channel is served, no name of a channel is among them.
     #[tactic(auto, using(crate::proofs::Asked::asks_of_searches, crate::proofs::Placed::sorted_none))]
     pub fn asks(&self) -> Result<Vec<Name>, AllocError>
-        requires served { All (IsUpToDate self.now) self.now.clients.channels }
-        ensures { IfOk result (λ names. names.items ≡ asks self.now) }
+        requires served { All (IsUpToDate self.now.state) self.now.state.clients.channels }
+        ensures { IfOk result (λ names. names.items ≡ asks self.now.state) }
     {
         let mut names = Vec::new(self.alloc);
         self.add_search_names(&mut names)?;

@@ -17,7 +17,8 @@ use std::alloc::AllocError;
 impl Rows {
     /// A channel goes with its subscriptions, waiting reads and waiting writes.
     pub fn remove_channel(&mut self, number: u32, sid: u32)
-        ensures { self.new ≡ without_channel number sid self.old }
+        ensures state { self.new.state ≡ without_channel number sid self.old.state }
+        ensures brand { self.new.brand ≡ self.old.brand }
     {
         self.clients.remove_channel(number, sid);
         self.upstream.remove_writes(number, sid);
@@ -25,33 +26,43 @@ impl Rows {
 
     /// A read waits no longer.
     pub fn remove_read(&mut self, read: &WaitingRead)
-        ensures { self.new ≡ without_read read.now self.old }
+        ensures state { self.new.state ≡ without_read read.now self.old.state }
+        ensures brand { self.new.brand ≡ self.old.brand }
     {
         self.clients.remove_read(read);
     }
 
     /// Notes that a subscription is owed an update, or no longer.
     pub fn set_owed(&mut self, visits: &mut Visits, session: u32, id: u32, owed: bool)
-        ensures put { self.new ≡ with_owed_of session id owed self.old }
-        ensures bound { visits.new ≤ visits.old + 1 }
-        ensures no_less { visits.old ≤ visits.new }
+        requires own { visits.old.brand ≡ self.old.brand }
+        ensures put { self.new.state ≡ with_owed_of session id owed self.old.state }
+        ensures bound { visits.new.looks ≤ visits.old.looks + 1 }
+        ensures no_less { visits.old.looks ≤ visits.new.looks }
+        ensures brand { self.new.brand ≡ self.old.brand }
+        ensures own { visits.new.brand ≡ visits.old.brand }
     {
         self.clients.put_sub(visits, session, id, owed);
     }
 
     fn owe(&mut self, visits: &mut Visits, sub: &ClientSub)
-        ensures put { self.new ≡ owed_to self.old sub.now }
-        ensures bound { visits.new ≤ visits.old + 1 }
-        ensures no_less { visits.old ≤ visits.new }
+        requires own { visits.old.brand ≡ self.old.brand }
+        ensures put { self.new.state ≡ owed_to self.old.state sub.now }
+        ensures bound { visits.new.looks ≤ visits.old.looks + 1 }
+        ensures no_less { visits.old.looks ≤ visits.new.looks }
+        ensures brand { self.new.brand ≡ self.old.brand }
+        ensures own { visits.new.brand ≡ visits.old.brand }
     {
         self.set_owed(visits, sub.session, sub.id, true);
     }
 
     /// Notes that each of these is owed an update.
     pub fn owe_all(&mut self, visits: &mut Visits, subs: &[ClientSub])
-        ensures put { self.new ≡ owed_to_all self.old subs.now }
-        ensures bound { visits.new ≤ visits.old + length subs.now }
-        ensures no_less { visits.old ≤ visits.new }
+        requires own { visits.old.brand ≡ self.old.brand }
+        ensures put { self.new.state ≡ owed_to_all self.old.state subs.now }
+        ensures bound { visits.new.looks ≤ visits.old.looks + length subs.now }
+        ensures no_less { visits.old.looks ≤ visits.new.looks }
+        ensures brand { self.new.brand ≡ self.old.brand }
+        ensures own { visits.new.brand ≡ visits.old.brand }
     {
         for sub in subs {
             self.owe(visits, sub);
@@ -60,14 +71,16 @@ impl Rows {
 
     /// Forgets all that a link was told.
     fn forget_value(&mut self, cid: u32)
-        ensures { self.new ≡ without_cached cid self.old }
+        ensures state { self.new.state ≡ without_cached cid self.old.state }
+        ensures brand { self.new.brand ≡ self.old.brand }
     {
         self.cache.remove(cid);
     }
 
     /// Forgets what a link was told of a subject: with its value its properties too.
     pub fn forget(&mut self, subject: Subject, cid: u32)
-        ensures { self.new ≡ forgotten subject cid self.old }
+        ensures state { self.new.state ≡ forgotten subject cid self.old.state }
+        ensures brand { self.new.brand ≡ self.old.brand }
     {
         match subject {
             Subject::Values => self.forget_value(cid),
@@ -77,7 +90,8 @@ impl Rows {
 
     /// Removes a link and what it was told.
     pub fn remove_link(&mut self, server: u32, cid: u32)
-        ensures { self.new ≡ without_link server cid self.old }
+        ensures state { self.new.state ≡ without_link server cid self.old.state }
+        ensures brand { self.new.brand ≡ self.old.brand }
     {
         self.forget_value(cid);
         self.upstream.remove_link(server, cid);
@@ -85,7 +99,8 @@ impl Rows {
 
     /// Somebody at a host looks for a name: that is remembered, once, where there is room.
     pub fn remember(&mut self, host: &Host, name: &Name) -> Result<(), AllocError>
-        ensures { OnOk result (self.new ≡ remembered host.now name.now self.old) }
+        ensures ok { OnOk result (self.new.state ≡ remembered host.now name.now self.old.state) }
+        ensures brand { self.new.brand ≡ self.old.brand }
     {
         if self.searches.contains(host, name) || self.searches.len() >= SEARCH_LIMIT {
             return Ok(());
@@ -97,14 +112,16 @@ impl Rows {
 
     /// From now on another policy holds.
     pub fn set_policy(&mut self, policy: Policy) -> Result<(), AllocError>
-        ensures { OnOk result (self.new ≡ edited policy self.old) }
+        ensures ok { OnOk result (self.new.state ≡ edited policy self.old.state) }
+        ensures brand { self.new.brand ≡ self.old.brand }
     {
         self.searches.set_policy(self.alloc, policy)
     }
 
     /// Forgets all searches.
     pub fn sweep(&mut self)
-        ensures { self.new ≡ swept self.old }
+        ensures state { self.new.state ≡ swept self.old.state }
+        ensures brand { self.new.brand ≡ self.old.brand }
     {
         self.searches.clear();
     }

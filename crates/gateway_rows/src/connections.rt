@@ -14,57 +14,59 @@ use std::alloc::AllocError;
 impl Rows {
     /// Whether a connection stands.
     pub fn stands(&self, dest: Dest) -> bool
-        ensures { result ≡ stands self.now dest }
+        ensures { result ≡ stands self.now.state dest }
     {
         self.connections.stands(dest)
     }
 
     /// Whether a connection stands and must end.
     pub fn ends(&self, dest: Dest) -> bool
-        ensures { result ≡ ends self.now dest }
+        ensures { result ≡ ends self.now.state dest }
     {
         self.connections.must_end(dest)
     }
 
     /// How many messages wait for a connection, 0 where it doesn't stand.
     pub fn queued(&self, dest: Dest) -> usize
-        ensures { result ≡ queued self.now dest }
+        ensures { result ≡ queued self.now.state dest }
     {
         self.connections.queued(dest)
     }
 
     /// How many bytes wait for a connection, 0 where it doesn't stand.
     pub fn queued_bytes(&self, dest: Dest) -> u64
-        ensures { result ≡ queued_bytes self.now dest }
+        ensures { result ≡ queued_bytes self.now.state dest }
     {
         self.connections.queued_bytes(dest)
     }
 
     /// Whether a message from the connection has an effect.
     pub fn acts(&self, dest: Dest) -> bool
-        ensures { result ≡ acts self.now dest }
+        ensures { result ≡ acts self.now.state dest }
     {
         self.stands(dest) && !self.ends(dest)
     }
 
     /// Whether a session's outbox takes updates.
     pub fn is_taking(&self, number: u32) -> bool
-        ensures { result ≡ is_taking self.now number }
+        ensures { result ≡ is_taking self.now.state number }
     {
         self.connections.takes_updates(Dest::Session(number))
     }
 
     /// Marks a connection to end.
     pub fn mark(&mut self, dest: Dest)
-        ensures { self.new ≡ marked dest self.old }
+        ensures state { self.new.state ≡ marked dest self.old.state }
+        ensures brand { self.new.brand ≡ self.old.brand }
     {
         self.connections.mark(dest);
     }
 
     /// Takes the oldest messages of an outbox, in order.
     pub fn take(&mut self, dest: Dest, count: usize) -> Result<Vec<Out>, AllocError>
-        ensures ok { OnOk result (self.new ≡ drained self.old dest count) }
-        ensures found { IfOk result (λ outs. outs.items ≡ take count (outbox_of dest self.old.connections).messages) }
+        ensures ok { OnOk result (self.new.state ≡ drained self.old.state dest count) }
+        ensures found { IfOk result (λ outs. outs.items ≡ take count (outbox_of dest self.old.state.connections).messages) }
+        ensures brand { self.new.brand ≡ self.old.brand }
     {
         self.connections.take(self.alloc, dest, count)
     }

@@ -17,16 +17,16 @@ impl Rows {
     /// properties, nothing of those that there is no reader of. The table of clients has it counted, so
     /// this looks at no row.
     pub fn wanted(&self, name: &Name, dtype: u16, native: u32) -> (Option<Want>, Option<Want>)
-        requires told { KnowRights self.now }
-        ensures values { result.0 ≡ wanted_for Values self.now name.now dtype native }
-        ensures properties { result.1 ≡ wanted_for Properties self.now name.now dtype native }
+        requires told { KnowRights self.now.state }
+        ensures values { result.0 ≡ wanted_for Values self.now.state name.now dtype native }
+        ensures properties { result.1 ≡ wanted_for Properties self.now.state name.now dtype native }
     {
         let (values, needed) = self.clients.demand_on(name, native, is_state_by(dtype));
         (values, properties_if(needed))
     }
 
     fn subscription_to(&self, subject: Subject, name: &Name) -> Option<Sub>
-        ensures { result ≡ subscription_to subject self.now name.now }
+        ensures { result ≡ subscription_to subject self.now.state name.now }
     {
         let link = self.link_of(name)?;
         let LinkState::Connected { .. } = link.state else {
@@ -42,14 +42,14 @@ impl Rows {
 
     /// The present subscription to a variable's values.
     pub fn subscription_of(&self, name: &Name) -> Option<Sub>
-        ensures { result ≡ subscription_of self.now name.now }
+        ensures { result ≡ subscription_of self.now.state name.now }
     {
         self.subscription_to(Subject::Values, name)
     }
 
     /// The ID of the present subscription to a variable's properties.
     pub fn property_subscription_of(&self, name: &Name) -> Option<u32>
-        ensures { result ≡ property_subscription_of self.now name.now }
+        ensures { result ≡ property_subscription_of self.now.state name.now }
     {
         match self.subscription_to(Subject::Properties, name) {
             Some(sub) => Some(sub.id),
@@ -59,7 +59,7 @@ impl Rows {
 
     /// The minor version that a server said.
     pub fn minor_of(&self, server: u32) -> u32
-        ensures { result ≡ minor_of self.now server }
+        ensures { result ≡ minor_of self.now.state server }
     {
         match self.upstream.server(server) {
             Some(row) => row.minor,

@@ -17,9 +17,11 @@ impl Rows {
         visits: &mut Visits,
         name: &Name,
     ) -> Result<Vec<WaitingRead>, AllocError>
-        ensures found { IfOk result (λ reads. reads.items ≡ filter (waits_for self.now name.now) self.now.clients.reads) }
-        ensures bound { IfOk result (λ reads. visits.new ≤ visits.old + length reads.items) }
-        ensures no_less { visits.old ≤ visits.new }
+        requires own { visits.old.brand ≡ self.now.brand }
+        ensures found { IfOk result (λ reads. reads.items ≡ filter (waits_for self.now.state name.now) self.now.state.clients.reads) }
+        ensures bound { IfOk result (λ reads. visits.new.looks ≤ visits.old.looks + length reads.items) }
+        ensures no_less { visits.old.looks ≤ visits.new.looks }
+        ensures own { visits.new.brand ≡ visits.old.brand }
     {
         self.clients.reads_for(visits, self.alloc, name)
     }
@@ -31,8 +33,10 @@ impl Rows {
         visits: &mut Visits,
         name: &Name,
     ) -> Result<Vec<&'a Channel>, AllocError>
-        ensures found { IfOk result (λ channels. map (λ channel. channel.now) channels.items ≡ filter (is_on name.now) self.now.clients.channels) }
-        ensures no_less { visits.old ≤ visits.new }
+        requires own { visits.old.brand ≡ self.now.brand }
+        ensures found { IfOk result (λ channels. map (λ channel. channel.now) channels.items ≡ filter (is_on name.now) self.now.state.clients.channels) }
+        ensures no_less { visits.old.looks ≤ visits.new.looks }
+        ensures own { visits.new.brand ≡ visits.old.brand }
     {
         let mut channels = Vec::new(self.alloc);
         for n in 0..self.clients.channels_on(name) {
@@ -45,17 +49,21 @@ impl Rows {
 
     /// The subscriptions to a variable, in the order in which they were made.
     pub fn subs_on(&self, visits: &mut Visits, name: &Name) -> Result<Vec<ClientSub>, AllocError>
-        ensures found { IfOk result (λ subs. subs.items ≡ filter (is_sub_to self.now name.now) self.now.clients.subs) }
-        ensures bound { IfOk result (λ subs. visits.new ≤ visits.old + length subs.items) }
-        ensures no_less { visits.old ≤ visits.new }
+        requires own { visits.old.brand ≡ self.now.brand }
+        ensures found { IfOk result (λ subs. subs.items ≡ filter (is_sub_to self.now.state name.now) self.now.state.clients.subs) }
+        ensures bound { IfOk result (λ subs. visits.new.looks ≤ visits.old.looks + length subs.items) }
+        ensures no_less { visits.old.looks ≤ visits.new.looks }
+        ensures own { visits.new.brand ≡ visits.old.brand }
     {
         self.clients.subs_to(visits, self.alloc, name)
     }
 
     /// The subscriptions of a session, in the order in which they were made.
     pub fn subs_of(&self, visits: &mut Visits, session: u32) -> Result<Vec<ClientSub>, AllocError>
-        ensures found { IfOk result (λ subs. subs.items ≡ filter (is_sub_of session) self.now.clients.subs) }
-        ensures no_less { visits.old ≤ visits.new }
+        requires own { visits.old.brand ≡ self.now.brand }
+        ensures found { IfOk result (λ subs. subs.items ≡ filter (is_sub_of session) self.now.state.clients.subs) }
+        ensures no_less { visits.old.looks ≤ visits.new.looks }
+        ensures own { visits.new.brand ≡ visits.old.brand }
     {
         subs_of(self.alloc, &self.clients, visits, session)
     }
@@ -68,8 +76,10 @@ fn subs_of(
     visits: &mut Visits,
     session: u32,
 ) -> Result<Vec<ClientSub>, AllocError>
-    ensures found { IfOk result (λ subs. subs.items ≡ filter (is_sub_of session) clients.now.subs) }
-    ensures no_less { visits.old ≤ visits.new }
+    requires own { visits.old.brand ≡ clients.now.brand }
+    ensures found { IfOk result (λ subs. subs.items ≡ filter (is_sub_of session) clients.now.rows.subs) }
+    ensures no_less { visits.old.looks ≤ visits.new.looks }
+    ensures own { visits.new.brand ≡ visits.old.brand }
 {
     let mut subs = Vec::new(alloc);
     for n in 0..clients.sub_count(session) {

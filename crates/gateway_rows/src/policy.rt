@@ -14,7 +14,7 @@ use std::alloc::{AllocError, Global};
 impl Rows {
     /// Where the name leads that a host asks for; nothing where it is refused.
     pub fn lead_of(&self, host: &Host, name: &Name) -> Result<Option<Lead>, AllocError>
-        ensures { IfOk result (λ lead. lead ≡ lead_of self.now.policy host.now name.now) }
+        ensures { IfOk result (λ lead. lead ≡ lead_of self.now.state.policy host.now name.now) }
     {
         self.searches.lead_of(self.alloc, host, name)
     }
@@ -26,9 +26,11 @@ impl Rows {
         number: u32,
         name: &Name,
     ) -> Result<Option<Lead>, AllocError>
-        ensures found { IfOk result (λ lead. lead ≡ lead_in self.now number name.now) }
-        ensures bound { visits.new ≤ visits.old + 1 }
-        ensures no_less { visits.old ≤ visits.new }
+        requires own { visits.old.brand ≡ self.now.brand }
+        ensures found { IfOk result (λ lead. lead ≡ lead_in self.now.state number name.now) }
+        ensures bound { visits.new.looks ≤ visits.old.looks + 1 }
+        ensures no_less { visits.old.looks ≤ visits.new.looks }
+        ensures own { visits.new.brand ≡ visits.old.brand }
     {
         match self.clients.session(visits, number) {
             Some(session) => self.lead_of(&session.host, name),
@@ -43,10 +45,13 @@ impl Rows {
         number: u32,
         name: &Name,
     ) -> Result<Option<Lead>, AllocError>
-        ensures found { IfOk result (λ lead. lead ≡ lead_in self.old number name.now) }
-        ensures same { self.new ≡ self.old }
-        ensures bound { visits.new ≤ visits.old + 1 }
-        ensures no_less { visits.old ≤ visits.new }
+        requires own { visits.old.brand ≡ self.old.brand }
+        ensures found { IfOk result (λ lead. lead ≡ lead_in self.old.state number name.now) }
+        ensures same { self.new.state ≡ self.old.state }
+        ensures bound { visits.new.looks ≤ visits.old.looks + 1 }
+        ensures no_less { visits.old.looks ≤ visits.new.looks }
+        ensures brand { self.new.brand ≡ self.old.brand }
+        ensures own { visits.new.brand ≡ visits.old.brand }
     {
         match self.clients.session(visits, number) {
             Some(session) => self.searches.learn_lead(self.alloc, &session.host, name),
@@ -57,8 +62,11 @@ impl Rows {
     /// Remembers what the names of all channels lead to, so that asking for them again runs no rule.
     /// Nothing else changes.
     pub fn learn_leads(&mut self, visits: &mut Visits) -> Result<(), AllocError>
-        ensures ok { self.new ≡ self.old }
-        ensures no_less { visits.old ≤ visits.new }
+        requires own { visits.old.brand ≡ self.old.brand }
+        ensures ok { self.new.state ≡ self.old.state }
+        ensures no_less { visits.old.looks ≤ visits.new.looks }
+        ensures brand { self.new.brand ≡ self.old.brand }
+        ensures own { visits.new.brand ≡ visits.old.brand }
     {
         learn_leads(self.alloc, &self.clients, visits, &mut self.searches)
     }
@@ -70,8 +78,10 @@ fn learn_leads(
     visits: &mut Visits,
     searches: &mut Searches,
 ) -> Result<(), AllocError>
+    requires own { visits.old.brand ≡ clients.now.brand }
     ensures ok { searches.new ≡ searches.old }
-    ensures no_less { visits.old ≤ visits.new }
+    ensures no_less { visits.old.looks ≤ visits.new.looks }
+    ensures own { visits.new.brand ≡ visits.old.brand }
 {
     let mut asked = Vec::new(alloc);
     for channel in &clients.channels(visits, alloc)? {

@@ -17,7 +17,7 @@ use std::alloc::AllocError;
 
 impl Rows {
     fn link_rights(&self, name: &Name) -> u32
-        ensures { result ≡ link_rights (link_of self.now name.now) }
+        ensures { result ≡ link_rights (link_of self.now.state name.now) }
     {
         match self.link_of(name) {
             Some(link) => link.rights,
@@ -28,14 +28,14 @@ impl Rows {
     /// The rights of a channel whose name leads so: those of its link that the policy leaves to its
     /// session.
     pub fn rights_by(&self, channel: &Channel, lead: Option<&Lead>) -> u32
-        ensures { result ≡ bit_and (link_rights (link_of self.now channel.now.real)) (rights_left self.now.policy (option_copied lead.entry)) }
+        ensures { result ≡ bit_and (link_rights (link_of self.now.state channel.now.real)) (rights_left self.now.state.policy (option_copied lead.entry)) }
     {
         self.link_rights(&channel.real) & rights_left(self.searches.policy(), lead)
     }
 
     /// Whether a real name has a link that is connected.
     pub fn is_link_connected(&self, name: &Name) -> bool
-        ensures { result ≡ link_connected (link_of self.now name.now) }
+        ensures { result ≡ link_connected (link_of self.now.state name.now) }
     {
         match self.link_of(name) {
             Some(link) => is_connected(link.state),
@@ -45,14 +45,14 @@ impl Rows {
 
     /// Whether a channel is served whose name leads so: to its real name still, whose link is connected.
     pub fn is_served_by(&self, channel: &Channel, lead: Option<&Lead>) -> bool
-        ensures { result ≡ (is_real (option_copied lead.entry) channel.now.real && link_connected (link_of self.now channel.now.real)) }
+        ensures { result ≡ (is_real (option_copied lead.entry) channel.now.real && link_connected (link_of self.now.state channel.now.real)) }
     {
         is_real(lead, &channel.real) && self.is_link_connected(&channel.real)
     }
 
     /// Whether the name that a host searches for leads to a variable whose link is connected.
     pub fn is_found(&self, host: &Host, name: &Name) -> Result<bool, AllocError>
-        ensures { IfOk result (λ answer. answer ≡ is_found self.now host.now name.now) }
+        ensures { IfOk result (λ answer. answer ≡ is_found self.now.state host.now name.now) }
     {
         match self.lead_of(host, name)? {
             Some(lead) => Ok(self.is_link_connected(&lead.real)),
@@ -67,9 +67,11 @@ impl Rows {
         session: u32,
         sid: u32,
     ) -> Option<&'a Channel>
-        ensures found { option_copied result ≡ channel_of self.now session sid }
-        ensures bound { visits.new ≤ visits.old + 1 }
-        ensures no_less { visits.old ≤ visits.new }
+        requires own { visits.old.brand ≡ self.now.brand }
+        ensures found { option_copied result ≡ channel_of self.now.state session sid }
+        ensures bound { visits.new.looks ≤ visits.old.looks + 1 }
+        ensures no_less { visits.old.looks ≤ visits.new.looks }
+        ensures own { visits.new.brand ≡ visits.old.brand }
     {
         self.clients.channel(visits, session, sid)
     }
@@ -81,11 +83,13 @@ impl Rows {
         session: u32,
         sid: u32,
     ) -> Option<&'a Channel>
-        requires told { KnowRights self.now }
-        ensures found { option_copied result ≡ channel_of self.now session sid }
-        ensures told { IfSome (option_copied result) (KnowsRights self.now) }
-        ensures bound { visits.new ≤ visits.old + 1 }
-        ensures no_less { visits.old ≤ visits.new }
+        requires told { KnowRights self.now.state }
+        requires own { visits.old.brand ≡ self.now.brand }
+        ensures found { option_copied result ≡ channel_of self.now.state session sid }
+        ensures told { IfSome (option_copied result) (KnowsRights self.now.state) }
+        ensures bound { visits.new.looks ≤ visits.old.looks + 1 }
+        ensures no_less { visits.old.looks ≤ visits.new.looks }
+        ensures own { visits.new.brand ≡ visits.old.brand }
     {
         self.channel_of(visits, session, sid)
     }
@@ -93,9 +97,11 @@ impl Rows {
     /// What a client was last told that it may do with a channel, nothing where it has no such channel. It
     /// takes no memory.
     pub fn rights_told(&self, visits: &mut Visits, session: u32, sid: u32) -> Option<u32>
-        ensures found { result ≡ rights_told self.now session sid }
-        ensures bound { visits.new ≤ visits.old + 1 }
-        ensures no_less { visits.old ≤ visits.new }
+        requires own { visits.old.brand ≡ self.now.brand }
+        ensures found { result ≡ rights_told self.now.state session sid }
+        ensures bound { visits.new.looks ≤ visits.old.looks + 1 }
+        ensures no_less { visits.old.looks ≤ visits.new.looks }
+        ensures own { visits.new.brand ≡ visits.old.brand }
     {
         match self.channel_of(visits, session, sid) {
             Some(channel) => Some(channel.rights_told),

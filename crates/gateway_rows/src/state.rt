@@ -28,15 +28,18 @@ pub struct Rows {
 }
 
 impl Model for Rows {
-    ghost use Rattle.gateway_state.specs.Gateway.{Gateway};
+    ghost use Rattle.gateway_rows.specs.BrandedState.{BrandedState};
     ghost use Rattle.rule_desk.specs.contracts.policy.Policy as the_policy;
     ghost use Rattle.std.specs.Coded.{codes};
 
-    ghost Value = { Gateway };
+    ghost Value = { BrandedState };
 
     ghost coded = { Prim.hlevel (codes, the_policy.the_row.coded) };
 
-    ghost view = { λ r. record { config = r.config; policy = r.searches.policy; connections = r.connections; clients = r.clients; upstream = r.upstream; cache = r.cache; searches = r.searches.rows } };
+    ghost view = { λ r. record {
+      state = record { config = r.config; policy = r.searches.policy; connections = r.connections; clients = r.clients.rows; upstream = r.upstream; cache = r.cache; searches = r.searches.rows };
+      brand = r.clients.brand;
+    } };
 }
 
 // A function of its own, so that who drops the rows need not know of the drops of all their parts.
@@ -63,8 +66,9 @@ impl Drop for Rows {
 impl Rows {
     /// What is known before any event, and the count of looks at the rows of clients.
     pub fn new(alloc: Global, config: Config, policy: Policy) -> (Rows, Visits)
-        ensures rows { result.0 ≡ initial config policy }
-        ensures visits { result.1 ≡ 0 }
+        ensures rows { result.0.state ≡ initial config policy }
+        ensures looks { result.1.looks ≡ 0 }
+        ensures own { result.1.brand ≡ result.0.brand }
     {
         let first = config.first;
         let (clients, visits) = Table::new(alloc);
@@ -82,7 +86,7 @@ impl Rows {
 
     /// How many rows of each kind there are. It looks at none.
     pub fn row_counts(&self) -> RowCounts
-        ensures { result ≡ row_counts self.now }
+        ensures { result ≡ row_counts self.now.state }
     {
         RowCounts {
             sessions: self.clients.all_sessions(),
@@ -99,7 +103,7 @@ impl Rows {
     /// No number past the last one was given out, whatever was done: this call does nothing.
     #[tactic(auto, unfolding(gateway_state::specs::Numbers::is_past_numbers))]
     pub fn numbers_are_in_range(&self)
-        ensures { is_past_numbers self.now ≡ false }
+        ensures { is_past_numbers self.now.state ≡ false }
     {
         self.upstream.numbers_are_in_range();
     }

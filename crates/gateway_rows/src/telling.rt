@@ -12,14 +12,16 @@ use std::alloc::{AllocError, Global};
 impl Rows {
     #[tactic(auto, unfolding(gateway_state::specs::Telling::sent))]
     fn send(&mut self, dest: Dest, out: Out) -> Result<(), AllocError>
-        ensures { OnOk result (self.new ≡ sent dest out self.old) }
+        ensures ok { OnOk result (self.new.state ≡ sent dest out self.old.state) }
+        ensures brand { self.new.brand ≡ self.old.brand }
     {
         self.connections.give(dest, out)
     }
 
     /// Tells a client something.
     pub fn tell(&mut self, number: u32, said: &ToClient) -> Result<(), AllocError>
-        ensures { OnOk result (self.new ≡ told number said.now self.old) }
+        ensures ok { OnOk result (self.new.state ≡ told number said.now self.old.state) }
+        ensures brand { self.new.brand ≡ self.old.brand }
     {
         let out = outgoing(self.alloc, said)?;
         self.send(Dest::Session(number), out)
@@ -27,7 +29,8 @@ impl Rows {
 
     /// Asks a server for something.
     pub fn ask(&mut self, number: u32, said: &ToServer<'_>) -> Result<(), AllocError>
-        ensures { OnOk result (self.new ≡ asked number said.now self.old) }
+        ensures ok { OnOk result (self.new.state ≡ asked number said.now self.old.state) }
+        ensures brand { self.new.brand ≡ self.old.brand }
     {
         let out = outgoing_upstream(self.alloc, said)?;
         self.send(Dest::Upstream(number), out)

@@ -42,12 +42,12 @@ use Rattle.gateway_state.specs.declared.notice.SubVerdict.TheVariants as SubVerd
 use Rattle.gateway_state.specs.declared.notice.WriteVerdict.{WriteVerdict}
 use Rattle.gateway_state.specs.declared.notice.WriteVerdict.TheVariants as WriteVerdicts
 use Rattle.gateway_state.specs.declared.reading.Native.{Native}
-use Rattle.gateway_state.specs.Answer.{native_in, value_refusal}
+use Rattle.gateway_state.specs.Answer.{value_refusal}
 use Rattle.pv_alias.specs.declared.lead.Lead.{Lead}
 use Rattle.rule_desk.specs.declared.policy.Policy.{Policy}
 use Rattle.gateway_state.specs.declared.connections.Connection.{Connection}
 use Rattle.gateway_state.specs.Asked.{stands}
-use Rattle.gateway_state.specs.Clients.{channel_asked, cleared, created, created_as, created_on, created_on_native, creation_failed, judged, not_connected, read_verdict, remembered, remembered_by, rights_on, versioned, with_channel, with_host_fixed, without_channel, verdict_on, fixed, renamed}
+use Rattle.gateway_state.specs.Clients.{channel_asked, cleared, created, created_as, created_over, creation_failed, judged, not_connected, read_verdict, remembered, remembered_by, rights_on, versioned, with_channel, with_host_fixed, without_channel, verdict_on, fixed, renamed}
 use Rattle.gateway_state.specs.Connections.{fresh, is_to}
 use Rattle.gateway_state.specs.declared.search.Search.{Search}
 use Rattle.gateway_state.specs.Gateway.{Gateway}
@@ -56,10 +56,10 @@ use Rattle.gateway_state.specs.Rights.{channel_of, lead_for, lead_in, rights_of}
 use Rattle.gateway_state.specs.Searches.{same_search}
 use Rattle.gateway_state.specs.Sessions.{opened, with_session}
 use Rattle.gateway_state.specs.Settled.{is_host_fixed, is_of_server, is_write_on_link, link_under}
-use Rattle.gateway_state.specs.Subscribing.{cancelled_on, cid_in, is_on_sid, limit_unless, new_sub, paused_to, sub_judged, sub_of, sub_verdict, sub_verdict_natively, sub_verdict_on, sub_verdict_over, sub_verdict_unless, subscription_limit, subscription_refusal, with_pause, without_sub}
+use Rattle.gateway_state.specs.Subscribing.{cancelled_on, cid_in, is_on_sid, limit_unless, new_sub, paused_to, sub_judged, sub_of, sub_verdict, sub_verdict_on, sub_verdict_over, sub_verdict_unless, subscription_limit, subscription_refusal, with_pause, without_sub}
 use Rattle.gateway_state.specs.Telling.{marked, told}
-use Rattle.gateway_state.specs.Variables.{link_of}
-use Rattle.gateway_state.specs.Writing.{may_write, new_write, notified_by, with_write, write_answered, write_handed_on, write_judged, write_verdict, write_verdict_in, write_verdict_on, write_verdict_over, write_waits, written_by}
+use Rattle.gateway_state.specs.Variables.{ConnectedVariable, connected, connected_in, connected_over, link_of}
+use Rattle.gateway_state.specs.Writing.{may_write, new_write, notified_by, with_write, write_answered, write_handed_on, write_judged, write_verdict, write_verdict_on, write_verdict_over, write_waits, written_by}
 use Rattle.gateway_state.proofs.RowTests.{none_found}
 use Rattle.gateway_state.proofs.Kept.{KeepsErrors, KeepsQuotes, KeepsRows, KeepsSession, by_any, kept_either, with_connections, with_read, with_searches}
 
@@ -92,20 +92,16 @@ free_unless w sub c native e = by (is_some (sub_of w sub.session sub.id)) refl e
     by true is e = absurd cc
     by false is e = is
 
-free_natively : (w : Gateway) (sub : ClientSub) (c : Channel) (native : Option Native) → sub_verdict_natively w sub c native ≡ SubVerdicts.Accepted → is_some (sub_of w sub.session sub.id) ≡ false
-free_natively w sub c None e = absurd cc
-free_natively w sub c (Some native) e = free_unless w sub c native e
-
-free_over : (w : Gateway) (sub : ClientSub) (c : Channel) (link : Option Link) → sub_verdict_over w sub c link ≡ SubVerdicts.Accepted → is_some (sub_of w sub.session sub.id) ≡ false
+free_over : (w : Gateway) (sub : ClientSub) (c : Channel) (over : Option ConnectedVariable) → sub_verdict_over w sub c over ≡ SubVerdicts.Accepted → is_some (sub_of w sub.session sub.id) ≡ false
 free_over w sub c None e = absurd cc
-free_over w sub c (Some link) e = free_natively w sub c (native_in link.state) e
+free_over w sub c (Some v) e = free_unless w sub c v.native e
 
 free_on : (w : Gateway) (sub : ClientSub) → sub_verdict w sub ≡ SubVerdicts.Accepted → IsFree w sub
 free_on w sub e = by (channel_of w sub.session sub.sid) refl e
   where
     by : (found : Option Channel) → channel_of w sub.session sub.sid ≡ found → sub_verdict_on w sub found ≡ SubVerdicts.Accepted → IsFree w sub
     by None is e = absurd cc
-    by (Some c) is e = record { free = free_over w sub c (link_of w c.real) e; on = found_there (is_channel sub.session sub.sid) w.clients.channels c is }
+    by (Some c) is e = record { free = free_over w sub c (connected w c.real) e; on = found_there (is_channel sub.session sub.sid) w.clients.channels c is }
 
 pub accepted_is_new : (w : Gateway) (sub : ClientSub) → sub_verdict w sub ≡ SubVerdicts.Accepted → has_sub sub.session sub.id w.clients ≡ false
 accepted_is_new w sub e = none_found (is_sub sub.session sub.id) w.clients.subs (free_on w sub e).free
@@ -121,14 +117,14 @@ judged_server w c at sid (Ok value) server upstream_sid handed e = by (may_write
     by false is = absurd cc
 
 server_in : (w : Gateway) (c : Channel) (link : Link) (state : LinkState) (dtype count : ℕ) (payload : List ℕ) (server upstream_sid : ℕ) (handed : Written)
-    → write_verdict_in w c link.server dtype count payload state ≡ WriteVerdicts.Accepted server upstream_sid handed → link.server ≡ server
+    → write_verdict_over w c dtype count payload (connected_in link state) ≡ WriteVerdicts.Accepted server upstream_sid handed → link.server ≡ server
 server_in w c link Creating dtype count payload server upstream_sid handed e = absurd cc
 server_in w c link (Connected sid native native_count) dtype count payload server upstream_sid handed e =
     judged_server w c link.server sid (written dtype count native_count payload) server upstream_sid handed e
 server_in w c link Unusable dtype count payload server upstream_sid handed e = absurd cc
 
 server_over : (w : Gateway) (c : Channel) (link : Option Link) (dtype count : ℕ) (payload : List ℕ) (server upstream_sid : ℕ) (handed : Written)
-    → write_verdict_over w c dtype count payload link ≡ WriteVerdicts.Accepted server upstream_sid handed → is_of_server server link ≡ true
+    → write_verdict_over w c dtype count payload (connected_over link) ≡ WriteVerdicts.Accepted server upstream_sid handed → is_of_server server link ≡ true
 server_over w c None dtype count payload server upstream_sid handed e = absurd cc
 server_over w c (Some link) dtype count payload server upstream_sid handed e =
     eq-eqb link.server server (server_in w c link link.state dtype count payload server upstream_sid handed e)
@@ -213,21 +209,16 @@ module _ (P : Gateway → Type 0) (kept : KeepsRows P) where
       let row : Option Session = find (is_numbered number) w.clients.sessions in
       kept.messages.telling number (replies.CreateChannelFail cid) by_any (remembered_by row name w) (kept_remembered_by row name w holds)
 
-  kept_created_on_native : (number cid : ℕ) (name : List ℕ) (lead : Lead) (link : Link) (native : Option Native) (w : Gateway) → HasHost number w → P w
-      → P (created_on_native number cid name lead link native w)
-  kept_created_on_native number cid name lead link None w fixed holds = kept_not_connected number cid name w holds
-  kept_created_on_native number cid name lead link (Some native) w fixed holds = kept_created number cid name lead link native w fixed holds
-
-  kept_created_on : (number cid : ℕ) (name : List ℕ) (lead : Lead) (link : Option Link) (w : Gateway) → HasHost number w → P w → P (created_on number cid name lead link w)
-  kept_created_on number cid name lead None w fixed holds = kept_not_connected number cid name w holds
-  kept_created_on number cid name lead (Some link) w fixed holds = kept_created_on_native number cid name lead link (native_in link.state) w fixed holds
+  kept_created_over : (number cid : ℕ) (name : List ℕ) (lead : Lead) (over : Option ConnectedVariable) (w : Gateway) → HasHost number w → P w → P (created_over number cid name lead over w)
+  kept_created_over number cid name lead None w fixed holds = kept_not_connected number cid name w holds
+  kept_created_over number cid name lead (Some v) w fixed holds = kept_created number cid name lead v.link v.native w fixed holds
 
   kept_created_as : (number cid : ℕ) (name : List ℕ) (lead : Option Lead) (w : Gateway) → ((to : Lead) → lead ≡ Some to → HasHost number w) → P w
       → P (created_as number cid name lead w)
   kept_created_as number cid name None w fixed holds = kept.messages.telling number (replies.CreateChannelFail cid) by_any w holds
   kept_created_as number cid name (Some lead) w fixed holds =
-      kept_either P (leb CHANNEL_LIMIT (channel_count number w.clients)) (creation_failed number cid w) (created_on number cid name lead (link_of w lead.real) w)
-      (λ _. kept.messages.telling number (replies.CreateChannelFail cid) by_any w holds) (kept_created_on number cid name lead (link_of w lead.real) w (fixed lead refl) holds)
+      kept_either P (leb CHANNEL_LIMIT (channel_count number w.clients)) (creation_failed number cid w) (created_over number cid name lead (connected w lead.real) w)
+      (λ _. kept.messages.telling number (replies.CreateChannelFail cid) by_any w holds) (kept_created_over number cid name lead (connected w lead.real) w (fixed lead refl) holds)
 
   kept_with_host_fixed : (number : ℕ) (w : Gateway) → P w → P (with_host_fixed number w)
   kept_with_host_fixed number w holds = kept.session_changed number fixed w fixed_keeps holds
@@ -323,22 +314,24 @@ module _ (P : Gateway → Type 0) (kept : KeepsRows P) where
   kept_requested : (w : Gateway) (number : ℕ) (message : Message) (request : Result ClientRequest RequestFault)
       → KeepsQuotes P number message → request_of message.head message.payload ≡ request → P w → P (requested w number message request)
   kept_requested w number message (Ok (requests.Version minor)) quoted is holds = kept_versioned w number minor holds
-  kept_requested w number message (Ok (requests.EventAdd sid id dtype count mask)) quoted is holds =
-      let sub : ClientSub = new_sub number sid id dtype count mask in
+  kept_requested w number message (Ok (requests.EventAdd add)) quoted is holds =
+      let sub : ClientSub = new_sub number add.sid add.id add.dtype add.count add.mask in
       kept_sub_judged sub message.head quoted.errors (sub_verdict w sub) w (free_on w sub) holds
-  kept_requested w number message (Ok (requests.EventCancel sid id dtype count)) quoted is holds =
-      kept_cancelled_on number sid id dtype count message.head quoted.errors (channel_of w number sid) w holds
-  kept_requested w number message (Ok (requests.Write sid dtype count value)) quoted is holds =
-      kept_written_by number message.head quoted.errors (write_verdict w number sid dtype count value) w holds
+  kept_requested w number message (Ok (requests.EventCancel cancel)) quoted is holds =
+      kept_cancelled_on number cancel.sid cancel.id cancel.dtype cancel.count message.head quoted.errors (channel_of w number cancel.sid) w holds
+  kept_requested w number message (Ok (requests.Write write)) quoted is holds =
+      kept_written_by number message.head quoted.errors (write_verdict w number write.sid write.dtype write.count write.value) w holds
   kept_requested w number message (Ok requests.EventsOff) quoted is holds = kept_paused_to number true w holds
   kept_requested w number message (Ok requests.EventsOn) quoted is holds = kept_paused_to number false w holds
-  kept_requested w number message (Ok (requests.ClearChannel sid cid)) quoted is holds = kept_cleared number sid cid message.head quoted.errors (channel_of w number sid) w holds
-  kept_requested w number message (Ok (requests.ReadNotify sid ioid dtype count)) quoted is holds =
-      kept_judged number sid ioid dtype count message.head quoted.errors (read_verdict w number sid dtype count) w (accepted_on w number sid dtype count) holds
-  kept_requested w number message (Ok (requests.CreateChannel cid minor name)) quoted is holds = kept_channel_asked number cid name w holds
-  kept_requested w number message (Ok (requests.WriteNotify sid ioid dtype count value)) quoted is holds =
-      kept_notified_by number sid ioid dtype count message.head quoted.errors (write_verdict w number sid dtype count value) w
-      (λ server upstream_sid written accepted. write_on_link w number sid dtype count ioid value server upstream_sid written accepted) holds
+  kept_requested w number message (Ok (requests.ClearChannel clear)) quoted is holds =
+      kept_cleared number clear.sid clear.cid message.head quoted.errors (channel_of w number clear.sid) w holds
+  kept_requested w number message (Ok (requests.ReadNotify read)) quoted is holds =
+      kept_judged number read.sid read.ioid read.dtype read.count message.head quoted.errors (read_verdict w number read.sid read.dtype read.count) w
+      (accepted_on w number read.sid read.dtype read.count) holds
+  kept_requested w number message (Ok (requests.CreateChannel create)) quoted is holds = kept_channel_asked number create.cid create.name w holds
+  kept_requested w number message (Ok (requests.WriteNotify write)) quoted is holds =
+      kept_notified_by number write.sid write.ioid write.dtype write.count message.head quoted.errors (write_verdict w number write.sid write.dtype write.count write.value) w
+      (λ server upstream_sid written accepted. write_on_link w number write.sid write.dtype write.count write.ioid write.value server upstream_sid written accepted) holds
   kept_requested w number message (Ok (requests.ClientName name)) quoted is holds = holds
   kept_requested w number message (Ok (requests.HostName host)) quoted is holds = kept.session_changed number (renamed host) w (renamed_keeps host) holds
   kept_requested w number message (Ok requests.Echo) quoted is holds = quoted.echo is w holds

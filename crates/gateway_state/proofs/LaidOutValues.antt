@@ -7,22 +7,20 @@ use Rattle.ca_message.specs.declared.codes.TheConstants.{ECA_NORDACCESS}
 use Rattle.channel_table.specs.declared.channels.Channel.{Channel}
 use Rattle.channel_table.specs.declared.reads.WaitingRead.{WaitingRead}
 use Rattle.channel_table.specs.declared.subs.ClientSub.{ClientSub}
-use Rattle.link_table.specs.declared.links.Link.{Link}
 use Rattle.value_cache.specs.Held.{answer, covers}
 use Rattle.gateway_state.specs.declared.cached.LastMessage.{LastMessage}
 use Rattle.gateway_state.specs.declared.notice.ReadNotice.{ReadNotice}
 use Rattle.gateway_state.specs.declared.notice.ReadNotice.TheVariants.{Refused, Answered}
 use Rattle.gateway_state.specs.declared.notice.UpdateNotice.{UpdateNotice}
 use Rattle.gateway_state.specs.declared.reading.Given.{Given}
-use Rattle.gateway_state.specs.declared.reading.Native.{Native}
-use Rattle.gateway_state.specs.Answer.{cached_as, cached_value, given_in, meant_count, native_in}
+use Rattle.gateway_state.specs.Answer.{cached_as, cached_value, given_in, meant_count}
 use Rattle.gateway_state.specs.CachedRows.{is_cached_of}
 use Rattle.gateway_state.specs.Delivered.{IsLaidOut}
 use Rattle.gateway_state.specs.Gateway.{Gateway}
-use Rattle.gateway_state.specs.Notices.{answered_by, answered_natively, answered_over, notice_on, read_notice, read_notices}
+use Rattle.gateway_state.specs.Notices.{answered_by, answered_over, notice_on, read_notice, read_notices}
 use Rattle.gateway_state.specs.Rights.{channel_of, may_read, rights_of}
-use Rattle.gateway_state.specs.Updates.{is_open_to, update_by, update_natively, update_notice, update_notices, update_on, update_over}
-use Rattle.gateway_state.specs.Variables.{link_of}
+use Rattle.gateway_state.specs.Updates.{is_open_to, update_by, update_notice, update_notices, update_on, update_over}
+use Rattle.gateway_state.specs.Variables.{ConnectedVariable, connected}
 
 -- of an option's value, where it has one
 abbrev OfSome : {A : Type 0} → (A → Type 0) → Option A → Type 0
@@ -67,21 +65,17 @@ answer_laid : (read : WaitingRead) (given : Option Given) → OfSome (IsGiven re
 answer_laid read None laid = record {}
 answer_laid read (Some given) laid = laid
 
-read_laid_natively : (w : Gateway) (read : WaitingRead) (link : Link) (native : Option Native) → OfSome IsAnswer (answered_natively w read link native)
-read_laid_natively w read link None = record {}
-read_laid_natively w read link (Some native) =
-    answer_laid read (cached_value w link.cid native.count read.dtype read.count) (value_laid w link.cid native.count read.dtype read.count)
-
-read_laid_over : (w : Gateway) (read : WaitingRead) (link : Option Link) → OfSome IsAnswer (answered_over w read link)
+read_laid_over : (w : Gateway) (read : WaitingRead) (over : Option ConnectedVariable) → OfSome IsAnswer (answered_over w read over)
 read_laid_over w read None = record {}
-read_laid_over w read (Some link) = read_laid_natively w read link (native_in link.state)
+read_laid_over w read (Some v) =
+    answer_laid read (cached_value w v.link.cid v.native.count read.dtype read.count) (value_laid w v.link.cid v.native.count read.dtype read.count)
 
 read_laid_on : (w : Gateway) (read : WaitingRead) (found : Option Channel) → OfSome IsAnswer (notice_on w read found)
 read_laid_on w read None = record {}
 read_laid_on w read (Some c) = by (may_read (rights_of w c))
   where
-    by : (may : Bool) → OfSome IsAnswer (cond may (answered_over w read (link_of w c.real)) (Some (Refused read ECA_NORDACCESS)))
-    by true = read_laid_over w read (link_of w c.real)
+    by : (may : Bool) → OfSome IsAnswer (cond may (answered_over w read (connected w c.real)) (Some (Refused read ECA_NORDACCESS)))
+    by true = read_laid_over w read (connected w c.real)
     by false = record {}
 
 pub reads_laid : (w : Gateway) → All IsAnswer (read_notices w)
@@ -97,21 +91,17 @@ update_laid : (sub : ClientSub) (given : Option Given) → OfSome (IsGiven sub.d
 update_laid sub None laid = record {}
 update_laid sub (Some given) laid = laid
 
-update_laid_natively : (w : Gateway) (sub : ClientSub) (link : Link) (native : Option Native) → OfSome IsUpdate (update_natively w sub link native)
-update_laid_natively w sub link None = record {}
-update_laid_natively w sub link (Some native) =
-    update_laid sub (cached_value w link.cid native.count sub.dtype sub.count) (value_laid w link.cid native.count sub.dtype sub.count)
-
-update_laid_over : (w : Gateway) (sub : ClientSub) (link : Option Link) → OfSome IsUpdate (update_over w sub link)
+update_laid_over : (w : Gateway) (sub : ClientSub) (over : Option ConnectedVariable) → OfSome IsUpdate (update_over w sub over)
 update_laid_over w sub None = record {}
-update_laid_over w sub (Some link) = update_laid_natively w sub link (native_in link.state)
+update_laid_over w sub (Some v) =
+    update_laid sub (cached_value w v.link.cid v.native.count sub.dtype sub.count) (value_laid w v.link.cid v.native.count sub.dtype sub.count)
 
 update_laid_on : (w : Gateway) (sub : ClientSub) (found : Option Channel) → OfSome IsUpdate (update_on w sub found)
 update_laid_on w sub None = record {}
 update_laid_on w sub (Some c) = by (may_read (rights_of w c))
   where
-    by : (may : Bool) → OfSome IsUpdate (cond may (update_over w sub (link_of w c.real)) None)
-    by true = update_laid_over w sub (link_of w c.real)
+    by : (may : Bool) → OfSome IsUpdate (cond may (update_over w sub (connected w c.real)) None)
+    by true = update_laid_over w sub (connected w c.real)
     by false = record {}
 
 notice_laid : (w : Gateway) (sub : ClientSub) → OfSome IsUpdate (update_notice w sub)

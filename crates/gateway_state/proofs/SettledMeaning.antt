@@ -24,10 +24,10 @@ use Rattle.gateway_state.specs.declared.reading.Native.{Native}
 use Rattle.gateway_state.specs.Answer.{cached_value, native_in}
 use Rattle.gateway_state.specs.Gateway.{Gateway}
 use Rattle.gateway_state.specs.Interest.{is_for, minor_of, wanted_for}
-use Rattle.gateway_state.specs.Notices.{answered_by, answered_natively, answered_over, cancelled, channel_notice, channel_notices, interest_notices, link_notices_of, notice_on, notices_between, read_notice, subject_notices, subscribed}
+use Rattle.gateway_state.specs.Notices.{answered_by, answered_over, cancelled, channel_notice, channel_notices, interest_notices, link_notices_of, notice_on, notices_between, read_notice, subject_notices, subscribed}
 use Rattle.gateway_state.specs.Rights.{channel_of, is_served, link_connected, may_read, rights_of}
 use Rattle.gateway_state.specs.Settled.{HasReadsOnChannels, IsInUse, IsSettled, IsUpToDate, IsWaiting, want_in, is_on_channel, native_count_in, native_type_in}
-use Rattle.gateway_state.specs.Variables.{is_connected, is_wanted, link_of}
+use Rattle.gateway_state.specs.Variables.{connected_in, connected_over, is_connected, is_wanted, link_of}
 use Rattle.gateway_state.proofs.SettledChannels.{notice_by}
 
 -- ---- lists of notices that are empty
@@ -151,14 +151,22 @@ unanswered : (read : WaitingRead) (given : Option Given) → answered_by read gi
 unanswered read None none = refl
 unanswered read (Some given) none = absurd cc
 
+-- a read that isn't answered on a connected link isn't covered
+uncovered_in : (w : Gateway) (read : WaitingRead) (link : Link) (state : LinkState) (native : Native) → native_in state ≡ Some native
+    → answered_over w read (connected_in link state) ≡ None → cached_value w link.cid native.count read.dtype read.count ≡ None
+uncovered_in w read link Creating native is none = absurd cc
+uncovered_in w read link Unusable native is none = absurd cc
+uncovered_in w read link (Connected sid dtype count) native is none =
+    let same : record { dtype = dtype; count = count } ≡ native = cc in
+    ap (λ (n : Native). cached_value w link.cid n.count read.dtype read.count) (sym same)
+    ∙ unanswered read (cached_value w link.cid count read.dtype read.count) none
+
 -- a read without a notice waits, on a channel that is served
 waiting_over : (w : Gateway) (read : WaitingRead) (c : Channel) (link : Option Link) → channel_of w read.session read.sid ≡ Some c → link_of w c.real ≡ link
-    → link_connected link ≡ true → may_read (rights_of w c) ≡ true → answered_over w read link ≡ None → IsWaiting w read
+    → link_connected link ≡ true → may_read (rights_of w c) ≡ true → answered_over w read (connected_over link) ≡ None → IsWaiting w read
 waiting_over w read c None on is connected readable none = absurd (true≢false (sym connected))
 waiting_over w read c (Some link) on is connected readable none =
     let known = connected_native link.state connected in
-    let given : Option Given = cached_value w link.cid known.0.count read.dtype read.count in
-    let unmet : answered_natively w read link (Some known.0) ≡ None = ap (answered_natively w read link) (sym known.1) ∙ none in
     record {
       channel = c;
       link = link;
@@ -167,13 +175,13 @@ waiting_over w read c (Some link) on is connected readable none =
       over = is;
       connected = known.1;
       readable = readable;
-      uncovered = unanswered read (cached_value w link.cid known.0.count read.dtype read.count) unmet;
+      uncovered = uncovered_in w read link link.state known.0 known.1 none;
     }
 
 waiting_on : (w : Gateway) (read : WaitingRead) (c : Channel) → channel_of w read.session read.sid ≡ Some c → IsUpToDate w c → notice_on w read (Some c) ≡ None → IsWaiting w read
 waiting_on w read c on up none = by (may_read (rights_of w c)) refl none
   where
-    by : (may : Bool) → may_read (rights_of w c) ≡ may → cond may (answered_over w read (link_of w c.real)) (Some (Refused read ECA_NORDACCESS)) ≡ None → IsWaiting w read
+    by : (may : Bool) → may_read (rights_of w c) ≡ may → cond may (answered_over w read (connected_over (link_of w c.real))) (Some (Refused read ECA_NORDACCESS)) ≡ None → IsWaiting w read
     by true is none = waiting_over w read c (link_of w c.real) on refl (and_parts _ (link_connected (link_of w c.real)) up.served).1 is none
     by false is none = absurd cc
 

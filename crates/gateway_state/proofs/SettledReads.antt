@@ -7,19 +7,17 @@ use Rattle.rows.specs.Rows.{remove_first}
 use Rattle.channel_table.specs.declared.channels.Channel.{Channel}
 use Rattle.channel_table.specs.declared.reads.WaitingRead.{WaitingRead}
 use Rattle.channel_table.specs.Reads.{same_read}
-use Rattle.link_table.specs.declared.links.Link.{Link}
 use Rattle.gateway_state.specs.declared.connections.Connection.{Connection}
 use Rattle.gateway_state.specs.declared.notice.ReadNotice.{ReadNotice}
 use Rattle.gateway_state.specs.declared.notice.ReadNotice.TheVariants.{Refused, Answered}
 use Rattle.gateway_state.specs.declared.reading.Given.{Given}
-use Rattle.gateway_state.specs.declared.reading.Native.{Native}
-use Rattle.gateway_state.specs.Answer.{native_in, cached_value}
+use Rattle.gateway_state.specs.Answer.{cached_value}
 use Rattle.gateway_state.specs.Gateway.{Gateway}
-use Rattle.gateway_state.specs.Notices.{answered_by, answered_natively, answered_over, notice_on, read_notice, read_notices, read_told, reads_told, channel_notices, link_notices}
+use Rattle.gateway_state.specs.Notices.{answered_by, answered_over, notice_on, read_notice, read_notices, read_told, reads_told, channel_notices, link_notices}
 use Rattle.gateway_state.specs.Rights.{rights_of, may_read, channel_of}
 use Rattle.gateway_state.specs.Telling.{sent}
 use Rattle.gateway_state.specs.Updates.{withheld}
-use Rattle.gateway_state.specs.Variables.{link_of}
+use Rattle.gateway_state.specs.Variables.{ConnectedVariable, connected}
 
 -- the read that a notice is on
 abbrev read_in : ReadNotice → WaitingRead
@@ -47,20 +45,16 @@ answered_by-on : (read : WaitingRead) (given : Option Given) (notice : ReadNotic
 answered_by-on read None notice e = absurd cc
 answered_by-on read (Some given) notice e = let same : Answered read given.count given.payload ≡ notice = cc in ap read_in (sym same)
 
-answered_natively-on : (w : Gateway) (read : WaitingRead) (link : Link) (native : Option Native) (notice : ReadNotice) → answered_natively w read link native ≡ Some notice → read_in notice ≡ read
-answered_natively-on w read link None notice e = absurd cc
-answered_natively-on w read link (Some native) notice e = answered_by-on read (cached_value w link.cid native.count read.dtype read.count) notice e
-
-answered_over-on : (w : Gateway) (read : WaitingRead) (link : Option Link) (notice : ReadNotice) → answered_over w read link ≡ Some notice → read_in notice ≡ read
+answered_over-on : (w : Gateway) (read : WaitingRead) (over : Option ConnectedVariable) (notice : ReadNotice) → answered_over w read over ≡ Some notice → read_in notice ≡ read
 answered_over-on w read None notice e = absurd cc
-answered_over-on w read (Some link) notice e = answered_natively-on w read link (native_in link.state) notice e
+answered_over-on w read (Some v) notice e = answered_by-on read (cached_value w v.link.cid v.native.count read.dtype read.count) notice e
 
 notice_on-on : (w : Gateway) (read : WaitingRead) (channel : Option Channel) (notice : ReadNotice) → notice_on w read channel ≡ Some notice → read_in notice ≡ read
 notice_on-on w read None notice e = absurd cc
 notice_on-on w read (Some c) notice e = by (may_read (rights_of w c)) _ e
   where
-    by : (may : Bool) (code : ℕ) → cond may (answered_over w read (link_of w c.real)) (Some (Refused read code)) ≡ Some notice → read_in notice ≡ read
-    by true code e = answered_over-on w read (link_of w c.real) notice e
+    by : (may : Bool) (code : ℕ) → cond may (answered_over w read (connected w c.real)) (Some (Refused read code)) ≡ Some notice → read_in notice ≡ read
+    by true code e = answered_over-on w read (connected w c.real) notice e
     by false code e = let same : Refused read code ≡ notice = cc in ap read_in (sym same)
 
 notice_is_on : (w : Gateway) (read : WaitingRead) (notice : ReadNotice) → read_notice w read ≡ Some notice → read_in notice ≡ read

@@ -10,7 +10,6 @@ use Rattle.channel_table.specs.declared.channels.Channel.{Channel}
 use Rattle.channel_table.specs.declared.subs.ClientSub.{ClientSub}
 use Rattle.channel_table.specs.Demand.{own_ask}
 use Rattle.channel_table.specs.Subs.{is_sub, with_owed}
-use Rattle.link_table.specs.declared.links.Link.{Link}
 use Rattle.mask_merge.specs.declared.want.Ask.{Ask}
 use Rattle.gateway_state.specs.declared.event.Dest.{Dest}
 use Rattle.gateway_state.specs.declared.event.Dest.TheVariants.{Session as ToSession}
@@ -19,8 +18,7 @@ use Rattle.fanout.specs.declared.outbox.Out.{Out}
 use Rattle.gateway_state.specs.declared.limits.TheConstants.{UPDATE_LIMIT}
 use Rattle.gateway_state.specs.declared.notice.UpdateNotice.{UpdateNotice}
 use Rattle.gateway_state.specs.declared.reading.Given.{Given}
-use Rattle.gateway_state.specs.declared.reading.Native.{Native}
-use Rattle.gateway_state.specs.Answer.{cached_value, native_in}
+use Rattle.gateway_state.specs.Answer.{cached_value}
 use Rattle.gateway_state.specs.Connections.{given, is_to, outbox_in, outbox_of}
 use Rattle.gateway_state.specs.Gateway.{Gateway}
 use Rattle.gateway_state.specs.Interest.{is_reader, is_subscriber, reader_ask, readers}
@@ -29,8 +27,8 @@ use Rattle.fanout.specs.Outbox.{appended, refuses}
 use Rattle.gateway_state.specs.Rights.{channel_of, may_read, rights_of}
 use Rattle.gateway_state.specs.Settled.{AreApart}
 use Rattle.gateway_state.specs.Telling.{outgoing, sent}
-use Rattle.gateway_state.specs.Updates.{is_paused, is_unreadable, is_withheld, takes_updates, update_by, update_natively, update_notice, update_notices, update_on, update_over, update_told, updates_told, withheld}
-use Rattle.gateway_state.specs.Variables.{link_of}
+use Rattle.gateway_state.specs.Updates.{is_paused, is_unreadable, is_withheld, takes_updates, update_by, update_notice, update_notices, update_on, update_over, update_told, updates_told, withheld}
+use Rattle.gateway_state.specs.Variables.{ConnectedVariable, connected}
 use Rattle.fanout.specs.Waiting.{Waiting}
 use Rattle.gateway_state.proofs.LinkNotices.{link_notices_alike}
 use Rattle.gateway_state.proofs.SubsApart.{itself, other_key}
@@ -154,21 +152,17 @@ update_by-on sub (Some given) notice e =
     let same : record { session = sub.session; id = sub.id; dtype = sub.dtype; count = given.count; payload = given.payload } ≡ notice = cc in
     (sym (ap (λ (n : UpdateNotice). n.session) same), sym (ap (λ (n : UpdateNotice). n.id) same))
 
-update_natively-on : (w : Gateway) (sub : ClientSub) (link : Link) (native : Option Native) (notice : UpdateNotice) → update_natively w sub link native ≡ Some notice → (notice.session ≡ sub.session) × (notice.id ≡ sub.id)
-update_natively-on w sub link None notice e = absurd cc
-update_natively-on w sub link (Some native) notice e = update_by-on sub (cached_value w link.cid native.count sub.dtype sub.count) notice e
-
-update_over-on : (w : Gateway) (sub : ClientSub) (link : Option Link) (notice : UpdateNotice) → update_over w sub link ≡ Some notice → (notice.session ≡ sub.session) × (notice.id ≡ sub.id)
+update_over-on : (w : Gateway) (sub : ClientSub) (over : Option ConnectedVariable) (notice : UpdateNotice) → update_over w sub over ≡ Some notice → (notice.session ≡ sub.session) × (notice.id ≡ sub.id)
 update_over-on w sub None notice e = absurd cc
-update_over-on w sub (Some link) notice e = update_natively-on w sub link (native_in link.state) notice e
+update_over-on w sub (Some v) notice e = update_by-on sub (cached_value w v.link.cid v.native.count sub.dtype sub.count) notice e
 
 said_on-on : (w : Gateway) (sub : ClientSub) (notice : UpdateNotice) → said_on w sub ≡ Some notice → IsNoticeOn w sub notice
 said_on-on w sub notice e = by (channel_of w sub.session sub.sid) refl e
   where
     readably : (c : Channel) (may : Bool) → channel_of w sub.session sub.sid ≡ Some c → may_read (rights_of w c) ≡ may
-        → cond may (update_over w sub (link_of w c.real)) None ≡ Some notice → IsNoticeOn w sub notice
+        → cond may (update_over w sub (connected w c.real)) None ≡ Some notice → IsNoticeOn w sub notice
     readably c true is may e =
-        let keys = update_over-on w sub (link_of w c.real) notice e in
+        let keys = update_over-on w sub (connected w c.real) notice e in
         record { session = keys.0; id = keys.1; readable = ap (is_unreadable w) is ∙ ap not may }
     readably c false is may e = absurd cc
 

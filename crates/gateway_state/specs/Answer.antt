@@ -8,7 +8,6 @@ use Rattle.dbr_layout.specs.declared.dbr.TheConstants.{MAX_PAYLOAD}
 use Rattle.dbr_layout.specs.Conversion.{conversion_between}
 use Rattle.dbr_layout.specs.Dbr.{dbr_of, payload_size}
 use Rattle.dbr_layout.specs.Needs.{has_properties_by, is_state_by, is_text_by}
-use Rattle.link_table.specs.declared.links.Link.{Link}
 use Rattle.link_table.specs.declared.links.LinkState.{LinkState}
 use Rattle.link_table.specs.declared.links.LinkState.TheVariants.{Creating, Connected, Unusable}
 use Rattle.value_cache.specs.Held.{answer, covers}
@@ -21,8 +20,9 @@ use Rattle.gateway_state.specs.CachedRows.{is_cached_of}
 use Rattle.gateway_state.specs.Gateway.{Gateway}
 use Rattle.gateway_state.specs.Quantities.{Cid, Count, Dtype, SessionNumber, Sid}
 use Rattle.gateway_state.specs.Rights.{channel_of, rights_of, may_read}
-use Rattle.gateway_state.specs.Variables.{link_of}
+use Rattle.gateway_state.specs.Variables.{ConnectedVariable, connected}
 
+-- the native type and count of a link in this state
 abbrev pub native_in : LinkState → Option Native
 native_in Creating = None
 native_in (Connected sid dtype count) = Some (record { dtype = dtype; count = count })
@@ -88,23 +88,17 @@ abbrev pub refused_or : Option ℕ → Option Given → Reading
 refused_or None given = value_or_wait given
 refused_or (Some code) given = Refused code
 
-abbrev pub reading_of : Gateway → ℕ → ℕ → ℕ → Link → Option Native → Reading
-reading_of w rights dtype count link None = NoChannel
-reading_of w rights dtype count link (Some native) =
-    refused_or (refusal native rights dtype count) (cached_value w link.cid native.count dtype count)
-
-abbrev pub reading_on : Gateway → ℕ → ℕ → ℕ → Option Link → Reading
-reading_on w rights dtype count None = NoChannel
-reading_on w rights dtype count (Some link) = reading_of w rights dtype count link (native_in link.state)
+-- what a read of a variable would be answered, with these rights
+abbrev pub reading_over : Gateway → ℕ → Dtype → Count → Option ConnectedVariable → Reading
+reading_over w rights dtype count None = NoChannel
+reading_over w rights dtype count (Some v) =
+    refused_or (refusal v.native rights dtype count) (cached_value w v.link.cid v.native.count dtype count)
 
 -- what a read on a channel would be answered
-abbrev pub reading_at : Gateway → Channel → ℕ → ℕ → Reading
-reading_at w c dtype count = reading_on w (rights_of w c) dtype count (link_of w c.real)
-
-abbrev pub reading_in : Gateway → ℕ → ℕ → Option Channel → Reading
-reading_in w dtype count None = NoChannel
-reading_in w dtype count (Some c) = reading_at w c dtype count
+abbrev pub reading_on : Gateway → Dtype → Count → Option Channel → Reading
+reading_on w dtype count None = NoChannel
+reading_on w dtype count (Some c) = reading_over w (rights_of w c) dtype count (connected w c.real)
 
 -- what a session's read would be answered
 abbrev pub reading : Gateway → SessionNumber → Sid → Dtype → Count → Reading
-reading w session sid dtype count = reading_in w dtype count (channel_of w session sid)
+reading w session sid dtype count = reading_on w dtype count (channel_of w session sid)

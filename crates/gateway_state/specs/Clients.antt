@@ -21,7 +21,7 @@ use Rattle.pv_alias.specs.declared.lead.Lead.{Lead}
 use Rattle.pv_alias.specs.Rights.{group_rights}
 use Rattle.gateway_state.specs.declared.event.Dest.TheVariants as dests
 use Rattle.gateway_state.specs.declared.limits.TheConstants.{LOWEST_MINOR, SEARCH_LIMIT}
-use Rattle.gateway_state.specs.Answer.{native_in, needs_by_number, refusal, meant_count, cached_value}
+use Rattle.gateway_state.specs.Answer.{needs_by_number, refusal, meant_count, cached_value}
 use Rattle.gateway_state.specs.declared.notice.ReadVerdict.{ReadVerdict}
 use Rattle.gateway_state.specs.declared.notice.ReadVerdict.TheVariants.{NoChannel, Ignored, Refused, Accepted}
 use Rattle.gateway_state.specs.declared.reading.Given.{Given}
@@ -31,7 +31,7 @@ use Rattle.gateway_state.specs.Quantities.{Code, Count, Dtype, Ioid, SessionNumb
 use Rattle.gateway_state.specs.Searches.{same_search}
 use Rattle.gateway_state.specs.Rights.{channel_of, lead_in, rights_of}
 use Rattle.gateway_state.specs.Telling.{told, marked}
-use Rattle.gateway_state.specs.Variables.{link_of}
+use Rattle.gateway_state.specs.Variables.{ConnectedVariable, connected}
 
 -- the session's message isn't understood
 abbrev pub not_understood : Gateway → ℕ → Header → Gateway
@@ -108,19 +108,17 @@ abbrev pub not_connected : ℕ → ℕ → List ℕ → Gateway → Gateway
 not_connected number cid name w =
     creation_failed number cid (remembered_by (find (is_numbered number) w.clients.sessions) name w)
 
-abbrev pub created_on_native : ℕ → ℕ → List ℕ → Lead → Link → Option Native → Gateway → Gateway
-created_on_native number cid name lead link None w = not_connected number cid name w
-created_on_native number cid name lead link (Some native) w = created number cid name lead link native w
+-- the client's channel, where the variable that its name leads to is connected
+abbrev pub created_over : ℕ → ℕ → List ℕ → Lead → Option ConnectedVariable → Gateway → Gateway
+created_over number cid name lead None w = not_connected number cid name w
+created_over number cid name lead (Some v) w = created number cid name lead v.link v.native w
 
-abbrev pub created_on : ℕ → ℕ → List ℕ → Lead → Option Link → Gateway → Gateway
-created_on number cid name lead None w = not_connected number cid name w
-created_on number cid name lead (Some link) w = created_on_native number cid name lead link (native_in link.state) w
-
+-- the client's channel, where its name leads somewhere and one more may be open
 abbrev pub created_as : ℕ → ℕ → List ℕ → Option Lead → Gateway → Gateway
 created_as number cid name None w = creation_failed number cid w
 created_as number cid name (Some lead) w =
     if nat_le CHANNEL_LIMIT (channel_count number w.clients) then creation_failed number cid w
-    else created_on number cid name lead (link_of w lead.real) w
+    else created_over number cid name lead (connected w lead.real) w
 
 -- the client wants a channel on the name
 abbrev pub channel_asked : ℕ → ℕ → List ℕ → Gateway → Gateway
@@ -172,24 +170,23 @@ accepted number sid ioid dtype count reach rights w = record w {
 abbrev pub is_one_too_many : Gateway → ℕ → Option Given → Bool
 is_one_too_many w number given = nat_le READ_LIMIT (read_count number w.clients) && not (is_some given)
 
-abbrev pub verdict_unless : Gateway → Channel → Link → Native → ℕ → ℕ → Option ℕ → ReadVerdict
-verdict_unless w c link native dtype count (Some code) = Refused code
-verdict_unless w c link native dtype count None =
-    if is_one_too_many w c.session (cached_value w link.cid native.count dtype count) then Refused ECA_GETFAIL
-    else Accepted (reach_with c.reach native dtype count) c.rights_told
+-- what becomes of a read on a channel of a variable, unless it is refused for this reason
+abbrev pub verdict_unless : Gateway → Channel → ConnectedVariable → Dtype → Count → Option Code → ReadVerdict
+verdict_unless w c v dtype count (Some code) = Refused code
+verdict_unless w c v dtype count None =
+    if is_one_too_many w c.session (cached_value w v.link.cid v.native.count dtype count) then Refused ECA_GETFAIL
+    else Accepted (reach_with c.reach v.native dtype count) c.rights_told
 
-abbrev pub verdict_natively : Gateway → Channel → Link → ℕ → ℕ → Option Native → ReadVerdict
-verdict_natively w c link dtype count None = Ignored
-verdict_natively w c link dtype count (Some native) =
-    verdict_unless w c link native dtype count (refusal native (rights_of w c) dtype count)
-
-abbrev pub verdict_over : Gateway → Channel → ℕ → ℕ → Option Link → ReadVerdict
+-- what becomes of it by the channel's variable
+abbrev pub verdict_over : Gateway → Channel → Dtype → Count → Option ConnectedVariable → ReadVerdict
 verdict_over w c dtype count None = Ignored
-verdict_over w c dtype count (Some link) = verdict_natively w c link dtype count (native_in link.state)
+verdict_over w c dtype count (Some v) =
+    verdict_unless w c v dtype count (refusal v.native (rights_of w c) dtype count)
 
-abbrev pub verdict_on : Gateway → ℕ → ℕ → Option Channel → ReadVerdict
+-- what becomes of it by the channel that it names
+abbrev pub verdict_on : Gateway → Dtype → Count → Option Channel → ReadVerdict
 verdict_on w dtype count None = NoChannel
-verdict_on w dtype count (Some c) = verdict_over w c dtype count (link_of w c.real)
+verdict_on w dtype count (Some c) = verdict_over w c dtype count (connected w c.real)
 
 -- what becomes of a read
 abbrev pub read_verdict : Gateway → SessionNumber → Sid → Dtype → Count → ReadVerdict

@@ -26,18 +26,17 @@ use Rattle.gateway_state.specs.declared.notice.LinkNotice.{LinkNotice}
 use Rattle.gateway_state.specs.declared.notice.LinkNotice.TheVariants.{Cancelled, Unread, Subscribed, Dropped}
 use Rattle.gateway_state.specs.declared.notice.ReadNotice.{ReadNotice}
 use Rattle.gateway_state.specs.declared.notice.ReadNotice.TheVariants.{Refused, Answered}
-use Rattle.gateway_state.specs.Answer.{native_in, cached_value}
+use Rattle.gateway_state.specs.Answer.{cached_value}
 use Rattle.gateway_state.specs.CachedRows.{is_cached_elsewhere, is_cached_of, without_told}
 use Rattle.gateway_state.specs.Clients.{without_channel}
 use Rattle.gateway_state.specs.declared.reading.Given.{Given}
-use Rattle.gateway_state.specs.declared.reading.Native.{Native}
 use Rattle.gateway_state.specs.Gateway.{Gateway}
 use Rattle.gateway_state.specs.Interest.{is_for, minor_of, sent_for, wanted_for}
 use Rattle.gateway_state.specs.Quantities.{Cid, Count, Dtype, Minor, ServerNumber, Sid}
 use Rattle.gateway_state.specs.Rights.{rights_of, may_read, is_served, channel_of}
 use Rattle.gateway_state.specs.Servers.{ctrl_of, time_of, without_link}
 use Rattle.gateway_state.specs.Telling.{told, asked}
-use Rattle.gateway_state.specs.Variables.{link_of, is_wanted}
+use Rattle.gateway_state.specs.Variables.{ConnectedVariable, connected, is_wanted}
 
 -- CHANNELS, in the order of adding, which is that of the SIDs of a session
 
@@ -153,23 +152,21 @@ links_told w = fold link_told w (link_notices w)
 
 -- READS that wait, in the order of asking
 
+-- the answer to a read, where this is given
 abbrev pub answered_by : WaitingRead → Option Given → Option ReadNotice
 answered_by read None = None
 answered_by read (Some given) = Some (Answered read given.count given.payload)
 
-abbrev pub answered_natively : Gateway → WaitingRead → Link → Option Native → Option ReadNotice
-answered_natively w read link None = None
-answered_natively w read link (Some native) =
-    answered_by read (cached_value w link.cid native.count read.dtype read.count)
-
-abbrev pub answered_over : Gateway → WaitingRead → Option Link → Option ReadNotice
+-- the answer to a read of a variable, where it is covered
+abbrev pub answered_over : Gateway → WaitingRead → Option ConnectedVariable → Option ReadNotice
 answered_over w read None = None
-answered_over w read (Some link) = answered_natively w read link (native_in link.state)
+answered_over w read (Some v) = answered_by read (cached_value w v.link.cid v.native.count read.dtype read.count)
 
+-- what is owed about a read on a channel
 abbrev pub notice_on : Gateway → WaitingRead → Option Channel → Option ReadNotice
 notice_on w read None = None
 notice_on w read (Some c) =
-    if may_read (rights_of w c) then answered_over w read (link_of w c.real) else Some (Refused read ECA_NORDACCESS)
+    if may_read (rights_of w c) then answered_over w read (connected w c.real) else Some (Refused read ECA_NORDACCESS)
 
 -- a read whose channel can't be read any more is refused; one that is covered is answered
 abbrev pub read_notice : Gateway → WaitingRead → Option ReadNotice

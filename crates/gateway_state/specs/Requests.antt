@@ -26,20 +26,20 @@ unreadable w number head =
 -- what a request does, by what it means
 abbrev pub requested : Gateway → ℕ → Message → Result ClientRequest RequestFault → Gateway
 requested w number message (Ok (requests.Version minor)) = versioned w number minor
-requested w number message (Ok (requests.EventAdd sid id dtype count mask)) =
-    subscription_asked (new_sub number sid id dtype count mask) message.head w
-requested w number message (Ok (requests.EventCancel sid id dtype count)) =
-    subscription_cancelled number sid id dtype count message.head w
-requested w number message (Ok (requests.Write sid dtype count value)) =
-    write_asked number sid dtype count value message.head w
+requested w number message (Ok (requests.EventAdd add)) =
+    subscription_asked (new_sub number add.sid add.id add.dtype add.count add.mask) message.head w
+requested w number message (Ok (requests.EventCancel cancel)) =
+    subscription_cancelled number cancel.sid cancel.id cancel.dtype cancel.count message.head w
+requested w number message (Ok (requests.Write write)) =
+    write_asked number write.sid write.dtype write.count write.value message.head w
 requested w number message (Ok requests.EventsOff) = paused_to number true w
 requested w number message (Ok requests.EventsOn) = paused_to number false w
-requested w number message (Ok (requests.ClearChannel sid cid)) = channel_cleared number sid cid message.head w
-requested w number message (Ok (requests.ReadNotify sid ioid dtype count)) =
-    read_asked number sid ioid dtype count message.head w
-requested w number message (Ok (requests.CreateChannel cid minor name)) = channel_asked number cid name w
-requested w number message (Ok (requests.WriteNotify sid ioid dtype count value)) =
-    write_notify_asked number sid ioid dtype count value message.head w
+requested w number message (Ok (requests.ClearChannel clear)) = channel_cleared number clear.sid clear.cid message.head w
+requested w number message (Ok (requests.ReadNotify read)) =
+    read_asked number read.sid read.ioid read.dtype read.count message.head w
+requested w number message (Ok (requests.CreateChannel create)) = channel_asked number create.cid create.name w
+requested w number message (Ok (requests.WriteNotify write)) =
+    write_notify_asked number write.sid write.ioid write.dtype write.count write.value message.head w
 requested w number message (Ok (requests.ClientName name)) = w
 requested w number message (Ok (requests.HostName host)) = host_named number host w
 requested w number message (Ok requests.Echo) = told number (replies.Echo message) w

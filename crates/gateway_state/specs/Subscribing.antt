@@ -13,18 +13,17 @@ use Rattle.channel_table.specs.declared.table.TheConstants.{SUB_LIMIT}
 use Rattle.channel_table.specs.ClientRows.{sub_count}
 use Rattle.channel_table.specs.Sessions.{is_numbered}
 use Rattle.channel_table.specs.Subs.{is_sub, is_not_sub}
-use Rattle.link_table.specs.declared.links.Link.{Link}
 use Rattle.gateway_state.specs.declared.interest.TheConstants.{SERVED_EVENTS}
 use Rattle.gateway_state.specs.declared.notice.SubVerdict.{SubVerdict}
 use Rattle.gateway_state.specs.declared.notice.SubVerdict.TheVariants.{NoChannel, Ignored, Refused, Accepted}
 use Rattle.gateway_state.specs.declared.reading.Native.{Native}
-use Rattle.gateway_state.specs.Answer.{native_in, value_refusal}
+use Rattle.gateway_state.specs.Answer.{value_refusal}
 use Rattle.gateway_state.specs.Clients.{no_channel}
 use Rattle.gateway_state.specs.Gateway.{Gateway}
 use Rattle.gateway_state.specs.Quantities.{Count, Dtype, Mask, SessionNumber, Sid, SubId}
 use Rattle.gateway_state.specs.Rights.{channel_of}
 use Rattle.gateway_state.specs.Telling.{told}
-use Rattle.gateway_state.specs.Variables.{link_of}
+use Rattle.gateway_state.specs.Variables.{ConnectedVariable, connected}
 
 -- the client's request about its channel is refused
 abbrev pub request_refused : ℕ → ℕ → ℕ → Header → Gateway → Gateway
@@ -62,21 +61,20 @@ subscription_refusal w sub native =
     if is_some (sub_of w sub.session sub.id) then Some ECA_INTERNAL
     else limit_unless (value_refusal native sub.dtype sub.count) (subscription_limit w sub.session sub.mask)
 
+-- what becomes of an EVENT_ADD on a channel, unless it is refused for this reason
 abbrev pub sub_verdict_unless : Channel → Option ℕ → SubVerdict
 sub_verdict_unless c None = Accepted
 sub_verdict_unless c (Some code) = Refused c.cid code
 
-abbrev pub sub_verdict_natively : Gateway → ClientSub → Channel → Option Native → SubVerdict
-sub_verdict_natively w sub c None = Ignored
-sub_verdict_natively w sub c (Some native) = sub_verdict_unless c (subscription_refusal w sub native)
-
-abbrev pub sub_verdict_over : Gateway → ClientSub → Channel → Option Link → SubVerdict
+-- what becomes of it by the channel's variable
+abbrev pub sub_verdict_over : Gateway → ClientSub → Channel → Option ConnectedVariable → SubVerdict
 sub_verdict_over w sub c None = Ignored
-sub_verdict_over w sub c (Some link) = sub_verdict_natively w sub c (native_in link.state)
+sub_verdict_over w sub c (Some v) = sub_verdict_unless c (subscription_refusal w sub v.native)
 
+-- what becomes of it by the channel that it names
 abbrev pub sub_verdict_on : Gateway → ClientSub → Option Channel → SubVerdict
 sub_verdict_on w sub None = NoChannel
-sub_verdict_on w sub (Some c) = sub_verdict_over w sub c (link_of w c.real)
+sub_verdict_on w sub (Some c) = sub_verdict_over w sub c (connected w c.real)
 
 -- what becomes of an EVENT_ADD that asks for this subscription
 abbrev pub sub_verdict : Gateway → ClientSub → SubVerdict

@@ -10,7 +10,6 @@ use Rattle.channel_table.specs.Sessions.{is_numbered}
 use Rattle.channel_table.specs.Subs.{is_sub, with_owed}
 use Rattle.dbr_layout.specs.declared.fault.LayoutFault.{LayoutFault}
 use Rattle.dbr_layout.specs.View.{Shown}
-use Rattle.link_table.specs.declared.links.Link.{Link}
 use Rattle.value_cache.specs.Held.{Held, alarm_differs, nothing}
 use Rattle.gateway_state.specs.declared.cached.LastMessage.{LastMessage}
 use Rattle.gateway_state.specs.declared.event.Dest.TheVariants.{Session as ToSession}
@@ -18,15 +17,14 @@ use Rattle.gateway_state.specs.declared.interest.TheConstants.{ALARM_EVENTS, VAL
 use Rattle.gateway_state.specs.declared.limits.TheConstants.{UPDATE_LIMIT}
 use Rattle.gateway_state.specs.declared.notice.UpdateNotice.{UpdateNotice}
 use Rattle.gateway_state.specs.declared.reading.Given.{Given}
-use Rattle.gateway_state.specs.declared.reading.Native.{Native}
-use Rattle.gateway_state.specs.Answer.{cached_value, native_in}
+use Rattle.gateway_state.specs.Answer.{cached_value}
 use Rattle.gateway_state.specs.CachedRows.{is_cached_of}
 use Rattle.gateway_state.specs.Connections.{outbox_of}
 use Rattle.gateway_state.specs.Gateway.{Gateway}
 use Rattle.gateway_state.specs.Rights.{channel_of, may_read, rights_of}
 use Rattle.gateway_state.specs.Telling.{told}
 use Rattle.channel_table.specs.ClientRows as client_rows
-use Rattle.gateway_state.specs.Variables.{link_of}
+use Rattle.gateway_state.specs.Variables.{ConnectedVariable, connected}
 use Rattle.fanout.specs.Waiting.{Waiting}
 
 -- a subscription is owed an update, or no longer
@@ -104,6 +102,7 @@ paused_in (Some row) = row.paused
 abbrev pub is_paused : Gateway → ℕ → Bool
 is_paused w number = paused_in (find (is_numbered number) w.clients.sessions)
 
+-- the update to a subscription, where this is given
 abbrev pub update_by : ClientSub → Option Given → Option UpdateNotice
 update_by sub None = None
 update_by sub (Some given) = Some (record {
@@ -114,17 +113,15 @@ update_by sub (Some given) = Some (record {
   payload = given.payload;
 })
 
-abbrev pub update_natively : Gateway → ClientSub → Link → Option Native → Option UpdateNotice
-update_natively w sub link None = None
-update_natively w sub link (Some native) = update_by sub (cached_value w link.cid native.count sub.dtype sub.count)
-
-abbrev pub update_over : Gateway → ClientSub → Option Link → Option UpdateNotice
+-- the update of a variable to a subscription, where what was told last covers it
+abbrev pub update_over : Gateway → ClientSub → Option ConnectedVariable → Option UpdateNotice
 update_over w sub None = None
-update_over w sub (Some link) = update_natively w sub link (native_in link.state)
+update_over w sub (Some v) = update_by sub (cached_value w v.link.cid v.native.count sub.dtype sub.count)
 
+-- the same on a channel, where it may be read
 abbrev pub update_on : Gateway → ClientSub → Option Channel → Option UpdateNotice
 update_on w sub None = None
-update_on w sub (Some c) = if may_read (rights_of w c) then update_over w sub (link_of w c.real) else None
+update_on w sub (Some c) = if may_read (rights_of w c) then update_over w sub (connected w c.real) else None
 
 -- its session takes updates now
 abbrev pub is_open_to : Gateway → ClientSub → Bool

@@ -11,9 +11,11 @@ use Rattle.link_table.specs.declared.links.LinkState.{LinkState}
 use Rattle.link_table.specs.declared.links.LinkState.TheVariants.{Creating, Connected, Unusable}
 use Rattle.link_table.specs.Links.{is_named}
 use Rattle.rule_desk.specs.declared.policy.Policy.{Policy}
+use Rattle.gateway_state.specs.declared.reading.Native.{Native}
 use Rattle.gateway_state.specs.declared.search.Search.{Search}
 use Rattle.gateway_state.specs.CachedRows.{is_cached_elsewhere}
 use Rattle.gateway_state.specs.Gateway.{Gateway}
+use Rattle.gateway_state.specs.Quantities.{Sid}
 use Rattle.gateway_state.specs.Resolution.{lead_of, real_in}
 use Rattle.gateway_state.specs.Searches.{leads_to}
 
@@ -33,6 +35,28 @@ abbrev pub is_creating : LinkState → Bool
 is_creating Creating = true
 is_creating (Connected sid dtype count) = false
 is_creating Unusable = false
+
+-- a variable whose link is connected: the link, the server's ID of its channel, and the native type and count
+pub record ConnectedVariable : Type 0 where
+  pub link : Link
+  pub sid : Sid
+  pub native : Native
+
+-- the variable of a link in this state
+abbrev pub connected_in : Link → LinkState → Option ConnectedVariable
+connected_in link Creating = None
+connected_in link (Connected sid dtype count) =
+    Some (record { link = link; sid = sid; native = record { dtype = dtype; count = count } })
+connected_in link Unusable = None
+
+-- the variable of a link, where there is one
+abbrev pub connected_over : Option Link → Option ConnectedVariable
+connected_over None = None
+connected_over (Some link) = connected_in link link.state
+
+-- the variable of a real name; none where the name has no link, or its link is creating or unusable
+abbrev pub connected : Gateway → List ℕ → Option ConnectedVariable
+connected w name = connected_over (link_of w name)
 
 -- a link's last messages go
 abbrev pub without_cached : ℕ → Gateway → Gateway

@@ -9,9 +9,6 @@ use Rattle.ca_message.specs.declared.to_server.ToServer.TheVariants as requests
 use Rattle.ca_message.specs.declared.written.WriteFault.{WriteFault}
 use Rattle.ca_message.specs.Written.{Written, refusal_code, written}
 use Rattle.channel_table.specs.declared.channels.Channel.{Channel}
-use Rattle.link_table.specs.declared.links.Link.{Link}
-use Rattle.link_table.specs.declared.links.LinkState.{LinkState}
-use Rattle.link_table.specs.declared.links.LinkState.TheVariants.{Creating, Connected, Unusable}
 use Rattle.link_table.specs.declared.table.TheConstants.{WRITE_LIMIT}
 use Rattle.link_table.specs.declared.writes.WaitingWrite.{WaitingWrite}
 use Rattle.link_table.specs.LinkRows.{write_count}
@@ -24,7 +21,7 @@ use Rattle.gateway_state.specs.Quantities.{Code, Count, Dtype, Ioid, ServerNumbe
 use Rattle.gateway_state.specs.Rights.{channel_of, rights_of}
 use Rattle.gateway_state.specs.Subscribing.{request_refused}
 use Rattle.gateway_state.specs.Telling.{asked, told}
-use Rattle.gateway_state.specs.Variables.{link_of}
+use Rattle.gateway_state.specs.Variables.{ConnectedVariable, connected}
 
 -- the rights let the client write
 abbrev pub may_write : ℕ → Bool
@@ -37,19 +34,16 @@ write_judged w c server sid (Err fault) = Refused c.cid (refusal_code fault)
 write_judged w c server sid (Ok value) =
     if may_write (rights_of w c) then Accepted server sid value else Refused c.cid ECA_NOWTACCESS
 
-abbrev pub write_verdict_in : Gateway → Channel → ℕ → ℕ → ℕ → List ℕ → LinkState → WriteVerdict
-write_verdict_in w c server dtype count payload Creating = Ignored
-write_verdict_in w c server dtype count payload (Connected sid native native_count) =
-    write_judged w c server sid (written dtype count native_count payload)
-write_verdict_in w c server dtype count payload Unusable = Ignored
-
-abbrev pub write_verdict_over : Gateway → Channel → ℕ → ℕ → List ℕ → Option Link → WriteVerdict
+-- what becomes of a write by its channel's variable
+abbrev pub write_verdict_over : Gateway → Channel → Dtype → Count → List ℕ → Option ConnectedVariable → WriteVerdict
 write_verdict_over w c dtype count payload None = Ignored
-write_verdict_over w c dtype count payload (Some link) = write_verdict_in w c link.server dtype count payload link.state
+write_verdict_over w c dtype count payload (Some v) =
+    write_judged w c v.link.server v.sid (written dtype count v.native.count payload)
 
-abbrev pub write_verdict_on : Gateway → ℕ → ℕ → List ℕ → Option Channel → WriteVerdict
+-- what becomes of it by the channel that it names
+abbrev pub write_verdict_on : Gateway → Dtype → Count → List ℕ → Option Channel → WriteVerdict
 write_verdict_on w dtype count payload None = NoChannel
-write_verdict_on w dtype count payload (Some c) = write_verdict_over w c dtype count payload (link_of w c.real)
+write_verdict_on w dtype count payload (Some c) = write_verdict_over w c dtype count payload (connected w c.real)
 
 -- what becomes of a write
 abbrev pub write_verdict : Gateway → SessionNumber → Sid → Dtype → Count → List ℕ → WriteVerdict

@@ -16,7 +16,7 @@ mod types;
 mod updates;
 
 pub use interest::{is_for, property_want, sent_for, type_for};
-pub use links::{is_connected, is_creating, is_usable, native_in};
+pub use links::{ConnectedVariable, connected, is_connected, is_creating, is_usable, native_in};
 pub use reads::{cached_as, reach_with};
 pub use refusals::{read_refusal, value_refusal};
 pub use rights::{may_read, may_write};

@@ -2,11 +2,12 @@
 ghost use Rattle.std.specs.Prelude.{◌≡◌};
 ghost use Rattle.gateway_state.specs.Answer.{native_in};
 ghost use Rattle.gateway_state.specs.Servers.{is_usable};
-ghost use Rattle.gateway_state.specs.Variables.{is_connected, is_creating};
+ghost use Rattle.gateway_state.specs.Variables.{connected_in, is_connected, is_creating};
 
 use crate::types::{fits_payload, time_of};
 use gateway_state::{Native, PLAIN_TYPES};
-use link_table::LinkState;
+use link_table::{Link, LinkState};
+use std::marker::Model;
 
 /// Whether a server made the link's channel, and it can be used.
 pub fn is_connected(state: LinkState) -> bool
@@ -25,6 +26,37 @@ pub fn is_creating(state: LinkState) -> bool
     match state {
         LinkState::Creating => true,
         LinkState::Connected { .. } | LinkState::Unusable => false,
+    }
+}
+
+/// A variable whose link is connected.
+#[derive(Drop)]
+pub struct ConnectedVariable<'a> {
+    pub link: &'a Link,
+    /// The server's ID of its channel.
+    pub sid: u32,
+    pub native: Native,
+}
+
+impl<'a> Model for ConnectedVariable<'a> {
+    ghost use Rattle.gateway_state.specs.Variables.{ConnectedVariable};
+
+    ghost Value = { ConnectedVariable };
+
+    ghost view = { λ v. record { link = v.link.now; sid = v.sid; native = v.native } };
+}
+
+/// The variable of a link that is connected.
+pub fn connected(link: &Link) -> Option<ConnectedVariable<'_>>
+    ensures { result ≡ connected_in link.now link.now.state }
+{
+    match link.state {
+        LinkState::Creating | LinkState::Unusable => None,
+        LinkState::Connected { sid, dtype, count } => Some(ConnectedVariable {
+            link,
+            sid,
+            native: Native { dtype, count },
+        }),
     }
 }
 

@@ -1,6 +1,6 @@
 //! What a client's message does by itself.
 ghost use Rattle.std.specs.Prelude.{◌≡◌, true, Ok, IsErrOf, OnOk};
-ghost use Rattle.gateway_state.specs.Clients.{channel_cleared, versioned};
+ghost use Rattle.gateway_state.specs.Clients.{channel_cleared, host_named, versioned};
 ghost use Rattle.gateway_state.specs.Numbers.{is_past_numbers};
 ghost use Rattle.gateway_state.specs.Requests.{client_said, requested, unreadable};
 ghost use Rattle.gateway_state.specs.Telling.{told};
@@ -11,15 +11,14 @@ use crate::create_channel::{create_channel, fail_creation};
 use crate::numbers::Refusal;
 use crate::read::hear_read;
 use crate::state::Rows;
-use crate::subscribe::{cancel_subscription, refuse_short, subscribe_client};
-use crate::write::{Write, hear_write, hear_write_notify};
+use crate::subscribe::{cancel_subscription, new_sub, refuse_short, subscribe_client};
+use crate::write::{hear_write, hear_write_notify};
 use ca_header::{Header, Message};
 use ca_message::codes::{ECA_BADCHID, ECA_INTERNAL};
 use ca_message::commands::{
     CA_PROTO_CLIENT_NAME, CA_PROTO_CREATE_CHAN, CA_PROTO_EVENT_ADD, CA_PROTO_HOST_NAME, NO_CHANNEL,
 };
-use ca_message::{ClientRequest, ToClient, read_request};
-use channel_table::{ClientSub, WaitingRead};
+use ca_message::{ClearChannel, ClientRequest, HostText, ToClient, read_request};
 use gateway_state::{Dest, LOWEST_MINOR};
 use std::alloc::AllocError;
 
@@ -46,101 +45,21 @@ fn hear_request(
 {
     let head = &message.head;
     match request {
-        ClientRequest::Version { minor } => {
-            hear_version(rows, number, minor);
-            Ok(())
-        }
-        ClientRequest::EventAdd {
-            sid,
-            id,
-            dtype,
-            count,
-            mask,
-        } => {
-            let sub = ClientSub {
-                session: number,
-                id,
-                sid,
-                dtype,
-                count,
-                mask,
-                owed: true,
-            };
-            Ok(subscribe_client(rows, sub, head)?)
-        }
-        ClientRequest::EventCancel {
-            sid,
-            id,
-            dtype,
-            count,
-        } => Ok(cancel_subscription(rows, number, sid, id, dtype, count, head)?),
-        ClientRequest::Write {
-            sid,
-            dtype,
-            count,
-            value,
-        } => {
-            let write = Write {
-                session: number,
-                sid,
-                dtype,
-                count,
-            };
-            Ok(hear_write(rows, write, value.as_slice(), head)?)
-        }
-        ClientRequest::EventsOff => {
-            pause(&mut rows.sessions, number, true);
-            Ok(())
-        }
-        ClientRequest::EventsOn => {
-            pause(&mut rows.sessions, number, false);
-            Ok(())
-        }
-        ClientRequest::ClearChannel { sid, cid } => {
-            Ok(clear_channel(rows, number, sid, cid, head)?)
-        }
-        ClientRequest::ReadNotify {
-            sid,
-            ioid,
-            dtype,
-            count,
-        } => {
-            let read = WaitingRead {
-                session: number,
-                sid,
-                dtype,
-                count,
-                ioid,
-            };
-            Ok(hear_read(rows, read, head)?)
-        }
-        ClientRequest::CreateChannel { cid, name, .. } => {
-            let name = name.to_name(rows.alloc)?;
-            create_channel(rows, number, cid, &name)
-        }
-        ClientRequest::WriteNotify {
-            sid,
-            ioid,
-            dtype,
-            count,
-            value,
-        } => {
-            let write = Write {
-                session: number,
-                sid,
-                dtype,
-                count,
-            };
-            hear_write_notify(rows, write, ioid, value.as_slice(), head)
-        }
-        ClientRequest::ClientName(_) => Ok(()),
-        ClientRequest::HostName(host) => {
-            let host = host.to_host(rows.alloc)?;
-            name_host(&mut rows.sessions, number, host);
-            Ok(())
-        }
-        ClientRequest::Echo => Ok(echo(rows, number, message)?),
+        ClientRequest::Version { minor } => hear_version(rows, number, minor),
+        ClientRequest::EventAdd(add) => subscribe_client(rows, new_sub(number, add), head)?,
+        ClientRequest::EventCancel(cancel) => cancel_subscription(rows, number, cancel, head)?,
+        ClientRequest::Write(write) => hear_write(rows, number, &write, head)?,
+        ClientRequest::EventsOff => pause(&mut rows.sessions, number, true),
+        ClientRequest::EventsOn => pause(&mut rows.sessions, number, false),
+        ClientRequest::ClearChannel(clear) => clear_channel(rows, number, clear, head)?,
+        ClientRequest::ReadNotify(read) => hear_read(rows, number, read, head)?,
+        ClientRequest::CreateChannel(create) => create_channel(rows, number, &create)?,
+        ClientRequest::WriteNotify(write) => hear_write_notify(rows, number, &write, head)?,
+        ClientRequest::ClientName(_) => {}
+        ClientRequest::HostName(host) => hear_host_name(rows, number, &host)?,
+        ClientRequest::Echo => echo(rows, number, message)?,
     }
+    Ok(())
 }
 
 /// A client gets its own message back.
@@ -164,16 +83,25 @@ fn hear_version(rows: &mut Rows, number: u32, minor: u32)
     }
 }
 
+/// A client said where it is.
+fn hear_host_name(rows: &mut Rows, number: u32, host: &HostText<'_>) -> Result<(), AllocError>
+    ensures { OnOk result (rows.new ≡ host_named number host.now rows.old) }
+{
+    let host = host.to_host(rows.alloc)?;
+    name_host(&mut rows.sessions, number, host);
+    Ok(())
+}
+
 /// A client gives up a channel.
 fn clear_channel(
     rows: &mut Rows,
     number: u32,
-    sid: u32,
-    cid: u32,
+    clear: ClearChannel,
     head: &Header,
 ) -> Result<(), AllocError>
-    ensures { OnOk result (rows.new ≡ channel_cleared number sid cid head.now rows.old) }
+    ensures { OnOk result (rows.new ≡ channel_cleared number clear.sid clear.cid head.now rows.old) }
 {
+    let ClearChannel { sid, cid } = clear;
     if rows.channel_of(number, sid).is_none() {
         return rows.refuse(number, NO_CHANNEL, ECA_BADCHID, head);
     }

@@ -1,17 +1,16 @@
 //! CREATE_CHAN.
 ghost use Rattle.std.specs.Prelude.{◌≡◌, true, IsErrOf, OnOk};
-ghost use Rattle.gateway_state.specs.Clients.{channel_asked, created_on, created_with, creation_failed, not_connected};
+ghost use Rattle.gateway_state.specs.Clients.{channel_asked, created_over, created_with, creation_failed, not_connected};
 ghost use Rattle.gateway_state.specs.Numbers.{is_past_numbers};
-ghost use Rattle.gateway_state.specs.Variables.{link_of};
+ghost use Rattle.gateway_state.specs.Variables.{connected};
 
 use crate::clients::{ChannelsOf, SessionNumbered, fix_host};
 use crate::lists::{count, find};
 use crate::numbers::Refusal;
 use crate::state::Rows;
-use ca_message::ToClient;
+use ca_message::{CreateChannel, ToClient};
 use channel_table::{CHANNEL_LIMIT, Channel, Reach};
 use gateway_state::Native;
-use gateway_values::native_in;
 use link_table::Counter;
 use pv_alias::{Lead, group_rights};
 use pv_name::Name;
@@ -76,14 +75,13 @@ fn create_as(
     asked: &Name,
     lead: &Lead,
 ) -> Result<(), Refusal>
-    ensures ok { OnOk result (rows.new ≡ created_on number cid asked.now lead.now (link_of rows.old lead.now.real) rows.old) }
-    ensures used_up { IsErrOf result Refusal.NumbersUsedUp → is_past_numbers (created_on number cid asked.now lead.now (link_of rows.old lead.now.real) rows.old) ≡ true }
+    ensures ok { OnOk result (rows.new ≡ created_over number cid asked.now lead.now (connected rows.old lead.now.real) rows.old) }
+    ensures used_up { IsErrOf result Refusal.NumbersUsedUp → is_past_numbers (created_over number cid asked.now lead.now (connected rows.old lead.now.real) rows.old) ≡ true }
 {
-    if let Some(link) = rows.link_of(&lead.real) {
-        if let Some(native) = native_in(link.state) {
-            let rights = link.rights & group_rights(&rows.policy.groups, lead.group.as_ref());
-            return create_on(rows, number, cid, asked, &lead.real, rights, native);
-        }
+    if let Some(variable) = rows.connected(&lead.real) {
+        let native = variable.native;
+        let rights = variable.link.rights & group_rights(&rows.policy.groups, lead.group.as_ref());
+        return create_on(rows, number, cid, asked, &lead.real, rights, native);
     }
     if let Some(session) = find(&rows.sessions, SessionNumbered { number }) {
         let host = session.host.copy()?;
@@ -96,9 +94,16 @@ fn create_as(
 pub(crate) fn create_channel(
     rows: &mut Rows,
     number: u32,
-    cid: u32,
-    name: &Name,
+    create: &CreateChannel<'_>,
 ) -> Result<(), Refusal>
+    ensures ok { OnOk result (rows.new ≡ channel_asked number create.now.cid create.now.name rows.old) }
+    ensures used_up { IsErrOf result Refusal.NumbersUsedUp → is_past_numbers (channel_asked number create.now.cid create.now.name rows.old) ≡ true }
+{
+    let name = create.name.to_name(rows.alloc)?;
+    create_named(rows, number, create.cid, &name)
+}
+
+fn create_named(rows: &mut Rows, number: u32, cid: u32, name: &Name) -> Result<(), Refusal>
     ensures ok { OnOk result (rows.new ≡ channel_asked number cid name.now rows.old) }
     ensures used_up { IsErrOf result Refusal.NumbersUsedUp → is_past_numbers (channel_asked number cid name.now rows.old) ≡ true }
 {

@@ -7,14 +7,14 @@ ghost use Rattle.gateway_state.specs.Reached.{rights_told};
 ghost use Rattle.gateway_state.specs.Rights.{channel_of, is_found, is_served, lead_in, link_connected, link_rights, rights_of};
 ghost use Rattle.gateway_state.specs.Searches.{leads_to, same_search};
 ghost use Rattle.channel_table.specs.Channels.{is_channel_on, is_on};
-ghost use Rattle.gateway_state.specs.Variables.{asks, channel_names, is_linked, is_missing, is_wanted, link_of, search_names, with_name, with_unlinked};
+ghost use Rattle.gateway_state.specs.Variables.{asks, channel_names, connected, is_linked, is_missing, is_wanted, link_of, search_names, with_name, with_unlinked};
 
 use crate::clients::{ChannelAt, SessionNumbered};
 use crate::lists::find;
 use crate::state::Rows;
 use channel_table::Channel;
 use gateway_state::{SEARCH_LIMIT, Search, is_real, lead_of, rights_left};
-use gateway_values::is_connected;
+use gateway_values::{ConnectedVariable, connected, is_connected};
 use link_table::Link;
 use pv_alias::Lead;
 use pv_name::{Host, Name, same_host};
@@ -38,6 +38,13 @@ impl Rows {
         ensures { option_copied result ≡ link_of self.now name.now }
     {
         self.links.iter().find(|row| row.name == *name)
+    }
+
+    /// The variable of a real name; none where it has no link, or none that is connected.
+    pub(crate) fn connected(&self, name: &Name) -> Option<ConnectedVariable<'_>>
+        ensures { result ≡ connected self.now name.now }
+    {
+        connected(self.link_of(name)?)
     }
 
     /// A session's channel.

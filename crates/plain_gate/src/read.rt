@@ -1,29 +1,28 @@
 //! READ_NOTIFY.
 ghost use Rattle.std.specs.Prelude.{◌≡◌, Some, IfOk, OnOk};
 ghost use Rattle.gateway_state.specs.Answer.{cached_value};
-ghost use Rattle.gateway_state.specs.Clients.{accepted, is_one_too_many, read_asked, read_verdict, verdict_natively};
+ghost use Rattle.gateway_state.specs.Clients.{accepted, is_one_too_many, read_asked, read_verdict, verdict_over};
 
 use crate::clients::{ReadsOf, put_channel};
 use crate::lists::count;
 use crate::state::Rows;
 use ca_header::Header;
+use ca_message::ReadNotify;
 use ca_message::codes::{ECA_BADCHID, ECA_GETFAIL};
 use ca_message::commands::NO_CHANNEL;
 use channel_table::{Channel, READ_LIMIT, Reach, WaitingRead};
-use gateway_state::{Native, ReadVerdict};
-use gateway_values::{native_in, reach_with, read_refusal};
-use link_table::Link;
+use gateway_state::ReadVerdict;
+use gateway_values::{ConnectedVariable, reach_with, read_refusal};
 use std::alloc::AllocError;
 
 /// Whether a read isn't covered, and as many reads of the session wait as may.
 fn is_one_too_many(
     rows: &Rows,
     channel: &Channel,
-    link: &Link,
-    native: Native,
+    variable: &ConnectedVariable<'_>,
     read: WaitingRead,
 ) -> Result<bool, AllocError>
-    ensures { IfOk result (λ too_many. too_many ≡ is_one_too_many rows.now channel.now.session (cached_value rows.now link.now.cid native.count read.dtype read.count)) }
+    ensures { IfOk result (λ too_many. too_many ≡ is_one_too_many rows.now channel.now.session (cached_value rows.now variable.now.link.cid variable.now.native.count read.dtype read.count)) }
 {
     let waiting = ReadsOf {
         session: channel.session,
@@ -31,26 +30,27 @@ fn is_one_too_many(
     if count(&rows.reads, waiting) < READ_LIMIT {
         return Ok(false);
     }
-    match rows.cached_value(link.cid, native.count, read.dtype, read.count)? {
+    let native = variable.native.count;
+    match rows.cached_value(variable.link.cid, native, read.dtype, read.count)? {
         Some(_) => Ok(false),
         None => Ok(true),
     }
 }
 
-fn read_verdict_on(
+fn read_verdict_over(
     rows: &Rows,
     channel: &Channel,
-    link: &Link,
-    native: Native,
+    variable: &ConnectedVariable<'_>,
     read: WaitingRead,
 ) -> Result<ReadVerdict, AllocError>
-    ensures { IfOk result (λ verdict. verdict ≡ verdict_natively rows.now channel.now link.now read.dtype read.count (Some native)) }
+    ensures { IfOk result (λ verdict. verdict ≡ verdict_over rows.now channel.now read.dtype read.count (Some variable.now)) }
 {
+    let native = variable.native;
     let rights = rows.rights_of(channel)?;
     if let Some(code) = read_refusal(native, rights, read.dtype, read.count) {
         return Ok(ReadVerdict::Refused(code));
     }
-    if is_one_too_many(rows, channel, link, native, read)? {
+    if is_one_too_many(rows, channel, variable, read)? {
         return Ok(ReadVerdict::Refused(ECA_GETFAIL));
     }
     Ok(ReadVerdict::Accepted {
@@ -66,11 +66,8 @@ fn read_verdict(rows: &Rows, read: WaitingRead) -> Result<ReadVerdict, AllocErro
     let Some(channel) = rows.channel_of(read.session, read.sid) else {
         return Ok(ReadVerdict::NoChannel);
     };
-    let Some(link) = rows.link_of(&channel.real) else {
-        return Ok(ReadVerdict::Ignored);
-    };
-    match native_in(link.state) {
-        Some(native) => read_verdict_on(rows, channel, link, native, read),
+    match rows.connected(&channel.real) {
+        Some(variable) => read_verdict_over(rows, channel, &variable, read),
         None => Ok(ReadVerdict::Ignored),
     }
 }
@@ -89,11 +86,23 @@ fn accept_read(
 }
 
 /// A client wants a value.
-pub(crate) fn hear_read(rows: &mut Rows, read: WaitingRead, head: &Header) -> Result<(), AllocError>
-    ensures { OnOk result (rows.new ≡ read_asked read.session read.sid read.ioid read.dtype read.count head.now rows.old) }
+pub(crate) fn hear_read(
+    rows: &mut Rows,
+    number: u32,
+    read: ReadNotify,
+    head: &Header,
+) -> Result<(), AllocError>
+    ensures { OnOk result (rows.new ≡ read_asked number read.sid read.ioid read.dtype read.count head.now rows.old) }
 {
+    let read = WaitingRead {
+        session: number,
+        sid: read.sid,
+        dtype: read.dtype,
+        count: read.count,
+        ioid: read.ioid,
+    };
     match read_verdict(rows, read)? {
-        ReadVerdict::NoChannel => rows.refuse(read.session, NO_CHANNEL, ECA_BADCHID, head),
+        ReadVerdict::NoChannel => rows.refuse(number, NO_CHANNEL, ECA_BADCHID, head),
         ReadVerdict::Ignored => Ok(()),
         ReadVerdict::Refused(code) => rows.refuse_read(read, code),
         ReadVerdict::Accepted { reach, rights } => accept_read(rows, read, reach, rights),

@@ -1,7 +1,7 @@
 //! The pass over reads that wait: what clients are owed about them.
 ghost use Rattle.std.specs.Prelude.{◌≡◌, IfOk, OnOk};
 ghost use Rattle.gateway_state.specs.Notices.{answered_over, read_notice, read_notices, read_told, reads_told};
-ghost use Rattle.gateway_state.specs.Variables.{link_of};
+ghost use Rattle.gateway_state.specs.Variables.{connected};
 
 use crate::clients::remove_read;
 use crate::state::Rows;
@@ -9,7 +9,7 @@ use ca_message::ToClient;
 use ca_message::codes::ECA_NORDACCESS;
 use channel_table::WaitingRead;
 use gateway_state::ReadNotice;
-use gateway_values::{may_read, native_in};
+use gateway_values::may_read;
 use pv_name::Name;
 use std::alloc::AllocError;
 use std::collections::VecDeque;
@@ -20,15 +20,13 @@ fn answer_over(
     read: WaitingRead,
     name: &Name,
 ) -> Result<Option<ReadNotice>, AllocError>
-    ensures { IfOk result (λ notice. notice ≡ answered_over rows.now read (link_of rows.now name.now)) }
+    ensures { IfOk result (λ notice. notice ≡ answered_over rows.now read (connected rows.now name.now)) }
 {
-    let Some(link) = rows.link_of(name) else {
+    let Some(variable) = rows.connected(name) else {
         return Ok(None);
     };
-    let Some(native) = native_in(link.state) else {
-        return Ok(None);
-    };
-    match rows.cached_value(link.cid, native.count, read.dtype, read.count)? {
+    let native = variable.native.count;
+    match rows.cached_value(variable.link.cid, native, read.dtype, read.count)? {
         Some(given) => Ok(Some(ReadNotice::Answered(read, given.count, given.payload))),
         None => Ok(None),
     }

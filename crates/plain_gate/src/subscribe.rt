@@ -1,18 +1,33 @@
 //! EVENT_ADD and EVENT_CANCEL.
 ghost use Rattle.std.specs.Prelude.{◌≡◌, OnOk};
-ghost use Rattle.gateway_state.specs.Subscribing.{is_on_sid, short_subscription, sub_of, sub_verdict, subscription_asked, subscription_cancelled, subscription_refusal};
+ghost use Rattle.gateway_state.specs.Subscribing.{is_on_sid, new_sub, short_subscription, sub_of, sub_verdict, subscription_asked, subscription_cancelled, subscription_refusal};
 
 use crate::clients::{SubAt, SubsOf};
 use crate::lists::{count, find, remove};
 use crate::state::Rows;
 use ca_header::Header;
-use ca_message::ToClient;
 use ca_message::codes::{ECA_ALLOCMEM, ECA_BADCHID, ECA_BADMASK, ECA_INTERNAL};
 use ca_message::commands::NO_CHANNEL;
+use ca_message::{EventAdd, EventCancel, ToClient};
 use channel_table::{ClientSub, SUB_LIMIT};
 use gateway_state::{Native, SERVED_EVENTS, SubVerdict};
-use gateway_values::{native_in, value_refusal};
+use gateway_values::value_refusal;
 use std::alloc::AllocError;
+
+/// A new subscription, which is owed an update.
+pub(crate) fn new_sub(session: u32, add: EventAdd) -> ClientSub
+    ensures { result ≡ new_sub session add.sid add.id add.dtype add.count add.mask }
+{
+    ClientSub {
+        session,
+        id: add.id,
+        sid: add.sid,
+        dtype: add.dtype,
+        count: add.count,
+        mask: add.mask,
+        owed: true,
+    }
+}
 
 /// Why a subscription is refused, the first reason that applies.
 fn subscription_refusal(rows: &Rows, sub: ClientSub, native: Native) -> Option<u32>
@@ -47,14 +62,11 @@ fn sub_verdict(rows: &Rows, sub: ClientSub) -> SubVerdict
     let Some(channel) = rows.channel_of(sub.session, sub.sid) else {
         return SubVerdict::NoChannel;
     };
-    let Some(link) = rows.link_of(&channel.real) else {
-        return SubVerdict::Ignored;
-    };
-    let Some(native) = native_in(link.state) else {
+    let Some(variable) = rows.connected(&channel.real) else {
         return SubVerdict::Ignored;
     };
     let cid = channel.cid;
-    match subscription_refusal(rows, sub, native) {
+    match subscription_refusal(rows, sub, variable.native) {
         None => SubVerdict::Accepted,
         Some(code) => SubVerdict::Refused { cid, code },
     }
@@ -110,14 +122,17 @@ fn is_sub_on(rows: &Rows, number: u32, id: u32, sid: u32) -> bool
 pub(crate) fn cancel_subscription(
     rows: &mut Rows,
     number: u32,
-    sid: u32,
-    id: u32,
-    dtype: u16,
-    count: u32,
+    cancel: EventCancel,
     head: &Header,
 ) -> Result<(), AllocError>
-    ensures { OnOk result (rows.new ≡ subscription_cancelled number sid id dtype count head.now rows.old) }
+    ensures { OnOk result (rows.new ≡ subscription_cancelled number cancel.sid cancel.id cancel.dtype cancel.count head.now rows.old) }
 {
+    let EventCancel {
+        sid,
+        id,
+        dtype,
+        count,
+    } = cancel;
     let Some(channel) = rows.channel_of(number, sid) else {
         return rows.refuse(number, NO_CHANNEL, ECA_BADCHID, head);
     };

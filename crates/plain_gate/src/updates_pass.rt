@@ -1,7 +1,7 @@
 //! The passes over subscriptions: updates that are withheld from now on, and updates that are due.
 ghost use Rattle.std.specs.Prelude.{◌≡◌, IfOk, OnOk};
 ghost use Rattle.gateway_state.specs.Updates.{is_open_to, is_paused, is_taking, is_withheld, update_notice, update_notices, update_over, update_told, updates_told, updates_withheld, withheld};
-ghost use Rattle.gateway_state.specs.Variables.{link_of};
+ghost use Rattle.gateway_state.specs.Variables.{connected};
 
 use crate::clients::{SessionNumbered, put_owed};
 use crate::lists::find;
@@ -9,7 +9,7 @@ use crate::state::Rows;
 use ca_message::ToClient;
 use channel_table::ClientSub;
 use gateway_state::{Dest, UPDATE_LIMIT, UpdateNotice};
-use gateway_values::{may_read, native_in};
+use gateway_values::may_read;
 use pv_name::Name;
 use std::alloc::AllocError;
 use std::collections::VecDeque;
@@ -74,15 +74,13 @@ fn update_over(
     sub: &ClientSub,
     name: &Name,
 ) -> Result<Option<UpdateNotice>, AllocError>
-    ensures { IfOk result (λ notice. notice ≡ update_over rows.now sub.now (link_of rows.now name.now)) }
+    ensures { IfOk result (λ notice. notice ≡ update_over rows.now sub.now (connected rows.now name.now)) }
 {
-    let Some(link) = rows.link_of(name) else {
+    let Some(variable) = rows.connected(name) else {
         return Ok(None);
     };
-    let Some(native) = native_in(link.state) else {
-        return Ok(None);
-    };
-    match rows.cached_value(link.cid, native.count, sub.dtype, sub.count)? {
+    let native = variable.native.count;
+    match rows.cached_value(variable.link.cid, native, sub.dtype, sub.count)? {
         Some(given) => Ok(Some(UpdateNotice {
             session: sub.session,
             id: sub.id,

@@ -1,13 +1,12 @@
 //! What variables told last, and what reads are answered from it.
 ghost use Rattle.std.specs.Prelude.{◌≡◌, Some, IfOk};
-ghost use Rattle.gateway_state.specs.Answer.{cached_value, reading, reading_of};
+ghost use Rattle.gateway_state.specs.Answer.{cached_value, reading, reading_over};
 
 use crate::lists::find;
 use crate::state::Rows;
 use crate::upstream::MessageOf;
-use gateway_state::{Given, Native, Reading};
-use gateway_values::{cached_as, native_in, read_refusal};
-use link_table::Link;
+use gateway_state::{Given, Reading};
+use gateway_values::{ConnectedVariable, cached_as, read_refusal};
 use std::alloc::AllocError;
 
 impl Rows {
@@ -27,20 +26,20 @@ impl Rows {
         }
     }
 
-    fn reading_of(
+    fn reading_over(
         &self,
         rights: u32,
         dtype: u16,
         count: u32,
-        link: &Link,
-        native: Native,
+        variable: &ConnectedVariable<'_>,
     ) -> Result<Reading, AllocError>
-        ensures { IfOk result (λ reading. reading ≡ reading_of self.now rights dtype count link.now (Some native)) }
+        ensures { IfOk result (λ reading. reading ≡ reading_over self.now rights dtype count (Some variable.now)) }
     {
+        let native = variable.native;
         if let Some(code) = read_refusal(native, rights, dtype, count) {
             return Ok(Reading::Refused(code));
         }
-        match self.cached_value(link.cid, native.count, dtype, count)? {
+        match self.cached_value(variable.link.cid, native.count, dtype, count)? {
             Some(given) => Ok(Reading::Value(given.count, given.payload)),
             None => Ok(Reading::Waits),
         }
@@ -60,11 +59,8 @@ impl Rows {
             return Ok(Reading::NoChannel);
         };
         let rights = self.rights_of(channel)?;
-        let Some(link) = self.link_of(&channel.real) else {
-            return Ok(Reading::NoChannel);
-        };
-        match native_in(link.state) {
-            Some(native) => self.reading_of(rights, dtype, count, link, native),
+        match self.connected(&channel.real) {
+            Some(variable) => self.reading_over(rights, dtype, count, &variable),
             None => Ok(Reading::NoChannel),
         }
     }

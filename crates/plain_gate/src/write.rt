@@ -10,20 +10,20 @@ use crate::upstream::{WriteAt, WritesOf};
 use ca_header::Header;
 use ca_message::codes::{ECA_BADCHID, ECA_NOWTACCESS, ECA_PUTFAIL};
 use ca_message::commands::NO_CHANNEL;
-use ca_message::{ToClient, ToServer, WriteFault, WrittenValue};
+use ca_message::{ToClient, ToServer, Write, WriteFault, WriteNotify, WrittenValue};
 use channel_table::Channel;
 use gateway_state::WriteVerdict;
 use gateway_values::may_write;
-use link_table::{Counter, LinkState, WRITE_LIMIT, WaitingWrite};
+use link_table::{Counter, WRITE_LIMIT, WaitingWrite};
 use std::alloc::AllocError;
 
 /// What a client writes: to which of its channels, and which type and how many elements it says.
 #[derive(Clone, Copy)]
-pub(crate) struct Write {
-    pub session: u32,
-    pub sid: u32,
-    pub dtype: u16,
-    pub count: u32,
+struct ClientWrite {
+    session: u32,
+    sid: u32,
+    dtype: u16,
+    count: u32,
 }
 
 /// A value that isn't fit to be handed on is refused first, then a write without the right.
@@ -55,7 +55,7 @@ fn judge<'a>(
 /// What becomes of a write.
 fn write_verdict<'a>(
     rows: &Rows,
-    write: Write,
+    write: ClientWrite,
     payload: &'a [u8],
 ) -> Result<WriteVerdict<'a>, AllocError>
     ensures { IfOk result (λ verdict. verdict ≡ write_verdict rows.now write.session write.sid write.dtype write.count payload.now) }
@@ -63,31 +63,33 @@ fn write_verdict<'a>(
     let Some(channel) = rows.channel_of(write.session, write.sid) else {
         return Ok(WriteVerdict::NoChannel);
     };
-    let Some(link) = rows.link_of(&channel.real) else {
+    let Some(variable) = rows.connected(&channel.real) else {
         return Ok(WriteVerdict::Ignored);
     };
-    match link.state {
-        LinkState::Connected { sid, count, .. } => {
-            let value = WrittenValue::read(write.dtype, write.count, count, payload);
-            judge(rows, channel, link.server, sid, value)
-        }
-        LinkState::Creating | LinkState::Unusable => Ok(WriteVerdict::Ignored),
-    }
+    let native = variable.native.count;
+    let value = WrittenValue::read(write.dtype, write.count, native, payload);
+    judge(rows, channel, variable.link.server, variable.sid, value)
 }
 
 /// A client writes a value, and wants no reply.
 pub(crate) fn hear_write(
     rows: &mut Rows,
-    write: Write,
-    payload: &[u8],
+    number: u32,
+    write: &Write<'_>,
     head: &Header,
 ) -> Result<(), AllocError>
-    ensures { OnOk result (rows.new ≡ write_asked write.session write.sid write.dtype write.count payload.now head.now rows.old) }
+    ensures { OnOk result (rows.new ≡ write_asked number write.now.sid write.now.dtype write.now.count write.now.value head.now rows.old) }
 {
-    match write_verdict(rows, write, payload)? {
-        WriteVerdict::NoChannel => rows.refuse(write.session, NO_CHANNEL, ECA_BADCHID, head),
+    let its = ClientWrite {
+        session: number,
+        sid: write.sid,
+        dtype: write.dtype,
+        count: write.count,
+    };
+    match write_verdict(rows, its, write.value.as_slice())? {
+        WriteVerdict::NoChannel => rows.refuse(number, NO_CHANNEL, ECA_BADCHID, head),
         WriteVerdict::Ignored => Ok(()),
-        WriteVerdict::Refused { cid, code } => rows.refuse(write.session, cid, code, head),
+        WriteVerdict::Refused { cid, code } => rows.refuse(number, cid, code, head),
         WriteVerdict::Accepted { server, sid, value } => {
             rows.ask(server, ToServer::Write { sid, value })
         }
@@ -95,7 +97,12 @@ pub(crate) fn hear_write(
 }
 
 /// The client is told how its write ended.
-fn answer_write(rows: &mut Rows, write: Write, ioid: u32, status: u32) -> Result<(), AllocError>
+fn answer_write(
+    rows: &mut Rows,
+    write: ClientWrite,
+    ioid: u32,
+    status: u32,
+) -> Result<(), AllocError>
     ensures { OnOk result (rows.new ≡ write_answered write.session ioid write.dtype write.count status rows.old) }
 {
     let said = ToClient::WriteNotify {
@@ -109,7 +116,7 @@ fn answer_write(rows: &mut Rows, write: Write, ioid: u32, status: u32) -> Result
 
 /// Notes that the write waits, under the next ID, which it gives.
 #[tactic(auto, unfolding(gateway_state::specs::Numbers::is_past_numbers))]
-fn add_write(rows: &mut Rows, write: Write, ioid: u32, server: u32) -> Result<u32, Refusal>
+fn add_write(rows: &mut Rows, write: ClientWrite, ioid: u32, server: u32) -> Result<u32, Refusal>
     ensures ok { OnOk result (rows.new ≡ with_write (new_write rows.old server write.session write.sid write.dtype write.count ioid) rows.old) }
     ensures id { IfOk result (λ id. id ≡ rows.old.upstream.counters.write) }
     ensures used_up { IsErrOf result Refusal.NumbersUsedUp → is_past_numbers (with_write (new_write rows.old server write.session write.sid write.dtype write.count ioid) rows.old) ≡ true }
@@ -136,7 +143,7 @@ fn add_write(rows: &mut Rows, write: Write, ioid: u32, server: u32) -> Result<u3
 #[tactic(auto, unfolding(gateway_state::specs::Numbers::is_past_numbers, gateway_state::specs::Telling::sent))]
 fn hand_on(
     rows: &mut Rows,
-    write: Write,
+    write: ClientWrite,
     ioid: u32,
     server: u32,
     sid: u32,
@@ -163,20 +170,26 @@ fn hand_on(
 /// A client writes a value, and wants to be told how that ended.
 pub(crate) fn hear_write_notify(
     rows: &mut Rows,
-    write: Write,
-    ioid: u32,
-    payload: &[u8],
+    number: u32,
+    write: &WriteNotify<'_>,
     head: &Header,
 ) -> Result<(), Refusal>
-    ensures ok { OnOk result (rows.new ≡ write_notify_asked write.session write.sid ioid write.dtype write.count payload.now head.now rows.old) }
-    ensures used_up { IsErrOf result Refusal.NumbersUsedUp → is_past_numbers (write_notify_asked write.session write.sid ioid write.dtype write.count payload.now head.now rows.old) ≡ true }
+    ensures ok { OnOk result (rows.new ≡ write_notify_asked number write.now.sid write.now.ioid write.now.dtype write.now.count write.now.value head.now rows.old) }
+    ensures used_up { IsErrOf result Refusal.NumbersUsedUp → is_past_numbers (write_notify_asked number write.now.sid write.now.ioid write.now.dtype write.now.count write.now.value head.now rows.old) ≡ true }
 {
-    match write_verdict(rows, write, payload)? {
-        WriteVerdict::NoChannel => Ok(rows.refuse(write.session, NO_CHANNEL, ECA_BADCHID, head)?),
+    let ioid = write.ioid;
+    let its = ClientWrite {
+        session: number,
+        sid: write.sid,
+        dtype: write.dtype,
+        count: write.count,
+    };
+    match write_verdict(rows, its, write.value.as_slice())? {
+        WriteVerdict::NoChannel => Ok(rows.refuse(number, NO_CHANNEL, ECA_BADCHID, head)?),
         WriteVerdict::Ignored => Ok(()),
-        WriteVerdict::Refused { code, .. } => Ok(answer_write(rows, write, ioid, code)?),
+        WriteVerdict::Refused { code, .. } => Ok(answer_write(rows, its, ioid, code)?),
         WriteVerdict::Accepted { server, sid, value } => {
-            hand_on(rows, write, ioid, server, sid, value)
+            hand_on(rows, its, ioid, server, sid, value)
         }
     }
 }
@@ -194,7 +207,7 @@ pub(crate) fn end_write(
         return Ok(());
     };
     let ioid = waiting.ioid;
-    let write = Write {
+    let write = ClientWrite {
         session: waiting.session,
         sid: waiting.sid,
         dtype: waiting.dtype,

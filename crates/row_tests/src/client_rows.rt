@@ -31,18 +31,18 @@ use crate::listed::{list_name, list_sessions};
 use crate::seen;
 use crate::seen::Kept;
 use crate::shown::{show_channel, show_read, show_session, show_sub};
+use crate::visited::VisitedRows;
 use crate::words::Told;
-use channel_table::{Channel, ClientSub, Reach, Session, Table, TableFault, Visits, WaitingRead};
+use channel_table::{Channel, ClientSub, Reach, Session, Table, TableFault, WaitingRead};
 use pv_name::{Host, Name};
 use std::alloc::Global;
 use std::process::Abort;
 
-/// A table, and what it is listed by.
+/// A table with its count of looks, and what it is listed by.
 #[derive(Drop)]
 struct Clients {
     alloc: Global,
-    table: Table,
-    visits: Visits,
+    rows: VisitedRows,
     looks: Looks,
     names: Names,
 }
@@ -68,7 +68,6 @@ pub(crate) fn tells(rt: &impl Abort, alloc: Global, beginning: &str, story: &str
 }
 
 fn new_clients(alloc: Global) -> Clients {
-    let (table, visits) = Table::new(alloc);
     let looks = Looks {
         so_far: 0,
         skipped: 0,
@@ -76,8 +75,7 @@ fn new_clients(alloc: Global) -> Clients {
     let names = new_names(alloc);
     Clients {
         alloc,
-        table,
-        visits,
+        rows: VisitedRows::new(alloc),
         looks,
         names,
     }
@@ -99,48 +97,46 @@ impl Kept for Clients {
     }
 
     fn call(&mut self, line: &str, number: u32, told: &mut Told) {
-        let (table, visits) = (&mut self.table, &mut self.visits);
         match word(line, 0) {
-            "visits" => told.line(&visits.visited().saturating_sub(self.looks.skipped)),
-            _ => call(self.alloc, table, visits, line, number, told),
+            "visits" => told.line(
+                &self
+                    .rows
+                    .visits
+                    .visited()
+                    .saturating_sub(self.looks.skipped),
+            ),
+            _ => call(self.alloc, &mut self.rows, line, number, told),
         }
     }
 
     fn list(&mut self, told: &mut Told) {
-        list_sessions(&self.table, &mut self.visits, told);
-        list_name(&self.table, &mut self.visits, &self.names.first, told);
-        list_name(&self.table, &mut self.visits, &self.names.second, told);
+        list_sessions(&mut self.rows, told);
+        list_name(&mut self.rows, &self.names.first, told);
+        list_name(&mut self.rows, &self.names.second, told);
     }
 
     fn skip(&mut self) {
-        let looks = self.visits.visited().saturating_sub(self.looks.so_far);
+        let looks = self.rows.visits.visited().saturating_sub(self.looks.so_far);
         self.looks.skipped = self.looks.skipped.saturating_add(looks);
-        self.looks.so_far = self.visits.visited();
+        self.looks.so_far = self.rows.visits.visited();
     }
 
     fn count(&mut self) {
-        self.looks.so_far = self.visits.visited();
+        self.looks.so_far = self.rows.visits.visited();
     }
 }
 
-fn call(
-    alloc: Global,
-    table: &mut Table,
-    visits: &mut Visits,
-    line: &str,
-    last: u32,
-    told: &mut Told,
-) {
+fn call(alloc: Global, rows: &mut VisitedRows, line: &str, last: u32, told: &mut Told) {
     match word(line, 0) {
-        "put" => put(alloc, table, visits, line, told),
-        "find" => find(table, visits, line, told),
-        "remove" => remove(table, line),
-        "count" => count(table, number(line, 1), told),
-        "show" => show(alloc, table, visits, told),
-        "on" | "want" | "props" | "reads" => show_name(alloc, table, visits, line, told),
-        "of" => show_of(table, visits, number(line, 1), told),
-        "typed" => refused(add_sub(table, visits, typed_sub(line)), told),
-        _ => add_one(alloc, table, visits, line, last, told),
+        "put" => put(alloc, rows, line, told),
+        "find" => find(rows, line, told),
+        "remove" => remove(rows, line),
+        "count" => count(&rows.table, number(line, 1), told),
+        "show" => show(alloc, rows, told),
+        "on" | "want" | "props" | "reads" => show_name(alloc, rows, line, told),
+        "of" => show_of(rows, number(line, 1), told),
+        "typed" => refused(add_sub(rows, typed_sub(line)), told),
+        _ => add_one(alloc, rows, line, last, told),
     }
 }
 
@@ -160,30 +156,23 @@ fn last_numbers(line: &str) -> (u32, u32) {
 }
 
 /// Adds the row whose last number is this.
-fn add_one(
-    alloc: Global,
-    table: &mut Table,
-    visits: &mut Visits,
-    line: &str,
-    last: u32,
-    told: &mut Told,
-) {
+fn add_one(alloc: Global, rows: &mut VisitedRows, line: &str, last: u32, told: &mut Told) {
     match word(line, 0) {
         "session" => match session(alloc, last) {
-            Some(row) => refused(add_session(table, visits, row), told),
+            Some(row) => refused(add_session(rows, row), told),
             None => told.line(&"out of memory"),
         },
         "channel" => match channel(alloc, number(line, 1), last) {
-            Some(row) => refused(add_channel(table, visits, row), told),
+            Some(row) => refused(add_channel(rows, row), told),
             None => told.line(&"out of memory"),
         },
         "sub" => {
             let row = sub(number(line, 1), number(line, 2), last);
-            refused(add_sub(table, visits, row), told);
+            refused(add_sub(rows, row), told);
         }
         "read" => {
             let row = read(number(line, 1), number(line, 2), last);
-            refused(table.add_read(row), told);
+            refused(rows.table.add_read(row), told);
         }
         _ => told.line(&"no such call"),
     }
@@ -200,28 +189,31 @@ fn refused(done: Result<(), TableFault>, told: &mut Told) {
 
 /// Adds a session, but none that stands already.
 #[tactic(auto, using(channel_table::proofs::Lists::unfound_is_absent))]
-fn add_session(table: &mut Table, visits: &mut Visits, session: Session) -> Result<(), TableFault> {
-    match table.session(visits, session.number) {
+fn add_session(rows: &mut VisitedRows, session: Session) -> Result<(), TableFault> {
+    match rows.table.session(&mut rows.visits, session.number) {
         Some(_) => Ok(()),
-        None => table.add_session(session),
+        None => rows.table.add_session(session),
     }
 }
 
 /// Adds a channel, but none that stands already.
 #[tactic(auto, using(channel_table::proofs::Lists::unfound_is_absent))]
-fn add_channel(table: &mut Table, visits: &mut Visits, channel: Channel) -> Result<(), TableFault> {
-    match table.channel(visits, channel.session, channel.sid) {
+fn add_channel(rows: &mut VisitedRows, channel: Channel) -> Result<(), TableFault> {
+    match rows
+        .table
+        .channel(&mut rows.visits, channel.session, channel.sid)
+    {
         Some(_) => Ok(()),
-        None => table.add_channel(channel),
+        None => rows.table.add_channel(channel),
     }
 }
 
 /// Adds a subscription, but none that stands already.
 #[tactic(auto, using(channel_table::proofs::Lists::unfound_is_absent))]
-fn add_sub(table: &mut Table, visits: &mut Visits, sub: ClientSub) -> Result<(), TableFault> {
-    match table.sub(visits, sub.session, sub.id) {
+fn add_sub(rows: &mut VisitedRows, sub: ClientSub) -> Result<(), TableFault> {
+    match rows.table.sub(&mut rows.visits, sub.session, sub.id) {
         Some(_) => Ok(()),
-        None => table.add_sub(sub),
+        None => rows.table.add_sub(sub),
     }
 }
 
@@ -295,11 +287,13 @@ fn read(session: u32, sid: u32, ioid: u32) -> WaitingRead {
     }
 }
 
-fn put(alloc: Global, table: &mut Table, visits: &mut Visits, line: &str, told: &mut Told) {
+fn put(alloc: Global, rows: &mut VisitedRows, line: &str, told: &mut Told) {
     let session = number(line, 2);
     match word(line, 1) {
         "session" => match Host::read(alloc, word(line, 3).as_bytes()) {
-            Ok(host) => table.put_session(visits, session, host, true, true),
+            Ok(host) => rows
+                .table
+                .put_session(&mut rows.visits, session, host, true, true),
             Err(fault) => told.line(&fault),
         },
         "channel" => {
@@ -307,37 +301,50 @@ fn put(alloc: Global, table: &mut Table, visits: &mut Visits, line: &str, told: 
                 count: number(line, 4),
                 props: word(line, 6) == "props",
             };
-            table.put_channel(visits, session, number(line, 3), reach, number(line, 5));
+            rows.table.put_channel(
+                &mut rows.visits,
+                session,
+                number(line, 3),
+                reach,
+                number(line, 5),
+            );
         }
-        _ => table.put_sub(visits, session, number(line, 3), false),
+        _ => rows
+            .table
+            .put_sub(&mut rows.visits, session, number(line, 3), false),
     }
 }
 
-fn find(table: &Table, visits: &mut Visits, line: &str, told: &mut Told) {
+fn find(rows: &mut VisitedRows, line: &str, told: &mut Told) {
     let session = number(line, 2);
     match word(line, 1) {
-        "session" => match table.session(visits, session) {
+        "session" => match rows.table.session(&mut rows.visits, session) {
             Some(row) => show_session(row, told),
             None => told.line(&"none"),
         },
-        "channel" => match table.channel(visits, session, number(line, 3)) {
+        "channel" => match rows
+            .table
+            .channel(&mut rows.visits, session, number(line, 3))
+        {
             Some(row) => show_channel(row, told),
             None => told.line(&"none"),
         },
-        _ => match table.sub(visits, session, number(line, 3)) {
+        _ => match rows.table.sub(&mut rows.visits, session, number(line, 3)) {
             Some(row) => show_sub(row, told),
             None => told.line(&"none"),
         },
     }
 }
 
-fn remove(table: &mut Table, line: &str) {
+fn remove(rows: &mut VisitedRows, line: &str) {
     let session = number(line, 2);
     match word(line, 1) {
-        "session" => table.remove_session(session),
-        "channel" => table.remove_channel(session, number(line, 3)),
-        "sub" => table.remove_sub(session, number(line, 3)),
-        _ => table.remove_read(&read(session, number(line, 3), number(line, 4))),
+        "session" => rows.table.remove_session(session),
+        "channel" => rows.table.remove_channel(session, number(line, 3)),
+        "sub" => rows.table.remove_sub(session, number(line, 3)),
+        _ => rows
+            .table
+            .remove_read(&read(session, number(line, 3), number(line, 4))),
     }
 }
 
@@ -347,22 +354,20 @@ fn count(table: &Table, session: u32, told: &mut Told) {
     told.line(&table.read_count(session));
 }
 
-fn show(alloc: Global, table: &Table, visits: &mut Visits, told: &mut Told) {
+fn show(alloc: Global, rows: &mut VisitedRows, told: &mut Told) {
     for n in 0..10 {
-        if let Some(row) = table.nth_session(visits, n) {
-            show_session(row, told);
-        }
+        rows.show_nth_session(n, told);
     }
-    match table.channels(visits, alloc) {
-        Ok(rows) => show_channels(&rows, told),
+    match rows.table.channels(&mut rows.visits, alloc) {
+        Ok(channels) => show_channels(&channels, told),
         Err(_) => told.line(&"out of memory"),
     }
-    match table.subs(visits, alloc) {
-        Ok(rows) => show_subs(&rows, told),
+    match rows.table.subs(&mut rows.visits, alloc) {
+        Ok(subs) => show_subs(&subs, told),
         Err(_) => told.line(&"out of memory"),
     }
-    match table.reads(visits, alloc) {
-        Ok(rows) => show_reads(&rows, told),
+    match rows.table.reads(&mut rows.visits, alloc) {
+        Ok(reads) => show_reads(&reads, told),
         Err(_) => told.line(&"out of memory"),
     }
 }
@@ -392,40 +397,36 @@ fn show_reads(rows: &[WaitingRead], told: &mut Told) {
 }
 
 /// What a call answers that names a variable.
-fn show_name(alloc: Global, table: &Table, visits: &mut Visits, line: &str, told: &mut Told) {
+fn show_name(alloc: Global, rows: &mut VisitedRows, line: &str, told: &mut Told) {
     match (Name::read(alloc, word(line, 1).as_bytes()), word(line, 0)) {
-        (Ok(name), "on") => show_on(alloc, table, visits, &name, told),
-        (Ok(name), "props") => told.line(&table.props_on(&name, word(line, 2) == "states")),
-        (Ok(name), "reads") => match table.reads_for(visits, alloc, &name) {
-            Ok(rows) => show_reads(&rows, told),
+        (Ok(name), "on") => show_on(alloc, rows, &name, told),
+        (Ok(name), "props") => told.line(&rows.table.props_on(&name, word(line, 2) == "states")),
+        (Ok(name), "reads") => match rows.table.reads_for(&mut rows.visits, alloc, &name) {
+            Ok(reads) => show_reads(&reads, told),
             Err(_) => told.line(&"out of memory"),
         },
-        (Ok(name), _) => show_want(table, &name, number(line, 2), told),
+        (Ok(name), _) => show_want(&rows.table, &name, number(line, 2), told),
         (Err(fault), _) => told.line(&fault),
     }
 }
 
 /// The rows on a variable, one by one, and how many there are.
-fn show_on(alloc: Global, table: &Table, visits: &mut Visits, name: &Name, told: &mut Told) {
-    let channels = table.channels_on(name);
-    let reads = table.reads_on(name);
-    told.word(&table.is_used(name));
+fn show_on(alloc: Global, rows: &mut VisitedRows, name: &Name, told: &mut Told) {
+    let channels = rows.table.channels_on(name);
+    let reads = rows.table.reads_on(name);
+    told.word(&rows.table.is_used(name));
     told.word(&channels);
-    told.word(&table.subs_on(name));
+    told.word(&rows.table.subs_on(name));
     told.line(&reads);
     for n in 0..=channels {
-        if let Some(row) = table.channel_on(visits, name, n) {
-            show_channel(row, told);
-        }
+        rows.show_channel_on(name, n, told);
     }
-    match table.subs_to(visits, alloc, name) {
-        Ok(rows) => show_subs_of_name(&rows, told),
+    match rows.table.subs_to(&mut rows.visits, alloc, name) {
+        Ok(subs) => show_subs_of_name(&subs, told),
         Err(_) => told.line(&"out of memory"),
     }
     for n in 0..=reads {
-        if let Some(row) = table.read_on(visits, name, n) {
-            show_read(&row, told);
-        }
+        rows.show_read_on(name, n, told);
     }
 }
 
@@ -442,15 +443,11 @@ pub(crate) fn show_want(table: &Table, name: &Name, native: u32, told: &mut Told
 }
 
 /// The channels and subscriptions of a session, one by one.
-pub(crate) fn show_of(table: &Table, visits: &mut Visits, session: u32, told: &mut Told) {
-    for n in 0..=table.channel_count(session) {
-        if let Some(row) = table.channel_of(visits, session, n) {
-            show_channel(row, told);
-        }
+pub(crate) fn show_of(rows: &mut VisitedRows, session: u32, told: &mut Told) {
+    for n in 0..=rows.table.channel_count(session) {
+        rows.show_channel_of(session, n, told);
     }
-    for n in 0..=table.sub_count(session) {
-        if let Some(row) = table.sub_of(visits, session, n) {
-            show_sub(row, told);
-        }
+    for n in 0..=rows.table.sub_count(session) {
+        rows.show_sub_of(session, n, told);
     }
 }

@@ -19,6 +19,8 @@ mod seen;
 #[cfg(test)]
 mod shown;
 #[cfg(test)]
+mod visited;
+#[cfg(test)]
 mod wants;
 #[cfg(test)]
 mod words;

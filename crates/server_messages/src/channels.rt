@@ -11,14 +11,16 @@ use std::alloc::AllocError;
 use touched_rows::Touched;
 
 fn put_link(rows: &mut Rows, server: u32, cid: u32, state: LinkState, rights: u32)
-    ensures { rows.new ≡ with_link_state server cid state rights rows.old }
+    ensures state { rows.new.state ≡ with_link_state server cid state rights rows.old.state }
+    ensures brand { rows.new.brand ≡ rows.old.brand }
 {
     rows.upstream.put_link(server, cid, state, rights);
 }
 
 /// The gateway gives up a channel that it doesn't want.
 fn return_channel(rows: &mut Rows, server: u32, sid: u32, cid: u32) -> Result<(), AllocError>
-    ensures { OnOk result (rows.new ≡ channel_returned server sid cid rows.old) }
+    ensures ok { OnOk result (rows.new.state ≡ channel_returned server sid cid rows.old.state) }
+    ensures brand { rows.new.brand ≡ rows.old.brand }
 {
     rows.ask(server, &ToServer::ClearChannel { sid, cid })
 }
@@ -32,8 +34,9 @@ pub(crate) fn make_channel(
     dtype: u16,
     count: u32,
 ) -> Result<Touched, AllocError>
-    ensures ok { OnOk result (rows.new ≡ channel_made rows.old server cid sid dtype count) }
-    ensures touched { IfOk result (λ touched. touched ≡ created_touches rows.old server cid) }
+    ensures ok { OnOk result (rows.new.state ≡ channel_made rows.old.state server cid sid dtype count) }
+    ensures touched { IfOk result (λ touched. touched ≡ created_touches rows.old.state server cid) }
+    ensures brand { rows.new.brand ≡ rows.old.brand }
 {
     let Some(link) = rows.upstream.by_cid(server, cid) else {
         return_channel(rows, server, sid, cid)?;
@@ -66,8 +69,9 @@ pub(crate) fn hear_rights(
     cid: u32,
     rights: u32,
 ) -> Result<Touched, AllocError>
-    ensures ok { OnOk result (rows.new ≡ rights_said rows.old server cid rights) }
-    ensures touched { IfOk result (λ touched. touched ≡ rights_touches rows.old server cid) }
+    ensures ok { OnOk result (rows.new.state ≡ rights_said rows.old.state server cid rights) }
+    ensures touched { IfOk result (λ touched. touched ≡ rights_touches rows.old.state server cid) }
+    ensures brand { rows.new.brand ≡ rows.old.brand }
 {
     let Some(link) = rows.upstream.by_cid(server, cid) else {
         return Ok(Touched::Nothing);
@@ -84,7 +88,8 @@ pub(crate) fn hear_rights(
 
 /// A server didn't make a channel. No client has a channel on it.
 pub(crate) fn hear_refusal(rows: &mut Rows, server: u32, cid: u32)
-    ensures { rows.new ≡ creation_refused rows.old server cid }
+    ensures state { rows.new.state ≡ creation_refused rows.old.state server cid }
+    ensures brand { rows.new.brand ≡ rows.old.brand }
 {
     if let Some(link) = rows.upstream.by_cid(server, cid) {
         if is_creating(link.state) {
@@ -95,8 +100,9 @@ pub(crate) fn hear_refusal(rows: &mut Rows, server: u32, cid: u32)
 
 /// A server dropped a channel. Clients may have channels on a variable that was connected.
 pub(crate) fn hear_disconnect(rows: &mut Rows, server: u32, cid: u32) -> Result<Touched, AllocError>
-    ensures ok { OnOk result (rows.new ≡ channel_dropped rows.old server cid) }
-    ensures touched { IfOk result (λ touched. touched ≡ gone_touches rows.old server cid) }
+    ensures ok { OnOk result (rows.new.state ≡ channel_dropped rows.old.state server cid) }
+    ensures touched { IfOk result (λ touched. touched ≡ gone_touches rows.old.state server cid) }
+    ensures brand { rows.new.brand ≡ rows.old.brand }
 {
     let Some(link) = rows.upstream.by_cid(server, cid) else {
         return Ok(Touched::Nothing);

@@ -19,10 +19,12 @@ pub(crate) fn concerned_by_properties(
     visits: &mut Visits,
     name: &Name,
 ) -> Result<Vec<ClientSub>, AllocError>
-    ensures found { IfOk result (λ subs. subs.items ≡ concerned rows.now name.now (asks_for PROPERTY_EVENT)) }
-    ensures bound { OnOk result (visits.new ≤ visits.old + subs_on rows.now name.now) }
-    ensures fewer { IfOk result (λ subs. length subs.items ≤ subs_on rows.now name.now) }
-    ensures no_less { visits.old ≤ visits.new }
+    requires own { visits.old.brand ≡ rows.now.brand }
+    ensures found { IfOk result (λ subs. subs.items ≡ concerned rows.now.state name.now (asks_for PROPERTY_EVENT)) }
+    ensures bound { OnOk result (visits.new.looks ≤ visits.old.looks + subs_on rows.now.state name.now) }
+    ensures fewer { IfOk result (λ subs. length subs.items ≤ subs_on rows.now.state name.now) }
+    ensures no_less { visits.old.looks ≤ visits.new.looks }
+    ensures own { visits.new.brand ≡ visits.old.brand }
 {
     let mut subs = rows.subs_on(visits, name)?;
     keep_asking(&mut subs);

@@ -13,9 +13,10 @@ use pv_name::Name;
 
 /// A server has a variable.
 pub fn find_at(rows: &mut Rows, name: Name, server: u32) -> Result<(), Refusal>
-    requires order { HasCidsInOrder rows.old }
-    ensures ok { OnOk result (rows.new ≡ found rows.old name server) }
-    ensures used_up { IsErrOf result Refusal.NumbersUsedUp → is_past_numbers (found rows.old name server) ≡ true }
+    requires order { HasCidsInOrder rows.old.state }
+    ensures ok { OnOk result (rows.new.state ≡ found rows.old.state name server) }
+    ensures used_up { IsErrOf result Refusal.NumbersUsedUp → is_past_numbers (found rows.old.state name server) ≡ true }
+    ensures brand { rows.new.brand ≡ rows.old.brand }
 {
     if rows.is_missing(&name)
         && rows.acts(Dest::Upstream(server))
@@ -30,10 +31,11 @@ pub fn find_at(rows: &mut Rows, name: Name, server: u32) -> Result<(), Refusal>
 /// Makes a link, and asks the server for a channel.
 #[tactic(auto, using(gateway_state::proofs::NewNumbers::new_cid, gateway_state::proofs::NewNumbers::unlinked), unfolding(gateway_state::specs::Telling::sent, gateway_state::specs::Numbers::is_past_numbers))]
 fn make_link(rows: &mut Rows, server: u32, name: Name) -> Result<(), Refusal>
-    requires order { HasCidsInOrder rows.old }
-    requires unlinked { is_linked rows.old name ≡ false }
-    ensures ok { OnOk result (rows.new ≡ linked rows.old server name) }
-    ensures used_up { IsErrOf result Refusal.NumbersUsedUp → is_past_numbers (linked rows.old server name) ≡ true }
+    requires order { HasCidsInOrder rows.old.state }
+    requires unlinked { is_linked rows.old.state name ≡ false }
+    ensures ok { OnOk result (rows.new.state ≡ linked rows.old.state server name) }
+    ensures used_up { IsErrOf result Refusal.NumbersUsedUp → is_past_numbers (linked rows.old.state server name) ≡ true }
+    ensures brand { rows.new.brand ≡ rows.old.brand }
 {
     let Some(cid) = rows.upstream.give_out(Counter::Cid) else {
         return Err(Refusal::NumbersUsedUp);

@@ -24,10 +24,13 @@ pub fn hear_server(
     server: u32,
     message: Message,
 ) -> Result<Touched, AllocError>
-    ensures ok { OnOk result (rows.new ≡ server_said rows.old server message) }
-    ensures touched { IfOk result (λ touched. touched ≡ reply_touches rows.old server (reply_of message.head message.payload)) }
-    ensures bound { OnOk result (IsWithin (reply_looks rows.old server (reply_of message.head message.payload)) visits.old visits.new) }
-    ensures no_less { visits.old ≤ visits.new }
+    requires own { visits.old.brand ≡ rows.old.brand }
+    ensures ok { OnOk result (rows.new.state ≡ server_said rows.old.state server message) }
+    ensures touched { IfOk result (λ touched. touched ≡ reply_touches rows.old.state server (reply_of message.head message.payload)) }
+    ensures bound { OnOk result (IsWithin (reply_looks rows.old.state server (reply_of message.head message.payload)) visits.old.looks visits.new.looks) }
+    ensures no_less { visits.old.looks ≤ visits.new.looks }
+    ensures brand { rows.new.brand ≡ rows.old.brand }
+    ensures own { visits.new.brand ≡ visits.old.brand }
 {
     match read_reply(&message.head, &message.payload) {
         Ok(ServerReply::Version { minor }) => {
@@ -70,7 +73,8 @@ pub fn hear_server(
 
 /// A server said which minor version it speaks.
 fn hear_server_version(rows: &mut Rows, server: u32, minor: u32)
-    ensures { rows.new ≡ server_versioned rows.old server minor }
+    ensures state { rows.new.state ≡ server_versioned rows.old.state server minor }
+    ensures brand { rows.new.brand ≡ rows.old.brand }
 {
     rows.upstream.put_server(server, minor);
 }

@@ -27,7 +27,8 @@ const SHORTEST_SHARED: usize = 4096;
 
 /// A read can't be had.
 fn fail_read(rows: &mut Rows, read: WaitingRead) -> Result<(), AllocError>
-    ensures { OnOk result (rows.new ≡ read_failed rows.old read) }
+    ensures ok { OnOk result (rows.new.state ≡ read_failed rows.old.state read) }
+    ensures brand { rows.new.brand ≡ rows.old.brand }
 {
     rows.clients.remove_read(&read);
     let said = ToClient::ReadNotifyRefused {
@@ -46,7 +47,8 @@ fn fail_reads(
     subject: Subject,
     native: Option<Native>,
 ) -> Result<(), AllocError>
-    ensures { OnOk result (rows.new ≡ fold read_failed rows.old (filter (fails_without subject native) reads.items)) }
+    ensures ok { OnOk result (rows.new.state ≡ fold read_failed rows.old.state (filter (fails_without subject native) reads.items)) }
+    ensures brand { rows.new.brand ≡ rows.old.brand }
 {
     for read in &reads {
         if fails_without(subject, native, read) {
@@ -80,7 +82,8 @@ fn keep(
     asked_with: u32,
 ) -> Result<(), AllocError>
     requires { is_heard subject native asked_with dtype count payload ≡ true }
-    ensures { OnOk result (rows.new ≡ with_held server cid (held_with subject dtype count payload asked_with) rows.old) }
+    ensures ok { OnOk result (rows.new.state ≡ with_held server cid (held_with subject dtype count payload asked_with) rows.old.state) }
+    ensures brand { rows.new.brand ≡ rows.old.brand }
 {
     match subject {
         Subject::Values => rows
@@ -98,10 +101,12 @@ fn concerned_by_value(
     name: &Name,
     differs: bool,
 ) -> Result<Vec<ClientSub>, AllocError>
-    ensures found { IfOk result (λ subs. subs.items ≡ concerned rows.now name.now (is_concerned differs)) }
-    ensures bound { OnOk result (visits.new ≤ visits.old + subs_on rows.now name.now) }
-    ensures fewer { IfOk result (λ subs. length subs.items ≤ subs_on rows.now name.now) }
-    ensures no_less { visits.old ≤ visits.new }
+    requires own { visits.old.brand ≡ rows.now.brand }
+    ensures found { IfOk result (λ subs. subs.items ≡ concerned rows.now.state name.now (is_concerned differs)) }
+    ensures bound { OnOk result (visits.new.looks ≤ visits.old.looks + subs_on rows.now.state name.now) }
+    ensures fewer { IfOk result (λ subs. length subs.items ≤ subs_on rows.now.state name.now) }
+    ensures no_less { visits.old.looks ≤ visits.new.looks }
+    ensures own { visits.new.brand ≡ visits.old.brand }
 {
     let mut subs = rows.subs_on(visits, name)?;
     keep_concerned(&mut subs, differs);
@@ -125,10 +130,12 @@ fn concerned(
     count: u32,
     payload: &[u8],
 ) -> Result<Vec<ClientSub>, AllocError>
-    ensures found { IfOk result (λ subs. subs.items ≡ concerned rows.now link.now.name (concerns subject rows.now link.now.cid dtype count payload.now)) }
-    ensures bound { OnOk result (visits.new ≤ visits.old + subs_on rows.now link.now.name) }
-    ensures fewer { IfOk result (λ subs. length subs.items ≤ subs_on rows.now link.now.name) }
-    ensures no_less { visits.old ≤ visits.new }
+    requires own { visits.old.brand ≡ rows.now.brand }
+    ensures found { IfOk result (λ subs. subs.items ≡ concerned rows.now.state link.now.name (concerns subject rows.now.state link.now.cid dtype count payload.now)) }
+    ensures bound { OnOk result (visits.new.looks ≤ visits.old.looks + subs_on rows.now.state link.now.name) }
+    ensures fewer { IfOk result (λ subs. length subs.items ≤ subs_on rows.now.state link.now.name) }
+    ensures no_less { visits.old.looks ≤ visits.new.looks }
+    ensures own { visits.new.brand ≡ visits.old.brand }
 {
     match subject {
         Subject::Values => {
@@ -141,7 +148,7 @@ fn concerned(
 
 /// Whether the alarm of an update differs from that of the value that is held, or none is held.
 fn has_other_alarm(rows: &Rows, cid: u32, dtype: u16, count: u32, payload: &[u8]) -> bool
-    ensures { result ≡ has_other_alarm rows.now cid dtype count payload.now }
+    ensures { result ≡ has_other_alarm rows.now.state cid dtype count payload.now }
 {
     let Ok(view) = View::new(dtype, count, payload) else {
         return false;
@@ -164,10 +171,13 @@ pub(crate) fn update(
     count: u32,
     payload: Bytes,
 ) -> Result<Touched, AllocError>
-    ensures ok { OnOk result (rows.new ≡ updated rows.old server id status dtype count payload) }
-    ensures touched { IfOk result (λ touched. touched ≡ update_touches rows.old server id status dtype count payload) }
-    ensures bound { OnOk result (visits.new ≤ visits.old + 2 * own_over rows.old (find (has_subscription server id) rows.old.upstream.links)) }
-    ensures no_less { visits.old ≤ visits.new }
+    requires own { visits.old.brand ≡ rows.old.brand }
+    ensures ok { OnOk result (rows.new.state ≡ updated rows.old.state server id status dtype count payload) }
+    ensures touched { IfOk result (λ touched. touched ≡ update_touches rows.old.state server id status dtype count payload) }
+    ensures bound { OnOk result (visits.new.looks ≤ visits.old.looks + 2 * own_over rows.old.state (find (has_subscription server id) rows.old.state.upstream.links)) }
+    ensures no_less { visits.old.looks ≤ visits.new.looks }
+    ensures brand { rows.new.brand ≡ rows.old.brand }
+    ensures own { visits.new.brand ≡ visits.old.brand }
 {
     let Some(link) = rows.upstream.by_sub(server, id) else {
         return Ok(Touched::Nothing);

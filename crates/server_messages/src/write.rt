@@ -8,7 +8,8 @@ use std::alloc::AllocError;
 
 /// The write waits no longer.
 fn remove_write(rows: &mut Rows, server: u32, id: u32)
-    ensures { rows.new ≡ without_write server id rows.old }
+    ensures state { rows.new.state ≡ without_write server id rows.old.state }
+    ensures brand { rows.new.brand ≡ rows.old.brand }
 {
     rows.upstream.remove_write(server, id);
 }
@@ -20,7 +21,8 @@ pub(crate) fn end_write(
     id: u32,
     status: u32,
 ) -> Result<(), AllocError>
-    ensures { OnOk result (rows.new ≡ write_ended rows.old server id status) }
+    ensures ok { OnOk result (rows.new.state ≡ write_ended rows.old.state server id status) }
+    ensures brand { rows.new.brand ≡ rows.old.brand }
 {
     let Some(write) = rows.upstream.write(server, id) else {
         return Ok(());

@@ -25,8 +25,7 @@ use Rattle.pv_alias.specs.declared.lead.Lead.{Lead}
 use Rattle.gateway_state.specs.declared.event.Dest.TheVariants.{Session as ToSession}
 use Rattle.gateway_state.specs.declared.notice.ChannelNotice.{ChannelNotice}
 use Rattle.gateway_state.specs.declared.reading.Native.{Native}
-use Rattle.gateway_state.specs.Answer.{native_in}
-use Rattle.gateway_state.specs.Clients.{channel_asked, created_as, created_on, created_on_native, creation_failed, no_reach, not_connected, remembered_by, rights_on, with_channel, with_host_fixed}
+use Rattle.gateway_state.specs.Clients.{channel_asked, created, created_as, created_over, creation_failed, no_reach, not_connected, remembered_by, rights_on, with_channel, with_host_fixed}
 use Rattle.gateway_state.specs.Gateway.{Gateway}
 use Rattle.gateway_state.specs.Interest.{is_read_through, is_reader, is_subscriber, reader_ask, readers}
 use Rattle.gateway_state.specs.Notices.{channel_notice, channel_notices, notice_on, read_notice, read_notices}
@@ -37,7 +36,7 @@ use Rattle.gateway_state.specs.Settled.{HasReadsOnChannels, HasSubsOnChannels, I
 use Rattle.gateway_state.specs.Step.{consequences}
 use Rattle.gateway_state.specs.Telling.{outgoing, sent}
 use Rattle.gateway_state.specs.Updates.{is_open_to, is_unreadable, is_withheld, update_notice, update_notices, update_on, withheld}
-use Rattle.gateway_state.specs.Variables.{is_connected, is_wanted, link_of}
+use Rattle.gateway_state.specs.Variables.{connected, connected_in, connected_over, is_connected, is_wanted, link_of}
 use Rattle.gateway_state.proofs.SettledMeaning.{none_told}
 use Rattle.gateway_state.proofs.SettledSteps.{settled_stays}
 use Rattle.touched_rows.proofs.LinksQuiet.{links_quiet}
@@ -150,11 +149,6 @@ module _ (w : Gateway) (settled : IsSettled w) (subs_on : HasSubsOnChannels w) (
 
 -- ---- CREATE_CHAN
 
-connected_natively : (state : LinkState) (native : Native) → native_in state ≡ Some native → is_connected state ≡ true
-connected_natively Creating native is = absurd cc
-connected_natively (Connected sid dtype count) native is = refl
-connected_natively Unusable native is = absurd cc
-
 settled_remembered_by : (found : Option Session) (name : List ℕ) (w : Gateway) → IsSettled w → IsSettled (remembered_by found name w)
 settled_remembered_by None name w settled = settled
 settled_remembered_by (Some row) name w settled = settled_remembered row.host name w settled
@@ -169,8 +163,8 @@ settled_not_connected number cid name w settled =
 
 module _ (w : Gateway) (settled : IsSettled w) (subs_on : HasSubsOnChannels w) (reads_on : HasReadsOnChannels w) (number cid : ℕ) (name : List ℕ) (lead : Lead)
     (leads : lead_in w number name ≡ Some lead) where
-  settled_created : (link : Link) (native : Native) → link_of w lead.real ≡ Some link → native_in link.state ≡ Some native
-      → IsSettled (created_on_native number cid name lead link (Some native) w)
+  settled_created : (link : Link) (native : Native) → link_of w lead.real ≡ Some link → is_connected link.state ≡ true
+      → IsSettled (created number cid name lead link native w)
   settled_created link native over known =
       let made : Gateway = with_channel number cid name lead.real (rights_on w lead link) w in
       let first : Gateway = sent (ToSession number) (outgoing (replies.AccessRights cid (rights_on w lead link))) made in
@@ -184,7 +178,7 @@ module _ (w : Gateway) (settled : IsSettled w) (subs_on : HasSubsOnChannels w) (
       served : is_served w new ≡ true
       served =
           (λ i. is_real (leads i) lead.real && link_connected (over i))
-          ∙ rw ((bytes_eq-Decides lead.real lead.real).1 refl) (connected_natively link.state native known)
+          ∙ rw ((bytes_eq-Decides lead.real lead.real).1 refl) known
 
       rights : rights_of w new ≡ rights_on w lead link
       rights = λ i. bit_and (link_rights (over i)) (rights_left w.policy (leads i))
@@ -192,19 +186,20 @@ module _ (w : Gateway) (settled : IsSettled w) (subs_on : HasSubsOnChannels w) (
       quiet : channel_notice w new ≡ None
       quiet = rw (served, eq-eqb (rights_on w lead link) (rights_of w new) (sym rights)) refl
 
-  settled_created_on : (over : Option Link) → link_of w lead.real ≡ over → IsSettled (created_on number cid name lead over w)
-  settled_created_on None is = settled_not_connected number cid name w settled
-  settled_created_on (Some link) is = by (native_in link.state) refl
+  settled_created_over : (link : Option Link) → link_of w lead.real ≡ link → IsSettled (created_over number cid name lead (connected_over link) w)
+  settled_created_over None is = settled_not_connected number cid name w settled
+  settled_created_over (Some link) is = by link.state refl
     where
-      by : (native : Option Native) → native_in link.state ≡ native → IsSettled (created_on_native number cid name lead link native w)
-      by None known = settled_not_connected number cid name w settled
-      by (Some native) known = settled_created link native is known
+      by : (state : LinkState) → link.state ≡ state → IsSettled (created_over number cid name lead (connected_in link state) w)
+      by Creating state = settled_not_connected number cid name w settled
+      by Unusable state = settled_not_connected number cid name w settled
+      by (Connected sid dtype count) state = settled_created link (record { dtype = dtype; count = count }) is (ap is_connected state)
 
   settled_created_as : IsSettled (created_as number cid name (Some lead) w)
   settled_created_as =
       elim (nat_le CHANNEL_LIMIT (channel_count number w.clients))
-      as (λ t. IsSettled (cond t (creation_failed number cid w) (created_on number cid name lead (link_of w lead.real) w)))
-      [ true ↦ settled_creation_failed number cid w settled | false ↦ settled_created_on (link_of w lead.real) refl ]
+      as (λ t. IsSettled (cond t (creation_failed number cid w) (created_over number cid name lead (connected w lead.real) w)))
+      [ true ↦ settled_creation_failed number cid w settled | false ↦ settled_created_over (link_of w lead.real) refl ]
 
 pub settled_channel_asked : (number cid : ℕ) (name : List ℕ) (w : Gateway) → IsSettled w → HasSubsOnChannels w → HasReadsOnChannels w → IsSettled (channel_asked number cid name w)
 settled_channel_asked number cid name w settled subs_on reads_on = by (lead_in w number name) refl

@@ -9,17 +9,18 @@ use Rattle.channel_table.specs.declared.reads.WaitingRead.{WaitingRead}
 use Rattle.channel_table.specs.declared.subs.ClientSub.{ClientSub}
 use Rattle.channel_table.specs.Channels.{with_reach_and_rights}
 use Rattle.link_table.specs.declared.links.Link.{Link}
+use Rattle.link_table.specs.declared.links.LinkState.{LinkState}
+use Rattle.link_table.specs.declared.links.LinkState.TheVariants.{Creating, Connected, Unusable}
 use Rattle.link_table.specs.Links.{none_yet}
 use Rattle.gateway_state.specs.declared.reading.Given.{Given}
-use Rattle.gateway_state.specs.declared.reading.Native.{Native}
 use Rattle.gateway_state.specs.declared.notice.ReadNotice.TheVariants.{Refused}
-use Rattle.gateway_state.specs.Answer.{cached_value, native_in}
+use Rattle.gateway_state.specs.Answer.{cached_value}
 use Rattle.gateway_state.specs.Clients.{no_reach}
 use Rattle.gateway_state.specs.Gateway.{Gateway}
-use Rattle.gateway_state.specs.Notices.{answered_by, answered_natively, answered_over, notice_on, read_notice}
+use Rattle.gateway_state.specs.Notices.{answered_by, answered_over, notice_on, read_notice}
 use Rattle.gateway_state.specs.Rights.{channel_of, may_read, rights_of}
-use Rattle.gateway_state.specs.Updates.{is_open_to, is_paused, is_taking, update_by, update_natively, update_notice, update_on, update_over}
-use Rattle.gateway_state.specs.Variables.{link_of}
+use Rattle.gateway_state.specs.Updates.{is_open_to, is_paused, is_taking, update_by, update_notice, update_on, update_over}
+use Rattle.gateway_state.specs.Variables.{ConnectedVariable, connected, connected_in, connected_over, link_of}
 
 -- a link but for its subscriptions, and a channel but for what was read and told
 abbrev pub bare : Link → Link
@@ -68,17 +69,27 @@ not_updated : (sub : ClientSub) (given : Option Given) → update_by sub given �
 not_updated sub None none = refl
 not_updated sub (Some given) none = absurd cc
 
-answered_over-bare : (x : Gateway) (read : WaitingRead) (link : Option Link) → answered_over x read link ≡ answered_over x read (option_map bare link)
+answered_over-bare : (x : Gateway) (read : WaitingRead) (link : Option Link) → answered_over x read (connected_over link) ≡ answered_over x read (connected_over (option_map bare link))
 answered_over-bare x read None = refl
-answered_over-bare x read (Some link) = refl
+answered_over-bare x read (Some link) = by link.state
+  where
+    by : (state : LinkState) → answered_over x read (connected_in link state) ≡ answered_over x read (connected_in (bare link) state)
+    by Creating = refl
+    by (Connected sid dtype count) = refl
+    by Unusable = refl
 
 notice_on-plain : (x : Gateway) (read : WaitingRead) (c : Option Channel) → notice_on x read c ≡ notice_on x read (option_map plain c)
 notice_on-plain x read None = refl
 notice_on-plain x read (Some c) = refl
 
-update_over-bare : (x : Gateway) (sub : ClientSub) (link : Option Link) → update_over x sub link ≡ update_over x sub (option_map bare link)
+update_over-bare : (x : Gateway) (sub : ClientSub) (link : Option Link) → update_over x sub (connected_over link) ≡ update_over x sub (connected_over (option_map bare link))
 update_over-bare x sub None = refl
-update_over-bare x sub (Some link) = refl
+update_over-bare x sub (Some link) = by link.state
+  where
+    by : (state : LinkState) → update_over x sub (connected_in link state) ≡ update_over x sub (connected_in (bare link) state)
+    by Creating = refl
+    by (Connected sid dtype count) = refl
+    by Unusable = refl
 
 update_on-plain : (x : Gateway) (sub : ClientSub) (c : Option Channel) → update_on x sub c ≡ update_on x sub (option_map plain c)
 update_on-plain x sub None = refl
@@ -86,49 +97,41 @@ update_on-plain x sub (Some c) = refl
 
 -- over one channel, where its rights and its link are the same, and no more values are had
 module _ (w x : Gateway) (values : (cid native dtype count : ℕ) → cached_value w cid native dtype count ≡ None → cached_value x cid native dtype count ≡ None) where
-  answered_natively-stays : (read : WaitingRead) (link : Link) (native : Option Native) → answered_natively w read link native ≡ None → answered_natively x read link native ≡ None
-  answered_natively-stays read link None none = refl
-  answered_natively-stays read link (Some native) none =
-      ap (answered_by read) (values link.cid native.count read.dtype read.count (unanswered read (cached_value w link.cid native.count read.dtype read.count) none))
-
-  answered_over-stays : (read : WaitingRead) (link : Option Link) → answered_over w read link ≡ None → answered_over x read link ≡ None
+  answered_over-stays : (read : WaitingRead) (over : Option ConnectedVariable) → answered_over w read over ≡ None → answered_over x read over ≡ None
   answered_over-stays read None none = refl
-  answered_over-stays read (Some link) none = answered_natively-stays read link (native_in link.state) none
+  answered_over-stays read (Some v) none =
+      ap (answered_by read) (values v.link.cid v.native.count read.dtype read.count (unanswered read (cached_value w v.link.cid v.native.count read.dtype read.count) none))
 
-  update_natively-stays : (sub : ClientSub) (link : Link) (native : Option Native) → update_natively w sub link native ≡ None → update_natively x sub link native ≡ None
-  update_natively-stays sub link None none = refl
-  update_natively-stays sub link (Some native) none =
-      ap (update_by sub) (values link.cid native.count sub.dtype sub.count (not_updated sub (cached_value w link.cid native.count sub.dtype sub.count) none))
-
-  update_over-stays : (sub : ClientSub) (link : Option Link) → update_over w sub link ≡ None → update_over x sub link ≡ None
+  update_over-stays : (sub : ClientSub) (over : Option ConnectedVariable) → update_over w sub over ≡ None → update_over x sub over ≡ None
   update_over-stays sub None none = refl
-  update_over-stays sub (Some link) none = update_natively-stays sub link (native_in link.state) none
+  update_over-stays sub (Some v) none =
+      ap (update_by sub) (values v.link.cid v.native.count sub.dtype sub.count (not_updated sub (cached_value w v.link.cid v.native.count sub.dtype sub.count) none))
 
   module _ (c : Channel) (rights : rights_of x c ≡ rights_of w c) (links : option_map bare (link_of x c.real) ≡ option_map bare (link_of w c.real)) where
-    answered_there-stays : (read : WaitingRead) → answered_over w read (link_of w c.real) ≡ None → answered_over x read (link_of x c.real) ≡ None
+    answered_there-stays : (read : WaitingRead) → answered_over w read (connected w c.real) ≡ None → answered_over x read (connected x c.real) ≡ None
     answered_there-stays read none =
-        answered_over-bare x read (link_of x c.real) ∙ ap (answered_over x read) links ∙ sym (answered_over-bare x read (link_of w c.real))
-        ∙ answered_over-stays read (link_of w c.real) none
+        answered_over-bare x read (link_of x c.real) ∙ ap (λ (link : Option Link). answered_over x read (connected_over link)) links ∙ sym (answered_over-bare x read (link_of w c.real))
+        ∙ answered_over-stays read (connected w c.real) none
 
     pub read_on-stays : (read : WaitingRead) → notice_on w read (Some c) ≡ None → notice_on x read (Some c) ≡ None
     read_on-stays read none =
-        ap (λ (may : ℕ). cond (may_read may) (answered_over x read (link_of x c.real)) (Some (Refused read ECA_NORDACCESS))) rights ∙ by (may_read (rights_of w c)) none
+        ap (λ (may : ℕ). cond (may_read may) (answered_over x read (connected x c.real)) (Some (Refused read ECA_NORDACCESS))) rights ∙ by (may_read (rights_of w c)) none
       where
-        by : (may : Bool) → cond may (answered_over w read (link_of w c.real)) (Some (Refused read ECA_NORDACCESS)) ≡ None
-            → cond may (answered_over x read (link_of x c.real)) (Some (Refused read ECA_NORDACCESS)) ≡ None
+        by : (may : Bool) → cond may (answered_over w read (connected w c.real)) (Some (Refused read ECA_NORDACCESS)) ≡ None
+            → cond may (answered_over x read (connected x c.real)) (Some (Refused read ECA_NORDACCESS)) ≡ None
         by true none = answered_there-stays read none
         by false none = absurd cc
 
-    update_there-stays : (sub : ClientSub) → update_over w sub (link_of w c.real) ≡ None → update_over x sub (link_of x c.real) ≡ None
+    update_there-stays : (sub : ClientSub) → update_over w sub (connected w c.real) ≡ None → update_over x sub (connected x c.real) ≡ None
     update_there-stays sub none =
-        update_over-bare x sub (link_of x c.real) ∙ ap (update_over x sub) links ∙ sym (update_over-bare x sub (link_of w c.real))
-        ∙ update_over-stays sub (link_of w c.real) none
+        update_over-bare x sub (link_of x c.real) ∙ ap (λ (link : Option Link). update_over x sub (connected_over link)) links ∙ sym (update_over-bare x sub (link_of w c.real))
+        ∙ update_over-stays sub (connected w c.real) none
 
     pub update_on-stays : (sub : ClientSub) → update_on w sub (Some c) ≡ None → update_on x sub (Some c) ≡ None
     update_on-stays sub none =
-        ap (λ (may : ℕ). cond (may_read may) (update_over x sub (link_of x c.real)) None) rights ∙ by (may_read (rights_of w c)) none
+        ap (λ (may : ℕ). cond (may_read may) (update_over x sub (connected x c.real)) None) rights ∙ by (may_read (rights_of w c)) none
       where
-        by : (may : Bool) → cond may (update_over w sub (link_of w c.real)) None ≡ None → cond may (update_over x sub (link_of x c.real)) None ≡ None
+        by : (may : Bool) → cond may (update_over w sub (connected w c.real)) None ≡ None → cond may (update_over x sub (connected x c.real)) None ≡ None
         by true none = update_there-stays sub none
         by false none = refl
 

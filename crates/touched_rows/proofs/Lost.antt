@@ -31,7 +31,7 @@ use Rattle.gateway_state.specs.Sessions.{lost}
 use Rattle.gateway_state.specs.Settled.{AreInOrder, IsSettled}
 use Rattle.gateway_state.specs.Step.{consequences}
 use Rattle.gateway_state.specs.Updates.{is_unreadable, is_withheld, paused_in, takes_updates, update_notice, update_notices, update_on, update_over, updates_told, withheld}
-use Rattle.gateway_state.specs.Variables.{channel_names, is_among, is_wanted, link_of}
+use Rattle.gateway_state.specs.Variables.{channel_names, connected, is_among, is_wanted, link_of}
 use Rattle.gateway_state.proofs.SettledChannels.{notice_by}
 use Rattle.gateway_state.proofs.SettledMeaning.{none_told}
 use Rattle.gateway_state.proofs.SettledSteps.{found_is_on, reads_stay, updates_stay}
@@ -209,7 +209,7 @@ module _ (w : Gateway) (settled : IsSettled w) (order : AreInOrder w) (number : 
       by : (found : Option Channel) → channel_of w read.session read.sid ≡ found → notice_on x read found ≡ notice_on w read found
       by None is = refl
       by (Some c) is =
-          ap (λ (rights : ℕ). cond (may_read rights) (answered_over w read (link_of w c.real)) (Some (Refused read ECA_NORDACCESS)))
+          ap (λ (rights : ℕ). cond (may_read rights) (answered_over w read (connected w c.real)) (Some (Refused read ECA_NORDACCESS)))
           (rights_same c (found_differs read.session read.sid c is differ))
 
   read_left : (read : WaitingRead) → is_not_read_of number read ≡ true → read_notice w read ≡ None → read_notice after read ≡ None
@@ -247,7 +247,7 @@ module _ (w : Gateway) (settled : IsSettled w) (order : AreInOrder w) (number : 
       by : (found : Option Channel) → channel_of w sub.session sub.sid ≡ found → update_on x sub found ≡ update_on w sub found
       by None is = refl
       by (Some c) is =
-          ap (λ (rights : ℕ). cond (may_read rights) (update_over w sub (link_of w c.real)) None) (rights_same c (found_differs sub.session sub.sid c is differ))
+          ap (λ (rights : ℕ). cond (may_read rights) (update_over w sub (connected w c.real)) None) (rights_same c (found_differs sub.session sub.sid c is differ))
 
   update_left : (sub : ClientSub) → is_not_sub_of number sub ≡ true → update_notice w sub ≡ None → update_notice after sub ≡ None
   update_left sub stays none =

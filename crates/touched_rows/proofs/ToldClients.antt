@@ -16,16 +16,14 @@ use Rattle.channel_table.specs.declared.channels.Channel.{Channel}
 use Rattle.channel_table.specs.declared.reads.WaitingRead.{WaitingRead}
 use Rattle.channel_table.specs.declared.subs.ClientSub.{ClientSub}
 use Rattle.channel_table.specs.Subs.{is_sub}
-use Rattle.link_table.specs.declared.links.Link.{Link}
 use Rattle.gateway_state.specs.declared.event.Dest.TheVariants.{Session as ToSession}
 use Rattle.gateway_state.specs.declared.limits.TheConstants.{LOWEST_MINOR}
 use Rattle.gateway_state.specs.declared.notice.ReadVerdict.{ReadVerdict}
 use Rattle.gateway_state.specs.declared.notice.ReadVerdict.TheVariants as reads
 use Rattle.gateway_state.specs.declared.notice.SubVerdict.{SubVerdict}
 use Rattle.gateway_state.specs.declared.notice.SubVerdict.TheVariants as subs
-use Rattle.gateway_state.specs.declared.reading.Native.{Native}
-use Rattle.gateway_state.specs.Answer.{cached_value, native_in, refusal}
-use Rattle.gateway_state.specs.Clients.{accepted, channel_cleared, cleared, creation_failed, is_one_too_many, judged, not_understood, read_asked, verdict_natively, verdict_on, verdict_over, verdict_unless, versioned, with_host_fixed}
+use Rattle.gateway_state.specs.Answer.{cached_value, refusal}
+use Rattle.gateway_state.specs.Clients.{accepted, channel_cleared, cleared, creation_failed, is_one_too_many, judged, not_understood, read_asked, verdict_on, verdict_over, verdict_unless, versioned, with_host_fixed}
 use Rattle.gateway_state.specs.Gateway.{Gateway}
 use Rattle.gateway_state.specs.Requests.{requested, unreadable}
 use Rattle.gateway_state.specs.Rights.{channel_of, rights_of}
@@ -33,7 +31,7 @@ use Rattle.gateway_state.specs.Settled.{IsSettled}
 use Rattle.gateway_state.specs.Step.{consequences}
 use Rattle.gateway_state.specs.Subscribing.{cancelled_on, is_on_sid, new_sub, request_refused, short_subscription, sub_judged, sub_of, sub_verdict_on, sub_verdict_over, subscription_asked, subscription_cancelled, without_sub}
 use Rattle.gateway_state.specs.Telling.{marked, outgoing, told}
-use Rattle.gateway_state.specs.Variables.{link_of}
+use Rattle.gateway_state.specs.Variables.{ConnectedVariable, connected}
 use Rattle.gateway_state.specs.Writing.{write_verdict}
 use Rattle.gateway_state.proofs.SettledSteps.{settled_stays}
 use Rattle.touched_rows.specs.declared.touched.Touched.TheVariants.{Nothing, Interest}
@@ -52,21 +50,17 @@ use Rattle.touched_rows.proofs.Unsubscribed.{told_after_unsubscribing}
 use Rattle.touched_rows.proofs.Written.{settled_notified, settled_written}
 
 -- a read that is accepted leaves the rights last told
-accepted_rights : (w : Gateway) (c : Channel) (dtype count : ℕ) (over : Option Link) (reach : Reach) (rights : ℕ) → verdict_over w c dtype count over ≡ reads.Accepted reach rights → c.rights_told ≡ rights
+accepted_rights : (w : Gateway) (c : Channel) (dtype count : ℕ) (over : Option ConnectedVariable) (reach : Reach) (rights : ℕ) → verdict_over w c dtype count over ≡ reads.Accepted reach rights → c.rights_told ≡ rights
 accepted_rights w c dtype count None reach rights is = absurd cc
-accepted_rights w c dtype count (Some link) reach rights is = natively (native_in link.state) is
+accepted_rights w c dtype count (Some v) reach rights is = unless (refusal v.native (rights_of w c) dtype count) is
   where
     roomy : (reach_now : Reach) (full : Bool) (code : ℕ) → cond full (reads.Refused code) (reads.Accepted reach_now c.rights_told) ≡ reads.Accepted reach rights → c.rights_told ≡ rights
     roomy reach_now true code is = absurd cc
     roomy reach_now false code is = cc
 
-    unless : (native : Native) (refused : Option ℕ) → verdict_unless w c link native dtype count refused ≡ reads.Accepted reach rights → c.rights_told ≡ rights
-    unless native (Some code) is = absurd cc
-    unless native None is = roomy _ (is_one_too_many w c.session (cached_value w link.cid native.count dtype count)) _ is
-
-    natively : (native : Option Native) → verdict_natively w c link dtype count native ≡ reads.Accepted reach rights → c.rights_told ≡ rights
-    natively None is = absurd cc
-    natively (Some native) is = unless native (refusal native (rights_of w c) dtype count) is
+    unless : (refused : Option ℕ) → verdict_unless w c v dtype count refused ≡ reads.Accepted reach rights → c.rights_told ≡ rights
+    unless (Some code) is = absurd cc
+    unless None is = roomy _ (is_one_too_many w c.session (cached_value w v.link.cid v.native.count dtype count)) _ is
 
 module _ (w : Gateway) (tidy : IsTidy w) where
   abbrev IsAll : Gateway → Type 0
@@ -96,7 +90,7 @@ module _ (w : Gateway) (tidy : IsTidy w) where
       by : (found : Option Channel) → channel_of w sub.session sub.sid ≡ found
           → consequences (sub_judged sub head (sub_verdict_on w sub found) w) ≡ follows (sub_touches_by sub found (sub_verdict_on w sub found)) (sub_judged sub head (sub_verdict_on w sub found) w)
       by None is = replied_all sub.session (replies.Error NO_CHANNEL ECA_BADCHID head)
-      by (Some c) is = made c is (sub_verdict_over w sub c (link_of w c.real))
+      by (Some c) is = made c is (sub_verdict_over w sub c (connected w c.real))
 
   told_cancel : (number sid id dtype count : ℕ) (head : Header)
       → consequences (subscription_cancelled number sid id dtype count head w) ≡ follows (cancel_touches w number sid id) (subscription_cancelled number sid id dtype count head w)
@@ -142,21 +136,21 @@ module _ (w : Gateway) (tidy : IsTidy w) where
       read : WaitingRead
       read = new_read number sid ioid dtype count
 
-      over : (c : Channel) → channel_of w number sid ≡ Some c → (verdict : ReadVerdict) → verdict_over w c dtype count (link_of w c.real) ≡ verdict
+      over : (c : Channel) → channel_of w number sid ≡ Some c → (verdict : ReadVerdict) → verdict_over w c dtype count (connected w c.real) ≡ verdict
           → consequences (judged number sid ioid dtype count head verdict w) ≡ follows (read_touches_by read (Some c) verdict) (judged number sid ioid dtype count head verdict w)
       over c is reads.NoChannel verdict = replied_all number (replies.Error NO_CHANNEL ECA_BADCHID head)
       over c is reads.Ignored verdict = nothing_at_all
       over c is (reads.Refused code) verdict = replied_all number (replies.ReadNotifyRefused ioid dtype count code)
       over c is (reads.Accepted reach rights) verdict =
           subst (λ (r : ℕ). consequences (accepted number sid ioid dtype count reach r w) ≡ one_read_told read (interest_told c.real (accepted number sid ioid dtype count reach r w)))
-          (accepted_rights w c dtype count (link_of w c.real) reach rights verdict)
+          (accepted_rights w c dtype count (connected w c.real) reach rights verdict)
           (told_after_read w tidy.settled tidy.links_apart number sid ioid dtype count reach c is)
 
       by : (found : Option Channel) → channel_of w number sid ≡ found
           → consequences (judged number sid ioid dtype count head (verdict_on w dtype count found) w)
           ≡ follows (read_touches_by read found (verdict_on w dtype count found)) (judged number sid ioid dtype count head (verdict_on w dtype count found) w)
       by None is = replied_all number (replies.Error NO_CHANNEL ECA_BADCHID head)
-      by (Some c) is = over c is (verdict_over w c dtype count (link_of w c.real)) refl
+      by (Some c) is = over c is (verdict_over w c dtype count (connected w c.real)) refl
 
   settled_unreadable : (number : ℕ) (head : Header) → IsSettled (unreadable w number head)
   settled_unreadable number head =
@@ -180,17 +174,19 @@ module _ (w : Gateway) (tidy : IsTidy w) where
   pub told_request : (number : ℕ) (message : Message) (asked : Result ClientRequest RequestFault)
       → consequences (requested w number message asked) ≡ follows (request_touches w number asked) (requested w number message asked)
   told_request number message (Ok (requests.Version minor)) = told_version number minor
-  told_request number message (Ok (requests.EventAdd sid id dtype count mask)) = told_sub (new_sub number sid id dtype count mask) message.head refl
-  told_request number message (Ok (requests.EventCancel sid id dtype count)) = told_cancel number sid id dtype count message.head
-  told_request number message (Ok (requests.Write sid dtype count value)) =
-      settled_stays _ (settled_written w tidy.settled number message.head (write_verdict w number sid dtype count value))
+  told_request number message (Ok (requests.EventAdd add)) =
+      told_sub (new_sub number add.sid add.id add.dtype add.count add.mask) message.head refl
+  told_request number message (Ok (requests.EventCancel cancel)) = told_cancel number cancel.sid cancel.id cancel.dtype cancel.count message.head
+  told_request number message (Ok (requests.Write write)) =
+      settled_stays _ (settled_written w tidy.settled number message.head (write_verdict w number write.sid write.dtype write.count write.value))
   told_request number message (Ok requests.EventsOff) = nothing_after_pausing w number tidy.settled
   told_request number message (Ok requests.EventsOn) = told_after_resuming w number tidy.settled
-  told_request number message (Ok (requests.ClearChannel sid cid)) = told_clear number sid cid message.head
-  told_request number message (Ok (requests.ReadNotify sid ioid dtype count)) = told_read number sid ioid dtype count message.head
-  told_request number message (Ok (requests.CreateChannel cid minor name)) = nothing_after_channel_asked number cid name w tidy.settled tidy.subs_on tidy.reads_on
-  told_request number message (Ok (requests.WriteNotify sid ioid dtype count value)) =
-      settled_stays _ (settled_notified w tidy.settled number sid ioid dtype count message.head (write_verdict w number sid dtype count value))
+  told_request number message (Ok (requests.ClearChannel clear)) = told_clear number clear.sid clear.cid message.head
+  told_request number message (Ok (requests.ReadNotify read)) = told_read number read.sid read.ioid read.dtype read.count message.head
+  told_request number message (Ok (requests.CreateChannel create)) = nothing_after_channel_asked number create.cid create.name w tidy.settled tidy.subs_on tidy.reads_on
+  told_request number message (Ok (requests.WriteNotify write)) =
+      settled_stays _
+      (settled_notified w tidy.settled number write.sid write.ioid write.dtype write.count message.head (write_verdict w number write.sid write.dtype write.count write.value))
   told_request number message (Ok (requests.ClientName name)) = nothing_at_all
   told_request number message (Ok (requests.HostName host)) = nothing_after_renaming w tidy.settled tidy.hosts_fixed number host
   told_request number message (Ok requests.Echo) = replied_all number (replies.Echo message)

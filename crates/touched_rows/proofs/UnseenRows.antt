@@ -23,7 +23,7 @@ use Rattle.gateway_state.specs.Resolution.{is_real, rights_left}
 use Rattle.gateway_state.specs.Rights.{channel_of, is_served, lead_for, lead_in, link_connected, link_rights, may_read, rights_of}
 use Rattle.gateway_state.specs.Settled.{IsSettled}
 use Rattle.gateway_state.specs.Updates.{is_unreadable, update_notice, update_notices, update_on, update_over, withheld}
-use Rattle.gateway_state.specs.Variables.{link_of}
+use Rattle.gateway_state.specs.Variables.{connected_over, link_of}
 use Rattle.gateway_state.proofs.SettledChannels.{notice_by}
 use Rattle.gateway_state.proofs.SettledMeaning.{none_told}
 use Rattle.touched_rows.proofs.LessGiven.{is_open, update_if_open}
@@ -97,7 +97,7 @@ module _ (w : Gateway) (settled : IsSettled w) (connections : List Connection) (
           let same = there read.session read.sid c is in
           let over = same.1 in
           let rights = rights_same c same in
-          λ i. cond (may_read (rights i)) (answered_over w read (over i)) (Some (Refused read ECA_NORDACCESS))
+          λ i. cond (may_read (rights i)) (answered_over w read (connected_over (over i))) (Some (Refused read ECA_NORDACCESS))
 
   pub reads_unseen : read_notices changed ≡ []
   reads_unseen = (λ i. filter_map (λ (read : WaitingRead). read_same read i) w.clients.reads) ∙ settled.reads
@@ -111,7 +111,7 @@ module _ (w : Gateway) (settled : IsSettled w) (connections : List Connection) (
           let same = there sub.session sub.sid c is in
           let over = same.1 in
           let rights = rights_same c same in
-          λ i. cond (may_read (rights i)) (update_over w sub (over i)) None
+          λ i. cond (may_read (rights i)) (update_over w sub (connected_over (over i))) None
 
   -- where no session takes updates that didn't before
   module _ (open_before : (number : ℕ) → is_open changed number ≡ true → is_open w number ≡ true) where

@@ -11,6 +11,8 @@ use Rattle.channel_table.specs.declared.reads.WaitingRead.{WaitingRead}
 use Rattle.channel_table.specs.declared.subs.ClientSub.{ClientSub}
 use Rattle.channel_table.specs.Subs.{with_owed}
 use Rattle.link_table.specs.declared.links.Link.{Link}
+use Rattle.link_table.specs.declared.links.LinkState.{LinkState}
+use Rattle.link_table.specs.declared.links.LinkState.TheVariants.{Creating, Connected, Unusable}
 use Rattle.link_table.specs.Links.{has_subscription, is_named}
 use Rattle.mask_merge.specs.declared.want.Ask.{Ask}
 use Rattle.gateway_state.specs.declared.cached.LastMessage.{LastMessage}
@@ -18,19 +20,18 @@ use Rattle.gateway_state.specs.declared.connections.Connection.{Connection}
 use Rattle.gateway_state.specs.declared.notice.ReadNotice.{ReadNotice}
 use Rattle.gateway_state.specs.declared.notice.ReadNotice.TheVariants.{Refused}
 use Rattle.gateway_state.specs.declared.notice.UpdateNotice.{UpdateNotice}
-use Rattle.gateway_state.specs.declared.reading.Native.{Native}
-use Rattle.gateway_state.specs.Answer.{cached_as, native_in}
+use Rattle.gateway_state.specs.Answer.{cached_as}
 use Rattle.gateway_state.specs.CachedRows.{is_cached_of}
 use Rattle.gateway_state.specs.Gateway.{Gateway}
 use Rattle.gateway_state.specs.Interest.{is_reader, reader_ask, readers}
-use Rattle.gateway_state.specs.Notices.{answered_by, answered_natively, answered_over, link_notices, notice_on, read_notice, read_told, reads_told}
+use Rattle.gateway_state.specs.Notices.{answered_by, answered_over, link_notices, notice_on, read_notice, read_told, reads_told}
 use Rattle.gateway_state.specs.Rights.{channel_of, may_read, rights_of}
 use Rattle.gateway_state.specs.Servers.{concerned_owed, waits_for}
 use Rattle.gateway_state.specs.Settled.{AreInOrder, HasSubsApart, IsSettled, cid_of}
 use Rattle.gateway_state.specs.Step.{consequences}
-use Rattle.gateway_state.specs.Updates.{concerned, is_open_to, is_sub_to, update_by, update_natively, update_notice, update_notices, update_on, update_over, update_told, updates_told}
+use Rattle.gateway_state.specs.Updates.{concerned, is_open_to, is_sub_to, update_by, update_notice, update_notices, update_on, update_over, update_told, updates_told}
 use Rattle.channel_table.specs.Channels.{is_channel_on}
-use Rattle.gateway_state.specs.Variables.{link_of}
+use Rattle.gateway_state.specs.Variables.{connected_in, connected_over, link_of}
 use Rattle.gateway_state.proofs.LinkNotices.{link_notices_alike}
 use Rattle.gateway_state.proofs.SettledMeaning.{none_told}
 use Rattle.gateway_state.proofs.SettledWithheld.{owing_changed, with_subs}
@@ -67,23 +68,25 @@ module _ (w : Gateway) (test : ClientSub → Bool) (change : List LastMessage �
   IsBeside None = Unit {0}
   IsBeside (Some link) = eqb link.cid cid ≡ false
 
-  answered_beside : (read : WaitingRead) (link : Option Link) → IsBeside link → answered_over x read link ≡ answered_over w read link
+  answered_beside : (read : WaitingRead) (link : Option Link) → IsBeside link → answered_over x read (connected_over link) ≡ answered_over w read (connected_over link)
   answered_beside read None beside = refl
-  answered_beside read (Some link) beside = by (native_in link.state)
+  answered_beside read (Some link) beside = by link.state
     where
-      by : (native : Option Native) → answered_natively x read link native ≡ answered_natively w read link native
-      by None = refl
-      by (Some native) =
-          ap (λ (found : Option LastMessage). answered_by read (cached_as native.count read.dtype read.count found)) (others link.cid beside)
+      by : (state : LinkState) → answered_over x read (connected_in link state) ≡ answered_over w read (connected_in link state)
+      by Creating = refl
+      by Unusable = refl
+      by (Connected sid dtype count) =
+          ap (λ (found : Option LastMessage). answered_by read (cached_as count read.dtype read.count found)) (others link.cid beside)
 
-  updated_beside : (sub : ClientSub) (link : Option Link) → IsBeside link → update_over x sub link ≡ update_over w sub link
+  updated_beside : (sub : ClientSub) (link : Option Link) → IsBeside link → update_over x sub (connected_over link) ≡ update_over w sub (connected_over link)
   updated_beside sub None beside = refl
-  updated_beside sub (Some link) beside = by (native_in link.state)
+  updated_beside sub (Some link) beside = by link.state
     where
-      by : (native : Option Native) → update_natively x sub link native ≡ update_natively w sub link native
-      by None = refl
-      by (Some native) =
-          ap (λ (found : Option LastMessage). update_by sub (cached_as native.count sub.dtype sub.count found)) (others link.cid beside)
+      by : (state : LinkState) → update_over x sub (connected_in link state) ≡ update_over w sub (connected_in link state)
+      by Creating = refl
+      by Unusable = refl
+      by (Connected sid dtype count) =
+          ap (λ (found : Option LastMessage). update_by sub (cached_as count sub.dtype sub.count found)) (others link.cid beside)
 
 -- ---- the update
 

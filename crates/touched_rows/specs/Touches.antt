@@ -140,15 +140,17 @@ clear_touches w number sid = clear_touches_by (channel_of w number sid)
 -- a host is fixed once a session has a channel, so another one leads no channel's name elsewhere
 abbrev pub request_touches : Gateway → ℕ → Result ClientRequest RequestFault → Touched
 request_touches w number (Ok (requests.Version minor)) = Nothing
-request_touches w number (Ok (requests.EventAdd sid id dtype count mask)) = sub_touches w (new_sub number sid id dtype count mask)
-request_touches w number (Ok (requests.EventCancel sid id dtype count)) = cancel_touches w number sid id
-request_touches w number (Ok (requests.Write sid dtype count value)) = Nothing
+request_touches w number (Ok (requests.EventAdd add)) =
+    sub_touches w (new_sub number add.sid add.id add.dtype add.count add.mask)
+request_touches w number (Ok (requests.EventCancel cancel)) = cancel_touches w number cancel.sid cancel.id
+request_touches w number (Ok (requests.Write write)) = Nothing
 request_touches w number (Ok requests.EventsOff) = Nothing
 request_touches w number (Ok requests.EventsOn) = Session number
-request_touches w number (Ok (requests.ClearChannel sid cid)) = clear_touches w number sid
-request_touches w number (Ok (requests.ReadNotify sid ioid dtype count)) = read_touches w (new_read number sid ioid dtype count)
-request_touches w number (Ok (requests.CreateChannel cid minor name)) = Nothing
-request_touches w number (Ok (requests.WriteNotify sid ioid dtype count value)) = Nothing
+request_touches w number (Ok (requests.ClearChannel clear)) = clear_touches w number clear.sid
+request_touches w number (Ok (requests.ReadNotify read)) =
+    read_touches w (new_read number read.sid read.ioid read.dtype read.count)
+request_touches w number (Ok (requests.CreateChannel create)) = Nothing
+request_touches w number (Ok (requests.WriteNotify write)) = Nothing
 request_touches w number (Ok (requests.ClientName name)) = Nothing
 request_touches w number (Ok (requests.HostName host)) = Nothing
 request_touches w number (Ok requests.Echo) = Nothing

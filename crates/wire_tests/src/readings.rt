@@ -29,14 +29,14 @@ fn tell_asked(request: &ClientRequest<'_>, told: &mut Told) {
     told.name(request);
     match request {
         ClientRequest::Version { minor } => told.field("minor", minor),
-        ClientRequest::ClearChannel { sid, cid } => {
-            told.field("sid", sid);
-            told.field("cid", cid);
+        ClientRequest::ClearChannel(clear) => {
+            told.field("sid", &clear.sid);
+            told.field("cid", &clear.cid);
         }
-        ClientRequest::CreateChannel { cid, minor, name } => {
-            told.field("cid", cid);
-            told.field("minor", minor);
-            told.field_bytes("name", name.as_slice());
+        ClientRequest::CreateChannel(create) => {
+            told.field("cid", &create.cid);
+            told.field("minor", &create.minor);
+            told.field_bytes("name", create.name.as_slice());
         }
         ClientRequest::ClientName(name) => told.field_bytes("name", name.as_slice()),
         ClientRequest::HostName(host) => told.field_bytes("name", host.as_slice()),
@@ -47,37 +47,21 @@ fn tell_asked(request: &ClientRequest<'_>, told: &mut Told) {
 
 fn tell_asked_of_type(request: &ClientRequest<'_>, told: &mut Told) {
     match request {
-        ClientRequest::EventAdd {
-            sid,
-            id,
-            dtype,
-            count,
-            mask,
-        } => {
-            told.field("sid", sid);
-            told.field("id", id);
-            tell_type(*dtype, *count, told);
-            told.field("mask", mask);
+        ClientRequest::EventAdd(add) => {
+            told.field("sid", &add.sid);
+            told.field("id", &add.id);
+            tell_type(add.dtype, add.count, told);
+            told.field("mask", &add.mask);
         }
-        ClientRequest::EventCancel {
-            sid,
-            id,
-            dtype,
-            count,
-        } => {
-            told.field("sid", sid);
-            told.field("id", id);
-            tell_type(*dtype, *count, told);
+        ClientRequest::EventCancel(cancel) => {
+            told.field("sid", &cancel.sid);
+            told.field("id", &cancel.id);
+            tell_type(cancel.dtype, cancel.count, told);
         }
-        ClientRequest::ReadNotify {
-            sid,
-            ioid,
-            dtype,
-            count,
-        } => {
-            told.field("sid", sid);
-            told.field("ioid", ioid);
-            tell_type(*dtype, *count, told);
+        ClientRequest::ReadNotify(read) => {
+            told.field("sid", &read.sid);
+            told.field("ioid", &read.ioid);
+            tell_type(read.dtype, read.count, told);
         }
         _ => tell_asked_write(request, told),
     }
@@ -85,27 +69,16 @@ fn tell_asked_of_type(request: &ClientRequest<'_>, told: &mut Told) {
 
 fn tell_asked_write(request: &ClientRequest<'_>, told: &mut Told) {
     match request {
-        ClientRequest::Write {
-            sid,
-            dtype,
-            count,
-            value,
-        } => {
-            told.field("sid", sid);
-            tell_type(*dtype, *count, told);
-            told.field_bytes("value", value.as_slice());
+        ClientRequest::Write(write) => {
+            told.field("sid", &write.sid);
+            tell_type(write.dtype, write.count, told);
+            told.field_bytes("value", write.value.as_slice());
         }
-        ClientRequest::WriteNotify {
-            sid,
-            ioid,
-            dtype,
-            count,
-            value,
-        } => {
-            told.field("sid", sid);
-            told.field("ioid", ioid);
-            tell_type(*dtype, *count, told);
-            told.field_bytes("value", value.as_slice());
+        ClientRequest::WriteNotify(write) => {
+            told.field("sid", &write.sid);
+            told.field("ioid", &write.ioid);
+            tell_type(write.dtype, write.count, told);
+            told.field_bytes("value", write.value.as_slice());
         }
         _ => told.word(&"with fields that aren't told"),
     }

@@ -15,7 +15,7 @@ use bytes::Bytes;
 use ca_header::{Header, Message};
 use ca_message::commands::CA_PROTO_WRITE;
 use ca_message::{
-    ClientRequest, NameText, ToServer, WriteFault, WrittenValue, read_message, read_request,
+    ClientRequest, NameText, ToServer, Write, WriteFault, WrittenValue, read_message, read_request,
 };
 
 pub(crate) fn call(kind: &str, call: &Call, told: &mut Told) {
@@ -120,23 +120,23 @@ fn write_with(call: &Call, payload: Bytes) -> Message {
 
 fn hand_on_write(message: &Message, call: &Call, told: &mut Told) {
     match read_message(message) {
-        Ok(
-            ClientRequest::Write {
-                sid,
-                dtype,
-                count,
+        Ok(ClientRequest::Write(write)) => hand_on_value(message, &write, call, told),
+        _ => told.line(&"no write"),
+    }
+}
+
+fn hand_on_value(message: &Message, write: &Write<'_>, call: &Call, told: &mut Told) {
+    match WrittenValue::of(write.dtype, write.count, call.number(3), &write.value) {
+        Ok(value) => tell_handed_on(
+            &ToServer::Write {
+                sid: write.sid,
                 value,
             },
-        ) => match WrittenValue::of(dtype, count, call.number(3), &value) {
-            Ok(value) => tell_handed_on(
-                &ToServer::Write { sid, value },
-                &message.payload,
-                call,
-                told,
-            ),
-            Err(fault) => tell_refused(fault, told),
-        },
-        _ => told.line(&"no write"),
+            &message.payload,
+            call,
+            told,
+        ),
+        Err(fault) => tell_refused(fault, told),
     }
 }
 

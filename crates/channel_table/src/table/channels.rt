@@ -21,10 +21,12 @@ impl Table {
         visits: &mut Visits,
         alloc: Global,
     ) -> Result<Vec<&'a Channel>, AllocError>
-        ensures all { IfOk result (λ rows. map (λ row. row.now) rows.items ≡ self.now.channels) }
-        ensures visits { visits.new ≡ u64_saturate (visits.old + length self.now.channels) }
-        ensures bound { visits.new ≤ visits.old + length self.now.channels }
-        ensures no_less { visits.old ≤ visits.new }
+        requires own { visits.old.brand ≡ self.now.brand }
+        ensures all { IfOk result (λ rows. map (λ row. row.now) rows.items ≡ self.now.rows.channels) }
+        ensures visits { visits.new.looks ≡ u64_saturate (visits.old.looks + length self.now.rows.channels) }
+        ensures bound { visits.new.looks ≤ visits.old.looks + length self.now.rows.channels }
+        ensures no_less { visits.old.looks ≤ visits.new.looks }
+        ensures own { visits.new.brand ≡ visits.old.brand }
     {
         visits.count(self.channels.len());
         self.channels.all(alloc)
@@ -32,10 +34,12 @@ impl Table {
 
     /// The session's channel of this ID.
     pub fn channel<'a>(&'a self, visits: &mut Visits, session: u32, sid: u32) -> Option<&'a Channel>
-        ensures found { option_copied result ≡ find (is_channel session sid) self.now.channels }
-        ensures visits { visits.new ≡ u64_saturate (visits.old + 1) }
-        ensures bound { visits.new ≤ visits.old + 1 }
-        ensures no_less { visits.old ≤ visits.new }
+        requires own { visits.old.brand ≡ self.now.brand }
+        ensures found { option_copied result ≡ find (is_channel session sid) self.now.rows.channels }
+        ensures visits { visits.new.looks ≡ u64_saturate (visits.old.looks + 1) }
+        ensures bound { visits.new.looks ≤ visits.old.looks + 1 }
+        ensures no_less { visits.old.looks ≤ visits.new.looks }
+        ensures own { visits.new.brand ≡ visits.old.brand }
     {
         visits.count(1);
         self.channels.get(session, sid)
@@ -43,14 +47,14 @@ impl Table {
 
     /// How many channels of the session stand.
     pub fn channel_count(&self, session: u32) -> usize
-        ensures { result ≡ channel_count session self.now }
+        ensures { result ≡ channel_count session self.now.rows }
     {
         self.channels.count_of(session)
     }
 
     /// How many channels stand, of all sessions.
     pub fn all_channels(&self) -> usize
-        ensures { result ≡ length self.now.channels }
+        ensures { result ≡ length self.now.rows.channels }
     {
         self.channels.len()
     }
@@ -62,10 +66,12 @@ impl Table {
         session: u32,
         n: usize,
     ) -> Option<&'a Channel>
-        ensures nth { option_copied result ≡ slice_get (filter (is_channel_of session) self.now.channels) n }
-        ensures visits { visits.new ≡ u64_saturate (visits.old + 1) }
-        ensures bound { visits.new ≤ visits.old + 1 }
-        ensures no_less { visits.old ≤ visits.new }
+        requires own { visits.old.brand ≡ self.now.brand }
+        ensures nth { option_copied result ≡ slice_get (filter (is_channel_of session) self.now.rows.channels) n }
+        ensures visits { visits.new.looks ≡ u64_saturate (visits.old.looks + 1) }
+        ensures bound { visits.new.looks ≤ visits.old.looks + 1 }
+        ensures no_less { visits.old.looks ≤ visits.new.looks }
+        ensures own { visits.new.brand ≡ visits.old.brand }
     {
         visits.count(1);
         self.channels.nth_of(session, n)
@@ -73,14 +79,14 @@ impl Table {
 
     /// Whether a channel is on this real name.
     pub fn is_used(&self, name: &Name) -> bool
-        ensures { result ≡ list_any (is_on name.now) self.now.channels }
+        ensures { result ≡ list_any (is_on name.now) self.now.rows.channels }
     {
         self.channels.is_used(name)
     }
 
     /// How many channels are on this real name.
     pub fn channels_on(&self, name: &Name) -> usize
-        ensures { result ≡ length (filter (is_on name.now) self.now.channels) }
+        ensures { result ≡ length (filter (is_on name.now) self.now.rows.channels) }
     {
         self.channels.count_on(name)
     }
@@ -92,10 +98,12 @@ impl Table {
         name: &Name,
         n: usize,
     ) -> Option<&'a Channel>
-        ensures nth { option_copied result ≡ slice_get (filter (is_on name.now) self.now.channels) n }
-        ensures visits { visits.new ≡ u64_saturate (visits.old + 1) }
-        ensures bound { visits.new ≤ visits.old + 1 }
-        ensures no_less { visits.old ≤ visits.new }
+        requires own { visits.old.brand ≡ self.now.brand }
+        ensures nth { option_copied result ≡ slice_get (filter (is_on name.now) self.now.rows.channels) n }
+        ensures visits { visits.new.looks ≡ u64_saturate (visits.old.looks + 1) }
+        ensures bound { visits.new.looks ≤ visits.old.looks + 1 }
+        ensures no_less { visits.old.looks ≤ visits.new.looks }
+        ensures own { visits.new.brand ≡ visits.old.brand }
     {
         visits.count(1);
         self.channels.nth_on(name, n)
@@ -104,16 +112,17 @@ impl Table {
     /// Adds a channel to the session that it names. The caller sees to it that none of its ID stands
     /// there.
     pub fn add_channel(&mut self, channel: Channel) -> Result<(), TableFault>
-        requires new { has_channel channel.session channel.sid self.old ≡ false }
-        ensures ok { OnOk result (self.new ≡ record self.old { channels = self.old.channels ++ channel ∷ [] }) }
-        ensures there { OnOk result (has_session channel.session self.old ≡ true) }
-        ensures room { OnOk result (channel_count channel.session self.old < CHANNEL_LIMIT) }
+        requires new { has_channel channel.session channel.sid self.old.rows ≡ false }
+        ensures ok { OnOk result (self.new.rows ≡ record self.old.rows { channels = self.old.rows.channels ++ channel ∷ [] }) }
+        ensures there { OnOk result (has_session channel.session self.old.rows ≡ true) }
+        ensures room { OnOk result (channel_count channel.session self.old.rows < CHANNEL_LIMIT) }
         ensures missing { IsErrOf result TableFault.Missing ↔
-            (has_session channel.session self.old ≡ false) }
+            (has_session channel.session self.old.rows ≡ false) }
         ensures full { IsErrOf result TableFault.Full ↔
-            ((has_session channel.session self.old ≡ true)
-            × (CHANNEL_LIMIT ≤ channel_count channel.session self.old)) }
+            ((has_session channel.session self.old.rows ≡ true)
+            × (CHANNEL_LIMIT ≤ channel_count channel.session self.old.rows)) }
         ensures err { OnErr result (self.new ≡ self.old) }
+        ensures brand { self.new.brand ≡ self.old.brand }
     {
         if !self.sessions.contains(channel.session) {
             return Err(TableFault::Missing);
@@ -137,13 +146,16 @@ impl Table {
         reach: Reach,
         rights: u32,
     )
-        ensures put { self.new ≡ record self.old {
+        requires own { visits.old.brand ≡ self.old.brand }
+        ensures put { self.new.rows ≡ record self.old.rows {
           channels = change_first
-              (is_channel session sid) (with_reach_and_rights reach rights) self.old.channels;
+              (is_channel session sid) (with_reach_and_rights reach rights) self.old.rows.channels;
         } }
-        ensures visits { visits.new ≡ u64_saturate (visits.old + 1) }
-        ensures bound { visits.new ≤ visits.old + 1 }
-        ensures no_less { visits.old ≤ visits.new }
+        ensures visits { visits.new.looks ≡ u64_saturate (visits.old.looks + 1) }
+        ensures bound { visits.new.looks ≤ visits.old.looks + 1 }
+        ensures no_less { visits.old.looks ≤ visits.new.looks }
+        ensures brand { self.new.brand ≡ self.old.brand }
+        ensures own { visits.new.brand ≡ visits.old.brand }
     {
         visits.count(1);
         if self.channels.has(session, sid, reach, rights) {

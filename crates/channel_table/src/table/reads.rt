@@ -15,10 +15,12 @@ use std::alloc::{AllocError, Global};
 impl Table {
     /// All waiting reads, in the order in which they were added.
     pub fn reads(&self, visits: &mut Visits, alloc: Global) -> Result<Vec<WaitingRead>, AllocError>
-        ensures all { IfOk result (λ rows. rows.items ≡ self.now.reads) }
-        ensures visits { visits.new ≡ u64_saturate (visits.old + length self.now.reads) }
-        ensures bound { visits.new ≤ visits.old + length self.now.reads }
-        ensures no_less { visits.old ≤ visits.new }
+        requires own { visits.old.brand ≡ self.now.brand }
+        ensures all { IfOk result (λ rows. rows.items ≡ self.now.rows.reads) }
+        ensures visits { visits.new.looks ≡ u64_saturate (visits.old.looks + length self.now.rows.reads) }
+        ensures bound { visits.new.looks ≤ visits.old.looks + length self.now.rows.reads }
+        ensures no_less { visits.old.looks ≤ visits.new.looks }
+        ensures own { visits.new.brand ≡ visits.old.brand }
     {
         visits.count(self.reads.len());
         self.reads.all(alloc)
@@ -26,24 +28,26 @@ impl Table {
 
     /// How many reads of the session wait.
     pub fn read_count(&self, session: u32) -> usize
-        ensures { result ≡ read_count session self.now }
+        ensures { result ≡ read_count session self.now.rows }
     {
         self.reads.count_of(session)
     }
 
     /// How many reads wait, of all sessions.
     pub fn all_reads(&self) -> usize
-        ensures { result ≡ length self.now.reads }
+        ensures { result ≡ length self.now.rows.reads }
     {
         self.reads.len()
     }
 
     /// The session's nth waiting read.
     pub fn read_of(&self, visits: &mut Visits, session: u32, n: usize) -> Option<WaitingRead>
-        ensures nth { result ≡ slice_get (filter (is_read_of session) self.now.reads) n }
-        ensures visits { visits.new ≡ u64_saturate (visits.old + 1) }
-        ensures bound { visits.new ≤ visits.old + 1 }
-        ensures no_less { visits.old ≤ visits.new }
+        requires own { visits.old.brand ≡ self.now.brand }
+        ensures nth { result ≡ slice_get (filter (is_read_of session) self.now.rows.reads) n }
+        ensures visits { visits.new.looks ≡ u64_saturate (visits.old.looks + 1) }
+        ensures bound { visits.new.looks ≤ visits.old.looks + 1 }
+        ensures no_less { visits.old.looks ≤ visits.new.looks }
+        ensures own { visits.new.brand ≡ visits.old.brand }
     {
         visits.count(1);
         self.reads.nth_of(session, n)
@@ -51,17 +55,19 @@ impl Table {
 
     /// How many reads wait on channels on this real name.
     pub fn reads_on(&self, name: &Name) -> usize
-        ensures { result ≡ length (filter (is_read_for self.now name.now) self.now.reads) }
+        ensures { result ≡ length (filter (is_read_for self.now.rows name.now) self.now.rows.reads) }
     {
         self.reads.count_on(name)
     }
 
     /// The nth read that waits on a channel on this real name.
     pub fn read_on(&self, visits: &mut Visits, name: &Name, n: usize) -> Option<WaitingRead>
-        ensures nth { result ≡ slice_get (filter (is_read_for self.now name.now) self.now.reads) n }
-        ensures visits { visits.new ≡ u64_saturate (visits.old + 1) }
-        ensures bound { visits.new ≤ visits.old + 1 }
-        ensures no_less { visits.old ≤ visits.new }
+        requires own { visits.old.brand ≡ self.now.brand }
+        ensures nth { result ≡ slice_get (filter (is_read_for self.now.rows name.now) self.now.rows.reads) n }
+        ensures visits { visits.new.looks ≡ u64_saturate (visits.old.looks + 1) }
+        ensures bound { visits.new.looks ≤ visits.old.looks + 1 }
+        ensures no_less { visits.old.looks ≤ visits.new.looks }
+        ensures own { visits.new.brand ≡ visits.old.brand }
     {
         visits.count(1);
         self.reads.are_apart();
@@ -76,10 +82,12 @@ impl Table {
         alloc: Global,
         name: &Name,
     ) -> Result<Vec<WaitingRead>, AllocError>
-        ensures found { IfOk result (λ reads. reads.items ≡ filter (is_read_for self.now name.now) self.now.reads) }
-        ensures visits { IfOk result (λ reads. visits.new ≡ u64_saturate (visits.old + length reads.items)) }
-        ensures bound { IfOk result (λ reads. visits.new ≤ visits.old + length reads.items) }
-        ensures no_less { visits.old ≤ visits.new }
+        requires own { visits.old.brand ≡ self.now.brand }
+        ensures found { IfOk result (λ reads. reads.items ≡ filter (is_read_for self.now.rows name.now) self.now.rows.reads) }
+        ensures visits { IfOk result (λ reads. visits.new.looks ≡ u64_saturate (visits.old.looks + length reads.items)) }
+        ensures bound { IfOk result (λ reads. visits.new.looks ≤ visits.old.looks + length reads.items) }
+        ensures no_less { visits.old.looks ≤ visits.new.looks }
+        ensures own { visits.new.brand ≡ visits.old.brand }
     {
         self.reads.are_apart();
         let reads = self.reads.all_on(name, alloc)?;
@@ -89,15 +97,16 @@ impl Table {
 
     /// Adds a read to the channel that it names. An equal one may wait there.
     pub fn add_read(&mut self, read: WaitingRead) -> Result<(), TableFault>
-        ensures ok { OnOk result (self.new ≡ record self.old { reads = self.old.reads ++ read ∷ [] }) }
-        ensures there { OnOk result (has_channel read.session read.sid self.old ≡ true) }
-        ensures room { OnOk result (read_count read.session self.old < READ_LIMIT) }
+        ensures ok { OnOk result (self.new.rows ≡ record self.old.rows { reads = self.old.rows.reads ++ read ∷ [] }) }
+        ensures there { OnOk result (has_channel read.session read.sid self.old.rows ≡ true) }
+        ensures room { OnOk result (read_count read.session self.old.rows < READ_LIMIT) }
         ensures missing { IsErrOf result TableFault.Missing ↔
-            (has_channel read.session read.sid self.old ≡ false) }
+            (has_channel read.session read.sid self.old.rows ≡ false) }
         ensures full { IsErrOf result TableFault.Full ↔
-            ((has_channel read.session read.sid self.old ≡ true)
-            × (READ_LIMIT ≤ read_count read.session self.old)) }
+            ((has_channel read.session read.sid self.old.rows ≡ true)
+            × (READ_LIMIT ≤ read_count read.session self.old.rows)) }
         ensures err { OnErr result (self.new ≡ self.old) }
+        ensures brand { self.new.brand ≡ self.old.brand }
     {
         if !self.channels.contains(read.session, read.sid) {
             return Err(TableFault::Missing);
@@ -115,8 +124,9 @@ impl Table {
     /// answers what is past the limit before anything else happens. A read on a channel that doesn't stand
     /// is refused as if memory were short.
     pub fn keep_read(&mut self, read: WaitingRead) -> Result<(), AllocError>
-        ensures ok { OnOk result (self.new ≡ record self.old { reads = self.old.reads ++ read ∷ [] }) }
+        ensures ok { OnOk result (self.new.rows ≡ record self.old.rows { reads = self.old.rows.reads ++ read ∷ [] }) }
         ensures err { OnErr result (self.new ≡ self.old) }
+        ensures brand { self.new.brand ≡ self.old.brand }
     {
         let Some(channel) = self.channels.get(read.session, read.sid) else {
             return Err(AllocError);
@@ -128,7 +138,8 @@ impl Table {
 
     /// Removes a read, the first of those that are equal.
     pub fn remove_read(&mut self, read: &WaitingRead)
-        ensures { self.new ≡ record self.old { reads = remove_first (same_read read.now) self.old.reads } }
+        ensures rows { self.new.rows ≡ record self.old.rows { reads = remove_first (same_read read.now) self.old.rows.reads } }
+        ensures brand { self.new.brand ≡ self.old.brand }
     {
         let Some(channel) = self.channels.get(read.session, read.sid) else {
             return;
@@ -141,11 +152,12 @@ impl Table {
 
     /// Removes the first read that waits on a channel, and tells whether there was one.
     pub(super) fn remove_read_on(&mut self, session: u32, sid: u32) -> bool
-        ensures others { self.new ≡ record self.old { reads = self.new.reads } }
-        ensures elsewhere { filter (is_not_read_on session sid) self.new.reads ≡
-            filter (is_not_read_on session sid) self.old.reads }
-        ensures one { IsTrue result → length self.new.reads < length self.old.reads }
-        ensures none { result ≡ false → list_any (is_read_on session sid) self.new.reads ≡ false }
+        ensures others { self.new.rows ≡ record self.old.rows { reads = self.new.rows.reads } }
+        ensures elsewhere { filter (is_not_read_on session sid) self.new.rows.reads ≡
+            filter (is_not_read_on session sid) self.old.rows.reads }
+        ensures one { IsTrue result → length self.new.rows.reads < length self.old.rows.reads }
+        ensures none { result ≡ false → list_any (is_read_on session sid) self.new.rows.reads ≡ false }
+        ensures brand { self.new.brand ≡ self.old.brand }
     {
         match self.reads.first_on(session, sid) {
             Some(row) => {

@@ -15,10 +15,12 @@ use pv_name::Host;
 impl Table {
     /// The session of this number.
     pub fn session<'a>(&'a self, visits: &mut Visits, number: u32) -> Option<&'a Session>
-        ensures found { option_copied result ≡ find (is_numbered number) self.now.sessions }
-        ensures visits { visits.new ≡ u64_saturate (visits.old + 1) }
-        ensures bound { visits.new ≤ visits.old + 1 }
-        ensures no_less { visits.old ≤ visits.new }
+        requires own { visits.old.brand ≡ self.now.brand }
+        ensures found { option_copied result ≡ find (is_numbered number) self.now.rows.sessions }
+        ensures visits { visits.new.looks ≡ u64_saturate (visits.old.looks + 1) }
+        ensures bound { visits.new.looks ≤ visits.old.looks + 1 }
+        ensures no_less { visits.old.looks ≤ visits.new.looks }
+        ensures own { visits.new.brand ≡ visits.old.brand }
     {
         visits.count(1);
         self.sessions.get(number)
@@ -26,10 +28,12 @@ impl Table {
 
     /// The nth session by rising number, counted from 0.
     pub fn nth_session<'a>(&'a self, visits: &mut Visits, n: usize) -> Option<&'a Session>
-        ensures nth { option_copied result ≡ nth_by_number n self.now.sessions }
-        ensures visits { visits.new ≡ u64_saturate (visits.old + 1) }
-        ensures bound { visits.new ≤ visits.old + 1 }
-        ensures no_less { visits.old ≤ visits.new }
+        requires own { visits.old.brand ≡ self.now.brand }
+        ensures nth { option_copied result ≡ nth_by_number n self.now.rows.sessions }
+        ensures visits { visits.new.looks ≡ u64_saturate (visits.old.looks + 1) }
+        ensures bound { visits.new.looks ≤ visits.old.looks + 1 }
+        ensures no_less { visits.old.looks ≤ visits.new.looks }
+        ensures own { visits.new.brand ≡ visits.old.brand }
     {
         visits.count(1);
         self.sessions.nth(n)
@@ -37,19 +41,20 @@ impl Table {
 
     /// How many sessions stand.
     pub fn all_sessions(&self) -> usize
-        ensures { result ≡ length self.now.sessions }
+        ensures { result ≡ length self.now.rows.sessions }
     {
         self.sessions.len()
     }
 
     /// Adds a session. The caller sees to it that none of its number stands.
     pub fn add_session(&mut self, session: Session) -> Result<(), TableFault>
-        requires new { has_session session.number self.old ≡ false }
-        ensures ok { OnOk result (self.new ≡ record self.old { sessions = self.old.sessions ++ session ∷ [] }) }
-        ensures room { OnOk result (length self.old.sessions < SESSION_LIMIT) }
+        requires new { has_session session.number self.old.rows ≡ false }
+        ensures ok { OnOk result (self.new.rows ≡ record self.old.rows { sessions = self.old.rows.sessions ++ session ∷ [] }) }
+        ensures room { OnOk result (length self.old.rows.sessions < SESSION_LIMIT) }
         ensures missing { result ≢ Err TableFault.Missing }
-        ensures full { IsErrOf result TableFault.Full ↔ (SESSION_LIMIT ≤ length self.old.sessions) }
+        ensures full { IsErrOf result TableFault.Full ↔ (SESSION_LIMIT ≤ length self.old.rows.sessions) }
         ensures err { OnErr result (self.new ≡ self.old) }
+        ensures brand { self.new.brand ≡ self.old.brand }
     {
         if self.sessions.len() >= SESSION_LIMIT {
             return Err(TableFault::Full);
@@ -69,13 +74,16 @@ impl Table {
         host_fixed: bool,
         paused: bool,
     )
-        ensures put { self.new ≡ record self.old {
+        requires own { visits.old.brand ≡ self.old.brand }
+        ensures put { self.new.rows ≡ record self.old.rows {
           sessions = change_first
-              (is_numbered number) (with_host_and_pause host host_fixed paused) self.old.sessions;
+              (is_numbered number) (with_host_and_pause host host_fixed paused) self.old.rows.sessions;
         } }
-        ensures visits { visits.new ≡ u64_saturate (visits.old + 1) }
-        ensures bound { visits.new ≤ visits.old + 1 }
-        ensures no_less { visits.old ≤ visits.new }
+        ensures visits { visits.new.looks ≡ u64_saturate (visits.old.looks + 1) }
+        ensures bound { visits.new.looks ≤ visits.old.looks + 1 }
+        ensures no_less { visits.old.looks ≤ visits.new.looks }
+        ensures brand { self.new.brand ≡ self.old.brand }
+        ensures own { visits.new.brand ≡ visits.old.brand }
     {
         visits.count(1);
         self.sessions.put(number, host, host_fixed, paused);

@@ -21,10 +21,12 @@ impl Table {
         visits: &mut Visits,
         alloc: Global,
     ) -> Result<Vec<&'a ClientSub>, AllocError>
-        ensures all { IfOk result (λ rows. map (λ row. row.now) rows.items ≡ self.now.subs) }
-        ensures visits { visits.new ≡ u64_saturate (visits.old + length self.now.subs) }
-        ensures bound { visits.new ≤ visits.old + length self.now.subs }
-        ensures no_less { visits.old ≤ visits.new }
+        requires own { visits.old.brand ≡ self.now.brand }
+        ensures all { IfOk result (λ rows. map (λ row. row.now) rows.items ≡ self.now.rows.subs) }
+        ensures visits { visits.new.looks ≡ u64_saturate (visits.old.looks + length self.now.rows.subs) }
+        ensures bound { visits.new.looks ≤ visits.old.looks + length self.now.rows.subs }
+        ensures no_less { visits.old.looks ≤ visits.new.looks }
+        ensures own { visits.new.brand ≡ visits.old.brand }
     {
         visits.count(self.subs.len());
         self.subs.all(alloc)
@@ -32,10 +34,12 @@ impl Table {
 
     /// The session's subscription of this ID.
     pub fn sub<'a>(&'a self, visits: &mut Visits, session: u32, id: u32) -> Option<&'a ClientSub>
-        ensures found { option_copied result ≡ find (is_sub session id) self.now.subs }
-        ensures visits { visits.new ≡ u64_saturate (visits.old + 1) }
-        ensures bound { visits.new ≤ visits.old + 1 }
-        ensures no_less { visits.old ≤ visits.new }
+        requires own { visits.old.brand ≡ self.now.brand }
+        ensures found { option_copied result ≡ find (is_sub session id) self.now.rows.subs }
+        ensures visits { visits.new.looks ≡ u64_saturate (visits.old.looks + 1) }
+        ensures bound { visits.new.looks ≤ visits.old.looks + 1 }
+        ensures no_less { visits.old.looks ≤ visits.new.looks }
+        ensures own { visits.new.brand ≡ visits.old.brand }
     {
         visits.count(1);
         self.subs.get(session, id)
@@ -43,14 +47,14 @@ impl Table {
 
     /// How many subscriptions of the session stand.
     pub fn sub_count(&self, session: u32) -> usize
-        ensures { result ≡ sub_count session self.now }
+        ensures { result ≡ sub_count session self.now.rows }
     {
         self.subs.count_of(session)
     }
 
     /// How many subscriptions stand, of all sessions.
     pub fn all_subs(&self) -> usize
-        ensures { result ≡ length self.now.subs }
+        ensures { result ≡ length self.now.rows.subs }
     {
         self.subs.len()
     }
@@ -62,10 +66,12 @@ impl Table {
         session: u32,
         n: usize,
     ) -> Option<&'a ClientSub>
-        ensures nth { option_copied result ≡ slice_get (filter (is_sub_of session) self.now.subs) n }
-        ensures visits { visits.new ≡ u64_saturate (visits.old + 1) }
-        ensures bound { visits.new ≤ visits.old + 1 }
-        ensures no_less { visits.old ≤ visits.new }
+        requires own { visits.old.brand ≡ self.now.brand }
+        ensures nth { option_copied result ≡ slice_get (filter (is_sub_of session) self.now.rows.subs) n }
+        ensures visits { visits.new.looks ≡ u64_saturate (visits.old.looks + 1) }
+        ensures bound { visits.new.looks ≤ visits.old.looks + 1 }
+        ensures no_less { visits.old.looks ≤ visits.new.looks }
+        ensures own { visits.new.brand ≡ visits.old.brand }
     {
         visits.count(1);
         self.subs.nth_of(session, n)
@@ -73,7 +79,7 @@ impl Table {
 
     /// How many subscriptions are to channels on this real name.
     pub fn subs_on(&self, name: &Name) -> usize
-        ensures { result ≡ length (filter (is_sub_to self.now name.now) self.now.subs) }
+        ensures { result ≡ length (filter (is_sub_to self.now.rows name.now) self.now.rows.subs) }
     {
         self.subs.count_on(name)
     }
@@ -86,10 +92,12 @@ impl Table {
         alloc: Global,
         name: &Name,
     ) -> Result<Vec<ClientSub>, AllocError>
-        ensures found { IfOk result (λ subs. subs.items ≡ filter (is_sub_to self.now name.now) self.now.subs) }
-        ensures visits { IfOk result (λ subs. visits.new ≡ u64_saturate (visits.old + length subs.items)) }
-        ensures bound { IfOk result (λ subs. visits.new ≤ visits.old + length subs.items) }
-        ensures no_less { visits.old ≤ visits.new }
+        requires own { visits.old.brand ≡ self.now.brand }
+        ensures found { IfOk result (λ subs. subs.items ≡ filter (is_sub_to self.now.rows name.now) self.now.rows.subs) }
+        ensures visits { IfOk result (λ subs. visits.new.looks ≡ u64_saturate (visits.old.looks + length subs.items)) }
+        ensures bound { IfOk result (λ subs. visits.new.looks ≤ visits.old.looks + length subs.items) }
+        ensures no_less { visits.old.looks ≤ visits.new.looks }
+        ensures own { visits.new.brand ≡ visits.old.brand }
     {
         self.subs.are_apart();
         let subs = self.subs.all_on(name, alloc)?;
@@ -100,16 +108,17 @@ impl Table {
     /// Adds a subscription to the channel that it names. The caller sees to it that none of its ID
     /// stands in the session.
     pub fn add_sub(&mut self, sub: ClientSub) -> Result<(), TableFault>
-        requires new { has_sub sub.session sub.id self.old ≡ false }
-        ensures ok { OnOk result (self.new ≡ record self.old { subs = self.old.subs ++ sub ∷ [] }) }
-        ensures there { OnOk result (has_channel sub.session sub.sid self.old ≡ true) }
-        ensures room { OnOk result (sub_count sub.session self.old < SUB_LIMIT) }
+        requires new { has_sub sub.session sub.id self.old.rows ≡ false }
+        ensures ok { OnOk result (self.new.rows ≡ record self.old.rows { subs = self.old.rows.subs ++ sub ∷ [] }) }
+        ensures there { OnOk result (has_channel sub.session sub.sid self.old.rows ≡ true) }
+        ensures room { OnOk result (sub_count sub.session self.old.rows < SUB_LIMIT) }
         ensures missing { IsErrOf result TableFault.Missing ↔
-            (has_channel sub.session sub.sid self.old ≡ false) }
+            (has_channel sub.session sub.sid self.old.rows ≡ false) }
         ensures full { IsErrOf result TableFault.Full ↔
-            ((has_channel sub.session sub.sid self.old ≡ true)
-            × (SUB_LIMIT ≤ sub_count sub.session self.old)) }
+            ((has_channel sub.session sub.sid self.old.rows ≡ true)
+            × (SUB_LIMIT ≤ sub_count sub.session self.old.rows)) }
         ensures err { OnErr result (self.new ≡ self.old) }
+        ensures brand { self.new.brand ≡ self.old.brand }
     {
         let Some(channel) = self.channels.get(sub.session, sub.sid) else {
             return Err(TableFault::Missing);
@@ -125,12 +134,15 @@ impl Table {
 
     /// Changes a subscription that stands: whether an update is owed.
     pub fn put_sub(&mut self, visits: &mut Visits, session: u32, id: u32, owed: bool)
-        ensures put { self.new ≡ record self.old {
-          subs = change_first (is_sub session id) (with_owed owed) self.old.subs;
+        requires own { visits.old.brand ≡ self.old.brand }
+        ensures put { self.new.rows ≡ record self.old.rows {
+          subs = change_first (is_sub session id) (with_owed owed) self.old.rows.subs;
         } }
-        ensures visits { visits.new ≡ u64_saturate (visits.old + 1) }
-        ensures bound { visits.new ≤ visits.old + 1 }
-        ensures no_less { visits.old ≤ visits.new }
+        ensures visits { visits.new.looks ≡ u64_saturate (visits.old.looks + 1) }
+        ensures bound { visits.new.looks ≤ visits.old.looks + 1 }
+        ensures no_less { visits.old.looks ≤ visits.new.looks }
+        ensures brand { self.new.brand ≡ self.old.brand }
+        ensures own { visits.new.brand ≡ visits.old.brand }
     {
         visits.count(1);
         self.subs.put(session, id, owed);
@@ -138,7 +150,8 @@ impl Table {
 
     /// Removes the session's subscription of this ID.
     pub fn remove_sub(&mut self, session: u32, id: u32)
-        ensures { self.new ≡ record self.old { subs = filter (is_not_sub session id) self.old.subs } }
+        ensures rows { self.new.rows ≡ record self.old.rows { subs = filter (is_not_sub session id) self.old.rows.subs } }
+        ensures brand { self.new.brand ≡ self.old.brand }
     {
         let Some(sub) = self.subs.get(session, id).copied() else {
             return;
@@ -152,11 +165,12 @@ impl Table {
 
     /// Removes the first subscription on a channel, and tells whether there was one.
     pub(super) fn remove_sub_on(&mut self, session: u32, sid: u32) -> bool
-        ensures others { self.new ≡ record self.old { subs = self.new.subs } }
-        ensures elsewhere { filter (is_not_sub_on session sid) self.new.subs ≡
-            filter (is_not_sub_on session sid) self.old.subs }
-        ensures one { IsTrue result → length self.new.subs < length self.old.subs }
-        ensures none { result ≡ false → list_any (is_sub_on session sid) self.new.subs ≡ false }
+        ensures others { self.new.rows ≡ record self.old.rows { subs = self.new.rows.subs } }
+        ensures elsewhere { filter (is_not_sub_on session sid) self.new.rows.subs ≡
+            filter (is_not_sub_on session sid) self.old.rows.subs }
+        ensures one { IsTrue result → length self.new.rows.subs < length self.old.rows.subs }
+        ensures none { result ≡ false → list_any (is_sub_on session sid) self.new.rows.subs ≡ false }
+        ensures brand { self.new.brand ≡ self.old.brand }
     {
         let Some(channel) = self.channels.get(session, sid) else {
             return false;

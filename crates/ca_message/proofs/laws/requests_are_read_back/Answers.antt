@@ -8,7 +8,7 @@ use Rattle.ca_message.proofs.ReadBack.{word_read_back}
 use Rattle.ca_message.proofs.laws.requests_are_read_back.Goals as goal
 
 pub returns-clause-channel : goal.returns-clause-channel
-returns-clause-channel c = λ cid name is_name. ap (with_text (λ x. requests.CreateChannel cid MINOR_VERSION x)) (word_read_back NAME_LIMIT name is_name)
+returns-clause-channel c = λ cid name is_name. ap (with_text (λ x. requests.CreateChannel (record { cid = cid; minor = MINOR_VERSION; name = x }))) (word_read_back NAME_LIMIT name is_name)
 
 pub returns-clause-client : goal.returns-clause-client
 returns-clause-client c = λ name is_name. ap (with_text (λ x. requests.ClientName x)) (word_read_back NAME_LIMIT name is_name)

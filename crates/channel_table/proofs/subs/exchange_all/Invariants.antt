@@ -1,11 +1,10 @@
 use Rattle.std.proofs.Common.{◌≡◌, drop}
-use Rattle.std.specs.List.{filter_map}
-use Rattle.row_index.specs.Rows.{value_at}
 use Rattle.channel_table.specs.Demand.{all_exchanged}
+use Rattle.channel_table.specs.Indexes.{rows_at, sub_key}
 use Rattle.channel_table.proofs.subs.exchange_all.Given as goal
 
 -- what is left to be exchanged decides
 abbrev pub invariant-loop-key : goal.invariant-loop-key
 invariant-loop-key l =
-    all_exchanged l.before l.after l.session l.sid (filter_map (λ key. value_at key l.rows) (drop l.key-index l.keys)) l.tally
-    ≡ all_exchanged l.before l.after l.session l.sid (filter_map (λ key. value_at key l.rows) l.keys) l.fn.tally
+    all_exchanged l.before l.after l.session l.sid (rows_at sub_key l.rows.rows (drop l.key-index l.keys)) l.tally
+    ≡ all_exchanged l.before l.after l.session l.sid (rows_at sub_key l.rows.rows l.keys) l.fn.tally

@@ -7,6 +7,6 @@ use Rattle.gateway_core.proofs.connections.names_of.Goals as goal
 -- the loop goes as far as the session has channels
 pub returns-clause-names : goal.returns-clause-names
 returns-clause-names c =
-    let counted : c.channel_count-n-end.result ≡ count_by (is_channel_of c.args.number) c.args.clients.now.channels = c.channel_count-n-end.ensures in
-    all_named (is_channel_of c.args.number) c.args.clients.now.channels c.loop-n.names c.loop-n.n
+    let counted : c.channel_count-n-end.result ≡ count_by (is_channel_of c.args.number) c.args.clients.now.rows.channels = c.channel_count-n-end.ensures in
+    all_named (is_channel_of c.args.number) c.args.clients.now.rows.channels c.loop-n.names c.loop-n.n
     (omega (arith, c.loop-n-test.false, counted)) c.loop-n.invariant.0

@@ -6,6 +6,7 @@ use Rattle.gateway_core.proofs.connections.names_of.Given as goal
 -- those taken so far and those that are left are all, with one look for each that was passed
 abbrev pub invariant-loop-n : goal.invariant-loop-n
 invariant-loop-n l =
-    (l.names ++ drop l.n (channel_names (filter (is_channel_of l.number) l.clients.channels)) ≡ channel_names (filter (is_channel_of l.number) l.clients.channels))
-    × (l.visits ≤ l.fn.visits + l.n)
-    × (l.fn.visits ≤ l.visits)
+    (l.names ++ drop l.n (channel_names (filter (is_channel_of l.number) l.clients.rows.channels)) ≡ channel_names (filter (is_channel_of l.number) l.clients.rows.channels))
+    × (l.visits.looks ≤ l.fn.visits.looks + l.n)
+    × (l.fn.visits.looks ≤ l.visits.looks)
+    × (l.visits.brand ≡ l.fn.visits.brand)

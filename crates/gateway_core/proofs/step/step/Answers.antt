@@ -1,4 +1,4 @@
-use Rattle.std.proofs.Common.{sym, subst}
+use Rattle.std.proofs.Common.{sym, subst, ◌∙◌}
 use Rattle.gateway_state.specs.Settled.{AreInOrder}
 use Rattle.gateway_state.proofs.OrderKept.{order_after_effect}
 use Rattle.touched_rows.proofs.Ready.{ready_as}
@@ -8,15 +8,16 @@ use Rattle.gateway_core.proofs.step.step.Goals as goal
 
 -- a run's state is ready for an event
 pub perform-requires : goal.perform-requires
-perform-requires c = record { ready = reached_is_ready c.args.rows.now c.requires.reached }
+perform-requires c = record { ready = reached_is_ready c.args.rows.now.state c.requires.reached; own = c.requires.own }
 
 -- numbers are in order after an event's direct effect, and clients know their rights
 pub follow-requires : goal.follow-requires
 follow-requires c = record {
   order =
-      order_without c.in_ok-touched.touched c.perform.new.rows
-      (subst AreInOrder (sym c.in_ok-touched.ensures.ok) (order_after_effect c.args.rows.now c.args.event c.requires.reached));
+      order_without c.in_ok-touched.touched c.perform.new.rows.state
+      (subst AreInOrder (sym c.in_ok-touched.ensures.ok) (order_after_effect c.args.rows.now.state c.args.event c.requires.reached));
   told =
-      ready_without c.in_ok-touched.touched c.perform.new.rows
-      (ready_as c.args.rows.now c.args.event c.requires.reached _ _ c.in_ok-touched.ensures.touched c.in_ok-touched.ensures.ok);
+      ready_without c.in_ok-touched.touched c.perform.new.rows.state
+      (ready_as c.args.rows.now.state c.args.event c.requires.reached _ _ c.in_ok-touched.ensures.touched c.in_ok-touched.ensures.ok);
+  own = c.in_ok-touched.ensures.own ∙ c.requires.own ∙ sym c.in_ok-touched.ensures.brand;
 }

@@ -6,5 +6,6 @@ use Rattle.gateway_notices.proofs.channels.channel_notices.Given as goal
 -- the notices so far and those on the channels that are left are all
 abbrev pub invariant-loop-channel : goal.invariant-loop-channel
 invariant-loop-channel l =
-    (l.notices.items ++ filter_map (channel_notice l.rows) (map (λ row. row.now) l.channel-iterator.rest.items) ≡ channel_notices l.rows)
-    × (l.fn.visits ≤ l.visits)
+    (l.notices.items ++ filter_map (channel_notice l.rows.state) (map (λ row. row.now) l.channel-iterator.rest.items) ≡ channel_notices l.rows.state)
+    × (l.fn.visits.looks ≤ l.visits.looks)
+    × (l.visits.brand ≡ l.fn.visits.brand)

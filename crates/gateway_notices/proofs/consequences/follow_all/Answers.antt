@@ -11,6 +11,6 @@ pub tell_links-requires : goal.tell_links-requires
 tell_links-requires c =
     let before = c.in_ok-withhold_updates.ensures.ok ∙ ap updates_withheld c.in_ok-tell_channels.ensures.ok in
     record {
-      order = subst AreInOrder (sym before) (order_before_links c.args.rows.now c.requires.order);
-      told = subst KnowRights (sym before) (told_before_links c.args.rows.now c.requires.order);
+      order = subst AreInOrder (sym before) (order_before_links c.args.rows.now.state c.requires.order);
+      told = subst KnowRights (sym before) (told_before_links c.args.rows.now.state c.requires.order);
     }

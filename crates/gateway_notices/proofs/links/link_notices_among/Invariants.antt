@@ -7,4 +7,4 @@ use Rattle.gateway_notices.proofs.links.link_notices_among.Given as goal
 -- the notices so far and those on the links that are left are all
 abbrev pub invariant-loop-link : goal.invariant-loop-link
 invariant-loop-link l =
-    l.notices.items ++ flat_map (link_notices_of l.rows) (map (λ row. row.now) l.link-iterator.rest.items) ≡ link_notices_among l.names l.rows
+    l.notices.items ++ flat_map (link_notices_of l.rows.state) (map (λ row. row.now) l.link-iterator.rest.items) ≡ link_notices_among l.names l.rows.state

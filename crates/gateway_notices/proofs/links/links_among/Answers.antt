@@ -12,5 +12,5 @@ returns c =
     IsNonDecreasingBy-from_sort_by_key (λ x. x.now.cid) _ c.sort_unstable_by_key.ensures.sorted (λ a r q k. search rules) in
     let kept = dedup_same _ (λ x y. x.now.cid == y.now.cid) _ (λ x y b f' x' y' k. search rules) _ _ c.dedup_by_key.ensures.filtered in
     ap (map (λ link. link.now)) kept
-    ∙ links_by_name c.args.rows.now c.requires.order c.requires.apart (λ link. link.now) c.args.names.now c.in_ok-links.links.items c.sort_unstable_by_key.new.self.items
+    ∙ links_by_name c.args.rows.now.state c.requires.order c.requires.apart (λ link. link.now) c.args.names.now c.in_ok-links.links.items c.sort_unstable_by_key.new.self.items
     c.in_ok-links.ensures c.sort_unstable_by_key.ensures.permutation up

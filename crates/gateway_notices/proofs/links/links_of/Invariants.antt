@@ -5,4 +5,4 @@ use Rattle.gateway_notices.proofs.links.links_of.Given as goal
 -- the links so far and those of the names that are left are all
 abbrev pub invariant-loop-name : goal.invariant-loop-name
 invariant-loop-name l =
-    map (λ row. row.now) l.links.items ++ filter_map (link_of l.rows) (drop l.name-index l.name-items) ≡ filter_map (link_of l.rows) l.names
+    map (λ row. row.now) l.links.items ++ filter_map (link_of l.rows.state) (drop l.name-index l.name-items) ≡ filter_map (link_of l.rows.state) l.names

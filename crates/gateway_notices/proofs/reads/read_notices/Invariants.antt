@@ -6,5 +6,6 @@ use Rattle.gateway_notices.proofs.reads.read_notices.Given as goal
 -- the notices so far and those on the reads that are left are all
 abbrev pub invariant-loop-read : goal.invariant-loop-read
 invariant-loop-read l =
-    (l.notices.items ++ filter_map (read_notice l.rows) (drop l.read-index l.read-items) ≡ read_notices l.rows)
-    × (l.fn.visits ≤ l.visits)
+    (l.notices.items ++ filter_map (read_notice l.rows.state) (drop l.read-index l.read-items) ≡ read_notices l.rows.state)
+    × (l.fn.visits.looks ≤ l.visits.looks)
+    × (l.visits.brand ≡ l.fn.visits.brand)

@@ -7,6 +7,7 @@ use Rattle.gateway_notices.proofs.reads.read_notices_on.Given as goal
 -- the notices so far and those on the reads that are left are all, with a look for each that was passed
 abbrev pub invariant-loop-read : goal.invariant-loop-read
 invariant-loop-read l =
-    (l.notices.items ++ filter_map (read_notice l.rows) (drop l.read-index l.read-items) ≡ read_notices_on l.name l.rows)
-    × (l.visits ≤ l.fn.visits + length l.read-items + l.read-index)
-    × (l.fn.visits ≤ l.visits)
+    (l.notices.items ++ filter_map (read_notice l.rows.state) (drop l.read-index l.read-items) ≡ read_notices_on l.name l.rows.state)
+    × (l.visits.looks ≤ l.fn.visits.looks + length l.read-items + l.read-index)
+    × (l.fn.visits.looks ≤ l.visits.looks)
+    × (l.visits.brand ≡ l.fn.visits.brand)

@@ -4,7 +4,9 @@ use Rattle.gateway_notices.proofs.reads.tell_each.Given as goal
 
 -- giving the notices that are left leads from here to where giving all leads
 abbrev pub invariant-loop-notice : goal.invariant-loop-notice
-invariant-loop-notice l = fold read_told l.rows l.notices.items ≡ fold read_told l.fn.rows l.fn.notices.items
+invariant-loop-notice l =
+    (fold read_told l.rows.state l.notices.items ≡ fold read_told l.fn.rows.state l.fn.notices.items)
+    × (l.rows.brand ≡ l.fn.rows.brand)
 
 abbrev pub decreases-loop-notice : goal.decreases-loop-notice
 decreases-loop-notice l = length l.notices.items

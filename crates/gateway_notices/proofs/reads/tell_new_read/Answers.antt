@@ -1,6 +1,7 @@
 use Rattle.std.proofs.Common.{◌≡◌, ap, subst, sym, ◌∙◌, arith}
 use Rattle.std.proofs.lemmas.Result.{err_from_is_err_and}
 use Rattle.channel_table.specs.ClientRows.{read_count}
+use Rattle.gateway_rows.specs.BrandedState.{BrandedState}
 use Rattle.gateway_state.specs.Notices.{read_notice}
 use Rattle.gateway_state.specs.Told.{KnowRights}
 use Rattle.gateway_notices.specs.LateReads.{read_said}
@@ -16,29 +17,30 @@ returns-in_err-tell_interest-clause-used_up c = λ e.
     let returned = refused.1 in
     let converted = refused.2 in
     let was = c.in_err-tell_interest.was in
-    late_past c.args.name.now c.args.read c.args.rows.now (c.tell_interest.ensures.used_up cc)
+    late_past c.args.name.now c.args.read c.args.rows.now.state (c.tell_interest.ensures.used_up cc)
 
 -- what a server is told leaves the rights that clients know
 pub read_notice-requires : goal.read_notice-requires
 read_notice-requires c = record {
-  told = subst KnowRights (sym c.in_ok-tell_interest.ensures.ok) (told_after_interest c.args.name.now c.args.rows.now c.requires.told);
+  told = subst KnowRights (sym c.in_ok-tell_interest.ensures.ok) (told_after_interest c.args.name.now c.args.rows.now.state c.requires.told);
+  own = c.requires.own ∙ sym c.in_ok-tell_interest.ensures.brand;
 }
 
 -- none of the session waits, so it is told as if it had been kept
 pub returns-in_ok-say_read-in-Some-clause-ok : goal.returns-in_ok-say_read-in-Some-clause-ok
 returns-in_ok-say_read-in-Some-clause-ok c =
-    let count = c.read_count.ensures ∙ ap (λ w. read_count c.args.read.session w.clients) c.rows.view_is in
-    let alone : read_count c.args.read.session c.args.rows.now.clients ≡ 0 = omega (arith, c.if-read_count-gt0.false, count) in
+    let count = c.read_count.ensures ∙ ap (λ (w : BrandedState). read_count c.args.read.session w.state.clients) c.rows.view_is in
+    let alone : read_count c.args.read.session c.args.rows.now.state.clients ≡ 0 = omega (arith, c.if-read_count-gt0.false, count) in
     let told = c.in_ok-tell_interest.ensures.ok in
     let notice = sym c.in-Some.is ∙ c.in_ok-notice.ensures.found ∙ ap (λ w. read_notice w c.args.read) told in
-    c.in_ok-say_read-in-Some.ensures ∙ ap (read_said c.in-Some.notice) told
-    ∙ said_at_once c.args.name.now c.args.read c.args.rows.now c.in-Some.notice alone notice
+    c.in_ok-say_read-in-Some.ensures.ok ∙ ap (read_said c.in-Some.notice) told
+    ∙ said_at_once c.args.name.now c.args.read c.args.rows.now.state c.in-Some.notice alone notice
 
 -- or it is kept, with nothing to tell
 pub returns-in_ok-keep_read-in-None-clause-ok : goal.returns-in_ok-keep_read-in-None-clause-ok
 returns-in_ok-keep_read-in-None-clause-ok c =
-    let count = c.read_count.ensures ∙ ap (λ w. read_count c.args.read.session w.clients) c.rows.view_is in
-    let alone : read_count c.args.read.session c.args.rows.now.clients ≡ 0 = omega (arith, c.if-read_count-gt0.false, count) in
+    let count = c.read_count.ensures ∙ ap (λ (w : BrandedState). read_count c.args.read.session w.state.clients) c.rows.view_is in
+    let alone : read_count c.args.read.session c.args.rows.now.state.clients ≡ 0 = omega (arith, c.if-read_count-gt0.false, count) in
     let told = c.in_ok-tell_interest.ensures.ok in
     let notice = sym c.in-None.is ∙ c.in_ok-notice.ensures.found ∙ ap (λ w. read_notice w c.args.read) told in
-    c.in_ok-keep_read-in-None.ensures ∙ ap (with_read c.args.read) told ∙ kept_late c.args.name.now c.args.read c.args.rows.now alone notice
+    c.in_ok-keep_read-in-None.ensures.ok ∙ ap (with_read c.args.read) told ∙ kept_late c.args.name.now c.args.read c.args.rows.now.state alone notice

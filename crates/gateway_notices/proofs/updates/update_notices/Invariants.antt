@@ -6,5 +6,6 @@ use Rattle.gateway_notices.proofs.updates.update_notices.Given as goal
 -- the notices so far and those on the subscriptions that are left are all
 abbrev pub invariant-loop-sub : goal.invariant-loop-sub
 invariant-loop-sub l =
-    (l.notices.items ++ filter_map (update_notice l.rows) (map (λ row. row.now) l.sub-iterator.rest.items) ≡ update_notices l.rows)
-    × (l.fn.visits ≤ l.visits)
+    (l.notices.items ++ filter_map (update_notice l.rows.state) (map (λ row. row.now) l.sub-iterator.rest.items) ≡ update_notices l.rows.state)
+    × (l.fn.visits.looks ≤ l.visits.looks)
+    × (l.visits.brand ≡ l.fn.visits.brand)

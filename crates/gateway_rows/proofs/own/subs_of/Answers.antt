@@ -7,9 +7,10 @@ use Rattle.gateway_rows.proofs.own.subs_of.Goals as goal
 -- the loop goes as far as the session has subscriptions
 pub returns : goal.returns
 returns c =
-    let counted : c.sub_count-n-end.result ≡ count_by (is_sub_of c.args.session) c.args.clients.now.subs = c.sub_count-n-end.ensures in
+    let counted : c.sub_count-n-end.result ≡ count_by (is_sub_of c.args.session) c.args.clients.now.rows.subs = c.sub_count-n-end.ensures in
     record {
-      found = all_taken (is_sub_of c.args.session) c.args.clients.now.subs c.loop-n.subs.items c.loop-n.n
+      found = all_taken (is_sub_of c.args.session) c.args.clients.now.rows.subs c.loop-n.subs.items c.loop-n.n
           (omega (arith, c.loop-n-test.false, counted)) c.loop-n.invariant.0;
       no_less = c.loop-n.invariant.1;
+      own = c.loop-n.invariant.2;
     }

@@ -5,5 +5,6 @@ use Rattle.gateway_rows.proofs.own.subs_of.Given as goal
 -- those taken so far and those that are left are all
 abbrev pub invariant-loop-n : goal.invariant-loop-n
 invariant-loop-n l =
-    (l.subs.items ++ drop l.n (filter (is_sub_of l.session) l.clients.subs) ≡ filter (is_sub_of l.session) l.clients.subs)
-    × (l.fn.visits ≤ l.visits)
+    (l.subs.items ++ drop l.n (filter (is_sub_of l.session) l.clients.rows.subs) ≡ filter (is_sub_of l.session) l.clients.rows.subs)
+    × (l.fn.visits.looks ≤ l.visits.looks)
+    × (l.visits.brand ≡ l.fn.visits.brand)

@@ -6,4 +6,5 @@ use Rattle.server_messages.proofs.update.fail_reads.Given as goal
 abbrev pub invariant-loop-read : goal.invariant-loop-read
 invariant-loop-read l =
     let fails = fails_without l.subject l.native in
-    fold read_failed l.rows (filter fails (drop l.read-index l.read-items)) ≡ fold read_failed l.fn.rows (filter fails l.read-items)
+    (fold read_failed l.rows.state (filter fails (drop l.read-index l.read-items)) ≡ fold read_failed l.fn.rows.state (filter fails l.read-items))
+    × (l.rows.brand ≡ l.fn.rows.brand)

@@ -2,6 +2,7 @@ use Rattle.std.proofs.Common.{◌≡◌, true, false, Ok, Err, OnOk, refl, sym, 
 use Rattle.channel_table.specs.Channels.{is_channel}
 use Rattle.channel_table.specs.ClientRows.{has_channel, has_sub, sub_count}
 use Rattle.channel_table.specs.Indexes.{sub_home, sub_key}
+use Rattle.channel_table.specs.Looks.{BrandedRows}
 use Rattle.channel_table.proofs.Following.{follow_added, follow_same}
 use Rattle.channel_table.specs.Demand.{asks_on}
 use Rattle.channel_table.proofs.Asking.{demand_added, demand_same}
@@ -12,23 +13,23 @@ use Rattle.channel_table.proofs.table.Table.add_sub.Goals as goal
 
 pub returns-in_default-clause-missing : goal.returns-in_default-clause-missing
 returns-in_default-clause-missing c =
-    let gone : has_channel c.args.sub.session c.args.sub.sid c.args.self.now ≡ false = ap (has_channel c.args.sub.session c.args.sub.sid) (sym c.self.view_is) ∙ unfound_is_absent (is_channel c.args.sub.session c.args.sub.sid) c.self.inside.channels (sym c.in_default.ensures) in
+    let gone : has_channel c.args.sub.session c.args.sub.sid c.args.self.now.rows ≡ false = ap (λ (t : BrandedRows). has_channel c.args.sub.session c.args.sub.sid t.rows) (sym c.self.view_is) ∙ unfound_is_absent (is_channel c.args.sub.session c.args.sub.sid) c.self.inside.channels (sym c.in_default.ensures) in
     (λ _. gone, λ _. refl)
 
 pub returns-in_default-clause-full : goal.returns-in_default-clause-full
 returns-in_default-clause-full c =
-    let gone : has_channel c.args.sub.session c.args.sub.sid c.args.self.now ≡ false = ap (has_channel c.args.sub.session c.args.sub.sid) (sym c.self.view_is) ∙ unfound_is_absent (is_channel c.args.sub.session c.args.sub.sid) c.self.inside.channels (sym c.in_default.ensures) in
+    let gone : has_channel c.args.sub.session c.args.sub.sid c.args.self.now.rows ≡ false = ap (λ (t : BrandedRows). has_channel c.args.sub.session c.args.sub.sid t.rows) (sym c.self.view_is) ∙ unfound_is_absent (is_channel c.args.sub.session c.args.sub.sid) c.self.inside.channels (sym c.in_default.ensures) in
     (λ e. cc, λ h. absurd (true≢false (sym h.0 ∙ gone)))
 
 pub returns-then-count_of-ge-SUB_LIMIT-clause-missing : goal.returns-then-count_of-ge-SUB_LIMIT-clause-missing
 returns-then-count_of-ge-SUB_LIMIT-clause-missing c =
-    let there : has_channel c.args.sub.session c.args.sub.sid c.args.self.now ≡ true = ap (has_channel c.args.sub.session c.args.sub.sid) (sym c.self.view_is) ∙ found_is_there (is_channel c.args.sub.session c.args.sub.sid) c.self.inside.channels c.in-Some.channel.now (sym c.in-Some.ensures) in
+    let there : has_channel c.args.sub.session c.args.sub.sid c.args.self.now.rows ≡ true = ap (λ (t : BrandedRows). has_channel c.args.sub.session c.args.sub.sid t.rows) (sym c.self.view_is) ∙ found_is_there (is_channel c.args.sub.session c.args.sub.sid) c.self.inside.channels c.in-Some.channel.now (sym c.in-Some.ensures) in
     (λ e. cc, λ h. absurd (true≢false (sym there ∙ h)))
 
 pub returns-then-count_of-ge-SUB_LIMIT-clause-full : goal.returns-then-count_of-ge-SUB_LIMIT-clause-full
 returns-then-count_of-ge-SUB_LIMIT-clause-full c =
-    let there : has_channel c.args.sub.session c.args.sub.sid c.args.self.now ≡ true = ap (has_channel c.args.sub.session c.args.sub.sid) (sym c.self.view_is) ∙ found_is_there (is_channel c.args.sub.session c.args.sub.sid) c.self.inside.channels c.in-Some.channel.now (sym c.in-Some.ensures) in
-    let count = c.count_of.ensures ∙ ap (sub_count c.args.sub.session) c.self.view_is in
+    let there : has_channel c.args.sub.session c.args.sub.sid c.args.self.now.rows ≡ true = ap (λ (t : BrandedRows). has_channel c.args.sub.session c.args.sub.sid t.rows) (sym c.self.view_is) ∙ found_is_there (is_channel c.args.sub.session c.args.sub.sid) c.self.inside.channels c.in-Some.channel.now (sym c.in-Some.ensures) in
+    let count = c.count_of.ensures ∙ ap (λ (t : BrandedRows). sub_count c.args.sub.session t.rows) c.self.view_is in
     (λ e. (there, omega arith), λ h. refl)
 
 -- listed under the real name of its channel, and counted there
@@ -51,7 +52,7 @@ invariant_of-self c =
 -- what is counted under each name is what rows ask for
 pub add_sub-requires : goal.add_sub-requires
 add_sub-requires c =
-    let new = ap (has_sub c.args.sub.session c.args.sub.id) c.self.view_is ∙ c.requires.new in
+    let new = ap (λ (t : BrandedRows). has_sub c.args.sub.session c.args.sub.id t.rows) c.self.view_is ∙ c.requires.new in
     let inside = c.self.inside in record {
       new = new;
       unlisted = unlisted sub_key _ inside.subs.rows inside.subs.on (sub_key c.args.sub) c.in-Some.channel.now.real c.self.invariant.subs_follow.listed new;
@@ -60,12 +61,12 @@ add_sub-requires c =
 
 pub returns-clause-there : goal.returns-clause-there
 returns-clause-there c =
-    let there : has_channel c.args.sub.session c.args.sub.sid c.args.self.now ≡ true = ap (has_channel c.args.sub.session c.args.sub.sid) (sym c.self.view_is) ∙ found_is_there (is_channel c.args.sub.session c.args.sub.sid) c.self.inside.channels c.in-Some.channel.now (sym c.in-Some.ensures) in
-    elim c.match-add_sub.result as (λ r. OnOk r (has_channel c.args.sub.session c.args.sub.sid c.args.self.now ≡ true)) [ Ok _ ↦ there | Err _ ↦ tt ]
+    let there : has_channel c.args.sub.session c.args.sub.sid c.args.self.now.rows ≡ true = ap (λ (t : BrandedRows). has_channel c.args.sub.session c.args.sub.sid t.rows) (sym c.self.view_is) ∙ found_is_there (is_channel c.args.sub.session c.args.sub.sid) c.self.inside.channels c.in-Some.channel.now (sym c.in-Some.ensures) in
+    elim c.match-add_sub.result as (λ r. OnOk r (has_channel c.args.sub.session c.args.sub.sid c.args.self.now.rows ≡ true)) [ Ok _ ↦ there | Err _ ↦ tt ]
 
 pub returns-clause-missing : goal.returns-clause-missing
 returns-clause-missing c =
-    let there : has_channel c.args.sub.session c.args.sub.sid c.args.self.now ≡ true = ap (has_channel c.args.sub.session c.args.sub.sid) (sym c.self.view_is) ∙ found_is_there (is_channel c.args.sub.session c.args.sub.sid) c.self.inside.channels c.in-Some.channel.now (sym c.in-Some.ensures) in
+    let there : has_channel c.args.sub.session c.args.sub.sid c.args.self.now.rows ≡ true = ap (λ (t : BrandedRows). has_channel c.args.sub.session c.args.sub.sid t.rows) (sym c.self.view_is) ∙ found_is_there (is_channel c.args.sub.session c.args.sub.sid) c.self.inside.channels c.in-Some.channel.now (sym c.in-Some.ensures) in
     elim c.match-add_sub.branch [
       | in-Ok w ↦ (λ e. cc (e, w.result-is), λ h. absurd (true≢false (sym there ∙ h)))
       | in-Err w ↦ (λ e. cc (e, w.result-is), λ h. absurd (true≢false (sym there ∙ h)))

@@ -1,8 +1,8 @@
 use Rattle.std.proofs.Common.{ap, ◌∙◌}
 use Rattle.mask_merge.specs.Counts.{props_wanted, wanted_of}
 use Rattle.mask_merge.proofs.CountLemmas.{props_are_asked, wanted_is_merged}
-use Rattle.channel_table.specs.ClientRows.{ClientRows}
 use Rattle.channel_table.specs.Demand.{asks_on, props_on, want_on}
+use Rattle.channel_table.specs.Looks.{BrandedRows}
 use Rattle.channel_table.proofs.table.Table.demand_on.Goals as goal
 
 -- counts are enough
@@ -13,8 +13,8 @@ returns c =
     record {
       want =
           c.of.ensures.want ∙ ap (wanted_of c.args.native) counted ∙ wanted_is_merged c.args.native asks
-          ∙ ap (λ (t : ClientRows). want_on t.channels t.subs c.args.native c.args.name.now) c.self.view_is;
+          ∙ ap (λ (t : BrandedRows). want_on t.rows.channels t.rows.subs c.args.native c.args.name.now) c.self.view_is;
       props =
           c.of.ensures.props ∙ ap (props_wanted c.args.states) counted ∙ props_are_asked c.args.states asks
-          ∙ ap (λ (t : ClientRows). props_on t.channels t.subs c.args.states c.args.name.now) c.self.view_is;
+          ∙ ap (λ (t : BrandedRows). props_on t.rows.channels t.rows.subs c.args.states c.args.name.now) c.self.view_is;
     }

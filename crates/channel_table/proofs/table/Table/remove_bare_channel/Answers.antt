@@ -3,7 +3,7 @@ use Rattle.std.specs.List.{list_any}
 use Rattle.channel_table.specs.Reads.{is_read_on}
 use Rattle.channel_table.specs.Subs.{is_sub_on}
 use Rattle.channel_table.specs.Indexes.{read_home, read_in, read_key, sub_home, sub_key}
-use Rattle.channel_table.specs.ClientRows.{ClientRows}
+use Rattle.channel_table.specs.Looks.{BrandedRows}
 use Rattle.channel_table.proofs.Following.{follow_without}
 use Rattle.channel_table.proofs.Asking.{demand_removed}
 use Rattle.channel_table.proofs.Mapped.{any_mapped}
@@ -11,8 +11,8 @@ use Rattle.channel_table.proofs.table.Table.remove_bare_channel.Goals as goal
 
 pub invariant_of-self : goal.invariant_of-self
 invariant_of-self c =
-    let bare = ap (λ (t : ClientRows). list_any (is_sub_on c.args.session c.args.sid) t.subs) c.self.view_is ∙ c.requires.no_sub in
-    let no_read = sym (any_mapped read_in (is_read_on c.args.session c.args.sid) c.self.inside.reads.rows) ∙ ap (λ (t : ClientRows). list_any (is_read_on c.args.session c.args.sid) t.reads) c.self.view_is ∙ c.requires.no_read in
+    let bare = ap (λ (t : BrandedRows). list_any (is_sub_on c.args.session c.args.sid) t.rows.subs) c.self.view_is ∙ c.requires.no_sub in
+    let no_read = sym (any_mapped read_in (is_read_on c.args.session c.args.sid) c.self.inside.reads.rows) ∙ ap (λ (t : BrandedRows). list_any (is_read_on c.args.session c.args.sid) t.rows.reads) c.self.view_is ∙ c.requires.no_read in
     record {
       subs_follow = rw c.remove_channel.ensures.rows (follow_without sub_key sub_home c.self.inside.channels _ _ c.args.session c.args.sid bare c.self.invariant.subs_follow);
       reads_follow = rw c.remove_channel.ensures.rows (follow_without read_key read_home c.self.inside.channels _ _ c.args.session c.args.sid no_read c.self.invariant.reads_follow);

@@ -2,9 +2,9 @@ use Rattle.std.proofs.Common.{sym, ap, ◌∙◌}
 use Rattle.std.specs.List.{find, list_any}
 use Rattle.rows.specs.Rows.{remove_first}
 use Rattle.channel_table.specs.Channels.{is_channel}
-use Rattle.channel_table.specs.ClientRows.{ClientRows}
 use Rattle.channel_table.specs.Indexes.{is_kept_like, read_home, read_in, read_key}
 use Rattle.channel_table.specs.Reads.{same_read}
+use Rattle.channel_table.specs.Looks.{BrandedRows}
 use Rattle.channel_table.proofs.Following.{follow_removed}
 use Rattle.channel_table.proofs.Keyed.{found_again}
 use Rattle.channel_table.proofs.Lists.{found_passes, none_is_first, unfound_is_absent}
@@ -13,19 +13,19 @@ use Rattle.channel_table.proofs.Waiting.{first_like_goes, like_ids, none_like}
 use Rattle.channel_table.proofs.table.Table.remove_read.Goals as goal
 
 -- where no channel of its IDs stands, no equal read waits
-pub returns-in_default : goal.returns-in_default
-returns-in_default c =
+pub returns-in_default-clause-rows : goal.returns-in_default-clause-rows
+returns-in_default-clause-rows c =
     let none =
-    ap (λ (t : ClientRows). list_any (same_read c.args.read.now) t.reads) (sym c.self.view_is)
+    ap (λ (t : BrandedRows). list_any (same_read c.args.read.now) t.rows.reads) (sym c.self.view_is)
     ∙ none_like c.self.inside.channels c.self.inside.reads c.args.read.now (unfound_is_absent (is_channel c.args.read.now.session c.args.read.now.sid) c.self.inside.channels (sym c.in_default.ensures)) c.self.invariant.reads_follow in
-    ap (λ rows. record c.args.self.now { reads = rows }) (sym (none_is_first (same_read c.args.read.now) c.args.self.now.reads none))
+    ap (λ rows. record c.args.self.now.rows { reads = rows }) (sym (none_is_first (same_read c.args.read.now) c.args.self.now.rows.reads none))
 
-pub returns-in_default-first_like : goal.returns-in_default-first_like
-returns-in_default-first_like c =
+pub returns-in_default-first_like-clause-rows : goal.returns-in_default-first_like-clause-rows
+returns-in_default-first_like-clause-rows c =
     let none =
-    ap (λ (t : ClientRows). list_any (same_read c.args.read.now) t.reads) (sym c.self.view_is)
+    ap (λ (t : BrandedRows). list_any (same_read c.args.read.now) t.rows.reads) (sym c.self.view_is)
     ∙ any_mapped read_in (same_read c.args.read.now) c.self.inside.reads.rows ∙ unfound_is_absent (is_kept_like c.args.read.now) c.self.inside.reads.rows (sym c.in_default-first_like.ensures) in
-    ap (λ rows. record c.args.self.now { reads = rows }) (sym (none_is_first (same_read c.args.read.now) c.args.self.now.reads none))
+    ap (λ rows. record c.args.self.now.rows { reads = rows }) (sym (none_is_first (same_read c.args.read.now) c.args.self.now.rows.reads none))
 
 pub invariant_of-self : goal.invariant_of-self
 invariant_of-self c =
@@ -39,10 +39,10 @@ invariant_of-self c =
       demand = c.self.invariant.demand;
     }
 
-pub returns-in-Some-first_like : goal.returns-in-Some-first_like
-returns-in-Some-first_like c =
+pub returns-in-Some-first_like-clause-rows : goal.returns-in-Some-first_like-clause-rows
+returns-in-Some-first_like-clause-rows c =
     let was = c.self.view_is in
     let left =
     first_like_goes c.self.inside.reads c.remove.new.self c.args.read.now c.in-Some-first_like.row c.are_apart.ensures (sym c.in-Some-first_like.ensures) c.remove.ensures.rows
-    ∙ ap (λ (t : ClientRows). remove_first (same_read c.args.read.now) t.reads) was in
-    (λ i. record (was i) { reads = left i })
+    ∙ ap (λ (t : BrandedRows). remove_first (same_read c.args.read.now) t.rows.reads) was in
+    (λ i. record (was i).rows { reads = left i })

@@ -8,10 +8,11 @@ use Rattle.channel_table.proofs.table.Table.remove_session.Given as goal
 -- what is another session's stays
 abbrev pub invariant-loop : goal.invariant-loop
 invariant-loop l =
-    (l.self.sessions ≡ l.initial.self.sessions)
-    × (filter (is_not_channel_of l.number) l.self.channels ≡ filter (is_not_channel_of l.number) l.initial.self.channels)
-    × (filter (is_not_sub_of l.number) l.self.subs ≡ filter (is_not_sub_of l.number) l.initial.self.subs)
-    × (filter (is_not_read_of l.number) l.self.reads ≡ filter (is_not_read_of l.number) l.initial.self.reads)
+    (l.self.rows.sessions ≡ l.initial.self.rows.sessions)
+    × (filter (is_not_channel_of l.number) l.self.rows.channels ≡ filter (is_not_channel_of l.number) l.initial.self.rows.channels)
+    × (filter (is_not_sub_of l.number) l.self.rows.subs ≡ filter (is_not_sub_of l.number) l.initial.self.rows.subs)
+    × (filter (is_not_read_of l.number) l.self.rows.reads ≡ filter (is_not_read_of l.number) l.initial.self.rows.reads)
+    × (l.self.brand ≡ l.initial.self.brand)
 
 abbrev pub decreases-loop : goal.decreases-loop
-decreases-loop l = length l.self.channels
+decreases-loop l = length l.self.rows.channels

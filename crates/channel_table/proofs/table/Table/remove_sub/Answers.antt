@@ -2,18 +2,18 @@ use Rattle.std.proofs.Common.{◌≡◌, None, sym, ap, ◌∙◌, true≢false}
 use Rattle.std.specs.List.{find}
 use Rattle.channel_table.specs.Channels.{is_channel}
 use Rattle.channel_table.specs.Subs.{is_sub}
-use Rattle.channel_table.specs.ClientRows.{ClientRows}
 use Rattle.channel_table.specs.Indexes.{sub_home, sub_key}
+use Rattle.channel_table.specs.Looks.{BrandedRows}
 use Rattle.channel_table.proofs.Following.{follow_removed, stands_of}
 use Rattle.channel_table.proofs.Asking.{demand_less_row}
 use Rattle.channel_table.proofs.Lists.{none_dropped, unfound_is_absent}
 use Rattle.channel_table.proofs.table.Table.remove_sub.Goals as goal
 
 -- no subscription of these IDs
-pub returns-in_default : goal.returns-in_default
-returns-in_default c =
-    let none : find (is_sub c.args.session c.args.id) c.args.self.now.subs ≡ None = ap (λ (t : ClientRows). find (is_sub c.args.session c.args.id) t.subs) (sym c.self.view_is) ∙ sym c.get.ensures ∙ sym c.in_default.ensures in
-    ap (λ rows. record c.args.self.now { subs = rows }) (sym (none_dropped (is_sub c.args.session c.args.id) c.args.self.now.subs (unfound_is_absent (is_sub c.args.session c.args.id) c.args.self.now.subs none)))
+pub returns-in_default-clause-rows : goal.returns-in_default-clause-rows
+returns-in_default-clause-rows c =
+    let none : find (is_sub c.args.session c.args.id) c.args.self.now.rows.subs ≡ None = ap (λ (t : BrandedRows). find (is_sub c.args.session c.args.id) t.rows.subs) (sym c.self.view_is) ∙ sym c.get.ensures ∙ sym c.in_default.ensures in
+    ap (λ rows. record c.args.self.now.rows { subs = rows }) (sym (none_dropped (is_sub c.args.session c.args.id) c.args.self.now.rows.subs (unfound_is_absent (is_sub c.args.session c.args.id) c.args.self.now.rows.subs none)))
 
 pub invariant_of-self : goal.invariant_of-self
 invariant_of-self c =

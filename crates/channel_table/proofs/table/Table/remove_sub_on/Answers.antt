@@ -2,8 +2,8 @@ use Rattle.std.proofs.Common.{arith, length, sym, ap, ◌∙◌}
 use Rattle.std.specs.List.{filter, find, list_any}
 use Rattle.channel_table.specs.Channels.{is_channel}
 use Rattle.channel_table.specs.Subs.{is_sub, is_sub_on, is_not_sub_on}
-use Rattle.channel_table.specs.ClientRows.{ClientRows}
 use Rattle.channel_table.specs.Indexes.{sub_home, sub_key}
+use Rattle.channel_table.specs.Looks.{BrandedRows}
 use Rattle.channel_table.proofs.Following.{bare_without, elsewhere_kept, first_found, follow_first_removed, found_by_key, on_ids}
 use Rattle.channel_table.proofs.Asking.{demand_less_row}
 use Rattle.channel_table.proofs.Lists.{found_is_there, found_passes, one_fewer_left, unfound_is_absent}
@@ -12,7 +12,7 @@ use Rattle.channel_table.proofs.table.Table.remove_sub_on.Goals as goal
 -- no such channel
 pub returns-in_default-clause-none : goal.returns-in_default-clause-none
 returns-in_default-clause-none c = λ _.
-    ap (λ (t : ClientRows). list_any (is_sub_on c.args.session c.args.sid) t.subs) (sym c.self.view_is)
+    ap (λ (t : BrandedRows). list_any (is_sub_on c.args.session c.args.sid) t.rows.subs) (sym c.self.view_is)
     ∙ bare_without sub_key sub_home c.self.inside.channels c.self.inside.subs.rows c.self.inside.subs.on c.args.session c.args.sid (unfound_is_absent (is_channel c.args.session c.args.sid) c.self.inside.channels (sym c.in_default.ensures)) c.self.invariant.subs_follow
 
 pub invariant_of-self : goal.invariant_of-self
@@ -32,18 +32,18 @@ returns-in-Some-first_on-clause-elsewhere c =
     let first = first_found c.self.inside.channels c.self.inside.subs c.args.session c.args.sid c.in-Some.channel.now _ c.are_apart.ensures (sym c.in-Some.ensures) c.in-Some-first_on.ensures c.self.invariant.subs_follow in
     ap (filter (is_not_sub_on c.args.session c.args.sid)) c.remove_sub.ensures.rows
     ∙ elsewhere_kept c.self.inside.subs c.args.session c.args.sid c.in-Some-first_on.sub c.are_apart.ensures first
-    ∙ ap (λ (t : ClientRows). filter (is_not_sub_on c.args.session c.args.sid) t.subs) c.self.view_is
+    ∙ ap (λ (t : BrandedRows). filter (is_not_sub_on c.args.session c.args.sid) t.rows.subs) c.self.view_is
 
 pub returns-in-Some-first_on-clause-one : goal.returns-in-Some-first_on-clause-one
 returns-in-Some-first_on-clause-one c = λ _.
     let first = first_found c.self.inside.channels c.self.inside.subs c.args.session c.args.sid c.in-Some.channel.now _ c.are_apart.ensures (sym c.in-Some.ensures) c.in-Some-first_on.ensures c.self.invariant.subs_follow in
     let key = found_by_key c.self.inside.subs c.args.session c.args.sid c.in-Some-first_on.sub c.are_apart.ensures first in
     let fewer = one_fewer_left (is_sub c.args.session c.in-Some-first_on.sub.id) c.self.inside.subs.rows (found_is_there (is_sub c.args.session c.in-Some-first_on.sub.id) c.self.inside.subs.rows c.in-Some-first_on.sub key) in
-    let rows = ap (λ (t : ClientRows). length t.subs) c.self.view_is in
+    let rows = ap (λ (t : BrandedRows). length t.rows.subs) c.self.view_is in
     let left = ap length c.remove_sub.ensures.rows in
     omega (arith, fewer, rows, left)
 
 pub returns-in-None-clause-none : goal.returns-in-None-clause-none
 returns-in-None-clause-none c = λ _.
-    ap (λ (t : ClientRows). list_any (is_sub_on c.args.session c.args.sid) t.subs) (sym c.self.view_is)
+    ap (λ (t : BrandedRows). list_any (is_sub_on c.args.session c.args.sid) t.rows.subs) (sym c.self.view_is)
     ∙ unfound_is_absent (is_sub_on c.args.session c.args.sid) c.self.inside.subs.rows (first_found c.self.inside.channels c.self.inside.subs c.args.session c.args.sid c.in-Some.channel.now _ c.are_apart.ensures (sym c.in-Some.ensures) c.in-None.ensures c.self.invariant.subs_follow)

@@ -10,7 +10,7 @@ use Rattle.gateway_rows.proofs.state.Rows.add_search_names.Goals as goal
 pub loop-name-preserved : goal.loop-name-preserved
 loop-name-preserved c =
     let before = c.loop-name.names.items in
-    let sorted = sorted_with_unlinked c.args.self.now before c.name-item.result c.loop-name.invariant.sorted in
+    let sorted = sorted_with_unlinked c.args.self.now.state before c.name-item.result c.loop-name.invariant.sorted in
     record {
       sorted = subst (λ (names : List (List ℕ)). IsStrictlySortedBy (slice_cmp nat_cmp) names) (sym c.in_ok-add_unlinked.ensures) sorted;
       rest = grind (arith, common_steps, c.loop-name.invariant.rest, c.in_ok-add_unlinked.ensures);

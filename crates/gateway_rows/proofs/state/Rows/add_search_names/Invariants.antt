@@ -9,5 +9,5 @@ use Rattle.gateway_rows.proofs.state.Rows.add_search_names.Given as goal
 abbrev pub invariant-loop-name : goal.invariant-loop-name
 invariant-loop-name l = record {
   sorted : IsStrictlySortedBy (slice_cmp nat_cmp) l.names.items;
-  rest : fold (with_unlinked l.self) l.names.items (drop l.name-index l.name-items) ≡ fold (with_unlinked l.self) l.fn.names.items (search_names l.self.policy l.self.searches);
+  rest : fold (with_unlinked l.self.state) l.names.items (drop l.name-index l.name-items) ≡ fold (with_unlinked l.self.state) l.fn.names.items (search_names l.self.state.policy l.self.state.searches);
 }

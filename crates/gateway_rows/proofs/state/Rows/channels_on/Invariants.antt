@@ -5,5 +5,6 @@ use Rattle.gateway_rows.proofs.state.Rows.channels_on.Given as goal
 -- those taken so far and those that are left are all
 abbrev pub invariant-loop-n : goal.invariant-loop-n
 invariant-loop-n l =
-    (map (λ channel. channel.now) l.channels.items ++ drop l.n (filter (is_on l.name) l.self.clients.channels) ≡ filter (is_on l.name) l.self.clients.channels)
-    × (l.fn.visits ≤ l.visits)
+    (map (λ channel. channel.now) l.channels.items ++ drop l.n (filter (is_on l.name) l.self.state.clients.channels) ≡ filter (is_on l.name) l.self.state.clients.channels)
+    × (l.fn.visits.looks ≤ l.visits.looks)
+    × (l.visits.brand ≡ l.fn.visits.brand)

@@ -5,5 +5,7 @@ use Rattle.gateway_rows.proofs.state.Rows.owe_all.Given as goal
 -- owing to those that are left leads from here to where owing to all leads, and so many were looked at
 abbrev pub invariant-loop-sub : goal.invariant-loop-sub
 invariant-loop-sub l =
-    (fold owed_to l.self (drop l.sub-index l.subs) ≡ owed_to_all l.fn.self l.subs) × (l.visits ≤ l.fn.visits + l.sub-index)
-    × (l.fn.visits ≤ l.visits)
+    (fold owed_to l.self.state (drop l.sub-index l.subs) ≡ owed_to_all l.fn.self.state l.subs) × (l.visits.looks ≤ l.fn.visits.looks + l.sub-index)
+    × (l.fn.visits.looks ≤ l.visits.looks)
+    × (l.self.brand ≡ l.fn.self.brand)
+    × (l.visits.brand ≡ l.fn.visits.brand)

@@ -9,5 +9,5 @@ use Rattle.gateway_rows.proofs.state.Rows.told_channel.Goals as goal
 -- what is found is one of those that stand
 pub returns-clause-told : goal.returns-clause-told
 returns-clause-told c =
-    subst (λ (found : Option Channel). IfSome found (KnowsRights c.args.self.now)) (sym c.channel_of.ensures.found)
-    (found_if_told c.args.self.now c.args.session c.args.sid (channel_of c.args.self.now c.args.session c.args.sid) c.requires.told refl)
+    subst (λ (found : Option Channel). IfSome found (KnowsRights c.args.self.now.state)) (sym c.channel_of.ensures.found)
+    (found_if_told c.args.self.now.state c.args.session c.args.sid (channel_of c.args.self.now.state c.args.session c.args.sid) c.requires.told refl)
