@@ -100,17 +100,17 @@ def opened(session):
     return f"open s{session} 10.0.0.5"
 
 
-def one_variable(clients):
-    """A connected variable, and clients that each have a channel on it, of the SIDs from 1 on, and a subscription."""
+def one_variable(clients, dtype=5):
+    """A connected variable, a LONG, and clients that each have a channel on it, of the SIDs from 1 on, and a subscription in a type."""
     yield from [*BEGUN, opened(1), "client s1 " + create(1, name_of(1))]
     yield from connected(1, name_of(1))
     for number in range(1, clients + 1):
         yield from [opened(number)] if number > 1 else []
-        yield f"client s{number} " + create(1, name_of(1)) + subscribe(number, number)
+        yield f"client s{number} " + create(1, name_of(1)) + subscribe(number, number, dtype=dtype)
 
 
-def updates(clients):
-    base, turns = [*one_variable(clients), "server u1 " + update(1)], max(4, 200 // clients)
+def updates(clients, dtype=5):
+    base, turns = [*one_variable(clients, dtype), "server u1 " + update(1)], max(4, 200 // clients)
     cost = of_more(base, ["server u1 " + update(1, value) for value in range(turns)], turns * clients)
     each = turns * clients
     return cost.step / each, f"{cost.whole / each:,.0f} with drains and printing"
@@ -257,7 +257,8 @@ def table(args):
     covered = "client s1 " + message(15, dtype=5, count=1, p1=1, p2=0x21)
     greatest, among = ("client s1 " + made_and_given_up(2, own) for own in (999_999, 5_500))
     yield "an update, for each of 1,000 subscribers", 1_500, "instructions", lambda: updates(1_000)
-    yield "an update to one subscriber", 3_000, "instructions", lambda: updates(1)
+    for asked, dtype, most in (("", 5, 3_000), (", with its time stamp", 19, 3_000), (", as a text", 0, None)):
+        yield f"an update to one subscriber{asked}", most, "instructions", lambda dtype=dtype: updates(1, dtype)
     beside_many = f"beside {others:,} variables"
     yield f"a read that is covered, {beside_many}", 4_000, "instructions", lambda: beside(others, covered, 1, 1)
     yield f"an ECHO, {beside_many}", 1_500, "instructions", lambda: beside(others, "client s1000 " + message(23), 1, 1)

@@ -40,8 +40,8 @@ def create(cid, name):
     return message(18, (name.encode() + b"\0").hex(), p1=cid, p2=13)
 
 
-def subscribe(sid, own, count=1):
-    return message(1, "0" * 24 + "00010000", dtype=5, count=count, p1=sid, p2=own)
+def subscribe(sid, own, count=1, dtype=5):
+    return message(1, "0" * 24 + "00010000", dtype=dtype, count=count, p1=sid, p2=own)
 
 
 def update(own, value=42, count=1):

@@ -15,7 +15,7 @@ use Rattle.board_history.proofs.Goes.{attached_has_history, desk_failed_has_hist
 use Rattle.board_moves.specs.Answers.{IsDesk, IsPump, IsSendOut}
 use Rattle.board_moves.specs.declared.rounds.Call.{Call}
 use Rattle.board_moves.specs.declared.rounds.Call.TheVariants.{Pump, SendOut}
-use Rattle.board_moves.specs.Rounds.{round_calls, IsRound, IsRoundOn, Performs, PerformsAll, PerformsUpTo}
+use Rattle.board_moves.specs.Rounds.{batch_calls, round_calls, IsBatch, IsBatchOn, IsRound, IsRoundOn, Performs, PerformsAll, PerformsUpTo}
 use Rattle.board_moves.specs.declared.fault.BoardFault.{BoardFault}
 use Rattle.board_moves.specs.declared.fault.BoardFault.TheVariants.{OutOfMemory, Attached, NotHere, Step}
 
@@ -68,6 +68,13 @@ round_on_keeps (Some w) old answer new p h = up_to_keeps (round_calls old.attach
 
 pub round_keeps : (old : BoardState) (answer : Result ℕ BoardFault) (new : BoardState) → IsRound old answer new → HasHistory old → HasHistory new
 round_keeps old answer new p h = round_on_keeps old.rows old answer new p h
+
+batch_on_keeps : (rows : Option Gateway) (old : BoardState) (answer : Result ℕ BoardFault) (new : BoardState) → IsBatchOn rows old answer new → HasHistory old → HasHistory new
+batch_on_keeps None old answer new p h = subst HasHistory (sym p.1) h
+batch_on_keeps (Some w) old answer new p h = up_to_keeps (batch_calls old.attachments p.0) old answer new p.1 h
+
+pub batch_keeps : (old : BoardState) (answer : Result ℕ BoardFault) (new : BoardState) → IsBatch old answer new → HasHistory old → HasHistory new
+batch_keeps old answer new p h = batch_on_keeps old.rows old answer new p h
 
 -- a connection that wasn't attached leaves all attachments
 none_left_out : (dest : Dest) (attachments : List AttachmentState) → is_attached dest attachments ≡ false → filter (is_not_attachment_of dest) attachments ≡ attachments

@@ -4,3 +4,4 @@ mod Keeps
 mod Moved
 mod Performed
 mod RoundCalls
+mod Turns

@@ -1,6 +1,6 @@
 -- What moves items, as calls of the board answer it.
 use Rattle.std.proofs.Common.{◌≡◌, ℕ, ◌<◌, ◌≤◌, List, length, min, true, false, Some, None, Option, is_some, Ok, Err, Result, inl, inr, refl, sym, ap, subst, ◌∙◌, arith}
-use Rattle.std.specs.Prelude.{◌↔◌, Bool, IsNone, IsSome, IsTrue, ◌⊎◌}
+use Rattle.std.specs.Prelude.{◌↔◌, Bool, IsNone, IsSome, IsTrue}
 use Rattle.std.specs.Option.{option_map}
 use Rattle.rows.specs.Rows.{change_first}
 use Rattle.fanout.specs.declared.outbox.Out.{Out}
@@ -10,11 +10,10 @@ use Rattle.gateway_state.specs.Gateway.{Gateway}
 use Rattle.gateway_state.specs.Step.{step, taken}
 use Rattle.gateway_state.specs.declared.event.Dest.{Dest}
 use Rattle.gateway_state.specs.declared.event.Event.TheVariants.{Drain}
-use Rattle.board_rings.specs.Attachments.{is_attached, is_attachment_of, attachment_of, with_free, with_pushed, with_received, HasNoPlace, SeesNothing}
+use Rattle.board_rings.specs.Attachments.{is_attached, is_attachment_of, attachment_of, with_free, with_pushed, with_received, SeesNothing}
 use Rattle.board_rings.specs.Rings.{AttachmentState}
 use Rattle.board_rings.specs.declared.inbound.Inbound.{Inbound}
-use Rattle.board_history.specs.Board.{BoardState}
-use Rattle.board_history.specs.Calls.{uses_up, with_sent}
+use Rattle.board_history.specs.Calls.{uses_up}
 use Rattle.board_history.specs.History.{item_event}
 use Rattle.board_history.specs.declared.entry.TheConstants.{MOST_SENT}
 use Rattle.board_moves.proofs.Changed.{found_and_pushed, none_free}

@@ -1,10 +1,10 @@
 -- What stands under a gate's lock, and what each call does to it.
-use Rattle.std.specs.Prelude.{◌≡◌, ℕ, ◌+◌, ◌%◌, ◌^◌, ◌<◌, Bool, true, false, not, ◌||◌, ◌==◌, Option, Some, None, Result, Ok, Err}
+use Rattle.std.specs.Prelude.{◌≡◌, ℕ, zero, suc, ◌+◌, ◌%◌, ◌^◌, ◌<◌, Bool, true, false, not, ◌||◌, ◌==◌, Option, Some, None, Result, Ok, Err}
 use Rattle.gateway_state.specs.Asked.{stands, ends, queued}
 use Rattle.gateway_state.specs.Gateway.{Gateway}
 use Rattle.gateway_state.specs.declared.event.Dest.{Dest}
 use Rattle.board_history.specs.Board.{BoardState}
-use Rattle.board_moves.specs.Rounds.{IsRound}
+use Rattle.board_moves.specs.Rounds.{IsBatch, IsRound}
 use Rattle.board_moves.specs.declared.fault.BoardFault.{BoardFault}
 use Rattle.board_moves.specs.declared.turn.Turn.{Turn}
 use Rattle.board_moves.specs.declared.turn.Turn.TheVariants.{Moved, Closed, Failed}
@@ -40,9 +40,23 @@ abbrev pub has_waiting : Dest → Option Gateway → Bool
 has_waiting dest None = false
 has_waiting dest (Some w) = not (queued w dest == 0)
 
--- one round of the board that moved something, moved nothing or met a fault; or it is closed
+-- what an answer of the board comes to, which counts a wake unless nothing was moved
+abbrev pub ComesTo : Result ℕ BoardFault → KeptState → Option Turn → KeptState → Type 0
+ComesTo (Ok zero) old turn new = (turn ≡ None) × (new ≡ old)
+ComesTo (Ok (suc count)) old turn new = (turn ≡ Some Moved) × (new ≡ woken old)
+ComesTo (Err fault) old turn new = (turn ≡ Some Failed) × (new ≡ woken old)
+
+-- calls of the board that moved something, moved nothing or met a fault; or it is closed
+abbrev pub IsTurnBy : (BoardState → Result ℕ BoardFault → BoardState → Type 0) → KeptState → Option Turn → KeptState → Type 0
+IsTurnBy moves old None new = (old.closed ≡ false) × (moves old.board (Ok 0) new.board × SameBeside old new)
+IsTurnBy moves old (Some Moved) new = (old.closed ≡ false) × ((count : ℕ) × ((0 < count) × (moves old.board (Ok count) new.board × WakesBeside old new)))
+IsTurnBy moves old (Some Failed) new = (old.closed ≡ false) × ((fault : BoardFault) × (moves old.board (Err fault) new.board × WakesBeside old new))
+IsTurnBy moves old (Some Closed) new = (old.closed ≡ true) × (new ≡ woken old)
+
+-- one round
 abbrev pub IsTurn : KeptState → Option Turn → KeptState → Type 0
-IsTurn old None new = (old.closed ≡ false) × (IsRound old.board (Ok 0) new.board × SameBeside old new)
-IsTurn old (Some Moved) new = (old.closed ≡ false) × ((count : ℕ) × ((0 < count) × (IsRound old.board (Ok count) new.board × WakesBeside old new)))
-IsTurn old (Some Failed) new = (old.closed ≡ false) × ((fault : BoardFault) × (IsRound old.board (Err fault) new.board × WakesBeside old new))
-IsTurn old (Some Closed) new = (old.closed ≡ true) × (new ≡ woken old)
+IsTurn old turn new = IsTurnBy IsRound old turn new
+
+-- one batch
+abbrev pub IsBatchTurn : KeptState → Option Turn → KeptState → Type 0
+IsBatchTurn old turn new = IsTurnBy IsBatch old turn new

@@ -1,5 +1,5 @@
 -- A round of calls.
-use Rattle.std.specs.Prelude.{◌≡◌, ℕ, ◌+◌, ◌-◌, ◌^◌, List, [], ◌∷◌, ◌++◌, map, min, true, false, Bool, Option, Some, None, Result, Ok, Err}
+use Rattle.std.specs.Prelude.{◌≡◌, ℕ, zero, suc, ◌+◌, ◌-◌, ◌^◌, List, [], ◌∷◌, ◌++◌, map, min, true, false, Bool, Option, Some, None, Result, Ok, Err}
 use Rattle.gateway_calls.specs.declared.fault.StepFault.TheVariants as steps
 use Rattle.gateway_state.specs.Gateway.{Gateway}
 use Rattle.gateway_state.specs.declared.event.Dest.{Dest}
@@ -63,3 +63,24 @@ IsRoundOn (Some w) old answer new = PerformsUpTo (round_calls old.attachments) o
 -- a round of all calls; on a board that has failed there is none
 abbrev pub IsRound : BoardState → Result ℕ BoardFault → BoardState → Type 0
 IsRound old answer new = IsRoundOn old.rows old answer new
+
+-- pumps for each of these connections in order, so many times
+abbrev pub passes_over : List Dest → ℕ → List Call
+passes_over dests zero = []
+passes_over dests (suc passes) = passes_over dests passes ++ map Pump dests
+
+-- one pass or more
+abbrev pub HasPassed : List AttachmentState → BoardState → Result ℕ BoardFault → BoardState → Type 0
+HasPassed attachments old answer new = (more : ℕ) × PerformsUpTo (passes_over (dests_of attachments) (suc more)) old answer new
+
+-- one pass or more, and then a send-out for each
+abbrev pub batch_calls : List AttachmentState → ℕ → List Call
+batch_calls attachments more = passes_over (dests_of attachments) (suc more) ++ map SendOut (dests_of attachments)
+
+abbrev pub IsBatchOn : Option Gateway → BoardState → Result ℕ BoardFault → BoardState → Type 0
+IsBatchOn None old answer new = (answer ≡ Err (Step steps.Failed)) × (new ≡ old)
+IsBatchOn (Some w) old answer new = (more : ℕ) × PerformsUpTo (batch_calls old.attachments more) old answer new
+
+-- a round that pumps once or more often before it sends out; on a board that has failed there is none
+abbrev pub IsBatch : BoardState → Result ℕ BoardFault → BoardState → Type 0
+IsBatch old answer new = IsBatchOn old.rows old answer new

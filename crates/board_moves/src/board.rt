@@ -10,11 +10,11 @@ ghost use Rattle.board_rings.specs.declared.attachment.TheConstants.{RING_SIZE};
 ghost use Rattle.board_history.specs.Calls.{Attaches};
 ghost use Rattle.board_history.specs.History.{HasHistory};
 ghost use Rattle.board_moves.specs.Answers.{ends_of, IsDesk, IsNew, IsPump, IsSendOut, KeepsRings};
-ghost use Rattle.board_moves.specs.Rounds.{IsRound};
+ghost use Rattle.board_moves.specs.Rounds.{IsBatch, IsRound};
 
 use crate::fault::BoardFault;
 use crate::news::{News, Traffic};
-use crate::{moves, rounds};
+use crate::{batches, moves, rounds};
 use board_rings::{Attachments, Ends, Inlet, Outlet};
 use gateway_calls::{AskFault, Failed, GatewayCalls};
 use gateway_state::{Dest, Event, RowCounts};
@@ -136,6 +136,16 @@ impl<G: GatewayCalls + Drop> Board<G> {
         ensures rings { KeepsRings self.old.attachments self.new.attachments }
     {
         rounds::round(&mut self.gate, &mut self.attachments, &mut self.news)
+    }
+
+    /// Pumps each attached connection, and again as long as items are left that it saw, a bounded number of
+    /// times, then sends out to each: a round with more than one pump. It answers how many items were moved.
+    #[tactic(auto, using(crate::proofs::Keeps::batch_keeps))]
+    pub fn batch(&mut self) -> Result<usize, BoardFault>
+        ensures batch { IsBatch self.old result self.new }
+        ensures rings { KeepsRings self.old.attachments self.new.attachments }
+    {
+        batches::batch(&mut self.gate, &mut self.attachments, &mut self.news)
     }
 
     /// Takes the board's ends of a connection's rings off, with all that went through them.

@@ -10,7 +10,7 @@ ghost use Rattle.board_rings.specs.declared.attachment.TheConstants.{RING_SIZE};
 ghost use Rattle.board_history.specs.Calls.{Attaches};
 ghost use Rattle.board_history.specs.History.{is_for_desk};
 ghost use Rattle.board_moves.specs.Answers.{ends_of, IsDesk, KeepsRings};
-ghost use Rattle.board_moves.specs.Keeping.{has_waiting, is_over, woken, IsTurn, SameBeside, WakesBeside};
+ghost use Rattle.board_moves.specs.Keeping.{has_waiting, is_over, woken, ComesTo, IsBatchTurn, IsTurn, SameBeside, WakesBeside};
 
 use crate::board::Board;
 use crate::fault::BoardFault;
@@ -205,7 +205,27 @@ impl<G: GatewayCalls + Drop> Kept<G> {
             self.wake();
             return Some(Turn::Closed);
         }
-        match self.board.round() {
+        let moved = self.board.round();
+        self.turn_of(moved)
+    }
+
+    /// Performs one batch of the board, as `try_turn` does a round.
+    pub fn try_batch(&mut self) -> Option<Turn>
+        ensures turn { IsBatchTurn self.old result self.new }
+    {
+        if self.closed {
+            self.wake();
+            return Some(Turn::Closed);
+        }
+        let moved = self.board.batch();
+        self.turn_of(moved)
+    }
+
+    // What so many moved items come to. It counts a wake, unless they are none.
+    fn turn_of(&mut self, moved: Result<usize, BoardFault>) -> Option<Turn>
+        ensures turn { ComesTo moved self.old result self.new }
+    {
+        match moved {
             Ok(0) => None,
             Ok(_) => {
                 self.wake();

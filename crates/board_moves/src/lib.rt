@@ -6,7 +6,8 @@
 //!
 //! - [`Board::attach`] gives a connection its rings, [`Board::retire`] takes the board's ends off;
 //! - [`Board::pump`] receives one item and performs its event, [`Board::send_out`] takes messages of the
-//!   connection and pushes them, [`Board::round`] does both for all connections in order;
+//!   connection and pushes them, [`Board::round`] does both for all connections in order, and
+//!   [`Board::batch`] the first several times before it does the second;
 //! - [`Board::desk`] performs an event that comes through no ring.
 //!
 //! Whatever was called, the board has a history (`board_history`): its rows are those of a run of the
@@ -19,6 +20,7 @@
 //! All of it stands on any `gateway_calls::GatewayCalls`, so that its proofs never read the engine.
 #![tactic(auto)]
 
+mod batches;
 mod board;
 mod fault;
 mod kept;

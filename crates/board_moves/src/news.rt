@@ -29,12 +29,14 @@ pub struct Traffic {
     pub sent: u64,
 }
 
-/// The seats of those connections whose workers may go on after what was moved, and how much was moved. No
-/// contract speaks of them: who is woken, and what is counted, is no part of what a board does.
+/// The seats of those connections whose workers may go on after what was moved, how much was moved, and whether
+/// items were left. No contract speaks of them: who is woken, what is counted, and how soon a pass follows another
+/// is no part of what a board does.
 #[derive(Clone, Copy, Debug)]
 pub struct News {
     words: [u64; SEAT_WORDS],
     traffic: Traffic,
+    left: bool,
 }
 
 impl News {
@@ -46,7 +48,18 @@ impl News {
                 received: 0,
                 sent: 0,
             },
+            left: false,
         }
+    }
+
+    /// A pass over the connections begins, which saw no items yet that it leaves.
+    pub fn begin_pass(&mut self) {
+        self.left = false;
+    }
+
+    /// Whether the last pass left items that it saw.
+    pub fn has_left(&self) -> bool {
+        self.left
     }
 
     /// Notes the seat of a connection.
@@ -63,6 +76,7 @@ impl News {
         if is_message {
             self.traffic.received = self.traffic.received.saturating_add(1);
         }
+        self.left |= left > 0;
         if left == RING_SIZE / 2 || left == 0 {
             self.note(dest);
         }

@@ -40,16 +40,18 @@ fn pump_one<G: GatewayCalls>(
 
 /// Pumps each attached connection, in order, on a gateway that hasn't failed.
 #[tactic(auto, using(crate::proofs::RoundCalls::next_performed))]
-fn pump_all<G: GatewayCalls>(
+pub(crate) fn pump_all<G: GatewayCalls>(
     gate: &mut G,
     attachments: &mut Attachments,
     news: &mut News,
 ) -> Result<usize, BoardFault>
     requires stands { IsSome (G.state gate.old) }
     ensures calls { PerformsUpTo (map Call.Pump (dests_of attachments.old)) (board_of (G.state gate.old) attachments.old) result (board_of (G.state gate.new) attachments.new) }
+    ensures stands { OnOk result (IsSome (G.state gate.new)) }
     ensures dests { dests_of attachments.new ≡ dests_of attachments.old }
     ensures rings { KeepsRings attachments.old attachments.new }
 {
+    news.begin_pass();
     let mut moved = 0usize;
     for n in 0..attachments.len() {
         let Some(dest) = attachments.dest(n) else {
@@ -65,7 +67,7 @@ fn pump_all<G: GatewayCalls>(
 
 /// Sends out to each attached connection, in order.
 #[tactic(auto, using(crate::proofs::RoundCalls::next_performed))]
-fn send_all<G: GatewayCalls>(
+pub(crate) fn send_all<G: GatewayCalls>(
     gate: &mut G,
     attachments: &mut Attachments,
     news: &mut News,

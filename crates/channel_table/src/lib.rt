@@ -4,7 +4,7 @@
 //! - `add_session`, `add_channel`, `add_sub` and `add_read` put a row last. They refuse one whose
 //!   session or channel doesn't stand, and one past its limit ([`TableFault`]).
 //! - `session`, `channel` and `sub` find a row by its IDs; `channels`, `subs` and `reads` are all rows
-//!   in the order of adding, `subs_to` the subscriptions to a real name, `reads_for` the reads that wait
+//!   in the order of adding, `list_subs_to` the subscriptions to a real name, `reads_for` the reads that wait
 //!   for one, and `channel_count` and the like count those of a session.
 //! - `nth_session` gives the sessions one by one, by rising number.
 //! - `channel_of`, `sub_of` and `read_of` give the rows of a session one by one, and `channel_on` and

@@ -124,11 +124,12 @@ impl Subs {
         self.rows.keys_on(name).len()
     }
 
-    /// The subscriptions that lead to a real name.
-    pub(crate) fn all_on(&self, name: &Name, alloc: Global) -> Result<Vec<ClientSub>, AllocError>
-        ensures { IfOk result (λ subs. subs.items ≡ rows_at sub_key self.now.rows (of self.now.on name.now)) }
+    /// Fills an empty list with the subscriptions that lead to a real name.
+    pub(crate) fn list_on(&self, name: &Name, subs: &mut Vec<ClientSub>) -> Result<(), AllocError>
+        requires empty { subs.old.items ≡ [] }
+        ensures listed { OnOk result (subs.new.items ≡ rows_at sub_key self.now.rows (of self.now.on name.now)) }
     {
-        subs_at(&self.rows, self.rows.keys_on(name), alloc)
+        list_at(&self.rows, self.rows.keys_on(name), subs)
     }
 
     /// The first subscription on a channel, among those that lead to its real name.
@@ -183,21 +184,22 @@ impl Subs {
     }
 }
 
-/// The subscriptions under these keys.
-fn subs_at(
+/// Fills an empty list with the subscriptions under these keys.
+fn list_at(
     rows: &NamedRows<ClientSub>,
     keys: &[Key],
-    alloc: Global,
-) -> Result<Vec<ClientSub>, AllocError>
-    ensures { IfOk result (λ subs. subs.items ≡ rows_at sub_key rows.now.rows keys.now) }
+    subs: &mut Vec<ClientSub>,
+) -> Result<(), AllocError>
+    requires empty { subs.old.items ≡ [] }
+    ensures listed { OnOk result (subs.new.items ≡ rows_at sub_key rows.now.rows keys.now) }
 {
-    let mut subs = Vec::with_capacity(alloc, keys.len())?;
+    subs.reserve(keys.len())?;
     for key in keys {
         if let Some(sub) = rows.get(*key) {
             subs.push(*sub)?;
         }
     }
-    Ok(subs)
+    Ok(())
 }
 
 /// The first of these rows that is on a channel.

@@ -8,3 +8,5 @@ mod WorkedValues
 pub mod Written
 pub mod ReadingBack
 pub mod WritingBack
+pub mod Following
+pub mod OwnLayouts

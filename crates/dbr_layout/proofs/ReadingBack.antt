@@ -65,7 +65,7 @@ stamp_again Ctrl parts more seconds nanoseconds = refl
 made_properties : Base → List ℕ → List ℕ → List ℕ → List (List ℕ) → Properties
 made_properties b states precision units limits = record { base = b; states = states; precision = precision; units = units; limits = limits }
 
-same_properties : (p q : Properties) → p.base ≡ q.base → p.states ≡ q.states → p.precision ≡ q.precision → p.units ≡ q.units → p.limits ≡ q.limits → p ≡ q
+pub same_properties : (p q : Properties) → p.base ≡ q.base → p.states ≡ q.states → p.precision ≡ q.precision → p.units ≡ q.units → p.limits ≡ q.limits → p ≡ q
 unfolding made_properties
 same_properties p q b states precision units limits =
     ap (λ (x : Base). made_properties x p.states p.precision p.units p.limits) b
@@ -204,7 +204,7 @@ elements_kept Ctrl parts = refl
 abbrev made_of : ℤ → ℤ → Stamp → Option Properties → List (List ℕ) → Parts
 made_of status severity stamp properties elements = record { status = status; severity = severity; stamp = stamp; properties = properties; elements = elements }
 
-same_parts : (p q : Parts) → p.status ≡ q.status → p.severity ≡ q.severity → p.stamp ≡ q.stamp → p.properties ≡ q.properties → p.elements ≡ q.elements → p ≡ q
+pub same_parts : (p q : Parts) → p.status ≡ q.status → p.severity ≡ q.severity → p.stamp ≡ q.stamp → p.properties ≡ q.properties → p.elements ≡ q.elements → p ≡ q
 same_parts p q status severity stamp properties elements =
     ap (λ (x : ℤ). made_of x p.severity p.stamp p.properties p.elements) status
     ∙ ap (λ (x : ℤ). made_of q.status x p.stamp p.properties p.elements) severity

@@ -43,7 +43,7 @@ pub record Views (found : Option Dbr) (there : ℕ) (bytes : List ℕ) (old : Sh
   pub fits : value_end old.dbr there ≤ length bytes
   pub parts : parts_in old.dbr there bytes ≡ old.parts
 
-views_from : (found : Option Dbr) (there : ℕ) (bytes : List ℕ) (old : Shown)
+pub views_from : (found : Option Dbr) (there : ℕ) (bytes : List ℕ) (old : Shown)
     → (ok_or found BadType >>= λ dbr. if nat_le (value_end dbr there) (length bytes) then Ok (let s : Shown = record { dbr = dbr; parts = parts_in dbr there bytes } in s) else Err Short) ≡ Ok old
     → Views found there bytes old
 views_from None there bytes old h = absurd cc
@@ -59,7 +59,7 @@ views_from (Some dbr) there bytes old h =
       parts = subst (λ (d : Dbr). parts_in d there bytes ≡ old.parts) same parts;
     }
 
-no_answer : (fault : LayoutFault) (payload : List ℕ) → ◌≡◌ {A = Result (List ℕ) LayoutFault} (Err fault) (Ok payload) → ⊥
+pub no_answer : (fault : LayoutFault) (payload : List ℕ) → ◌≡◌ {A = Result (List ℕ) LayoutFault} (Err fault) (Ok payload) → ⊥
 no_answer fault payload h = cc
 
 -- the payload that was written under the type of the view, with the properties that were used
@@ -125,7 +125,7 @@ fields-used Ctrl base.Double parts bytes properties h =
     same_fields Ctrl base.Double parts (Some own) properties (ap (option_map (converted_properties base.Double Unchanged)) (sym (ok_props (Some own) properties h)))
 
 -- where they are there, the elements that are given are the first
-given_elements-there : (states : List ℕ) (dbr : Dbr) (given : ℕ) (elements : List (List ℕ)) → given ≤ length elements → given_elements states dbr.base Unchanged given elements ≡ take given elements
+pub given_elements-there : (states : List ℕ) (dbr : Dbr) (given : ℕ) (elements : List (List ℕ)) → given ≤ length elements → given_elements states dbr.base Unchanged given elements ≡ take given elements
 given_elements-there states dbr given elements h =
     let none : given - length elements ≡ 0 = omega (arith, h) in
     rw (map-unchanged states elements, none) (append-nil (take given elements))
@@ -148,7 +148,7 @@ status_fits Time bytes small = signed_fits bytes small
 status_fits Gr bytes small = signed_fits bytes small
 status_fits Ctrl bytes small = signed_fits bytes small
 
-drop_small : (n : ℕ) (bytes : List ℕ) → ((i : ℕ) → slice_index bytes i < 256) → (i : ℕ) → slice_index (drop n bytes) i < 256
+pub drop_small : (n : ℕ) (bytes : List ℕ) → ((i : ℕ) → slice_index bytes i < 256) → (i : ℕ) → slice_index (drop n bytes) i < 256
 drop_small n bytes small i = rw (get_or-drop n bytes i 0) (small (n + i))
 
 severity_fits : (form : Form) (bytes : List ℕ) → ((i : ℕ) → slice_index bytes i < 256) → FitsSigned w16 (severity_in form bytes)
@@ -167,7 +167,7 @@ nanoseconds_fit Time bytes small = big_from-lt 0 4 (drop 8 bytes) (drop_small 8 
 nanoseconds_fit _ bytes small = omega arith
 
 -- they stand before the value
-told_end : (b : Base) → 4 + properties_size b ≤ column (offsets Ctrl) b
+pub told_end : (b : Base) → 4 + properties_size b ≤ column (offsets Ctrl) b
 told_end base.String = omega arith
 told_end base.Short = omega arith
 told_end base.Float = omega arith
@@ -218,7 +218,7 @@ shown_again number there count bytes rest dbr small served fits within =
     ∙ ap (λ (p : Parts). Ok (let s : Shown = record { dbr = dbr; parts = p } in s)) (kept-shown dbr.form dbr.base bytes (drop (fields_len dbr.form) bytes) (take given elements))
 
 -- a layout hangs on the fields and on the elements
-layout-same : (dbr : Dbr) (p q : Parts) → fields dbr.form p ≡ fields dbr.form q → p.elements ≡ q.elements → layout dbr p ≡ layout dbr q
+pub layout-same : (dbr : Dbr) (p q : Parts) → fields dbr.form p ≡ fields dbr.form q → p.elements ≡ q.elements → layout dbr p ≡ layout dbr q
 layout-same dbr p q front elements = rw (front, elements) refl
 
 -- what a view shows of bytes, written under its own type

@@ -9,4 +9,5 @@ pub mod States
 pub mod View
 pub mod Conversion
 pub mod Converted
+pub mod OwnLayout
 pub mod Laws

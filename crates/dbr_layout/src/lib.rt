@@ -9,6 +9,7 @@
 //!   and precision, or the texts of states.
 //! - [`Converted::write`] lays what a view shows out under a type, with the properties that the type
 //!   [`needs`], and [`converts`] tells whether there is a conversion: none changes a FLOAT or a DOUBLE.
+//! - [`own_part`] is the part of a payload that is already what would be written of it.
 //! - [`has_properties_by`], [`is_text_by`] and [`is_state_by`] tell of the number of any type, served
 //!   or not, what it needs beside a value: properties, or texts where elements are states.
 //!
@@ -32,6 +33,7 @@ pub use converted::Converted;
 pub use dbr::{ALIGNMENT, Base, Dbr, Form, MAX_PAYLOAD};
 pub use fault::LayoutFault;
 pub use need::{has_properties_by, is_state_by, is_text_by, needs};
+pub use own_layout::own_part;
 pub use props::Props;
 pub use view::{Stamp, View};
 
@@ -42,6 +44,7 @@ mod fault;
 mod fields;
 pub mod laws;
 mod need;
+mod own_layout;
 mod props;
 mod sized;
 mod states;

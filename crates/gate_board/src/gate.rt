@@ -7,7 +7,8 @@
 //!
 //! - **The core** waits for items and events. `wake` (which a reader calls after it put items), `desk`,
 //!   `attach` and `close` notify it. `take` does so where messages wait that found no place before.
-//! - **The keeper** (`pause`) is notified by the same calls, and by each turn that moved something.
+//! - **The keeper** (`pause`) is notified by the same calls, and by each turn, a round or a batch, that moved
+//!   something.
 //! - **A writer** waits at its connection's seat until messages are pushed, or the connection ends. The
 //!   turn that pushed, or pumped the item by which it ended, notes the seat; the loss of a connection at
 //!   the desk does too. An outbox that is marked since it is full still has messages: they are pushed
@@ -42,6 +43,13 @@ pub enum Taken {
     Closed,
     /// There is none, and the gate is closed or the engine has failed.
     Stopped,
+}
+
+// What is performed under one lock.
+#[derive(Clone, Copy)]
+enum Pace {
+    Round,
+    Batch,
 }
 
 /// The board, a mark that the gate is closed, and a count of wakes, under a lock, and the seats to wait
@@ -299,9 +307,22 @@ impl<G: GatewayCalls + Drop> GateOver<G> {
     /// Performs rounds until one moves something or meets a fault, or the gate is closed, which is looked
     /// at before each. It waits between two, and notifies before it answers.
     pub fn turn<R: Wait>(&self, rt: &R) -> Turn {
+        self.next_turn(rt, Pace::Round)
+    }
+
+    /// The same by batches, each of which may pump several items of a connection before it sends out.
+    pub fn batch<R: Wait>(&self, rt: &R) -> Turn {
+        self.next_turn(rt, Pace::Batch)
+    }
+
+    fn next_turn<R: Wait>(&self, rt: &R, pace: Pace) -> Turn {
         for _ in rt.forever() {
             let mut kept = self.kept.lock(rt);
-            match kept.try_turn() {
+            let turn = match pace {
+                Pace::Round => kept.try_turn(),
+                Pace::Batch => kept.try_batch(),
+            };
+            match turn {
                 Some(turn) => {
                     let news = kept.take_news();
                     drop(kept);

@@ -6,11 +6,13 @@ use Rattle.gateway_state.proofs.SessionsConnected.{reached_sessions}
 use Rattle.gateway_state.proofs.ToldRights.{reached_told}
 use Rattle.gateway_state.proofs.WriteIdsBelow.{reached_write_ids}
 use Rattle.gateway_core.specs.ReadyForEvent.{IsReadyForEvent}
+use Rattle.touched_rows.proofs.Tidy.{reached_tidy}
 
 pub reached_is_ready : (w : Gateway) → IsReached w → IsReadyForEvent w
 reached_is_ready w reached = record {
   sids = reached_sids w reached;
   cids = reached_cids w reached;
+  subs = (reached_tidy w reached).subs_apart;
   sessions = reached_sessions w reached;
   ids = reached_write_ids w reached;
   told = reached_told w reached;

@@ -8,7 +8,7 @@ ghost use Rattle.gateway_state.specs.Direct.{direct_effect, searched};
 ghost use Rattle.gateway_state.specs.Reached.{IsReached};
 ghost use Rattle.gateway_state.specs.Step.{step, taken};
 ghost use Rattle.gateway_state.specs.Variables.{search_names};
-ghost use Rattle.touched_rows.specs.Touches.{drain_touches, event_touches, with_touched};
+ghost use Rattle.touched_rows.specs.Touches.{drain_touches, event_touches, with_touched, AreFound};
 
 use crate::connections::{lose_server, lose_session, open_server, open_session};
 use channel_table::Visits;
@@ -20,7 +20,7 @@ use gateway_state::{Dest, Event};
 use pv_name::{Host, Name};
 use server_messages::{find_at, hear_server};
 use std::alloc::AllocError;
-use touched_rows::{Names, Touched};
+use touched_rows::{Effect, Names, Touched};
 
 /// Performs one event, in a state that a run reaches.
 #[tactic(auto, using(gateway_state::proofs::NumberLemmas::consequences_past, touched_rows::proofs::ToldAlone::step_alone, crate::proofs::Looked::looked_in_all, crate::proofs::BeforeReads::looked_without), unfolding(gateway_state::specs::Step::step))]
@@ -35,8 +35,8 @@ pub(crate) fn step(rows: &mut Rows, visits: &mut Visits, event: Event) -> Result
     ensures brand { rows.new.brand ≡ rows.old.brand }
     ensures own { visits.new.brand ≡ visits.old.brand }
 {
-    let touched = perform(rows, visits, event)?;
-    follow(rows, visits, touched)?;
+    let effect = perform(rows, visits, event)?;
+    follow(rows, visits, effect)?;
     rows.numbers_are_in_range();
     Ok(())
 }
@@ -59,9 +59,9 @@ pub(crate) fn drain(
     ensures brand { rows.new.brand ≡ rows.old.brand }
     ensures own { visits.new.brand ≡ visits.old.brand }
 {
-    let touched = drain_touches(rows, dest);
+    let effect = Effect::alone(rows.alloc, drain_touches(rows, dest));
     let outs = rows.take(dest, count)?;
-    follow(rows, visits, touched)?;
+    follow(rows, visits, effect)?;
     rows.numbers_are_in_range();
     Ok(outs)
 }
@@ -76,73 +76,67 @@ fn drain_touches(rows: &Rows, dest: Dest) -> Touched
     }
 }
 
-/// What the event does by itself. It answers what was touched. A read that was touched isn't kept yet.
-#[tactic(auto, using(gateway_rows::proofs::OwnStays::within_none, touched_rows::proofs::KeptLate::reply_keeps_none, touched_rows::proofs::KeptLate::drain_keeps_none))]
-fn perform(rows: &mut Rows, visits: &mut Visits, event: Event) -> Result<Touched, Refusal>
+/// What the event does by itself. A read that was touched isn't kept yet.
+#[tactic(auto, using(gateway_rows::proofs::OwnStays::within_none, touched_rows::proofs::KeptLate::reply_keeps_none, touched_rows::proofs::KeptLate::drain_keeps_none, touched_rows::proofs::NoneFound::none_found_requested, touched_rows::proofs::NoneFound::none_found_drained))]
+fn perform(rows: &mut Rows, visits: &mut Visits, event: Event) -> Result<Effect, Refusal>
     requires ready { IsReadyForEvent rows.old.state }
     requires own { visits.old.brand ≡ rows.old.brand }
-    ensures ok { IfOk result (λ touched. with_touched touched rows.new.state ≡ direct_effect rows.old.state event) }
-    ensures touched { IfOk result (λ touched. touched ≡ event_touches rows.old.state event) }
+    ensures ok { IfOk result (λ effect. with_touched effect.touched rows.new.state ≡ direct_effect rows.old.state event) }
+    ensures touched { IfOk result (λ effect. effect.touched ≡ event_touches rows.old.state event) }
+    ensures found { IfOk result (λ effect. AreFound effect.touched effect.subs.items rows.new.state) }
     ensures used_up { IsErrOf result Refusal.NumbersUsedUp → is_past_numbers (direct_effect rows.old.state event) ≡ true }
     ensures bound { OnOk result (IsWithin (direct_looks rows.old.state event) visits.old.looks visits.new.looks) }
     ensures no_less { visits.old.looks ≤ visits.new.looks }
     ensures brand { rows.new.brand ≡ rows.old.brand }
     ensures own { visits.new.brand ≡ visits.old.brand }
 {
-    match event {
+    let touched = match event {
         Event::Opened(number, host) => {
             open_session(rows, number, host)?;
-            Ok(Touched::Nothing)
+            Touched::Nothing
         }
-        Event::Lost(number) => {
-            let names = lose_session(rows, visits, number)?;
-            Ok(Touched::Links(names))
-        }
+        Event::Lost(number) => Touched::Links(lose_session(rows, visits, number)?),
         Event::Client(number, message) => {
-            if rows.acts(Dest::Session(number)) {
-                hear_client(rows, visits, number, message)
-            } else {
-                Ok(Touched::Nothing)
+            if !rows.acts(Dest::Session(number)) {
+                return Ok(Effect::alone(rows.alloc, Touched::Nothing));
             }
+            hear_client(rows, visits, number, message)?
         }
         Event::UpOpened(number) => {
             open_server(rows, number)?;
-            Ok(Touched::Nothing)
+            Touched::Nothing
         }
-        Event::UpLost(number) => {
-            let names = lose_server(rows, number)?;
-            Ok(Touched::Gone(names))
-        }
+        Event::UpLost(number) => Touched::Gone(lose_server(rows, number)?),
         Event::Server(number, message) => {
-            if rows.acts(Dest::Upstream(number)) {
-                Ok(hear_server(rows, visits, number, message)?)
-            } else {
-                Ok(Touched::Nothing)
+            if !rows.acts(Dest::Upstream(number)) {
+                return Ok(Effect::alone(rows.alloc, Touched::Nothing));
             }
+            return Ok(hear_server(rows, visits, number, message)?);
         }
         Event::Found(name, number) => {
             find_at(rows, name, number)?;
-            Ok(Touched::Nothing)
+            Touched::Nothing
         }
         Event::Search(host, name) => {
             search_for(rows, &host, &name)?;
-            Ok(Touched::Nothing)
+            Touched::Nothing
         }
         Event::Edit(policy) => {
             rows.set_policy(policy)?;
-            Ok(Touched::All)
+            Touched::All
         }
         Event::Sweep => {
             let names = searched_names(rows)?;
             rows.sweep();
-            Ok(Touched::Links(names))
+            Touched::Links(names)
         }
         Event::Drain(dest, count) => {
             let touched = drain_touches(rows, dest);
             let _taken = rows.take(dest, count)?;
-            Ok(touched)
+            touched
         }
-    }
+    };
+    Ok(Effect::alone(rows.alloc, touched))
 }
 
 /// The variables that searches lead to.

@@ -175,6 +175,9 @@ pub(crate) fn tell_reads_on(
     ensures brand { rows.new.brand ≡ rows.old.brand }
     ensures own { visits.new.brand ≡ visits.old.brand }
 {
+    if rows.clients.all_reads() == 0 || rows.clients.reads_on(name) == 0 {
+        return Ok(());
+    }
     let notices = read_notices_on(rows, visits, name)?;
     tell_each(rows, notices)
 }

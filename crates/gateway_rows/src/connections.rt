@@ -44,7 +44,7 @@ impl Rows {
     pub fn acts(&self, dest: Dest) -> bool
         ensures { result ≡ acts self.now.state dest }
     {
-        self.stands(dest) && !self.ends(dest)
+        self.connections.goes_on(dest)
     }
 
     /// Whether a session's outbox takes updates.

@@ -1,5 +1,5 @@
 //! The reads and subscriptions of one variable.
-ghost use Rattle.std.specs.Prelude.{◌≡◌, ◌≤◌, ◌+◌, length, filter, map, IfOk};
+ghost use Rattle.std.specs.Prelude.{◌≡◌, ◌≤◌, ◌+◌, [], length, filter, map, IfOk, OnOk};
 ghost use Rattle.channel_table.specs.Subs.{is_sub_of};
 ghost use Rattle.gateway_state.specs.Servers.{waits_for};
 ghost use Rattle.gateway_state.specs.Updates.{is_sub_to};
@@ -9,6 +9,7 @@ use crate::state::Rows;
 use channel_table::{Channel, ClientSub, Table, Visits, WaitingRead};
 use pv_name::Name;
 use std::alloc::{AllocError, Global};
+use std::mem;
 
 impl Rows {
     /// The reads that wait for a variable, in the order of asking.
@@ -47,6 +48,23 @@ impl Rows {
         Ok(channels)
     }
 
+    /// Fills an empty list with the subscriptions to a variable, in the order in which they were made.
+    pub fn list_subs_on(
+        &self,
+        visits: &mut Visits,
+        name: &Name,
+        subs: &mut Vec<ClientSub>,
+    ) -> Result<(), AllocError>
+        requires own { visits.old.brand ≡ self.now.brand }
+        requires empty { subs.old.items ≡ [] }
+        ensures found { OnOk result (subs.new.items ≡ filter (is_sub_to self.now.state name.now) self.now.state.clients.subs) }
+        ensures bound { OnOk result (visits.new.looks ≤ visits.old.looks + length subs.new.items) }
+        ensures no_less { visits.old.looks ≤ visits.new.looks }
+        ensures own { visits.new.brand ≡ visits.old.brand }
+    {
+        self.clients.list_subs_to(visits, name, subs)
+    }
+
     /// The subscriptions to a variable, in the order in which they were made.
     pub fn subs_on(&self, visits: &mut Visits, name: &Name) -> Result<Vec<ClientSub>, AllocError>
         requires own { visits.old.brand ≡ self.now.brand }
@@ -55,7 +73,28 @@ impl Rows {
         ensures no_less { visits.old.looks ≤ visits.new.looks }
         ensures own { visits.new.brand ≡ visits.old.brand }
     {
-        self.clients.subs_to(visits, self.alloc, name)
+        let mut subs = Vec::new(self.alloc);
+        self.list_subs_on(visits, name, &mut subs)?;
+        Ok(subs)
+    }
+
+    /// An empty list of subscriptions. It has the memory of the list that was given back last.
+    pub fn spare_subs(&mut self) -> Vec<ClientSub>
+        ensures empty { result.items ≡ [] }
+        ensures state { self.new.state ≡ self.old.state }
+        ensures brand { self.new.brand ≡ self.old.brand }
+    {
+        let mut subs = mem::replace(&mut self.spare, Vec::new(self.alloc));
+        subs.clear();
+        subs
+    }
+
+    /// Gives a list back that is done with: the next one begins with its memory.
+    pub fn give_back(&mut self, subs: Vec<ClientSub>)
+        ensures state { self.new.state ≡ self.old.state }
+        ensures brand { self.new.brand ≡ self.old.brand }
+    {
+        self.spare = subs;
     }
 
     /// The subscriptions of a session, in the order in which they were made.

@@ -4,7 +4,7 @@ ghost use Rattle.gateway_state.specs.Gateway.{initial};
 ghost use Rattle.gateway_state.specs.Numbers.{is_past_numbers};
 ghost use Rattle.gateway_state.specs.RowCounts.{row_counts};
 
-use channel_table::{Table, Visits};
+use channel_table::{ClientSub, Table, Visits};
 use gateway_state::{Config, Policy, RowCounts};
 use link_table::Links;
 use state_tables::{Cache, Connections, Searches};
@@ -25,6 +25,8 @@ pub struct Rows {
     pub cache: Cache,
     /// The policy that holds, and the searches that are remembered.
     pub searches: Searches,
+    // The memory of a list that is done with. It is no part of what contracts see.
+    pub(crate) spare: Vec<ClientSub>,
 }
 
 impl Model for Rows {
@@ -52,6 +54,7 @@ impl Drop for Rows {
             upstream,
             cache,
             searches,
+            spare,
             alloc: _,
         } = self;
         drop(config);
@@ -60,6 +63,7 @@ impl Drop for Rows {
         drop(upstream);
         drop(cache);
         drop(searches);
+        drop(spare);
     }
 }
 
@@ -80,6 +84,7 @@ impl Rows {
             upstream: Links::new(alloc, first),
             cache: Cache::new(alloc),
             searches: Searches::new(alloc, policy),
+            spare: Vec::new(alloc),
         };
         (rows, visits)
     }

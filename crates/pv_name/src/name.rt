@@ -14,25 +14,27 @@ use crate::word::word;
 use std::alloc::Global;
 use std::hash::{Hash, Hasher};
 use std::marker::Model;
+use std::sync::ArcStr;
 
 /// The most bytes that the name of a process variable has.
 pub const NAME_LIMIT: usize = 255;
 
-/// The name of a process variable.
+/// The name of a process variable. Its copies share one text.
 #[derive(Debug, Drop)]
 pub struct Name {
-    text: String,
+    text: ArcStr,
 }
 
 impl Model for Name {
-    ghost use Rattle.std.specs.Prelude.{ℕ, List, string_bytes};
+    ghost use Rattle.std.specs.Prelude.{ℕ, List};
+    ghost use Rattle.std.specs.Arc.{arc_str_bytes};
     ghost use Rattle.pv_name.specs.Name.{IsName};
 
     ghost Value = { List ℕ };
 
-    ghost view = { λ n. string_bytes n.text };
+    ghost view = { λ n. arc_str_bytes n.text };
 
-    ghost invariant = { λ n. IsName (string_bytes n.text) };
+    ghost invariant = { λ n. IsName (arc_str_bytes n.text) };
 }
 
 impl Name {
@@ -43,11 +45,12 @@ impl Name {
     {
         let text = word(NAME_LIMIT, bytes)?;
         Ok(Name {
-            text: String::from_str(alloc, text)?,
+            text: ArcStr::from_str(alloc, text)?,
         })
     }
 
-    /// The same name again, from the allocator that this one came from.
+    /// The same name again. It takes no memory, and fails only where so many copies stand that they can't be
+    /// counted.
     pub fn copy(&self) -> Result<Self, NoMemory>
         ensures { IfOk result (λ copy. copy ≡ self.now) }
     {

@@ -421,8 +421,9 @@ fn show_on(alloc: Global, rows: &mut VisitedRows, name: &Name, told: &mut Told) 
     for n in 0..=channels {
         rows.show_channel_on(name, n, told);
     }
-    match rows.table.subs_to(&mut rows.visits, alloc, name) {
-        Ok(subs) => show_subs_of_name(&subs, told),
+    let mut subs = Vec::new(alloc);
+    match rows.table.list_subs_to(&mut rows.visits, name, &mut subs) {
+        Ok(()) => show_subs_of_name(&subs, told),
         Err(_) => told.line(&"out of memory"),
     }
     for n in 0..=reads {

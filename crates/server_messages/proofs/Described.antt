@@ -1,5 +1,5 @@
 -- Properties that are told beside an element are told without it.
-use Rattle.std.proofs.Common.{◌≡◌, ℕ, ◌≤◌, List, Bool, true, false, if◌then◌else◌, length, Option, Some, None, Result, Ok, Err, refl, ◌==◌, ◌&&◌, arith}
+use Rattle.std.proofs.Common.{◌≡◌, ℕ, ◌≤◌, List, true, false, if◌then◌else◌, length, Option, Some, None, Result, Ok, Err, refl, ◌==◌, ◌&&◌, arith}
 use Rattle.std.specs.Prelude.{is_some, nat_le, ok_or}
 use Rattle.std.proofs.lemmas.Bool.{false≢true, and_parts, le-leb, leb-true}
 use Rattle.dbr_layout.specs.declared.dbr.Dbr.{Dbr}

@@ -1,2 +1,4 @@
 pub mod Concerned
 pub mod Described
+pub mod Longer
+pub mod Owed

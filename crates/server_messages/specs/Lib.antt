@@ -1,1 +1,3 @@
+pub mod Concern
+pub mod Kept
 pub mod Looks

@@ -1,5 +1,5 @@
 -- How many rows of clients are looked at for a server's message.
-use Rattle.std.specs.Prelude.{ℕ, ◌*◌, Result, Ok, Err, Option, Some}
+use Rattle.std.specs.Prelude.{ℕ, ◌*◌, Result, Ok, Option, Some}
 use Rattle.std.specs.List.{find}
 use Rattle.ca_message.specs.declared.reply.ServerReply.{ServerReply}
 use Rattle.ca_message.specs.declared.reply.ServerReply.TheVariants as says

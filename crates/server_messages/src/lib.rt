@@ -12,7 +12,7 @@
 #![tactic(auto)]
 
 mod channels;
-mod describe;
+mod concern;
 mod found;
 mod hear;
 mod update;

@@ -7,7 +7,7 @@
 //!   connection's [`Inlet`](gate_board::Inlet), in order, each once, and then that the connection is gone.
 //! - [`serve_out`] takes what goes to the peer by the connection's [`Outlet`](gate_board::Outlet), and
 //!   writes it whole and in order; what is there at once is written at once.
-//! - [`serve_core`] has the [`Gate`](gate_board::Gate) perform its rounds until it is closed or fails.
+//! - [`serve_core`] has the [`Gate`](gate_board::Gate) perform its batches until it is closed or fails.
 //!
 //! The first two wait at the gate where their ring is full or empty. [`MemoryLink`] is a link over bytes in
 //! memory, for tests: there the contracts say which bytes were read and written.

@@ -2,7 +2,7 @@
 use gate_board::{Gate, Turn};
 use std::sync::Wait;
 
-/// Why no more rounds are performed.
+/// Why no more batches are performed.
 #[derive(Clone, Copy, Debug, PartialEq, Eq)]
 pub enum CoreEnd {
     /// The gate is closed.
@@ -11,11 +11,11 @@ pub enum CoreEnd {
     GateFailed,
 }
 
-/// Performs the board's rounds, and waits where one moves nothing. It ends where the gate is closed or the
+/// Performs the board's batches, and waits where one moves nothing. It ends where the gate is closed or the
 /// engine has failed.
 pub fn serve_core<R: Wait>(rt: &R, gate: &Gate) -> CoreEnd {
     for _ in rt.forever() {
-        match gate.turn(rt) {
+        match gate.batch(rt) {
             Turn::Moved => (),
             Turn::Closed => return CoreEnd::Closed,
             Turn::Failed => return CoreEnd::GateFailed,

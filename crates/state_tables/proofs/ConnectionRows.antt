@@ -14,7 +14,7 @@ use Rattle.gateway_state.specs.declared.event.Dest.{Dest}
 use Rattle.gateway_state.specs.declared.event.Dest.TheVariants.{Session, Upstream}
 use Rattle.gateway_state.specs.declared.connections.Connection.{Connection}
 use Rattle.state_tables.specs.ConnectionKeys.{key_of, connection_key, AreKeyed}
-use Rattle.gateway_state.specs.Connections.{same_dest, is_to, is_not_to}
+use Rattle.gateway_state.specs.Connections.{same_dest, is_to, is_not_to, outbox_of}
 
 pub and_true : (b : Bool) → (b && true) ≡ b
 and_true true = refl
@@ -23,6 +23,17 @@ and_true false = refl
 and_false : (b : Bool) → (b && false) ≡ false
 and_false true = refl
 and_false false = refl
+
+-- whether a connection goes on is seen in its row
+pub goes_on_there : (dest : Dest) (rows : List Connection) (row : Connection) → find (is_to dest) rows ≡ Some row → not row.outbox.marked ≡ (list_any (is_to dest) rows && not (outbox_of dest rows).marked)
+goes_on_there dest rows row found =
+    let stands : list_any (is_to dest) rows ≡ true = sym (found_where_any (is_to dest) rows) ∙ ap is_some found in
+    rw (stands, found) refl
+
+pub goes_on_nowhere : (dest : Dest) (rows : List Connection) → find (is_to dest) rows ≡ None → false ≡ (list_any (is_to dest) rows && not (outbox_of dest rows).marked)
+goes_on_nowhere dest rows none =
+    let stands : list_any (is_to dest) rows ≡ false = sym (found_where_any (is_to dest) rows) ∙ ap is_some none in
+    rw stands refl
 
 -- the same key is the same connection
 same_keys : (a b : Dest) → same_key (key_of a) (key_of b) ≡ same_dest a b

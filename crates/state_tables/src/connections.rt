@@ -1,5 +1,5 @@
 //! The outboxes of all connections.
-ghost use Rattle.std.specs.Prelude.{◌≡◌, ◌∷◌, ◌++◌, [], false, length, take, OnOk, OnErr, IfOk};
+ghost use Rattle.std.specs.Prelude.{◌≡◌, ◌∷◌, ◌++◌, ◌&&◌, [], false, not, length, take, OnOk, OnErr, IfOk};
 ghost use Rattle.std.specs.List.{list_any, filter, find};
 ghost use Rattle.std.specs.Option.{option_copied};
 ghost use Rattle.fanout.specs.Waiting.{waiting_bytes};
@@ -64,6 +64,17 @@ impl Connections {
     {
         match self.get(dest) {
             Some(connection) => connection.outbox.marked(),
+            None => false,
+        }
+    }
+
+    /// Whether the connection stands and need not end.
+    #[tactic(auto, using(crate::proofs::ConnectionRows::goes_on_there, crate::proofs::ConnectionRows::goes_on_nowhere))]
+    pub fn goes_on(&self, dest: Dest) -> bool
+        ensures { result ≡ (list_any (is_to dest) self.now && not (outbox_of dest self.now).marked) }
+    {
+        match self.get(dest) {
+            Some(connection) => !connection.outbox.marked(),
             None => false,
         }
     }

@@ -45,7 +45,8 @@ use Rattle.touched_rows.proofs.Cleared.{found_without, left_have, not_so}
 use Rattle.touched_rows.proofs.Connections.{HasNoMoreRoom, no_more_room_given}
 use Rattle.touched_rows.proofs.LessGiven.{bare, is_open, plain, read_on-stays, update_if_open, update_on-stays}
 use Rattle.touched_rows.proofs.OneLink.{link_alike}
-use Rattle.touched_rows.proofs.Owing.{owed_where, asks_alike}
+use Rattle.touched_rows.specs.Touched.{owed_where}
+use Rattle.touched_rows.proofs.Owing.{asks_alike}
 use Rattle.touched_rows.proofs.ReadersOf.{any_left, not_not, other_name, passing_left, passing_of_left}
 use Rattle.touched_rows.proofs.Tellings.{less_connections}
 use Rattle.touched_rows.proofs.TouchedAlone.{all_with_changed, found_holds, found_passes}

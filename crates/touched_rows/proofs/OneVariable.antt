@@ -37,12 +37,12 @@ use Rattle.gateway_state.proofs.SettledMeaning.{none_told}
 use Rattle.gateway_state.proofs.SettledSteps.{found_is_on}
 use Rattle.gateway_state.proofs.SettledWithheld.{owing_changed, with_subs}
 use Rattle.gateway_state.proofs.SubsApart.{subs_apart_kept}
-use Rattle.touched_rows.specs.Touched.{channel_notices_on, channels_told_on, link_notices_over, link_told_on, read_notices_on, reads_told_on, updates_told_on, updates_withheld_on, variable_told, withheld_on}
+use Rattle.touched_rows.specs.Touched.{channel_notices_on, channels_told_on, link_notices_over, link_told_on, owed_where, read_notices_on, reads_told_on, updates_told_on, updates_withheld_on, variable_told, withheld_on}
 use Rattle.touched_rows.proofs.Beside.{IsBeside, IsQuiet, beside_owed, beside_told, is_notice_on, links_beside, not_on, reads_beside, updates_beside, withheld_beside}
 use Rattle.touched_rows.proofs.LessGiven.{bare, read_on-stays, update_if_open, update_on-stays, update_stays}
 use Rattle.touched_rows.proofs.Numbered.{all_above}
 use Rattle.touched_rows.proofs.OneLink.{link_told_clients, one_link_of}
-use Rattle.touched_rows.proofs.Owing.{owed_where, owing_each}
+use Rattle.touched_rows.proofs.Owing.{owing_each}
 use Rattle.touched_rows.proofs.ReadersOf.{passing_left}
 use Rattle.touched_rows.proofs.Shapes.{reads_told_shape}
 use Rattle.touched_rows.proofs.Tellings.{less_reads_told}

@@ -13,10 +13,7 @@ use Rattle.gateway_state.specs.Updates.{is_withheld}
 use Rattle.gateway_state.proofs.SettledUpdates.{asks_whatever_owed}
 use Rattle.gateway_state.proofs.SettledWithheld.{kept_by_others, owing}
 use Rattle.gateway_state.proofs.SubsApart.{itself}
-
--- the subscription is owed an update where it passes the test
-abbrev pub owed_where : (ClientSub → Bool) → ClientSub → ClientSub
-owed_where test sub = cond (test sub) (with_owed true sub) sub
+use Rattle.touched_rows.specs.Touched.{owed_where}
 
 -- owing to each that passes is a change of each
 pub owing_each : (test : ClientSub → Bool) (rows : List ClientSub) → AreApart rows → fold owing rows (filter test rows) ≡ map (owed_where test) rows

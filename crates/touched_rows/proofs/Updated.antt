@@ -35,10 +35,10 @@ use Rattle.gateway_state.specs.Variables.{connected_in, connected_over, link_of}
 use Rattle.gateway_state.proofs.LinkNotices.{link_notices_alike}
 use Rattle.gateway_state.proofs.SettledMeaning.{none_told}
 use Rattle.gateway_state.proofs.SettledWithheld.{owing_changed, with_subs}
-use Rattle.touched_rows.specs.Touched.{reads_told_on, update_notices_on, updates_told_on}
+use Rattle.touched_rows.specs.Touched.{owed_where, reads_told_on, update_notices_on, updates_told_on}
 use Rattle.touched_rows.proofs.LessGiven.{GivesNoMore, update_stays}
 use Rattle.touched_rows.proofs.Numbered.{same_number}
-use Rattle.touched_rows.proofs.Owing.{none_withheld, owed_where, owing_each, asks_alike}
+use Rattle.touched_rows.proofs.Owing.{none_withheld, owing_each, asks_alike}
 use Rattle.touched_rows.proofs.Passes.{from_reads}
 use Rattle.touched_rows.proofs.Shapes.{reads_told_shape, with_reads}
 use Rattle.touched_rows.proofs.Tellings.{less_reads_told}

@@ -1,10 +1,10 @@
 -- What is told on one variable, to one session, on one link, read or subscription alone.
-use Rattle.std.specs.Prelude.{ℕ, List, [], Bool, filter, filter_map, flat_map, map, Option, Some, None}
+use Rattle.std.specs.Prelude.{ℕ, List, [], Bool, true, if◌then◌else◌, filter, filter_map, flat_map, map, Option, Some, None}
 use Rattle.std.specs.List.{fold}
 use Rattle.channel_table.specs.declared.channels.Channel.{Channel}
 use Rattle.channel_table.specs.declared.reads.WaitingRead.{WaitingRead}
 use Rattle.channel_table.specs.declared.subs.ClientSub.{ClientSub}
-use Rattle.channel_table.specs.Subs.{is_sub_of}
+use Rattle.channel_table.specs.Subs.{is_sub_of, with_owed}
 use Rattle.link_table.specs.declared.links.Link.{Link}
 use Rattle.gateway_state.specs.declared.notice.ChannelNotice.{ChannelNotice}
 use Rattle.gateway_state.specs.declared.notice.ChannelNotice.TheVariants.{Disconnected}
@@ -88,6 +88,10 @@ abbrev pub one_read_told : WaitingRead → Gateway → Gateway
 one_read_told read w = read_told_if (read_notice w read) w
 
 -- UPDATES
+
+-- a subscription is owed an update where it passes
+abbrev pub owed_where : (ClientSub → Bool) → ClientSub → ClientSub
+owed_where passes sub = if passes sub then with_owed true sub else sub
 
 abbrev pub withheld_on : List ℕ → Gateway → List ClientSub
 withheld_on name w = filter (is_withheld w) (filter (is_sub_to w name) w.clients.subs)

@@ -1,5 +1,5 @@
 -- What each event touches.
-use Rattle.std.specs.Prelude.{ℕ, List, [], ◌∷◌, ◌++◌, filter, map, ◌==◌, if◌then◌else◌, Option, Some, None, Result, Ok, Err}
+use Rattle.std.specs.Prelude.{◌≡◌, ℕ, List, [], ◌∷◌, ◌++◌, filter, map, ◌==◌, if◌then◌else◌, Option, Some, None, Result, Ok, Err}
 use Rattle.std.specs.List.{find}
 use Rattle.ca_message.specs.declared.codes.TheConstants.{ECA_NORMAL}
 use Rattle.ca_message.specs.declared.reply.ReplyFault.{ReplyFault}
@@ -38,7 +38,7 @@ use Rattle.gateway_state.specs.Settled.{HasLinksApart}
 use Rattle.gateway_state.specs.Step.{consequences}
 use Rattle.gateway_state.specs.Subscribing.{is_on_sid, new_sub, sub_of, sub_verdict}
 use Rattle.gateway_state.specs.Told.{KnowRights}
-use Rattle.gateway_state.specs.Updates.{is_taking}
+use Rattle.gateway_state.specs.Updates.{is_sub_to, is_taking}
 use Rattle.gateway_state.specs.Variables.{channel_names, is_connected, is_creating, search_names}
 use Rattle.touched_rows.specs.declared.touched.Touched.{Touched}
 use Rattle.touched_rows.specs.declared.touched.Touched.TheVariants.{All, Gone, Nothing, Session, Variable, Value, Interest, Link as LinkOf, Links, Read, Subscription as SubscriptionTo}
@@ -86,6 +86,11 @@ IsReady (Links names) w = AreReady w
 IsReady (Gone names) w = Unit {0}
 IsReady (Read name read) w = KnowRights w
 IsReady (SubscriptionTo name sub) w = KnowRights w
+
+-- what was found on the way is what there is: where a value was touched, the subscriptions to its variable
+abbrev pub AreFound : Touched → List ClientSub → Gateway → Type 0
+AreFound (Value name) subs w = subs ≡ filter (is_sub_to w name) w.clients.subs
+AreFound touched subs w = Unit {0}
 
 -- CLIENTS' MESSAGES
 

@@ -1,5 +1,5 @@
 //! What is kept of what a variable told last.
-ghost use Rattle.std.specs.Prelude.{◌≡◌, ◌≤◌, ◌||◌, not, length, IsOk, IfOk, IsSome, OnOk, OnErr, Option, Some};
+ghost use Rattle.std.specs.Prelude.{◌≡◌, ◌≤◌, ◌||◌, not, length, slice_range, IsOk, IfOk, IsSome, OnOk, OnErr, Option, Some};
 ghost use Rattle.std.specs.Option.{option_copied, option_map};
 ghost use Rattle.std.specs.Ordering.{int_eq};
 ghost use Rattle.value_cache.specs.Held.{answer, are_there, covers_by, given, needs_by};
@@ -7,9 +7,14 @@ ghost use Rattle.value_cache.specs.Message.{IsReadable, IsDescription, held_in, 
 
 use crate::encodings::{Encoding, Encodings};
 use bytes::Bytes;
-use dbr_layout::{Base, Converted, Dbr, LayoutFault, Props, View, needs};
+use dbr_layout::{Base, Converted, Dbr, LayoutFault, Props, View, needs, own_part};
 use std::alloc::{AllocError, Global};
 use std::marker::Model;
+use std::ops::Range;
+
+/// Payloads of so many bytes and more are laid out anew for each answer: one that is held as it came may hold
+/// a block of many times its size, which shouldn't wait in outboxes.
+const FIRST_LAID_OUT: usize = 4096;
 
 /// A message as it came.
 #[derive(Debug, Drop)]
@@ -167,7 +172,8 @@ impl Cached {
     /// elements these are, and their payload. A count of 0 asks for those that are there. There is
     /// no answer where no value is held, where the type isn't had from it, where the type needs
     /// properties and none of the value's base are held, or where the payload would be too large.
-    /// Whether the count is covered isn't asked here. Where the encoding is kept, its payload is shared.
+    /// Whether the count is covered isn't asked here. Where the encoding is kept, its payload is shared,
+    /// and so is the message's own, where it is short and a part of it is that answer as it came.
     pub fn answer(
         &self,
         alloc: Global,
@@ -264,8 +270,41 @@ fn shared(encoding: &Encoding) -> Result<Option<(u32, Bytes)>, AllocError>
     Ok(Some((encoding.given, encoding.payload.clone()?)))
 }
 
-// What is answered of a message and of properties, laid out afresh.
+// What is answered of a message and of properties, where it isn't kept.
 fn encoded(
+    alloc: Global,
+    last: &Option<Message>,
+    described: &Option<Described>,
+    dtype: u16,
+    count: u32,
+) -> Result<Option<(u32, Bytes)>, AllocError>
+    requires readable { IsReadable last.now }
+    requires told { IsDescription described.now }
+    ensures ok { IfOk result (λ given. given ≡ answer dtype count (held_in last.now described.now)) }
+    ensures err { OnErr result (IsSome (answer dtype count (held_in last.now described.now))) }
+{
+    let Some(message) = last else {
+        return Ok(None);
+    };
+    if message.payload.len() < FIRST_LAID_OUT {
+        if let Some(part) = own_part(message.dtype, message.count, &message.payload, dtype, count) {
+            return part_of(message, part);
+        }
+    }
+    laid_out(alloc, last, described, dtype, count)
+}
+
+// All elements of a message, as a part of its payload, which is shared.
+fn part_of(message: &Message, part: Range<usize>) -> Result<Option<(u32, Bytes)>, AllocError>
+    requires ordered { part.start ≤ part.end }
+    requires within { part.end ≤ length message.now.payload }
+    ensures { IfOk result (λ given. given ≡ Some (message.now.count, slice_range message.now.payload part.start part.end)) }
+{
+    Ok(Some((message.count, message.payload.slice(part)?)))
+}
+
+// What is answered of a message and of properties, laid out afresh.
+fn laid_out(
     alloc: Global,
     last: &Option<Message>,
     described: &Option<Described>,

@@ -9,6 +9,7 @@
 //!   new message's alarm is another.
 //! - [`Cached::keep`] keeps what is answered under a type and a count until the next message, so that
 //!   all readers of these share one payload; [`Cached::kept`] tells how many are kept, at most eight.
+//!   Where a part of a message's payload is already what is answered, it is shared, and nothing is laid out.
 //!
 //! Each answer is what the value shows under that type and count, with the properties that are held,
 //! whatever is kept (`answer` and `given` in `specs/Held.antt`). A message gives itself back under its

@@ -99,6 +99,75 @@ shares 12 1
 hold 19 1 1: 00000000 3b9aca01 00000000 0000002b
 shares 5 1
 > false
+# A message that is its own answer is shared as it came, in each form without properties.
+hold 19 1 1: 00000000 3b9aca00 00000000 0000002a
+shares 19 1
+> true
+shares 19 0
+> true
+ask 19 0
+> 1 in 00000000 3b9aca00 00000000 0000002a
+shares 19 2
+> false
+shares 12 1
+> false
+hold 12 2 2: 00070001 0000002a 0000002b 00000000
+shares 12 0
+> true
+hold 5 1 1: 0000002a 00000000
+shares 5 1
+> true
+ask 5 1
+> 1 in 0000002a 00000000
+# One whose padding isn't zero, or is missing, isn't. Bytes behind the padding don't matter.
+hold 15 1 1: 00000000 3b9aca00 00000000 eeee0007
+shares 15 1
+> false
+ask 15 1
+> 1 in 00000000 3b9aca00 00000000 00000007
+hold 5 1 1: 0000002a 00000001
+shares 5 1
+> false
+ask 5 1
+> 1 in 0000002a 00000000
+hold 5 1 1: 0000002a
+shares 5 1
+> false
+hold 5 1 1: 0000002a 00*4 eeeeeeee
+shares 5 1
+> true
+ask 5 1
+> 1 in 0000002a 00000000
+# Its elements are shared under their plain type, where the bytes behind them are zero.
+hold 19 1 1: 00000000 3b9aca00 00000000 0000002a 00*8
+shares 5 1
+> true
+shares 5 0
+> true
+ask 5 0
+> 1 in 0000002a 00000000
+ask 19 0
+> 1 in 00000000 3b9aca00 00000000 0000002a
+shares 5 2
+> false
+shares 12 1
+> false
+hold 33 1 1: 00070001 00*40 0000002a 00*8
+shares 5 1
+> true
+ask 5 1
+> 1 in 0000002a 00000000
+# Where these aren't zero, the padding of what is given is.
+hold 19 1 1: 00000000 3b9aca00 00000000 0000002a 00000000 ee000000
+shares 5 1
+> true
+hold 19 1 1: 00000000 3b9aca00 00000000 0000002a 000000ee 00000000
+shares 5 1
+> false
+ask 5 1
+> 1 in 0000002a 00000000
+shares 19 1
+> true
 # Of nine encodings the first one goes, and is kept as the last one again.
 hold 19 1 9: 00000000 3b9aca01 00000000 0000002b
 keep 5 1

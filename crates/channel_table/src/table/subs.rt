@@ -84,25 +84,26 @@ impl Table {
         self.subs.count_on(name)
     }
 
-    /// The subscriptions to channels on this real name, in the order in which they were added. They are
-    /// counted as looked at.
-    pub fn subs_to(
+    /// Fills an empty list with the subscriptions to channels on this real name, in the order in which they
+    /// were added. They are counted as looked at.
+    pub fn list_subs_to(
         &self,
         visits: &mut Visits,
-        alloc: Global,
         name: &Name,
-    ) -> Result<Vec<ClientSub>, AllocError>
+        subs: &mut Vec<ClientSub>,
+    ) -> Result<(), AllocError>
         requires own { visits.old.brand ≡ self.now.brand }
-        ensures found { IfOk result (λ subs. subs.items ≡ filter (is_sub_to self.now.rows name.now) self.now.rows.subs) }
-        ensures visits { IfOk result (λ subs. visits.new.looks ≡ u64_saturate (visits.old.looks + length subs.items)) }
-        ensures bound { IfOk result (λ subs. visits.new.looks ≤ visits.old.looks + length subs.items) }
+        requires empty { subs.old.items ≡ [] }
+        ensures found { OnOk result (subs.new.items ≡ filter (is_sub_to self.now.rows name.now) self.now.rows.subs) }
+        ensures visits { OnOk result (visits.new.looks ≡ u64_saturate (visits.old.looks + length subs.new.items)) }
+        ensures bound { OnOk result (visits.new.looks ≤ visits.old.looks + length subs.new.items) }
         ensures no_less { visits.old.looks ≤ visits.new.looks }
         ensures own { visits.new.brand ≡ visits.old.brand }
     {
         self.subs.are_apart();
-        let subs = self.subs.all_on(name, alloc)?;
+        self.subs.list_on(name, subs)?;
         visits.count(subs.len());
-        Ok(subs)
+        Ok(())
     }
 
     /// Adds a subscription to the channel that it names. The caller sees to it that none of its ID

@@ -3,6 +3,7 @@
 //! - `stand`: a gate with connections, and bytes that are written as hexadecimal text; `paced`: a link in
 //!   memory that waits for another's.
 //! - `meeting`: sessions that are served at once, each by threads of its own.
+//! - `backlog`: clients that have said all before the core begins.
 //! - `serving`: a round of a client, the gateway and a server.
 //! - `gates`: each call of a gate, and `put` and `take` where they wait or are stopped.
 //! - `writers`: a writer to its end, and to a fault, and the buffer that it writes by.
@@ -12,6 +13,7 @@
 //!
 //! A new test gets a gate from `stand`, and does what it has to in functions that are generic over the
 //! runtime: threads are joined there.
+mod backlog;
 mod faulty;
 mod gates;
 mod meeting;

@@ -1,5 +1,5 @@
 use Rattle.std.proofs.lemmas.Bool.Decides.{nat_tests}
-use Rattle.std.proofs.Common.{◌≡◌, ◌<◌, List, Some, sym, subst, ◌∙◌, arith}
+use Rattle.std.proofs.Common.{◌≡◌, ◌<◌, List, Some, subst, ◌∙◌, arith}
 use Rattle.board_rings.proofs.AttachmentChanges.{free_as_found}
 use Rattle.board_rings.specs.Attachments.{attachment_of}
 use Rattle.board_rings.specs.Rings.{AttachmentState}

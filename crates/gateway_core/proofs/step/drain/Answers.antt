@@ -6,6 +6,7 @@ use Rattle.gateway_state.specs.Settled.{AreInOrder}
 use Rattle.gateway_state.proofs.OrderKept.{order_after_effect}
 use Rattle.touched_rows.specs.Touches.{follows, with_touched}
 use Rattle.touched_rows.proofs.KeptLate.{drain_keeps_none}
+use Rattle.touched_rows.proofs.NoneFound.{none_found_drained}
 use Rattle.touched_rows.proofs.Ready.{ready_as}
 use Rattle.touched_rows.proofs.ToldAlone.{step_alone}
 use Rattle.gateway_core.proofs.step.drain.Goals as goal
@@ -17,24 +18,29 @@ returns-in_err-follow-clause-used_up c = λ e.
     let returned = refused.1 in
     let converted = refused.2 in
     let was = c.in_err-follow.was in
-    let kept = ap (λ t. with_touched t c.take.new.self.state) c.drain_touches-touched.ensures ∙ drain_keeps_none c.take.new.self.state c.args.rows.now.state c.args.dest in
+    let same = c.alone-effect.ensures.touched ∙ c.drain_touches.ensures in
+    let kept = ap (λ t. with_touched t c.take.new.self.state) same ∙ drain_keeps_none c.take.new.self.state c.args.rows.now.state c.args.dest in
     ap is_past_numbers (step_alone c.args.rows.now.state (Drain c.args.dest c.args.count) c.requires.reached)
-    ∙ (λ i. is_past_numbers (follows (sym c.drain_touches-touched.ensures i) (sym c.in_ok-outs.ensures.ok i)))
-    ∙ ap (λ w. is_past_numbers (follows c.drain_touches-touched.result w)) (sym kept)
+    ∙ (λ i. is_past_numbers (follows (sym same i) (sym c.in_ok-outs.ensures.ok i)))
+    ∙ ap (λ w. is_past_numbers (follows c.alone-effect.result.touched w)) (sym kept)
     ∙ c.follow.ensures.used_up cc
 
 pub returns-clause-ok : goal.returns-clause-ok
 returns-clause-ok c =
-    let kept = ap (λ t. with_touched t c.take.new.self.state) c.drain_touches-touched.ensures ∙ drain_keeps_none c.take.new.self.state c.args.rows.now.state c.args.dest in
+    let same = c.alone-effect.ensures.touched ∙ c.drain_touches.ensures in
+    let kept = ap (λ t. with_touched t c.take.new.self.state) same ∙ drain_keeps_none c.take.new.self.state c.args.rows.now.state c.args.dest in
     c.in_ok-follow.ensures.ok
-    ∙ ap (follows c.drain_touches-touched.result) kept
-    ∙ (λ i. follows (c.drain_touches-touched.ensures i) (c.in_ok-outs.ensures.ok i))
+    ∙ ap (follows c.alone-effect.result.touched) kept
+    ∙ (λ i. follows (same i) (c.in_ok-outs.ensures.ok i))
     ∙ sym (step_alone c.args.rows.now.state (Drain c.args.dest c.args.count) c.requires.reached)
 
 -- numbers are in order after a drain, and clients know their rights
 pub follow-requires : goal.follow-requires
-follow-requires c = record {
-  order = subst AreInOrder (sym c.in_ok-outs.ensures.ok) (order_after_effect c.args.rows.now.state (Drain c.args.dest c.args.count) c.requires.reached);
-  told = ready_as c.args.rows.now.state (Drain c.args.dest c.args.count) c.requires.reached _ _ c.drain_touches-touched.ensures c.in_ok-outs.ensures.ok;
-  own = c.requires.own ∙ sym c.in_ok-outs.ensures.brand;
-}
+follow-requires c =
+    let same = c.alone-effect.ensures.touched ∙ c.drain_touches.ensures in
+    record {
+      order = subst AreInOrder (sym c.in_ok-outs.ensures.ok) (order_after_effect c.args.rows.now.state (Drain c.args.dest c.args.count) c.requires.reached);
+      told = ready_as c.args.rows.now.state (Drain c.args.dest c.args.count) c.requires.reached _ _ same c.in_ok-outs.ensures.ok;
+      found = none_found_drained c.take.new.self.state c.alone-effect.result.subs.items c.alone-effect.result.touched c.args.rows.now.state c.args.dest same;
+      own = c.requires.own ∙ sym c.in_ok-outs.ensures.brand;
+    }

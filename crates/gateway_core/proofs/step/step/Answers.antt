@@ -14,10 +14,11 @@ perform-requires c = record { ready = reached_is_ready c.args.rows.now.state c.r
 pub follow-requires : goal.follow-requires
 follow-requires c = record {
   order =
-      order_without c.in_ok-touched.touched c.perform.new.rows.state
-      (subst AreInOrder (sym c.in_ok-touched.ensures.ok) (order_after_effect c.args.rows.now.state c.args.event c.requires.reached));
+      order_without c.in_ok-effect.effect.touched c.perform.new.rows.state
+      (subst AreInOrder (sym c.in_ok-effect.ensures.ok) (order_after_effect c.args.rows.now.state c.args.event c.requires.reached));
   told =
-      ready_without c.in_ok-touched.touched c.perform.new.rows.state
-      (ready_as c.args.rows.now.state c.args.event c.requires.reached _ _ c.in_ok-touched.ensures.touched c.in_ok-touched.ensures.ok);
-  own = c.in_ok-touched.ensures.own ∙ c.requires.own ∙ sym c.in_ok-touched.ensures.brand;
+      ready_without c.in_ok-effect.effect.touched c.perform.new.rows.state
+      (ready_as c.args.rows.now.state c.args.event c.requires.reached _ _ c.in_ok-effect.ensures.touched c.in_ok-effect.ensures.ok);
+  found = c.in_ok-effect.ensures.found;
+  own = c.in_ok-effect.ensures.own ∙ c.requires.own ∙ sym c.in_ok-effect.ensures.brand;
 }

@@ -12,16 +12,11 @@ tell_link_on-requires-clause-order c =
     subst AreInOrder (sym before) (order_before_link c.args.name.now c.args.rows.now.state c.requires.order)
 
 -- and clients know their rights from the pass over channels on
-pub tell_value-requires : goal.tell_value-requires
-tell_value-requires c =
+pub tell_value-requires-clause-told : goal.tell_value-requires-clause-told
+tell_value-requires-clause-told c =
     let name = c.args.name.now in
     let before = c.in_ok-withhold_updates_on.ensures.ok ∙ ap (updates_withheld_on name) c.in_ok-tell_channels_on.ensures.ok in
     let order = subst AreInOrder (sym before) (order_before_link name c.args.rows.now.state c.requires.order) in
     let first = subst KnowRights (sym c.in_ok-tell_channels_on.ensures.ok) c.requires.told in
     let held = subst KnowRights (sym c.in_ok-withhold_updates_on.ensures.ok) (told_after_withheld name _ first) in
-    record {
-      told = subst KnowRights (sym c.in_ok-tell_link_on.ensures.ok) (told_after_link name _ order held);
-      own =
-          c.in_ok-withhold_updates_on.ensures.own ∙ c.in_ok-tell_channels_on.ensures.own ∙ c.requires.own
-          ∙ sym c.in_ok-tell_channels_on.ensures.brand ∙ sym c.in_ok-withhold_updates_on.ensures.brand ∙ sym c.in_ok-tell_link_on.ensures.brand;
-    }
+    subst KnowRights (sym c.in_ok-tell_link_on.ensures.ok) (told_after_link name _ order held)

@@ -1,10 +1,13 @@
-use Rattle.std.proofs.Common.{sym, ap, ◌∙◌}
-use Rattle.link_table.specs.declared.links.Subject.{Subject}
-use Rattle.gateway_state.specs.Servers.{is_heard}
-use Rattle.server_messages.proofs.Described.{description_tells}
+use Rattle.std.proofs.Common.{◌≡◌, subst}
+use Rattle.std.specs.Prelude.{OnOk}
+use Rattle.value_cache.specs.Held.{Held}
+use Rattle.gateway_state.specs.Servers.{with_held}
+use Rattle.server_messages.proofs.Longer.{held_as_kept}
 use Rattle.server_messages.proofs.update.keep.Goals as goal
 
--- properties are told without the element too
-pub put_properties-requires : goal.put_properties-requires
-put_properties-requires c =
-    description_tells c.args.native c.args.dtype c.args.count c.args.payload (sym (ap (λ (subject : Subject). is_heard subject c.args.native c.args.asked_with c.args.dtype c.args.count c.args.payload) c.in-Properties.is) ∙ c.requires)
+-- what is kept says what the payload says
+pub returns-clause-ok : goal.returns-clause-ok
+returns-clause-ok c =
+    subst (λ (change : Held → Held). OnOk c.put.result (c.put.new.rows.state ≡ with_held c.args.server c.args.cid change c.args.rows.now.state))
+    (held_as_kept c.args.subject c.args.native c.args.asked_with c.args.dtype c.args.count c.args.payload c.in_ok-kept.kept c.in_ok-kept.ensures c.requires)
+    c.put.ensures.ok

@@ -1,6 +1,6 @@
 use Rattle.std.proofs.Common.{◌≡◌, ◌++◌, drop}
 use Rattle.channel_table.specs.Indexes.{rows_at, sub_key}
-use Rattle.channel_table.proofs.subs.subs_at.Given as goal
+use Rattle.channel_table.proofs.subs.list_at.Given as goal
 
 -- those taken so far and those that are left are all
 abbrev pub invariant-loop-key : goal.invariant-loop-key

@@ -4,11 +4,11 @@ use Rattle.channel_table.specs.ClientRows.{is_sub_to}
 use Rattle.channel_table.specs.Indexes.{sub_key, is_to}
 use Rattle.channel_table.specs.Looks.{BrandedRows}
 use Rattle.channel_table.proofs.Listed.{rows_listed}
-use Rattle.channel_table.proofs.table.Table.subs_to.Goals as goal
+use Rattle.channel_table.proofs.table.Table.list_subs_to.Goals as goal
 
 -- the keys of the name are those of the subscriptions to it
 pub returns-clause-found : goal.returns-clause-found
 returns-clause-found c =
-    c.in_ok-subs.ensures
+    c.in_ok-list_on.ensures.listed
     ∙ rows_listed sub_key (is_to c.self.inside.channels) c.self.inside.subs.rows c.self.inside.subs.on c.args.name.now c.are_apart.ensures c.self.invariant.subs_follow.listed
     ∙ ap (λ (t : BrandedRows). filter (is_sub_to t.rows c.args.name.now) t.rows.subs) c.self.view_is
