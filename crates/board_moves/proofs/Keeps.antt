@@ -1,5 +1,5 @@
 -- Each call of a board leaves it with a history.
-use Rattle.std.proofs.Common.{◌≡◌, ℕ, List, [], ◌∷◌, Bool, true, false, Option, Some, None, Result, Ok, Err, inl, inr, filter, not, ◌||◌, if◌then◌else◌, refl, subst, sym, ap, ◌∙◌}
+use Rattle.std.proofs.Common.{◌≡◌, ℕ, zero, suc, List, [], ◌∷◌, Bool, true, false, Option, Some, None, Result, Ok, Err, inl, inr, filter, not, ◌||◌, if◌then◌else◌, refl, subst, sym, ap, ◌∙◌}
 use Rattle.std.specs.Prelude.{⊤, IfOk, OnErr}
 use Rattle.std.specs.List.{list_any}
 use Rattle.gateway_calls.specs.declared.fault.StepFault.TheVariants as steps
@@ -15,7 +15,7 @@ use Rattle.board_history.proofs.Goes.{attached_has_history, desk_failed_has_hist
 use Rattle.board_moves.specs.Answers.{IsDesk, IsPump, IsSendOut}
 use Rattle.board_moves.specs.declared.rounds.Call.{Call}
 use Rattle.board_moves.specs.declared.rounds.Call.TheVariants.{Pump, SendOut}
-use Rattle.board_moves.specs.Rounds.{batch_calls, round_calls, IsBatch, IsBatchOn, IsRound, IsRoundOn, Performs, PerformsAll, PerformsUpTo}
+use Rattle.board_moves.specs.Rounds.{round_calls, AreRounds, IsBatch, IsRound, IsRoundOn, Performs, PerformsAll, PerformsUpTo}
 use Rattle.board_moves.specs.declared.fault.BoardFault.{BoardFault}
 use Rattle.board_moves.specs.declared.fault.BoardFault.TheVariants.{OutOfMemory, Attached, NotHere, Step}
 
@@ -69,12 +69,13 @@ round_on_keeps (Some w) old answer new p h = up_to_keeps (round_calls old.attach
 pub round_keeps : (old : BoardState) (answer : Result ℕ BoardFault) (new : BoardState) → IsRound old answer new → HasHistory old → HasHistory new
 round_keeps old answer new p h = round_on_keeps old.rows old answer new p h
 
-batch_on_keeps : (rows : Option Gateway) (old : BoardState) (answer : Result ℕ BoardFault) (new : BoardState) → IsBatchOn rows old answer new → HasHistory old → HasHistory new
-batch_on_keeps None old answer new p h = subst HasHistory (sym p.1) h
-batch_on_keeps (Some w) old answer new p h = up_to_keeps (batch_calls old.attachments p.0) old answer new p.1 h
+rounds_keep : (earlier : ℕ) (old : BoardState) (answer : Result ℕ BoardFault) (new : BoardState) → AreRounds earlier old answer new → HasHistory old → HasHistory new
+rounds_keep zero old answer new p h = round_keeps old answer new p h
+rounds_keep (suc earlier) old answer new (count, (last, (between, (before, (one, told))))) h =
+    round_keeps between last new one (rounds_keep earlier old (Ok count) between before h)
 
 pub batch_keeps : (old : BoardState) (answer : Result ℕ BoardFault) (new : BoardState) → IsBatch old answer new → HasHistory old → HasHistory new
-batch_keeps old answer new p h = batch_on_keeps old.rows old answer new p h
+batch_keeps old answer new (earlier, all) h = rounds_keep earlier old answer new all h
 
 -- a connection that wasn't attached leaves all attachments
 none_left_out : (dest : Dest) (attachments : List AttachmentState) → is_attached dest attachments ≡ false → filter (is_not_attachment_of dest) attachments ≡ attachments

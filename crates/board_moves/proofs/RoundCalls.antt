@@ -11,7 +11,7 @@ use Rattle.board_rings.specs.Rings.{AttachmentState}
 use Rattle.board_history.specs.Board.{BoardState}
 use Rattle.board_moves.proofs.Performed.{ended_then, one_done, one_refused, performed_then}
 use Rattle.board_moves.specs.Answers.{board_of}
-use Rattle.board_moves.specs.Rounds.{batch_calls, dests_of, passes_over, round_calls, told_count, HasPassed, IsBatch, IsBatchOn, IsRound, IsRoundOn, Performs, PerformsAll, PerformsUpTo}
+use Rattle.board_moves.specs.Rounds.{dests_of, round_calls, told_count, IsRound, IsRoundOn, Performs, PerformsAll, PerformsUpTo}
 use Rattle.board_moves.specs.declared.fault.BoardFault.{BoardFault}
 use Rattle.board_moves.specs.declared.rounds.Call.{Call}
 use Rattle.board_moves.specs.declared.rounds.Call.TheVariants.{Pump, SendOut}
@@ -170,62 +170,5 @@ round_ends engine asked pumped after attachments between left received sent tota
     round_of engine asked after attachments left (Ok total) some same
     (
     all_follow (map Pump (dests_of attachments)) (map SendOut (dests_of attachments)) (board_of asked attachments) (board_of pumped between) (board_of after left) received sent total all
-    (subst (λ (ds : List Dest). PerformsUpTo (map SendOut ds) (board_of pumped between) (Ok sent) (board_of after left)) dests others) is
-    )
-
--- PASSES
-
--- one pass more, behind others
-pub one_pass_more : (attachments between : List AttachmentState) (start now next : BoardState) (passes moved count moved_now : ℕ) → dests_of between ≡ dests_of attachments
-    → PerformsUpTo (passes_over (dests_of attachments) passes) start (Ok moved) now → PerformsUpTo (map Pump (dests_of between)) now (Ok count) next → moved_now ≡ min (moved + count) (2 ^ 64 - 1)
-    → PerformsUpTo (passes_over (dests_of attachments) (suc passes)) start (Ok moved_now) next
-one_pass_more attachments between start now next passes moved count moved_now same so_far one is =
-    all_follow (passes_over (dests_of attachments) passes) (map Pump (dests_of attachments)) start now next moved count moved_now so_far
-    (subst (λ (ds : List Dest). PerformsUpTo (map Pump ds) now (Ok count) next) same one) is
-
-pub pass_refused : (attachments between : List AttachmentState) (start now next : BoardState) (passes moved : ℕ) (fault : BoardFault) → dests_of between ≡ dests_of attachments
-    → PerformsUpTo (passes_over (dests_of attachments) passes) start (Ok moved) now → PerformsUpTo (map Pump (dests_of between)) now (Err fault) next
-    → PerformsUpTo (passes_over (dests_of attachments) (suc passes)) start (Err fault) next
-pass_refused attachments between start now next passes moved fault same so_far one =
-    fault_follows (passes_over (dests_of attachments) passes) (map Pump (dests_of attachments)) start now next moved fault so_far
-    (subst (λ (ds : List Dest). PerformsUpTo (map Pump ds) now (Err fault) next) same one)
-
--- WHOLE BATCHES
-
-batch_on : (rows : Option Gateway) (old : BoardState) (answer : Result ℕ BoardFault) (new : BoardState) (more : ℕ) → IsSome rows → PerformsUpTo (batch_calls old.attachments more) old answer new → IsBatchOn rows old answer new
-batch_on None old answer new more some all = absurd cc
-batch_on (Some w) old answer new more some all = (more, all)
-
--- the batch begins where the engine was asked whether it failed
-batch_of : (engine asked after : Option Gateway) (attachments left : List AttachmentState) (answer : Result ℕ BoardFault) (more : ℕ) → IsSome engine → asked ≡ engine
-    → PerformsUpTo (batch_calls attachments more) (board_of asked attachments) answer (board_of after left) → IsBatch (board_of engine attachments) answer (board_of after left)
-batch_of engine asked after attachments left answer more some same all =
-    batch_on engine (board_of engine attachments) answer (board_of after left) more some
-    (subst (λ (rows : Option Gateway). PerformsUpTo (batch_calls attachments more) (record { rows = rows; attachments = attachments }) answer (board_of after left)) same all)
-
-pub passes_end : (engine asked after : Option Gateway) (attachments left : List AttachmentState) (fault : BoardFault) → IsSome engine → asked ≡ engine
-    → HasPassed attachments (board_of asked attachments) (Err fault) (board_of after left) → IsBatch (board_of engine attachments) (Err fault) (board_of after left)
-passes_end engine asked after attachments left fault some same (more, all) =
-    batch_of engine asked after attachments left (Err fault) more some same
-    (fault_ends (passes_over (dests_of attachments) (suc more)) (map SendOut (dests_of attachments)) (board_of asked attachments) (board_of after left) fault all)
-
-pub batch_sends_end : (engine asked pumped after : Option Gateway) (attachments between left : List AttachmentState) (received : ℕ) (fault : BoardFault) → IsSome engine → asked ≡ engine → dests_of between ≡ dests_of attachments
-    → HasPassed attachments (board_of asked attachments) (Ok received) (board_of pumped between)
-    → PerformsUpTo (map SendOut (dests_of between)) (board_of pumped between) (Err fault) (board_of after left) → IsBatch (board_of engine attachments) (Err fault) (board_of after left)
-batch_sends_end engine asked pumped after attachments between left received fault some same dests (more, all) others =
-    batch_of engine asked after attachments left (Err fault) more some same
-    (
-    fault_follows (passes_over (dests_of attachments) (suc more)) (map SendOut (dests_of attachments)) (board_of asked attachments) (board_of pumped between) (board_of after left) received fault all
-    (subst (λ (ds : List Dest). PerformsUpTo (map SendOut ds) (board_of pumped between) (Err fault) (board_of after left)) dests others)
-    )
-
-pub batch_ends : (engine asked pumped after : Option Gateway) (attachments between left : List AttachmentState) (received sent total : ℕ) → IsSome engine → asked ≡ engine → dests_of between ≡ dests_of attachments
-    → HasPassed attachments (board_of asked attachments) (Ok received) (board_of pumped between)
-    → PerformsUpTo (map SendOut (dests_of between)) (board_of pumped between) (Ok sent) (board_of after left) → total ≡ min (received + sent) (2 ^ 64 - 1)
-    → IsBatch (board_of engine attachments) (Ok total) (board_of after left)
-batch_ends engine asked pumped after attachments between left received sent total some same dests (more, all) others is =
-    batch_of engine asked after attachments left (Ok total) more some same
-    (
-    all_follow (passes_over (dests_of attachments) (suc more)) (map SendOut (dests_of attachments)) (board_of asked attachments) (board_of pumped between) (board_of after left) received sent total all
     (subst (λ (ds : List Dest). PerformsUpTo (map SendOut ds) (board_of pumped between) (Ok sent) (board_of after left)) dests others) is
     )

@@ -64,23 +64,17 @@ IsRoundOn (Some w) old answer new = PerformsUpTo (round_calls old.attachments) o
 abbrev pub IsRound : BoardState → Result ℕ BoardFault → BoardState → Type 0
 IsRound old answer new = IsRoundOn old.rows old answer new
 
--- pumps for each of these connections in order, so many times
-abbrev pub passes_over : List Dest → ℕ → List Call
-passes_over dests zero = []
-passes_over dests (suc passes) = passes_over dests passes ++ map Pump dests
+-- rounds one after another: so many that were Ok, and then a last one. How many items were moved together is told up to
+-- the largest number that can be told
+abbrev pub told_sum : ℕ → Result ℕ BoardFault → Result ℕ BoardFault
+told_sum count (Ok more) = Ok (min (count + more) (2 ^ 64 - 1))
+told_sum count (Err fault) = Err fault
 
--- one pass or more
-abbrev pub HasPassed : List AttachmentState → BoardState → Result ℕ BoardFault → BoardState → Type 0
-HasPassed attachments old answer new = (more : ℕ) × PerformsUpTo (passes_over (dests_of attachments) (suc more)) old answer new
+abbrev pub AreRounds : ℕ → BoardState → Result ℕ BoardFault → BoardState → Type 0
+AreRounds zero old answer new = IsRound old answer new
+AreRounds (suc earlier) old answer new =
+    (count : ℕ) × ((last : Result ℕ BoardFault) × ((between : BoardState) × (AreRounds earlier old (Ok count) between × (IsRound between last new × (answer ≡ told_sum count last)))))
 
--- one pass or more, and then a send-out for each
-abbrev pub batch_calls : List AttachmentState → ℕ → List Call
-batch_calls attachments more = passes_over (dests_of attachments) (suc more) ++ map SendOut (dests_of attachments)
-
-abbrev pub IsBatchOn : Option Gateway → BoardState → Result ℕ BoardFault → BoardState → Type 0
-IsBatchOn None old answer new = (answer ≡ Err (Step steps.Failed)) × (new ≡ old)
-IsBatchOn (Some w) old answer new = (more : ℕ) × PerformsUpTo (batch_calls old.attachments more) old answer new
-
--- a round that pumps once or more often before it sends out; on a board that has failed there is none
+-- one round or more, up to the first fault
 abbrev pub IsBatch : BoardState → Result ℕ BoardFault → BoardState → Type 0
-IsBatch old answer new = IsBatchOn old.rows old answer new
+IsBatch old answer new = (earlier : ℕ) × AreRounds earlier old answer new

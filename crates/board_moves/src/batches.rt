@@ -1,52 +1,23 @@
-//! A batch: pumps for each connection, once or more often, and then a send-out for each.
-ghost use Rattle.std.specs.Prelude.{◌≡◌, IsSome};
+//! A batch: rounds one after another.
 ghost use Rattle.board_moves.specs.Answers.{board_of, KeepsRings};
-ghost use Rattle.board_moves.specs.Rounds.{dests_of, HasPassed, IsBatch};
+ghost use Rattle.board_moves.specs.Rounds.{IsBatch};
 
 use crate::fault::BoardFault;
-use crate::moves::has_failed;
 use crate::news::News;
-use crate::rounds::{pump_all, send_all};
+use crate::rounds::round;
 use board_rings::Attachments;
-use gateway_calls::{GatewayCalls, StepFault};
+use gateway_calls::GatewayCalls;
 
-/// How often a batch pumps each connection at most. So many messages for one client are then written at once.
-const MOST_PASSES: usize = 32;
+/// How many rounds a batch has at most. So many messages for one client are then written at once.
+const MOST_ROUNDS: usize = 32;
 
-/// After so many items a batch pumps no more: where many connections have said something, whoever waits for an
-/// answer or for the lock waits for no more than their work.
-const MOST_RECEIVED: usize = 128;
+/// Once so many items were moved no round follows: where many connections have said something, whoever waits for
+/// an answer or for the lock waits for no more than their work.
+const MOST_MOVED: usize = 512;
 
-/// Pumps each attached connection, in order, once, and again as long as items were seen that are left and few
-/// were received, a bounded number of times: each pass takes one item of each connection, so none is starved.
-fn pump_passes<G: GatewayCalls>(
-    gate: &mut G,
-    attachments: &mut Attachments,
-    news: &mut News,
-) -> Result<usize, BoardFault>
-    requires stands { IsSome (G.state gate.old) }
-    ensures calls { HasPassed attachments.old (board_of (G.state gate.old) attachments.old) result (board_of (G.state gate.new) attachments.new) }
-    ensures dests { dests_of attachments.new ≡ dests_of attachments.old }
-    ensures rings { KeepsRings attachments.old attachments.new }
-{
-    let mut moved = match pump_all(gate, attachments, news) {
-        Ok(count) => count,
-        Err(fault) => return Err(fault),
-    };
-    for _ in 1..MOST_PASSES {
-        if !news.has_left() || moved >= MOST_RECEIVED {
-            return Ok(moved);
-        }
-        match pump_all(gate, attachments, news) {
-            Ok(count) => moved = moved.saturating_add(count),
-            Err(fault) => return Err(fault),
-        }
-    }
-    Ok(moved)
-}
-
-/// Passes over the attached connections that pump each, then a send-out to each, up to the first fault. It
-/// answers how many items were moved.
+/// Performs a round, and others behind it as long as one saw items that it left and few were moved. It answers
+/// how many items were moved. Each round takes one item of each connection, so none is starved, and sends out
+/// before the next, so that nothing is lost that waited for a connection whose end comes behind.
 pub(crate) fn batch<G: GatewayCalls>(
     gate: &mut G,
     attachments: &mut Attachments,
@@ -55,15 +26,18 @@ pub(crate) fn batch<G: GatewayCalls>(
     ensures batch { IsBatch (board_of (G.state gate.old) attachments.old) result (board_of (G.state gate.new) attachments.new) }
     ensures rings { KeepsRings attachments.old attachments.new }
 {
-    if has_failed(gate) {
-        return Err(BoardFault::Step(StepFault::Failed));
-    }
-    let received = match pump_passes(gate, attachments, news) {
-        Ok(received) => received,
+    let mut moved = match round(gate, attachments, news) {
+        Ok(count) => count,
         Err(fault) => return Err(fault),
     };
-    match send_all(gate, attachments, news) {
-        Ok(sent) => Ok(received.saturating_add(sent)),
-        Err(fault) => Err(fault),
+    for _ in 1..MOST_ROUNDS {
+        if !news.has_left() || moved >= MOST_MOVED {
+            return Ok(moved);
+        }
+        match round(gate, attachments, news) {
+            Ok(count) => moved = moved.saturating_add(count),
+            Err(fault) => return Err(fault),
+        }
     }
+    Ok(moved)
 }

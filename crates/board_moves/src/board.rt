@@ -138,9 +138,8 @@ impl<G: GatewayCalls + Drop> Board<G> {
         rounds::round(&mut self.gate, &mut self.attachments, &mut self.news)
     }
 
-    /// Pumps each attached connection, and again as long as items are left that it saw, a bounded number of
-    /// times, then sends out to each: a round with more than one pump. It answers how many items were moved.
-    #[tactic(auto, using(crate::proofs::Keeps::batch_keeps))]
+    /// Performs a round, and again as long as one saw items that it left, a bounded number of times, up to the
+    /// first fault. It answers how many items were moved.
     pub fn batch(&mut self) -> Result<usize, BoardFault>
         ensures batch { IsBatch self.old result self.new }
         ensures rings { KeepsRings self.old.attachments self.new.attachments }

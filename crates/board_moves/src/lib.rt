@@ -7,7 +7,7 @@
 //! - [`Board::attach`] gives a connection its rings, [`Board::retire`] takes the board's ends off;
 //! - [`Board::pump`] receives one item and performs its event, [`Board::send_out`] takes messages of the
 //!   connection and pushes them, [`Board::round`] does both for all connections in order, and
-//!   [`Board::batch`] the first several times before it does the second;
+//!   [`Board::batch`] does that several times;
 //! - [`Board::desk`] performs an event that comes through no ring.
 //!
 //! Whatever was called, the board has a history (`board_history`): its rows are those of a run of the

@@ -30,7 +30,7 @@ pub struct Traffic {
 }
 
 /// The seats of those connections whose workers may go on after what was moved, how much was moved, and whether
-/// items were left. No contract speaks of them: who is woken, what is counted, and how soon a pass follows another
+/// items were left. No contract speaks of them: who is woken, what is counted, and how soon a round follows another
 /// is no part of what a board does.
 #[derive(Clone, Copy, Debug)]
 pub struct News {
@@ -52,12 +52,12 @@ impl News {
         }
     }
 
-    /// A pass over the connections begins, which saw no items yet that it leaves.
-    pub fn begin_pass(&mut self) {
+    /// The pumps of a round begin, which saw no items yet that they leave.
+    pub fn begin_round(&mut self) {
         self.left = false;
     }
 
-    /// Whether the last pass left items that it saw.
+    /// Whether the last round left items that it saw.
     pub fn has_left(&self) -> bool {
         self.left
     }

@@ -40,7 +40,7 @@ fn pump_one<G: GatewayCalls>(
 
 /// Pumps each attached connection, in order, on a gateway that hasn't failed.
 #[tactic(auto, using(crate::proofs::RoundCalls::next_performed))]
-pub(crate) fn pump_all<G: GatewayCalls>(
+fn pump_all<G: GatewayCalls>(
     gate: &mut G,
     attachments: &mut Attachments,
     news: &mut News,
@@ -51,7 +51,7 @@ pub(crate) fn pump_all<G: GatewayCalls>(
     ensures dests { dests_of attachments.new ≡ dests_of attachments.old }
     ensures rings { KeepsRings attachments.old attachments.new }
 {
-    news.begin_pass();
+    news.begin_round();
     let mut moved = 0usize;
     for n in 0..attachments.len() {
         let Some(dest) = attachments.dest(n) else {
@@ -67,7 +67,7 @@ pub(crate) fn pump_all<G: GatewayCalls>(
 
 /// Sends out to each attached connection, in order.
 #[tactic(auto, using(crate::proofs::RoundCalls::next_performed))]
-pub(crate) fn send_all<G: GatewayCalls>(
+fn send_all<G: GatewayCalls>(
     gate: &mut G,
     attachments: &mut Attachments,
     news: &mut News,

@@ -310,7 +310,7 @@ impl<G: GatewayCalls + Drop> GateOver<G> {
         self.next_turn(rt, Pace::Round)
     }
 
-    /// The same by batches, each of which may pump several items of a connection before it sends out.
+    /// The same by batches, each of which is one round or more under one lock.
     pub fn batch<R: Wait>(&self, rt: &R) -> Turn {
         self.next_turn(rt, Pace::Batch)
     }

@@ -15,7 +15,7 @@ pub enum CoreEnd {
 /// engine has failed.
 pub fn serve_core<R: Wait>(rt: &R, gate: &Gate) -> CoreEnd {
     for _ in rt.forever() {
-        match gate.turn(rt) {
+        match gate.batch(rt) {
             Turn::Moved => (),
             Turn::Closed => return CoreEnd::Closed,
             Turn::Failed => return CoreEnd::GateFailed,

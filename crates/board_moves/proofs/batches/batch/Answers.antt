@@ -1,37 +1,22 @@
-use Rattle.std.proofs.Common.{arith}
+use Rattle.std.proofs.Common.{◌≡◌, ◌+◌, ◌-◌, min, Ok, Err, suc, ap, refl, arith}
+use Rattle.std.specs.Prelude.{◌^◌}
 use Rattle.board_moves.proofs.Changed.{rings_stay}
-use Rattle.board_moves.proofs.Moved.{has_rows}
-use Rattle.board_moves.proofs.RoundCalls.{batch_ends, batch_sends_end, passes_end}
+use Rattle.board_moves.specs.Answers.{board_of}
 use Rattle.board_moves.proofs.batches.batch.Goals as goal
 
--- a pump was refused
-pub returns-in-Err : goal.returns-in-Err
-returns-in-Err g c =
-    let some = has_rows c.has_failed.result (g.G.GatewayCalls.state c.args.gate.now) c.has_failed.ensures.failed c.if-has_failed.false in
-    record {
-      batch =
-          passes_end (g.G.GatewayCalls.state c.args.gate.now) (g.G.GatewayCalls.state c.has_failed.new.gate) (g.G.GatewayCalls.state c.pump_passes.new.gate) c.args.attachments.now c.pump_passes.new.attachments c.in-Err.fault some c.has_failed.ensures.same c.in-Err.ensures.calls;
-      rings = c.pump_passes.ensures.rings;
-    }
+-- the first round met a fault
+pub returns-in-Err-clause-batch : goal.returns-in-Err-clause-batch
+returns-in-Err-clause-batch g c = (0, c.in-Err.ensures.round)
 
--- all calls were performed
-pub returns-in-Ok-send_all : goal.returns-in-Ok-send_all
-returns-in-Ok-send_all g c =
-    let some = has_rows c.has_failed.result (g.G.GatewayCalls.state c.args.gate.now) c.has_failed.ensures.failed c.if-has_failed.false in
-    record {
-      batch =
-          batch_ends (g.G.GatewayCalls.state c.args.gate.now) (g.G.GatewayCalls.state c.has_failed.new.gate) (g.G.GatewayCalls.state c.pump_passes.new.gate) (g.G.GatewayCalls.state c.send_all.new.gate) c.args.attachments.now c.pump_passes.new.attachments c.send_all.new.attachments c.in-Ok.received c.in-Ok-send_all.sent
-          c.saturating_add.result some c.has_failed.ensures.same c.pump_passes.ensures.dests c.in-Ok.ensures.calls c.in-Ok-send_all.ensures.calls (omega (arith, c.saturating_add.ensures));
-      rings = rings_stay c.args.attachments.now c.pump_passes.new.attachments c.send_all.new.attachments c.pump_passes.ensures.rings c.send_all.ensures.rings;
-    }
+-- a later one did
+pub returns-in-Err-round-clause-batch : goal.returns-in-Err-round-clause-batch
+returns-in-Err-round-clause-batch g c =
+    (suc c.loop.invariant.0.0, (c.loop.moved, (Err c.in-Err-round.fault, (board_of (g.G.GatewayCalls.state c.loop.gate) c.loop.attachments, (c.loop.invariant.0.1, (c.in-Err-round.ensures.round, refl))))))
 
--- a send-out was refused
-pub returns-in-Err-send_all : goal.returns-in-Err-send_all
-returns-in-Err-send_all g c =
-    let some = has_rows c.has_failed.result (g.G.GatewayCalls.state c.args.gate.now) c.has_failed.ensures.failed c.if-has_failed.false in
-    record {
-      batch =
-          batch_sends_end (g.G.GatewayCalls.state c.args.gate.now) (g.G.GatewayCalls.state c.has_failed.new.gate) (g.G.GatewayCalls.state c.pump_passes.new.gate) (g.G.GatewayCalls.state c.send_all.new.gate) c.args.attachments.now c.pump_passes.new.attachments c.send_all.new.attachments c.in-Ok.received c.in-Err-send_all.fault some
-          c.has_failed.ensures.same c.pump_passes.ensures.dests c.in-Ok.ensures.calls c.in-Err-send_all.ensures.calls;
-      rings = rings_stay c.args.attachments.now c.pump_passes.new.attachments c.send_all.new.attachments c.pump_passes.ensures.rings c.send_all.ensures.rings;
-    }
+-- one round more was performed
+pub loop-preserved : goal.loop-preserved
+loop-preserved g c =
+    let told : c.saturating_add-moved.result ≡ min (c.loop.moved + c.in-Ok-round.count) (2 ^ 64 - 1) = omega (arith, c.saturating_add-moved.ensures) in (
+      (suc c.loop.invariant.0.0, (c.loop.moved, (Ok c.in-Ok-round.count, (board_of (g.G.GatewayCalls.state c.loop.gate) c.loop.attachments, (c.loop.invariant.0.1, (c.in-Ok-round.ensures.round, ap Ok told)))))),
+      rings_stay c.args.attachments.now c.loop.attachments c.round-in-loop.new.attachments c.loop.invariant.1 c.round-in-loop.ensures.rings,
+    )
