@@ -66,14 +66,14 @@ IsRound old answer new = IsRoundOn old.rows old answer new
 
 -- rounds one after another: so many that were Ok, and then a last one. How many items were moved together is told up to
 -- the largest number that can be told
-abbrev pub told_sum : ℕ → Result ℕ BoardFault → Result ℕ BoardFault
-told_sum count (Ok more) = Ok (min (count + more) (2 ^ 64 - 1))
-told_sum count (Err fault) = Err fault
+abbrev pub told_together : ℕ → Result ℕ BoardFault → Result ℕ BoardFault
+told_together count (Ok more) = Ok (min (count + more) (2 ^ 64 - 1))
+told_together count (Err fault) = Err fault
 
 abbrev pub AreRounds : ℕ → BoardState → Result ℕ BoardFault → BoardState → Type 0
 AreRounds zero old answer new = IsRound old answer new
 AreRounds (suc earlier) old answer new =
-    (count : ℕ) × ((last : Result ℕ BoardFault) × ((between : BoardState) × (AreRounds earlier old (Ok count) between × (IsRound between last new × (answer ≡ told_sum count last)))))
+    (count : ℕ) × ((last : Result ℕ BoardFault) × ((between : BoardState) × (AreRounds earlier old (Ok count) between × (IsRound between last new × (answer ≡ told_together count last)))))
 
 -- one round or more, up to the first fault
 abbrev pub IsBatch : BoardState → Result ℕ BoardFault → BoardState → Type 0
