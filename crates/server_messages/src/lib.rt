@@ -7,7 +7,7 @@
 //! the client that waits for it.
 //! Any other message is ignored. `find_at` makes a link for a variable that is wanted and has none
 //! (`found`). What follows for clients isn't told here; `hear_server` answers what was touched
-//! (`reply_touches`). A refusal leaves the rows half done; it says that numbers are used up only where
+//! (`reply_touches`), and of a value the subscriptions to its variable. A refusal leaves the rows half done; it says that numbers are used up only where
 //! the link would get a number past the last one.
 #![tactic(auto)]
 
