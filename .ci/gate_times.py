@@ -79,7 +79,7 @@ def task_of(words):
 
 
 def task_at(number):
-    """The same of a process that runs; one in a copy made for an edit tries that edit."""
+    """The same of a process that runs; one in a copy made for edits tries these."""
     words = text_of(f"/proc/{number}/cmdline").split("\0")[:-1]
     # (what rt puts before each command it starts)
     if "-ISc" in words:
@@ -87,7 +87,7 @@ def task_at(number):
     task = task_of(words)
     if task and task[1] == "proof":
         try:
-            return (task[0], "edits") if "/rt-edit-" in os.readlink(f"/proc/{number}/cwd") + "/" else task
+            return (task[0], "edits") if re.search("/rt-edit-|/also-refused-", os.readlink(f"/proc/{number}/cwd")) else task
         except OSError:
             return task
     return task

@@ -19,9 +19,9 @@ A wrong body is a small edit of a crate's code that turns the meaning of one pro
 case, a dropped write. It compiles, and the prover of that crate refuses it, so no such program is built. Each
 stands in a file, an old and a new text, whose name is the sentence below.
 
-The gate (`rt ci`) tries those of `must-fail/` on every change, each alone, and fails where one is proved. Those of
-`also-refused/` are tried by hand, with `.ci/also_refused.py`, when that crate's contracts change and before a
-release. [CONTRIBUTING.md](../CONTRIBUTING.md) says how one is written.
+`rt ci` tries those of `must-fail/` on every change, each alone. Behind it the gate tries those of `also-refused/` for a
+quarter of an hour: first those of crates that changed, then others, which come round in later runs. Both fail where
+one is proved. [CONTRIBUTING.md](../CONTRIBUTING.md) says how one is written.
 
 """
 
@@ -42,7 +42,7 @@ def sentences(crate, folder):
 def section(crate, gate, hand):
     """What is listed of a crate."""
     parts = [f"## {crate}\n\n"]
-    for title, lines in ((f"Tried by the gate, {len(gate)}:", gate), (f"Tried by hand, {len(hand)}:", hand)):
+    for title, lines in ((f"Tried by every run, {len(gate)}:", gate), (f"Tried in turn, {len(hand)}:", hand)):
         if lines:
             parts.append(title + "\n\n" + "".join(f"- {line}\n" for line in lines) + "\n")
     return "".join(parts)
@@ -53,7 +53,7 @@ def pages():
     found = [(crate, sentences(crate, "must-fail"), sentences(crate, "also-refused")) for crate in crates()]
     found = [it for it in found if it[1] or it[2]]
     gate, hand = sum(len(it[1]) for it in found), sum(len(it[2]) for it in found)
-    counts = f"There are {gate} that the gate tries and {hand} that are tried by hand, in {len(found)} crates, lowest crate first.\n\n"
+    counts = f"There are {gate} that every run of the gate tries and {hand} that are tried in turn, in {len(found)} crates, lowest crate first.\n\n"
     return {PAGE: (HEAD + counts + "".join(section(*it) for it in found)).rstrip("\n") + "\n"}
 
 
