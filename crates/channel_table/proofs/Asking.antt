@@ -2,21 +2,20 @@
 use Rattle.std.proofs.Common.{◌≡◌, ℕ, List, [], ◌∷◌, ◌++◌, Bool, true, false, cond, not, ◌&&◌, ◌==◌, Option, Some, None, map, append-nil, bytes_eq, subst, refl, sym, ap, ◌∙◌, true≢false}
 use Rattle.std.specs.List.{filter, find, list_any, list_all}
 use Rattle.std.proofs.lemmas.Bool.{eqb-true}
+use Rattle.std.specs.Cmp.Lexicographic.{nat_list_eq_equiv}
 use Rattle.mask_merge.specs.declared.want.Ask.{Ask}
 use Rattle.mask_merge.specs.Counts.{Counts, counted, counted_with, counted_without, exchanged, nothing_counted}
 use Rattle.rows.specs.Rows.{change_first}
 use Rattle.rows.proofs.RowLemmas.{change_first_unfound}
-use Rattle.row_index.specs.Lists.{of}
-use Rattle.channel_table.proofs.Listed.{rows_listed}
 use Rattle.row_index.specs.declared.key.Key.{Key}
 use Rattle.channel_table.specs.declared.channels.Channel.{Channel}
 use Rattle.channel_table.specs.declared.channels.Reach.{Reach}
 use Rattle.channel_table.specs.declared.subs.ClientSub.{ClientSub}
 use Rattle.channel_table.specs.Channels.{is_channel, is_not_channel, is_on, is_channel_on, with_reach_and_rights}
 use Rattle.channel_table.specs.Subs.{is_sub, is_not_sub, is_sub_on, with_owed}
-use Rattle.channel_table.specs.Indexes.{FollowSubs, IsApart, SubRows, rows_at, channel_key, sub_key, is_standing, is_to}
+use Rattle.channel_table.specs.Indexes.{IsApart, channel_key, sub_key, is_standing, is_to}
 use Rattle.channel_table.specs.Demand.{IsRecounted, IsDemand, IsUncounted, ChangesDemand, SameDemand, all_exchanged, recounted, ask_of_reach, ask_of_sub, asks_on, channel_ask, differs, may_read, rights_exchanged, reads_over, sub_ask, demand_of}
-use Rattle.channel_table.proofs.Counting.{Between, between, asks_agree, asks_beside, counted_changed, counted_less, counted_more, subs_exchanged}
+use Rattle.channel_table.proofs.Counting.{Between, between, asks_agree, asks_beside, counted_changed, counted_less, counted_more, exchanged_among, subs_exchanged}
 use Rattle.row_index.proofs.Named.{same_bytes}
 use Rattle.channel_table.proofs.Following.{ids_agree, on_ids}
 use Rattle.channel_table.proofs.Lists.{found_passes, none_dropped, unfound_is_absent, found_before, found_changed, find_among, none_is_all}
@@ -278,15 +277,29 @@ module _ (channels : List Channel) (subs : List ClientSub) (k : Key) (channel : 
         by_key : (n : List ℕ) → rights_exchanged (may_read channel.rights_told) (may_read rights) channel.session channel.sid (filter (is_to channels n) subs) (counted (asks_on channels subs n)) ≡ rights_exchanged (may_read channel.rights_told) (may_read rights) k.owner k.id (filter (is_to channels n) subs) (counted (asks_on channels subs n))
         by_key n = ids_of_row (λ session sid. rights_exchanged (may_read channel.rights_told) (may_read rights) session sid (filter (is_to channels n) subs) (counted (asks_on channels subs n))) k.owner k.id channel own_ids
 
+-- of all subscriptions those to the channel's name are the ones that count
+recounted_among : (channels : List Channel) (subs : List ClientSub) (k : Key) (channel : Channel) (reach : Reach) (rights : ℕ) → find (is_channel k.owner k.id) channels ≡ Some channel → (counts : Counts)
+    → recounted channel reach rights subs counts ≡ recounted channel reach rights (filter (is_to channels channel.real) subs) counts
+recounted_among channels subs k channel reach rights found counts =
+    ap (λ c. exchanged (channel_ask channel) (ask_of_reach reach rights) (cond (differs (may_read channel.rights_told) (may_read rights)) c counts))
+    (sym (exchanged_among (may_read channel.rights_told) (may_read rights) channel.session channel.sid (is_to channels channel.real) leads subs counts))
+  where
+    stands : find (is_channel channel.session channel.sid) channels ≡ Some channel
+    stands = ids_of_row (λ session sid. find (is_channel session sid) channels) k.owner k.id channel (found_passes (is_channel k.owner k.id) channels channel found) ∙ found
+
+    leads : (sub : ClientSub) → is_sub_on channel.session channel.sid sub ≡ true → is_to channels channel.real sub ≡ true
+    leads sub on =
+        ap (is_channel_on channel.real) (on_ids (λ a b. find (is_channel a b) channels) channel.session channel.sid sub.session sub.sid on ∙ stands) ∙ nat_list_eq_equiv.refl channel.real
+
 -- a channel with another reach and other rights, where it stands
-pub demand_put : (channels after : List Channel) (subs : SubRows) (k : Key) (reach : Reach) (rights : ℕ) (old new : List (List ℕ × Counts)) → IsApart channel_key channels → IsApart sub_key subs.rows → FollowSubs channels subs
-    → after ≡ change_first (is_channel k.owner k.id) (with_reach_and_rights reach rights) channels → IsRecounted (find (is_channel k.owner k.id) channels) reach rights subs old new → IsDemand channels subs.rows old → IsDemand after subs.rows new
-demand_put channels after subs k reach rights old new apart subs_apart follow is changes demand =
-    elim (find (is_channel k.owner k.id) channels) as (λ o. find (is_channel k.owner k.id) channels ≡ o → IsRecounted o reach rights subs old new → IsDemand after subs.rows new) [
-      | None ↦ λ none same. demand_same_channels channels after subs.rows old new (is ∙ change_first_unfound (is_channel k.owner k.id) (with_reach_and_rights reach rights) channels none) same demand
+pub demand_put : (channels after : List Channel) (subs : List ClientSub) (k : Key) (reach : Reach) (rights : ℕ) (old new : List (List ℕ × Counts)) → IsApart channel_key channels
+    → after ≡ change_first (is_channel k.owner k.id) (with_reach_and_rights reach rights) channels → IsRecounted (find (is_channel k.owner k.id) channels) reach rights subs old new → IsDemand channels subs old → IsDemand after subs new
+demand_put channels after subs k reach rights old new apart is changes demand =
+    elim (find (is_channel k.owner k.id) channels) as (λ o. find (is_channel k.owner k.id) channels ≡ o → IsRecounted o reach rights subs old new → IsDemand after subs new) [
+      | None ↦ λ none same. demand_same_channels channels after subs old new (is ∙ change_first_unfound (is_channel k.owner k.id) (with_reach_and_rights reach rights) channels none) same demand
       | Some channel ↦ λ found by_channel.
-          demand_put_on channels subs.rows k channel reach rights found (between channel_key k channels channel apart found) (rows_at sub_key subs.rows (of subs.on channel.real)) after old new
-          (rows_listed sub_key (is_to channels) subs.rows subs.on channel.real subs_apart follow.listed) is by_channel demand
+          demand_put_on channels subs k channel reach rights found (between channel_key k channels channel apart found) (filter (is_to channels channel.real) subs) after old new refl is
+          (λ n. by_channel n ∙ ap (λ c. cond (bytes_eq channel.real n) c (demand_of old n)) (recounted_among channels subs k channel reach rights found (demand_of old n))) demand
     ] refl changes
 
 -- a channel removed, where it stands

@@ -1,5 +1,5 @@
 -- What rows ask for, counted: as one row of a list comes, goes or changes.
-use Rattle.std.proofs.Common.{◌≡◌, ℕ, List, [], ◌∷◌, ◌++◌, Bool, true, false, cond, not, ◌||◌, append-nil, Option, Some, None, map, refl, sym, ap, ◌∙◌}
+use Rattle.std.proofs.Common.{◌≡◌, ℕ, List, [], ◌∷◌, ◌++◌, Bool, true, false, cond, not, ◌||◌, append-nil, Option, Some, None, map, refl, sym, ap, ◌∙◌, true≢false}
 use Rattle.std.specs.List.{filter, find, list_any}
 use Rattle.std.proofs.lemmas.List.Elements.{filter-append}
 use Rattle.std.proofs.lemmas.List.{append_assoc, map-append}
@@ -120,6 +120,19 @@ module _ (f g : ClientSub → Option Ask) (before after : Bool) (session sid : �
       ap (all_exchanged before after session sid subs) (one_exchanged sub some (map f subs ++ more) (beside sub) ∙ ap counted (sym (append_assoc some (g sub ∷ []) (map f subs ++ more))))
       ∙ subs_exchanged (some ++ g sub ∷ []) subs more beside
       ∙ ap counted (append_assoc some (g sub ∷ []) (map g subs ++ more))
+
+-- of subscriptions among which those on the channel are, the others count for nothing
+pub exchanged_among : (before after : Bool) (session sid : ℕ) (p : ClientSub → Bool) → ((sub : ClientSub) → is_sub_on session sid sub ≡ true → p sub ≡ true) → (subs : List ClientSub) (counts : Counts) → all_exchanged before after session sid (filter p subs) counts ≡ all_exchanged before after session sid subs counts
+exchanged_among before after session sid p among [] counts = refl
+exchanged_among before after session sid p among (sub ∷ subs) counts =
+    elim (p sub) as (λ t. p sub ≡ t → all_exchanged before after session sid (cond t (sub ∷ filter p subs) (filter p subs)) counts ≡ all_exchanged before after session sid subs (exchanged_on before after session sid sub counts)) [
+      | true ↦ λ _. exchanged_among before after session sid p among subs (exchanged_on before after session sid sub counts)
+      | false ↦ λ out.
+          elim (is_sub_on session sid sub) as (λ t. is_sub_on session sid sub ≡ t → all_exchanged before after session sid (filter p subs) counts ≡ all_exchanged before after session sid subs (cond t (exchanged (ask_of_sub before sub) (ask_of_sub after sub) counts) counts)) [
+            | true ↦ λ on. absurd (true≢false (sym (among sub on) ∙ out))
+            | false ↦ λ _. exchanged_among before after session sid p among subs counts
+          ] refl
+    ] refl
 
 -- where nothing is counted, nobody asks for something else
 exchanged_on_nothing : (before after : Bool) (session sid : ℕ) (sub : ClientSub) → exchanged_on before after session sid sub nothing_counted ≡ nothing_counted

@@ -1,8 +1,7 @@
 -- Rows follow their channels: what is kept as channels and rows come and go.
-use Rattle.std.proofs.Common.{◌≡◌, ℕ, List, [], ◌∷◌, ◌++◌, Bool, true, false, not, ◌&&◌, ◌==◌, Option, Some, map, bytes_eq, refl, sym, ap, ◌∙◌, true≢false}
+use Rattle.std.proofs.Common.{◌≡◌, ℕ, List, [], ◌∷◌, ◌++◌, Bool, true, false, not, ◌&&◌, ◌==◌, Some, map, bytes_eq, refl, sym, ap, ◌∙◌, true≢false}
 use Rattle.std.specs.List.{filter, find, list_any}
 use Rattle.std.proofs.lemmas.Bool.{eqb-true}
-use Rattle.std.specs.Cmp.Lexicographic.{nat_list_eq_equiv}
 use Rattle.rows.specs.Rows.{change_first}
 use Rattle.row_index.specs.declared.key.Key.{Key}
 use Rattle.row_index.specs.Lists.{of, AddsTo, RemovesFrom, SameLists}
@@ -12,9 +11,9 @@ use Rattle.channel_table.specs.declared.channels.Reach.{Reach}
 use Rattle.channel_table.specs.declared.subs.ClientSub.{ClientSub}
 use Rattle.channel_table.specs.Channels.{is_channel, is_not_channel, is_channel_of, is_channel_on, with_reach_and_rights}
 use Rattle.channel_table.specs.Subs.{is_sub, is_not_sub, is_sub_on, is_not_sub_on}
-use Rattle.channel_table.specs.Indexes.{SubRows, FollowChannels, FollowSubs, IsApart, hangs, leads, rows_at, sub_home, sub_key}
+use Rattle.channel_table.specs.Indexes.{SubRows, FollowChannels, FollowSubs, IsApart, hangs, leads, sub_home, sub_key}
 use Rattle.channel_table.proofs.Keyed.{fails_alone, each_is_found, found_each}
-use Rattle.channel_table.proofs.Listed.{listed_with_more, listed_without, listed_changed, rows_listed}
+use Rattle.channel_table.proofs.Listed.{listed_with_more, listed_without, listed_changed}
 use Rattle.channel_table.proofs.Lists.{all_so, all_so_where, all_kept, all_with_more, all_changed, all_pass_so, any_so, none_is_all, filter_agree_where, find_among, any_among, found_before, there_before, found_is_there, found_passes, all_found, any_changed, found_changed}
 
 -- a channel that passes for one pair of IDs passes for another exactly where the pairs are equal
@@ -66,14 +65,14 @@ module _ {V : Type 0} (key home : V → Key) where
   pub follow_added : (channels : List Channel) (old new : List V) (before after : List (List ℕ × List Key)) (row : V) (channel : Channel) → find (is_channel (home row).owner (home row).id) channels ≡ Some channel → new ≡ old ++ row ∷ [] → AddsTo channel.real (key row) before after → FollowChannels key home channels old before → FollowChannels key home channels new after
   follow_added channels old new before after row channel found rows adds follow = record {
     standing = rw rows (all_with_more (hangs home channels) old row follow.standing (found_is_there (is_channel (home row).owner (home row).id) channels channel found));
-    listed = rw rows (listed_with_more key (leads home channels) old row channel.real before after (λ name. ap (is_channel_on name) found) follow.listed adds);
+    listed = rw rows (listed_with_more bytes_eq key (leads home channels) old row channel.real before after (λ name. ap (is_channel_on name) found) follow.listed adds);
   }
 
   -- a row changed in what is neither in its key nor in that of its channel
   pub follow_put : (channels : List Channel) (old new : List V) (before after : List (List ℕ × List Key)) (p : V → Bool) (f : V → V) → ((row : V) → key (f row) ≡ key row) → ((row : V) → home (f row) ≡ home row) → new ≡ change_first p f old → after ≡ before → FollowChannels key home channels old before → FollowChannels key home channels new after
   follow_put channels old new before after p f kept stays rows on follow = record {
     standing = rw rows (all_changed p f (hangs home channels) (λ row. ap (λ (k : Key). list_any (is_channel k.owner k.id) channels) (stays row)) old ∙ follow.standing);
-    listed = rw (rows, on) (listed_changed key (leads home channels) p f old before (λ name row. ap (λ (k : Key). is_channel_on name (find (is_channel k.owner k.id) channels)) (stays row)) kept follow.listed);
+    listed = rw (rows, on) (listed_changed bytes_eq key (leads home channels) p f old before (λ name row. ap (λ (k : Key). is_channel_on name (find (is_channel k.owner k.id) channels)) (stays row)) kept follow.listed);
   }
 
   -- a row removed
@@ -81,7 +80,7 @@ module _ {V : Type 0} (key home : V → Key) where
       → new ≡ filter (λ r. not (same_key (key r) k)) old → RemovesFrom channel.real k before after → FollowChannels key home channels old before → FollowChannels key home channels new after
   follow_removed channels old new before after k row channel apart found on rows removes follow = record {
     standing = rw rows (all_kept (hangs home channels) (λ r. not (same_key (key r) k)) old follow.standing);
-    listed = rw rows (listed_without key (leads home channels) old row k channel.real before after apart found (λ name. ap (is_channel_on name) on) follow.listed removes);
+    listed = rw rows (listed_without bytes_eq key (leads home channels) old row k channel.real before after apart found (λ name. ap (is_channel_on name) on) follow.listed removes);
   }
 
   -- a channel on which nothing hangs removed
@@ -130,15 +129,6 @@ module _ {V : Type 0} (key home : V → Key) where
 
 -- ---- subscriptions
 
-bytes_eq_itself : (name : List ℕ) → bytes_eq name name ≡ true
-bytes_eq_itself name = nat_list_eq_equiv.refl name
-
--- the first subscription on a channel is among those that lead to its name
-pub first_is_listed : (channels : List Channel) (subs : SubRows) (session sid : ℕ) (channel : Channel) → IsApart sub_key subs.rows → find (is_channel session sid) channels ≡ Some channel → FollowSubs channels subs → find (is_sub_on session sid) (rows_at sub_key subs.rows (of subs.on channel.real)) ≡ find (is_sub_on session sid) subs.rows
-first_is_listed channels subs session sid channel apart found before =
-    ap (find (is_sub_on session sid)) (rows_listed sub_key (leads sub_home channels) subs.rows subs.on channel.real apart before.listed)
-    ∙ find_among (is_sub_on session sid) (leads sub_home channels channel.real) (λ sub e. ap (is_channel_on channel.real) (on_ids (λ a b. find (is_channel a b) channels) session sid sub.session sub.sid e ∙ found) ∙ bytes_eq_itself channel.real) subs.rows
-
 -- the first subscription on a channel is the one of its IDs
 pub found_by_key : (subs : SubRows) (session sid : ℕ) (sub : ClientSub) → IsApart sub_key subs.rows → find (is_sub_on session sid) subs.rows ≡ Some sub → find (is_sub session sub.id) subs.rows ≡ Some sub
 found_by_key subs session sid sub apart found =
@@ -151,11 +141,7 @@ elsewhere_kept subs session sid sub apart found =
     let on = found_passes (is_sub_on session sid) subs.rows sub found in
     fails_alone sub_key (record { owner = session; id = sub.id }) (is_not_sub_on session sid) subs.rows sub apart (found_by_key subs session sid sub apart found) (ap not on)
 
--- the first subscription that the channel's name lists for it is the first on it
-pub first_found : (channels : List Channel) (subs : SubRows) (session sid : ℕ) (channel : Channel) (o : Option ClientSub) → IsApart sub_key subs.rows → find (is_channel session sid) channels ≡ Some channel → o ≡ find (is_sub_on session sid) (rows_at sub_key subs.rows (of subs.on channel.real)) → FollowSubs channels subs → find (is_sub_on session sid) subs.rows ≡ o
-first_found channels subs session sid channel o apart found is before = sym (is ∙ first_is_listed channels subs session sid channel apart found before)
-
--- that subscription removed
+-- the first subscription on a channel removed
 pub follow_first_removed : (channels : List Channel) (old new : SubRows) (session sid : ℕ) (sub : ClientSub) (channel : Channel) → IsApart sub_key old.rows → find (is_sub_on session sid) old.rows ≡ Some sub → find (is_channel session sid) channels ≡ Some channel → new.rows ≡ filter (is_not_sub session sub.id) old.rows → RemovesFrom channel.real (record { owner = session; id = sub.id }) old.on new.on → FollowSubs channels old → FollowSubs channels new
 follow_first_removed channels old new session sid sub channel apart first found rows removes before =
     follow_removed sub_key sub_home channels old.rows new.rows old.on new.on (record { owner = session; id = sub.id }) sub channel apart (found_by_key old session sid sub apart first)

@@ -1,5 +1,5 @@
 -- The channels' lists: what is kept as they come and go.
-use Rattle.std.proofs.Common.{◌≡◌, ℕ, List, Some, None, map, refl, sym, ap, ◌∙◌}
+use Rattle.std.proofs.Common.{◌≡◌, ℕ, List, Some, None, map, bytes_eq, refl, sym, ap, ◌∙◌}
 use Rattle.std.specs.List.{filter, find}
 use Rattle.rows.specs.Rows.{change_first}
 use Rattle.row_index.specs.declared.key.Key.{Key}
@@ -19,10 +19,10 @@ channels_less old new k apart rows unlisted listed =
       | None ↦ λ none same name.
           let all = none_dropped (is_at channel_key k) old.rows (unfound_is_absent (is_at channel_key k) old.rows none) in
           same name ∙ listed name ∙ ap (λ rows. map channel_key (filter (is_on name) rows)) (sym all)
-      | Some channel ↦ λ found removes. listed_without channel_key is_on old.rows channel k channel.real old.on new.on apart found (λ n. refl) listed removes
+      | Some channel ↦ λ found removes. listed_without bytes_eq channel_key is_on old.rows channel k channel.real old.on new.on apart found (λ n. refl) listed removes
     ] refl unlisted)
 
 -- a channel with another reach and other rights
 pub channels_put : (old new : ListedRows Channel) (k : Key) (reach : Reach) (rights : ℕ) → new.rows ≡ change_first (is_at channel_key k) (with_reach_and_rights reach rights) old.rows → new.on ≡ old.on → AreChannelsListed old → AreChannelsListed new
 channels_put old new k reach rights rows on listed =
-    rw (rows, on) (listed_changed channel_key is_on (is_at channel_key k) (with_reach_and_rights reach rights) old.rows old.on (λ name row. refl) (λ row. refl) listed)
+    rw (rows, on) (listed_changed bytes_eq channel_key is_on (is_at channel_key k) (with_reach_and_rights reach rights) old.rows old.on (λ name row. refl) (λ row. refl) listed)

@@ -1,5 +1,6 @@
 pub mod Asking
 pub mod ByNumber
+pub mod BySid
 pub mod Counting
 pub mod Following
 pub mod Indexed
@@ -14,5 +15,4 @@ pub mod Somebody
 pub mod TalliesByName
 pub mod Unchanged
 pub mod Waiting
-pub mod Walked
 pub mod WorkedSessions

@@ -1,5 +1,5 @@
 -- Reads that wait: those on a channel, those for a name, and those that are equal.
-use Rattle.std.proofs.Common.{◌≡◌, ℕ, List, Bool, true, false, not, ◌&&◌, ◌==◌, Some, map, length, refl, sym, ap, ◌∙◌, true≢false}
+use Rattle.std.proofs.Common.{◌≡◌, ℕ, List, Bool, true, false, not, ◌&&◌, ◌==◌, Some, map, length, bytes_eq, refl, sym, ap, ◌∙◌, true≢false}
 use Rattle.std.specs.Cmp.{nat_eq_equiv}
 use Rattle.std.specs.List.{filter, find, list_any, slice_get}
 use Rattle.std.specs.Option.{option_map}
@@ -43,19 +43,19 @@ module _ (channels : List Channel) (reads : ReadRows) (name : List ℕ) where
   -- the nth of them finds the nth of these
   pub nth_waiting : (n : ℕ) → IsApart read_key reads.rows → FollowReads channels reads → option_map read_in (row_at read_key reads.rows (slice_get (of reads.on name) n)) ≡ slice_get (filter (waits channels name) (reads_in reads)) n
   nth_waiting n apart follow =
-      ap (option_map read_in) (nth_listed read_key (leads read_home channels) reads.rows reads.on name n apart follow.listed)
+      ap (option_map read_in) (nth_listed bytes_eq read_key (leads read_home channels) reads.rows reads.on name n apart follow.listed)
       ∙ sym (slice_get-map read_in (filter (leads read_home channels name) reads.rows) n) ∙ ap (λ rows. slice_get rows n) waiting_for
 
   -- and all of them find all
   pub all_waiting : IsApart read_key reads.rows → FollowReads channels reads → map read_in (rows_at read_key reads.rows (of reads.on name)) ≡ filter (waits channels name) (reads_in reads)
   all_waiting apart follow =
-      ap (map read_in) (rows_listed read_key (leads read_home channels) reads.rows reads.on name apart follow.listed) ∙ waiting_for
+      ap (map read_in) (rows_listed bytes_eq read_key (leads read_home channels) reads.rows reads.on name apart follow.listed) ∙ waiting_for
 
 pub first_of_both : (a b : Bool) → (a && b) ≡ true → a ≡ true
 first_of_both true b e = refl
 first_of_both false b e = absurd (true≢false (sym e))
 
-second_of_both : (a b : Bool) → (a && b) ≡ true → b ≡ true
+pub second_of_both : (a b : Bool) → (a && b) ≡ true → b ≡ true
 second_of_both true b e = e
 second_of_both false b e = absurd (true≢false (sym e))
 
@@ -76,11 +76,11 @@ like_ids w a b e =
 pub like_itself : (a : WaitingRead) → same_read a a ≡ true
 like_itself a = rw (nat_eq_equiv.refl a.session, nat_eq_equiv.refl a.sid, nat_eq_equiv.refl a.dtype, nat_eq_equiv.refl a.count, nat_eq_equiv.refl a.ioid) refl
 
--- an equal read is one of the session
-pub like_of : (read : WaitingRead) (row : KeptRead) → is_kept_like read row ≡ true → row.read.session == read.session ≡ true
-like_of read row e = like_ids (λ session sid. session == read.session) read row.read e ∙ nat_eq_equiv.refl read.session
+-- an equal read names the same channel's ID
+pub like_named : (read : WaitingRead) (row : KeptRead) → is_kept_like read row ≡ true → row.read.sid == read.sid ≡ true
+like_named read row e = like_ids (λ session sid. sid == read.sid) read row.read e ∙ nat_eq_equiv.refl read.sid
 
--- and on the channel
+-- and is on the same channel
 pub like_on : (read : WaitingRead) (row : KeptRead) → is_kept_like read row ≡ true → is_kept_on read.session read.sid row ≡ true
 like_on read row e =
     like_ids (λ session sid. session == read.session && sid == read.sid) read row.read e ∙ rw (nat_eq_equiv.refl read.session, nat_eq_equiv.refl read.sid) refl

@@ -10,13 +10,12 @@ use Rattle.mask_merge.specs.declared.want.Ask.{Ask}
 use Rattle.mask_merge.specs.declared.want.Want.{Want}
 use Rattle.mask_merge.specs.Merged.{merged}
 use Rattle.mask_merge.specs.Counts.{as_native, asks_props, wants_in, Counts, counted, counted_with, counted_without, exchanged, is_nothing, nothing_counted}
-use Rattle.row_index.specs.Lists.{of}
 use Rattle.channel_table.specs.declared.asks.TheConstants.{READ_RIGHT}
 use Rattle.channel_table.specs.declared.channels.Channel.{Channel}
 use Rattle.channel_table.specs.declared.channels.Reach.{Reach}
 use Rattle.channel_table.specs.declared.subs.ClientSub.{ClientSub}
 use Rattle.channel_table.specs.Channels.{is_channel, is_on}
-use Rattle.channel_table.specs.Indexes.{FollowReads, FollowSubs, ReadRows, SubRows, is_to, rows_at, sub_key}
+use Rattle.channel_table.specs.Indexes.{FollowReads, FollowSubs, ReadRows, SubRows, is_to}
 use Rattle.channel_table.specs.Subs.{is_sub_on}
 
 -- the rights let a client read
@@ -112,8 +111,8 @@ abbrev pub rights_exchanged : Bool → Bool → ℕ → ℕ → List ClientSub �
 rights_exchanged before after session sid subs counts =
     if differs before after then all_exchanged before after session sid subs counts else counts
 
--- what is counted under a channel's name, once it has another reach and its client other rights; these
--- are the subscriptions to the name
+-- what is counted under a channel's name, once it has another reach and its client other rights: of
+-- these subscriptions those on it
 abbrev pub recounted : Channel → Reach → ℕ → List ClientSub → Counts → Counts
 recounted channel reach rights subs counts =
     exchanged (channel_ask channel) (ask_of_reach reach rights)
@@ -134,10 +133,10 @@ IsUncounted None old new = SameDemand old new
 IsUncounted (Some channel) old new = ChangesDemand channel.real (counted_without (channel_ask channel)) old new
 
 -- it and the subscriptions on it ask for what they do once it has another reach and its client other rights
-abbrev pub IsRecounted : Option Channel → Reach → ℕ → SubRows → List (List ℕ × Counts) → List (List ℕ × Counts) → Type 0
+abbrev pub IsRecounted : Option Channel → Reach → ℕ → List ClientSub → List (List ℕ × Counts) → List (List ℕ × Counts) → Type 0
 IsRecounted None reach rights subs old new = SameDemand old new
 IsRecounted (Some channel) reach rights subs old new =
-    ChangesDemand channel.real (recounted channel reach rights (rows_at sub_key subs.rows (of subs.on channel.real))) old new
+    ChangesDemand channel.real (recounted channel reach rights subs) old new
 
 -- what is counted under each name are the asks of some list
 pub record IsCount (counts : Counts) : Type 0 where

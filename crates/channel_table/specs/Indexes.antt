@@ -1,8 +1,8 @@
--- How the table keeps rows: each under its key, and the keys in lists by real names.
-use Rattle.std.specs.Prelude.{◌≡◌, ℕ, List, Bool, true, not, ◌==◌, map, filter, filter_map, length, Option, Some, None}
+-- How the table keeps rows: each under its key, and the keys in lists by real names and by the IDs of channels.
+use Rattle.std.specs.Prelude.{◌≡◌, ℕ, List, Bool, true, not, ◌==◌, nat_eq, bytes_eq, map, filter, filter_map, length, Option, Some, None}
 use Rattle.std.specs.List.{count_by, find, list_any, list_all}
 use Rattle.row_index.specs.declared.key.Key.{Key}
-use Rattle.row_index.specs.Lists.{is_key, of, AddsTo, RemovesFrom, SameLists}
+use Rattle.row_index.specs.Lists.{is_key, listed, of, AddsTo, RemovesFrom, RemovesFromOwner, SameLists, SameOwnerLists}
 use Rattle.row_index.specs.Rows.{same_key, row_of, HasKeysApart}
 use Rattle.channel_table.specs.declared.channels.Channel.{Channel}
 use Rattle.channel_table.specs.declared.reads.KeptRead.{KeptRead}
@@ -114,9 +114,27 @@ is_standing channels sub = list_any (is_channel sub.session sub.sid) channels
 abbrev pub is_to : List Channel → List ℕ → ClientSub → Bool
 is_to channels name sub = is_channel_on name (find (is_channel sub.session sub.sid) channels)
 
--- each name has the keys of the rows that pass its test, in the order of the rows
+-- each name, of any kind, has the keys of the rows that pass its test, in the order of the rows
+abbrev pub AreListedBy : {V N : Type 0} → (N → N → Bool) → (V → Key) → (N → V → Bool) → List V → List (N × List Key) → Type 0
+AreListedBy eq key test rows lists = (name : _) → listed eq lists name ≡ map key (filter (test name) rows)
+
+-- each real name has them
 abbrev pub AreListed : {V : Type 0} → (V → Key) → (List ℕ → V → Bool) → List V → List (List ℕ × List Key) → Type 0
-AreListed key test rows lists = (name : List ℕ) → of lists name ≡ map key (filter (test name) rows)
+AreListed key test rows lists = AreListedBy bytes_eq key test rows lists
+
+module _ {V : Type 0} (home : V → Key) where
+  -- a row that names this ID of a channel, whosever that is
+  abbrev pub has_sid : ℕ → V → Bool
+  has_sid sid row = (home row).id == sid
+
+  -- the key of a row that was found is listed no longer under the ID of its channel
+  abbrev pub IsUnlistedBySid : Option V → Key → List (ℕ × List Key) → List (ℕ × List Key) → Type 0
+  IsUnlistedBySid None key old new = SameOwnerLists old new
+  IsUnlistedBySid (Some row) key old new = RemovesFromOwner (home row).id key old new
+
+-- each ID of a channel has the keys of the rows that name it
+abbrev pub AreBySid : {V : Type 0} → (V → Key) → (V → Key) → List V → List (ℕ × List Key) → Type 0
+AreBySid key home rows lists = AreListedBy nat_eq key (has_sid home) rows lists
 
 -- the row that a key finds
 abbrev pub row_at : {V : Type 0} → (V → Key) → List V → Option Key → Option V

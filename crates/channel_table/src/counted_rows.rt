@@ -65,7 +65,7 @@ pub(crate) fn put_channel(
     rights: u32,
 )
     ensures put { channels.new ≡ change_first (is_channel session sid) (with_reach_and_rights reach rights) channels.old }
-    ensures demand { IsRecounted (find (is_channel session sid) channels.old) reach rights subs.now demand.old demand.new }
+    ensures demand { IsRecounted (find (is_channel session sid) channels.old) reach rights subs.now.rows demand.old demand.new }
 {
     if let Some(channel) = channels.get(session, sid) {
         recount(subs, demand, channel, reach, rights);
@@ -75,7 +75,7 @@ pub(crate) fn put_channel(
 
 /// A channel and the subscriptions on it ask for something else.
 fn recount(subs: &Subs, demand: &mut Demand, channel: &Channel, reach: Reach, rights: u32)
-    ensures { IsRecounted (Some channel.now) reach rights subs.now demand.old demand.new }
+    ensures { IsRecounted (Some channel.now) reach rights subs.now.rows demand.old demand.new }
 {
     let (before, after) = (may_read(channel.rights_told), may_read(rights));
     if asks::differ(before, after) {

@@ -2,9 +2,7 @@
 ghost use Rattle.std.specs.Prelude.{◌≡◌, ℕ, List, None, OnOk, OnErr, bytes_eq, if◌then◌else◌};
 ghost use Rattle.indexmap.specs.IndexMap.{get};
 ghost use Rattle.mask_merge.specs.Counts.{counted_with, counted_without, exchanged, nothing_counted, props_wanted, wanted_of};
-ghost use Rattle.channel_table.specs.Indexes.{sub_key, rows_at};
 ghost use Rattle.channel_table.specs.Demand.{all_exchanged, demand_of, ChangesDemand, SameDemand};
-ghost use Rattle.row_index.specs.Lists.{of};
 
 use crate::subs::Subs;
 use indexmap::IndexMap;
@@ -123,12 +121,12 @@ impl Demand {
         before: bool,
         after: bool,
     )
-        ensures { ChangesDemand name.now (all_exchanged before after session sid (rows_at sub_key subs.now.rows (of subs.now.on name.now))) self.old self.new }
+        ensures { ChangesDemand name.now (all_exchanged before after session sid subs.now.rows) self.old self.new }
     {
         let Some(tally) = self.tallies.get_mut(name) else {
             return;
         };
-        subs.exchange_on(tally, name, session, sid, before, after);
+        subs.exchange_on(tally, session, sid, before, after);
     }
 }
 

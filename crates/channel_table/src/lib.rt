@@ -20,9 +20,11 @@
 //!
 //! Sessions, channels, subscriptions and reads are kept under their IDs (a read under one that the table
 //! gives it, since equal reads may stand together), the keys of the latter three in lists by real name,
-//! and the numbers of sessions in rising order, so that a look-up costs the same beside many rows as
-//! beside few. What is asked for of each real name is counted as rows come, go and change. A removal
-//! walks what is on the same name, and the rows of its own session.
+//! those of subscriptions and reads in lists by the gateway's IDs of their channels too, and the numbers
+//! of sessions in rising order, so that a look-up costs the same beside many rows as beside few. What is
+//! asked for of each real name is counted as rows come, go and change. A channel that goes, or whose
+//! rights change, finds what hangs on it by its ID, and looks at no row beside. A removal may still walk the
+//! keys of the same name, and the IDs of its own session.
 //!
 //! A contract sees a `Table` as four lists. Each call changes the rows that it names alone, a refused
 //! one none, and a limit refuses exactly where it is reached; limits are in `laws::numbers_are_these`.

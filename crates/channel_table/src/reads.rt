@@ -3,13 +3,13 @@ ghost use Rattle.std.specs.Prelude.{◌≡◌, ℕ, List, [], ◌∷◌, ◌++�
 ghost use Rattle.std.specs.List.{filter, find, count_by, list_any};
 ghost use Rattle.std.specs.Option.{option_map};
 ghost use Rattle.row_index.specs.Lists.{is_key, of, AddsTo, RemovesFrom, SameLists};
-ghost use Rattle.channel_table.specs.Indexes.{is_kept, is_kept_like, is_kept_on, is_not_kept, is_owned, read_in, read_key, reads_in, row_at, rows_at, IsApart};
+ghost use Rattle.channel_table.specs.Indexes.{is_at, is_kept, is_kept_like, is_kept_on, is_not_kept, read_home, read_in, read_key, reads_in, row_at, rows_at, IsApart, IsUnlistedBySid};
 ghost use Rattle.channel_table.specs.Reads.{is_read_of};
 
 use crate::keys::key_of;
 use crate::named_rows::{NamedRows, Row};
 use pv_name::Name;
-use row_index::Key;
+use row_index::{Key, OwnerKeys};
 use std::alloc::{AllocError, Global};
 use std::marker::Model;
 
@@ -43,18 +43,22 @@ impl Row for KeptRead {
     }
 }
 
-/// All waiting reads, found by their sessions and by the real names that they wait for.
+/// All waiting reads, found by their sessions, by the real names that they wait for, and by the gateway's
+/// IDs of their channels.
 #[derive(Drop)]
 pub(crate) struct Reads {
     rows: NamedRows<KeptRead>,
+    by_sid: OwnerKeys,
 }
 
 impl Model for Reads {
-    ghost use Rattle.channel_table.specs.Indexes.{ReadRows};
+    ghost use Rattle.channel_table.specs.Indexes.{AreBySid, ReadRows, read_home, read_key};
 
     ghost Value = { ReadRows };
 
     ghost view = { λ r. r.rows };
+
+    ghost invariant = { λ r. AreBySid read_key read_home r.rows.rows r.by_sid };
 }
 
 impl Reads {
@@ -64,6 +68,7 @@ impl Reads {
     {
         Reads {
             rows: NamedRows::new(alloc),
+            by_sid: OwnerKeys::new(alloc),
         }
     }
 
@@ -124,18 +129,20 @@ impl Reads {
         reads_at(&self.rows, self.rows.keys_on(name), alloc)
     }
 
-    /// The first read on a channel, among those of its session.
+    /// The first read on a channel. No other is looked at than those that name its ID.
     pub(crate) fn first_on(&self, session: u32, sid: u32) -> Option<KeptRead>
         ensures { result ≡ find (is_kept_on session sid) self.now.rows }
     {
-        first_on(&self.rows, session, sid)
+        self.rows.are_apart();
+        first_on(&self.rows, self.by_sid.of(sid), session, sid)
     }
 
-    /// The first read that is equal to this one, among those of its session.
+    /// The first read that is equal to this one. No other is looked at than those that name its channel's ID.
     pub(crate) fn first_like(&self, read: &WaitingRead) -> Option<KeptRead>
         ensures { result ≡ find (is_kept_like read.now) self.now.rows }
     {
-        first_like(&self.rows, read)
+        self.rows.are_apart();
+        first_like(&self.rows, self.by_sid.of(read.sid), read)
     }
 
     /// An ID that no read of the session has: one more than the last one's, where that is free. There is
@@ -186,7 +193,14 @@ impl Reads {
         ensures err_rows { OnErr result (self.new.rows ≡ self.old.rows) }
         ensures err_on { OnErr result (SameLists self.old.on self.new.on) }
     {
-        self.rows.add(name, row)
+        self.by_sid.add(row.read.sid, row.key())?;
+        match self.rows.add(name, row) {
+            Ok(()) => Ok(()),
+            Err(e) => {
+                self.by_sid.remove(row.read.sid, row.key());
+                Err(e)
+            }
+        }
     }
 
     /// Removes a read that waits for this real name.
@@ -194,7 +208,19 @@ impl Reads {
         ensures rows { self.new.rows ≡ filter (is_not_kept (read_key row)) self.old.rows }
         ensures on { RemovesFrom name.now (read_key row) self.old.on self.new.on }
     {
-        self.rows.remove(name, row.key());
+        self.rows.are_apart();
+        let key = row.key();
+        unlist(&self.rows, &mut self.by_sid, key);
+        self.rows.remove(name, key);
+    }
+}
+
+/// Takes the read of a key off the list of its channel's ID.
+fn unlist(rows: &NamedRows<KeptRead>, by_sid: &mut OwnerKeys, key: Key)
+    ensures { IsUnlistedBySid read_home (find (is_at read_key key) rows.now.rows) key by_sid.old by_sid.new }
+{
+    if let Some(row) = rows.get(key) {
+        by_sid.remove(row.read.sid, key);
     }
 }
 
@@ -226,42 +252,20 @@ fn reads_at(
     Ok(reads)
 }
 
-/// The first of a session's reads that is on a channel.
-fn first_on(rows: &NamedRows<KeptRead>, session: u32, sid: u32) -> Option<KeptRead>
-    ensures { result ≡ find (is_kept_on session sid) (filter (is_owned read_key session) rows.now.rows) }
+/// The first of these rows that is on a channel.
+fn first_on(rows: &NamedRows<KeptRead>, keys: &[Key], session: u32, sid: u32) -> Option<KeptRead>
+    ensures { result ≡ find (is_kept_on session sid) (rows_at read_key rows.now.rows keys.now) }
 {
-    for n in 0..rows.count_of(session) {
-        if let Some(row) = rows.nth_of(session, n) {
-            if is_on(row, session, sid) {
-                return Some(*row);
-            }
-        }
-    }
-    None
+    keys.iter()
+        .filter_map(|key| rows.get(*key).copied())
+        .find(|row| row.read.session == session && row.read.sid == sid)
 }
 
-fn is_on(row: &KeptRead, session: u32, sid: u32) -> bool
-    ensures { result ≡ is_kept_on session sid row.now }
+/// The first of these rows that is equal to this one.
+fn first_like(rows: &NamedRows<KeptRead>, keys: &[Key], read: &WaitingRead) -> Option<KeptRead>
+    ensures { result ≡ find (is_kept_like read.now) (rows_at read_key rows.now.rows keys.now) }
 {
-    row.read.session == session && row.read.sid == sid
-}
-
-/// The first read of its session that is equal to this one.
-fn first_like(rows: &NamedRows<KeptRead>, read: &WaitingRead) -> Option<KeptRead>
-    ensures { result ≡ find (is_kept_like read.now) (filter (is_owned read_key read.now.session) rows.now.rows) }
-{
-    for n in 0..rows.count_of(read.session) {
-        if let Some(row) = rows.nth_of(read.session, n) {
-            if is_like(row, read) {
-                return Some(*row);
-            }
-        }
-    }
-    None
-}
-
-fn is_like(row: &KeptRead, read: &WaitingRead) -> bool
-    ensures { result ≡ is_kept_like read.now row.now }
-{
-    *read == row.read
+    keys.iter()
+        .filter_map(|key| rows.get(*key).copied())
+        .find(|row| *read == row.read)
 }

@@ -4,7 +4,7 @@ ghost use Rattle.std.specs.List.{filter, find, count_by, list_any};
 ghost use Rattle.std.specs.Option.{option_copied};
 ghost use Rattle.rows.specs.Rows.{change_first};
 ghost use Rattle.row_index.specs.Lists.{is_key, of, AddsTo, RemovesFrom, SameLists};
-ghost use Rattle.channel_table.specs.Indexes.{sub_key, rows_at, IsApart};
+ghost use Rattle.channel_table.specs.Indexes.{is_at, sub_home, sub_key, rows_at, IsApart, IsUnlistedBySid};
 ghost use Rattle.channel_table.specs.Subs.{is_sub, is_not_sub, is_sub_of, is_sub_on, with_owed};
 ghost use Rattle.channel_table.specs.Demand.{all_exchanged, exchanged_on};
 
@@ -13,7 +13,7 @@ use crate::keys::key_of;
 use crate::named_rows::{Changing, NamedRows, Row};
 use mask_merge::Tally;
 use pv_name::Name;
-use row_index::Key;
+use row_index::{Key, OwnerKeys};
 use std::alloc::{AllocError, Global};
 use std::marker::Model;
 
@@ -57,18 +57,22 @@ impl Changing for ClientSub {
     ghost keeps_key = { λ owed row. refl };
 }
 
-/// All subscriptions, found by their IDs and by the real names that they lead to.
+/// All subscriptions, found by their IDs, by the real names that they lead to, and by the gateway's IDs
+/// of their channels.
 #[derive(Drop)]
 pub(crate) struct Subs {
     rows: NamedRows<ClientSub>,
+    by_sid: OwnerKeys,
 }
 
 impl Model for Subs {
-    ghost use Rattle.channel_table.specs.Indexes.{SubRows};
+    ghost use Rattle.channel_table.specs.Indexes.{AreBySid, SubRows, sub_home, sub_key};
 
     ghost Value = { SubRows };
 
     ghost view = { λ s. s.rows };
+
+    ghost invariant = { λ s. AreBySid sub_key sub_home s.rows.rows s.by_sid };
 }
 
 impl Subs {
@@ -78,6 +82,7 @@ impl Subs {
     {
         Subs {
             rows: NamedRows::new(alloc),
+            by_sid: OwnerKeys::new(alloc),
         }
     }
 
@@ -132,27 +137,28 @@ impl Subs {
         list_at(&self.rows, self.rows.keys_on(name), subs)
     }
 
-    /// The first subscription on a channel, among those that lead to its real name.
-    pub(crate) fn first_on(&self, name: &Name, session: u32, sid: u32) -> Option<ClientSub>
-        ensures { result ≡ find (is_sub_on session sid) (rows_at sub_key self.now.rows (of self.now.on name.now)) }
+    /// The first subscription on a channel. No other is looked at than those that name its ID.
+    pub(crate) fn first_on(&self, session: u32, sid: u32) -> Option<ClientSub>
+        ensures { result ≡ find (is_sub_on session sid) self.now.rows }
     {
-        first(&self.rows, self.rows.keys_on(name), session, sid)
+        self.rows.are_apart();
+        first(&self.rows, self.by_sid.of(sid), session, sid)
     }
 
     /// What the subscriptions on a channel ask for, in the tally of its name: its client may read now,
-    /// or may no longer.
+    /// or may no longer. No other is looked at than those that name the channel's ID.
     pub(crate) fn exchange_on(
         &self,
         tally: &mut Tally,
-        name: &Name,
         session: u32,
         sid: u32,
         before: bool,
         after: bool,
     )
-        ensures { tally.new ≡ all_exchanged before after session sid (rows_at sub_key self.now.rows (of self.now.on name.now)) tally.old }
+        ensures { tally.new ≡ all_exchanged before after session sid self.now.rows tally.old }
     {
-        let keys = self.rows.keys_on(name);
+        self.rows.are_apart();
+        let keys = self.by_sid.of(sid);
         exchange_all(tally, &self.rows, keys, session, sid, before, after);
     }
 
@@ -165,7 +171,14 @@ impl Subs {
         ensures err_rows { OnErr result (self.new.rows ≡ self.old.rows) }
         ensures err_on { OnErr result (SameLists self.old.on self.new.on) }
     {
-        self.rows.add(name, sub)
+        self.by_sid.add(sub.sid, sub.key())?;
+        match self.rows.add(name, sub) {
+            Ok(()) => Ok(()),
+            Err(e) => {
+                self.by_sid.remove(sub.sid, sub.key());
+                Err(e)
+            }
+        }
     }
 
     pub(crate) fn put(&mut self, session: u32, id: u32, owed: bool)
@@ -180,7 +193,19 @@ impl Subs {
         ensures rows { self.new.rows ≡ filter (is_not_sub session id) self.old.rows }
         ensures on { RemovesFrom name.now (record { owner = session; id = id }) self.old.on self.new.on }
     {
-        self.rows.remove(name, key_of(session, id));
+        self.rows.are_apart();
+        let key = key_of(session, id);
+        unlist(&self.rows, &mut self.by_sid, key);
+        self.rows.remove(name, key);
+    }
+}
+
+/// Takes the subscription of a key off the list of its channel's ID.
+fn unlist(rows: &NamedRows<ClientSub>, by_sid: &mut OwnerKeys, key: Key)
+    ensures { IsUnlistedBySid sub_home (find (is_at sub_key key) rows.now.rows) key by_sid.old by_sid.new }
+{
+    if let Some(sub) = rows.get(key) {
+        by_sid.remove(sub.sid, key);
     }
 }
 

@@ -162,7 +162,6 @@ impl Table {
             return;
         }
         self.channels.are_apart();
-        self.subs.are_apart();
         let (channels, demand) = (&mut self.channels, &mut self.demand);
         counted_rows::put_channel(channels, &self.subs, demand, session, sid, reach, rights);
     }

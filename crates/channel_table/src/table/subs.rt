@@ -177,7 +177,7 @@ impl Table {
             return false;
         };
         self.subs.are_apart();
-        match self.subs.first_on(&channel.real, session, sid) {
+        match self.subs.first_on(session, sid) {
             Some(sub) => {
                 let (subs, demand) = (&mut self.subs, &mut self.demand);
                 counted_rows::remove_sub(subs, demand, channel, &sub, session, sub.id);

@@ -1,4 +1,4 @@
-use Rattle.std.proofs.Common.{ap, ◌∙◌}
+use Rattle.std.proofs.Common.{bytes_eq, ap, ◌∙◌}
 use Rattle.std.specs.List.{list_any}
 use Rattle.channel_table.specs.Channels.{is_channel, is_on}
 use Rattle.channel_table.specs.Indexes.{channel_key}
@@ -7,5 +7,5 @@ use Rattle.channel_table.proofs.channels.Channels.add.Goals as goal
 
 pub add_named-requires-clause-unlisted : goal.add_named-requires-clause-unlisted
 add_named-requires-clause-unlisted c =
-    unlisted channel_key is_on c.self.inside.rows.rows c.self.inside.rows.on (channel_key c.args.channel) c.args.channel.real c.self.invariant
+    unlisted bytes_eq channel_key is_on c.self.inside.rows.rows c.self.inside.rows.on (channel_key c.args.channel) c.args.channel.real c.self.invariant
     (ap (list_any (is_channel c.args.channel.session c.args.channel.sid)) c.self.view_is ∙ c.requires.new)

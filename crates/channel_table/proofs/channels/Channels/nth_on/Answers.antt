@@ -1,4 +1,4 @@
-use Rattle.std.proofs.Common.{slice_get, ap, ◌∙◌}
+use Rattle.std.proofs.Common.{slice_get, bytes_eq, ap, ◌∙◌}
 use Rattle.std.specs.List.{filter}
 use Rattle.channel_table.specs.Channels.{is_on}
 use Rattle.channel_table.specs.Indexes.{channel_key}
@@ -9,5 +9,5 @@ use Rattle.channel_table.proofs.channels.Channels.nth_on.Goals as goal
 pub returns : goal.returns
 returns c =
     c.nth_on.ensures
-    ∙ nth_listed channel_key is_on c.self.inside.rows.rows c.self.inside.rows.on c.args.name.now c.args.n c.are_apart.ensures c.self.invariant
+    ∙ nth_listed bytes_eq channel_key is_on c.self.inside.rows.rows c.self.inside.rows.on c.args.name.now c.args.n c.are_apart.ensures c.self.invariant
     ∙ ap (λ rows. slice_get (filter (is_on c.args.name.now) rows) c.args.n) c.self.view_is

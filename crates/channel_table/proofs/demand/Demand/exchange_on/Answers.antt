@@ -1,7 +1,5 @@
 use Rattle.std.proofs.Common.{is_some, ap, sym, ◌∙◌}
 use Rattle.mask_merge.specs.Counts.{Counts, is_nothing}
-use Rattle.row_index.specs.Lists.{of}
-use Rattle.channel_table.specs.Indexes.{rows_at, sub_key}
 use Rattle.channel_table.specs.Demand.{all_exchanged}
 use Rattle.channel_table.proofs.Counting.{all_exchanged_of_nothing}
 use Rattle.channel_table.proofs.Somebody.{somebody_all_exchanged, somebody_there, somebody_updated}
@@ -10,7 +8,7 @@ use Rattle.channel_table.proofs.demand.Demand.exchange_on.Goals as goal
 
 pub invariant_of-self-2 : goal.invariant_of-self-2
 invariant_of-self-2 c =
-    let rows = rows_at sub_key c.args.subs.now.rows (of c.args.subs.now.on c.args.name.now) in
+    let rows = c.args.subs.now.rows in
     let old = c.self.inside.tallies.entries in
     let written = c.get_mut.follows.holds c.exchange_on.new.tally in
     somebody_updated c.args.name.now old (c.get_mut.follows.lender c.exchange_on.new.tally).entries c.exchange_on.new.tally (written.3 (sym (ap is_some c.in-Some.ensures.value))).0
@@ -19,13 +17,13 @@ invariant_of-self-2 c =
 
 pub returns-in_default : goal.returns-in_default
 returns-in_default c =
-    let rows = rows_at sub_key c.args.subs.now.rows (of c.args.subs.now.on c.args.name.now) in
+    let rows = c.args.subs.now.rows in
     rw (c.get_mut.follows.holds-at-none, ← c.self.view_is)
     (demand_without (all_exchanged c.args.before c.args.after c.args.session c.args.sid rows) c.args.name.now c.self.inside.tallies.entries c.in_default.ensures.value (all_exchanged_of_nothing c.args.before c.args.after c.args.session c.args.sid rows))
 
 pub returns : goal.returns
 returns c =
-    let change : Counts → Counts = all_exchanged c.args.before c.args.after c.args.session c.args.sid (rows_at sub_key c.args.subs.now.rows (of c.args.subs.now.on c.args.name.now)) in
+    let change : Counts → Counts = all_exchanged c.args.before c.args.after c.args.session c.args.sid c.args.subs.now.rows in
     let old = c.self.inside.tallies.entries in
     let there = demand_there c.args.name.now old c.in-Some.tally.now c.in-Some.ensures.value in
     let written = c.get_mut.follows.holds c.exchange_on.new.tally in

@@ -1,13 +1,12 @@
 use Rattle.std.proofs.Common.{ap, ◌∙◌}
 use Rattle.std.specs.List.{find}
-use Rattle.channel_table.specs.Indexes.{ReadRows, is_kept_on, is_owned, read_key}
-use Rattle.channel_table.proofs.Lists.{find_among}
-use Rattle.channel_table.proofs.Waiting.{first_of_both}
+use Rattle.channel_table.specs.Indexes.{ReadRows, is_kept_on, read_home, read_key}
+use Rattle.channel_table.proofs.BySid.{found_by_sid}
+use Rattle.channel_table.proofs.Waiting.{second_of_both}
 use Rattle.channel_table.proofs.reads.Reads.first_on.Goals as goal
 
--- what is on the session's channel is the session's
 pub returns : goal.returns
 returns c =
     c.first_on.ensures
-    ∙ find_among (is_kept_on c.args.session c.args.sid) (is_owned read_key c.args.session) (λ row on. first_of_both _ _ on) c.self.inside.rows.rows
+    ∙ found_by_sid read_key read_home (is_kept_on c.args.session c.args.sid) c.args.sid c.self.inside.rows.rows c.self.inside.by_sid _ (λ row on. second_of_both _ _ on) c.are_apart.ensures c.self.invariant c.of.ensures
     ∙ ap (λ (reads : ReadRows). find (is_kept_on c.args.session c.args.sid) reads.rows) c.self.view_is

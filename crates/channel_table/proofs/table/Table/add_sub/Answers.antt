@@ -1,4 +1,4 @@
-use Rattle.std.proofs.Common.{◌≡◌, true, false, Ok, Err, OnOk, refl, sym, ap, ◌∙◌, arith, true≢false}
+use Rattle.std.proofs.Common.{◌≡◌, true, false, Ok, Err, OnOk, bytes_eq, refl, sym, ap, ◌∙◌, arith, true≢false}
 use Rattle.channel_table.specs.Channels.{is_channel}
 use Rattle.channel_table.specs.ClientRows.{has_channel, has_sub, sub_count}
 use Rattle.channel_table.specs.Indexes.{sub_home, sub_key}
@@ -55,7 +55,7 @@ add_sub-requires c =
     let new = ap (λ (t : BrandedRows). has_sub c.args.sub.session c.args.sub.id t.rows) c.self.view_is ∙ c.requires.new in
     let inside = c.self.inside in record {
       new = new;
-      unlisted = unlisted sub_key _ inside.subs.rows inside.subs.on (sub_key c.args.sub) c.in-Some.channel.now.real c.self.invariant.subs_follow.listed new;
+      unlisted = unlisted bytes_eq sub_key _ inside.subs.rows inside.subs.on (sub_key c.args.sub) c.in-Some.channel.now.real c.self.invariant.subs_follow.listed new;
       counts = λ name. record { asks = asks_on inside.channels inside.subs.rows name; is = c.self.invariant.demand name };
     }
 

@@ -1,4 +1,4 @@
-use Rattle.std.proofs.Common.{sym}
+use Rattle.std.proofs.Common.{bytes_eq, sym}
 use Rattle.channel_table.specs.Indexes.{read_home, read_key}
 use Rattle.channel_table.proofs.Following.{follow_added}
 use Rattle.channel_table.proofs.Listed.{unlisted}
@@ -21,5 +21,5 @@ add-requires c =
     let key = read_key (record { id = c.in_ok-id.id; read = c.args.read }) in
     record {
       new = c.in_ok-id.ensures;
-      unlisted = unlisted read_key _ reads.rows reads.on key c.in-Some.channel.now.real c.self.invariant.reads_follow.listed c.in_ok-id.ensures;
+      unlisted = unlisted bytes_eq read_key _ reads.rows reads.on key c.in-Some.channel.now.real c.self.invariant.reads_follow.listed c.in_ok-id.ensures;
     }

@@ -4,7 +4,7 @@ use Rattle.channel_table.specs.Channels.{is_channel}
 use Rattle.channel_table.specs.Subs.{is_sub, is_sub_on, is_not_sub_on}
 use Rattle.channel_table.specs.Indexes.{sub_home, sub_key}
 use Rattle.channel_table.specs.Looks.{BrandedRows}
-use Rattle.channel_table.proofs.Following.{bare_without, elsewhere_kept, first_found, follow_first_removed, found_by_key, on_ids}
+use Rattle.channel_table.proofs.Following.{bare_without, elsewhere_kept, follow_first_removed, found_by_key, on_ids}
 use Rattle.channel_table.proofs.Asking.{demand_less_row}
 use Rattle.channel_table.proofs.Lists.{found_is_there, found_passes, one_fewer_left, unfound_is_absent}
 use Rattle.channel_table.proofs.table.Table.remove_sub_on.Goals as goal
@@ -17,7 +17,7 @@ returns-in_default-clause-none c = λ _.
 
 pub invariant_of-self : goal.invariant_of-self
 invariant_of-self c =
-    let first = first_found c.self.inside.channels c.self.inside.subs c.args.session c.args.sid c.in-Some.channel.now _ c.are_apart.ensures (sym c.in-Some.ensures) c.in-Some-first_on.ensures c.self.invariant.subs_follow in
+    let first = sym c.in-Some-first_on.ensures in
     let key = found_by_key c.self.inside.subs c.args.session c.args.sid c.in-Some-first_on.sub c.are_apart.ensures first in
     let passes = found_passes (is_sub_on c.args.session c.args.sid) c.self.inside.subs.rows c.in-Some-first_on.sub first in
     let on = on_ids (λ a b. find (is_channel a b) c.self.inside.channels) c.args.session c.args.sid c.in-Some-first_on.sub.session c.in-Some-first_on.sub.sid passes ∙ sym c.in-Some.ensures in
@@ -29,14 +29,14 @@ invariant_of-self c =
 
 pub returns-in-Some-first_on-clause-elsewhere : goal.returns-in-Some-first_on-clause-elsewhere
 returns-in-Some-first_on-clause-elsewhere c =
-    let first = first_found c.self.inside.channels c.self.inside.subs c.args.session c.args.sid c.in-Some.channel.now _ c.are_apart.ensures (sym c.in-Some.ensures) c.in-Some-first_on.ensures c.self.invariant.subs_follow in
+    let first = sym c.in-Some-first_on.ensures in
     ap (filter (is_not_sub_on c.args.session c.args.sid)) c.remove_sub.ensures.rows
     ∙ elsewhere_kept c.self.inside.subs c.args.session c.args.sid c.in-Some-first_on.sub c.are_apart.ensures first
     ∙ ap (λ (t : BrandedRows). filter (is_not_sub_on c.args.session c.args.sid) t.rows.subs) c.self.view_is
 
 pub returns-in-Some-first_on-clause-one : goal.returns-in-Some-first_on-clause-one
 returns-in-Some-first_on-clause-one c = λ _.
-    let first = first_found c.self.inside.channels c.self.inside.subs c.args.session c.args.sid c.in-Some.channel.now _ c.are_apart.ensures (sym c.in-Some.ensures) c.in-Some-first_on.ensures c.self.invariant.subs_follow in
+    let first = sym c.in-Some-first_on.ensures in
     let key = found_by_key c.self.inside.subs c.args.session c.args.sid c.in-Some-first_on.sub c.are_apart.ensures first in
     let fewer = one_fewer_left (is_sub c.args.session c.in-Some-first_on.sub.id) c.self.inside.subs.rows (found_is_there (is_sub c.args.session c.in-Some-first_on.sub.id) c.self.inside.subs.rows c.in-Some-first_on.sub key) in
     let rows = ap (λ (t : BrandedRows). length t.rows.subs) c.self.view_is in
@@ -46,4 +46,4 @@ returns-in-Some-first_on-clause-one c = λ _.
 pub returns-in-None-clause-none : goal.returns-in-None-clause-none
 returns-in-None-clause-none c = λ _.
     ap (λ (t : BrandedRows). list_any (is_sub_on c.args.session c.args.sid) t.rows.subs) (sym c.self.view_is)
-    ∙ unfound_is_absent (is_sub_on c.args.session c.args.sid) c.self.inside.subs.rows (first_found c.self.inside.channels c.self.inside.subs c.args.session c.args.sid c.in-Some.channel.now _ c.are_apart.ensures (sym c.in-Some.ensures) c.in-None.ensures c.self.invariant.subs_follow)
+    ∙ unfound_is_absent (is_sub_on c.args.session c.args.sid) c.self.inside.subs.rows (sym c.in-None.ensures)
