@@ -226,6 +226,61 @@ show
 }
 
 #[test]
+fn channels_of_several_sessions_may_have_the_same_id(rt: HostRuntime) {
+    tells(
+        &rt,
+        rt.alloc(),
+        "\
+session 1-3
+channel 3 11
+channel 1 11-12
+channel 2 11
+sub 1 12 1
+sub 2 11 1
+sub 3 11 1
+sub 1 11 2
+sub 2 11 2
+sub 1 11 3
+read 2 11 7
+read 1 11 7
+read 1 12 7
+read 3 11 7
+read 1 11 8
+",
+        "\
+remove sub 1 2
+remove read 1 11 7
+remove channel 2 11
+show
+> session 1 10.0.0.5
+> session 2 10.0.0.5
+> session 3 10.0.0.5
+> channel 3 11 A:SP reach 0 rights 3
+> channel 1 11 A:SP reach 0 rights 3
+> channel 1 12 A:SP reach 0 rights 3
+> sub 1 12 1 owed
+> sub 3 11 1 owed
+> sub 1 11 3 owed
+> read 1 12 7
+> read 3 11 7
+> read 1 11 8
+channel 2 11
+sub 2 11 3
+remove channel 1 11
+remove channel 1 12
+remove channel 3 11
+on A:SP
+> true 1 1 0
+> channel 2 11 A:SP reach 0 rights 3
+> sub 2 11 3 owed
+remove session 2
+on A:SP
+> false 0 0 0
+",
+    );
+}
+
+#[test]
 fn the_first_of_equal_reads_leaves(rt: HostRuntime) {
     tells(
         &rt,

@@ -50,6 +50,50 @@ visits
     );
 }
 
+/// Of channels on one variable, and of such as have the same ID, each has rights of its own.
+#[test]
+fn what_is_wanted_follows_the_rights_of_each_channel(rt: HostRuntime) {
+    tells(
+        &rt,
+        rt.alloc(),
+        "\
+session 1-2
+channel 1 11-12
+channel 2 11
+typed 1 11 1 20 7
+sub 1 12 2
+sub 2 11 1
+",
+        "\
+want A:SP 8
+> want 7 8
+put channel 2 11 0 2
+want A:SP 8
+> want 7 8
+put channel 1 11 0 2
+want A:SP 8
+> want 5 8
+put channel 2 11 0 3
+put channel 1 12 0 2
+want A:SP 8
+> want 5 8
+put channel 2 11 0 0
+want A:SP 8
+> none
+put channel 1 11 0 1
+remove channel 2 11
+want A:SP 8
+> want 7 8
+remove channel 1 11
+want A:SP 8
+> none
+put channel 1 12 0 3
+want A:SP 8
+> want 5 8
+",
+    );
+}
+
 /// A type that has properties needs them, one of texts where the elements are states, and so does who
 /// asks for what comes with a change of them: as long as the client was last told that it may read.
 #[test]
