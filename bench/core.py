@@ -28,6 +28,7 @@ from gateway import connected, create, message, name_of, subscribe, update
 STEP, DRAIN = "gateway_core::engine::Engine::step", "gateway_core::gate::EngineGatewayCalls::drain"
 SIZES = (1, 2, 4)  # of a thing whose growth is measured, in parts of the row's own
 BRIEF = 20  # seconds that a run may be expected to take
+CROWD = 8  # clients whose channels are all on one variable
 BEGUN = ["open u1", "server u1 " + message(0, count=13)]
 
 
@@ -172,6 +173,31 @@ def server_lost(sessions):
     return of_more(list(sessions_of("u1", sessions)), ["lost u1"], 50 * sessions).step
 
 
+def crowded(channels):
+    """A connected variable, and clients that each have so many channels on it, with two subscriptions on each."""
+    name = name_of(1)
+    yield from [*BEGUN, opened(1), "client s1 " + create(1, name)]
+    yield from connected(1, name)
+    for client in range(CROWD):
+        session, sid = client + 1, client * channels + 1
+        yield from [opened(session)] if client else []
+        yield f"client s{session} " + "".join(create(cid, name) for cid in range(channels))
+        yield f"client s{session} " + "".join(subscribe(sid + own // 2, own) for own in range(2 * channels))
+
+
+def crowd_gone(channels):
+    return of_more(list(crowded(channels)), [f"lost s{session}" for session in range(1, CROWD + 1)], 1).step
+
+
+def crowd_lost(channels):
+    return of_more(list(crowded(channels)), ["lost u1"], CROWD * channels).step
+
+
+def crowd_row(line):
+    base = list(crowded(4_096))
+    return min(seconds(base, [line]) for _ in range(3)), ""
+
+
 def subscribed(many):
     """A client's channel with so many subscriptions, of IDs from 1 on."""
     lines = [*one_variable(1), "server u1 " + update(1)]
@@ -267,11 +293,17 @@ def table(args):
     yield f"{both}, of the greatest ID, {beside_many}", 8_000, "instructions", lambda: beside(others, greatest, 1, 2)
     yield f"{both}, of an ID among the others, {beside_many}", 8_000, "instructions", lambda: beside(others, among, 1, 2)
     yield "a server is lost, beside n sessions with 50 channels each", 1.1, "exponent", lambda: grows(25, server_lost)
+    crowd = f"{CROWD} clients with n channels and twice as many subscriptions on one variable"
+    yield f"{crowd} go", 1.1, "exponent", lambda: grows(1_024, crowd_gone)
+    yield f"{crowd} lose their server", 1.1, "exponent", lambda: grows(1_024, crowd_lost)
     yield "CLEAR_CHANNEL with n subscriptions", 1.1, "exponent", lambda: grows(500, channel_cleared)
     yield "an update that answers n waiting reads", 1.1, "exponent", lambda: grows(1_000, waiting_answered)
     yield "n subscriptions cancelled, first made first", 1.1, "exponent", lambda: grows(500, cancelled)
     yield "n subscriptions made and given up, beside n of the variable", 1.1, "exponent", lambda: grows(250, in_turn)
     yield "a server with 50,000 channels of 1,000 sessions is lost", 0.3, "seconds", lambda: lost_row(args)
+    full = "4,096 channels and 8,192 subscriptions on one variable"
+    yield f"the first of {CROWD} clients with {full} goes", 0.1, "seconds", lambda: crowd_row("lost s1")
+    yield f"{CROWD} clients with {full} lose their server", 0.25, "seconds", lambda: crowd_row("lost u1")
     yield "an edit with 400 rules, 10,000 channels", 0.5, "seconds", lambda: edit_row(args)
     yield "CREATE_CHAN of a new name under 4,096 rules", 2, "milliseconds", lambda: (created(4_096), "")
     for many in (10_000, 60_000):
