@@ -294,8 +294,8 @@ def table(args):
     yield f"{both}, of an ID among the others, {beside_many}", 8_000, "instructions", lambda: beside(others, among, 1, 2)
     yield "a server is lost, beside n sessions with 50 channels each", 1.1, "exponent", lambda: grows(25, server_lost)
     crowd = f"{CROWD} clients with n channels and twice as many subscriptions on one variable"
-    yield f"{crowd} go", 1.1, "exponent", lambda: grows(1_024, crowd_gone)
-    yield f"{crowd} lose their server", 1.1, "exponent", lambda: grows(1_024, crowd_lost)
+    yield f"{crowd} go", 1.1, "exponent", lambda: grows(256, crowd_gone)
+    yield f"{crowd} lose their server", 1.1, "exponent", lambda: grows(256, crowd_lost)
     yield "CLEAR_CHANNEL with n subscriptions", 1.1, "exponent", lambda: grows(500, channel_cleared)
     yield "an update that answers n waiting reads", 1.1, "exponent", lambda: grows(1_000, waiting_answered)
     yield "n subscriptions cancelled, first made first", 1.1, "exponent", lambda: grows(500, cancelled)
