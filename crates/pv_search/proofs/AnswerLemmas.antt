@@ -3,7 +3,7 @@ use Rattle.std.proofs.Common.{ℕ, List, [], ◌∷◌, Bool}
 use Rattle.std.specs.List.{AllZip}
 use Rattle.pv_search.specs.declared.answering.SearchAnswer.{SearchAnswer}
 use Rattle.pv_search.specs.declared.search.Search.{Search}
-use Rattle.pv_search.specs.Answer.{IsAnswer, IsTested}
+use Rattle.pv_search.specs.Answer.{IsAnswer}
 
 module _ (answers others : List ℕ → Bool → Type 0) (weaker : (name : List ℕ) (passes : Bool) → answers name passes → others name passes) where
   zip_weaker : (searches : List Search) (passes : List Bool)

@@ -16,9 +16,12 @@ use Rattle.ca_message.specs.Wire.{IsWholeMessage}
 use Rattle.ca_message.proofs.ReadBack.{word_read_back}
 use Rattle.pv_name.specs.Name.{IsName}
 use Rattle.pv_name.specs.declared.name.TheConstants.{NAME_LIMIT}
+use Rattle.pv_search.specs.declared.asks.Ask.{Ask}
+use Rattle.pv_search.specs.declared.search.Search.{Search}
 use Rattle.pv_search.specs.Ask.{ask, ask_text}
+use Rattle.pv_search.specs.Asks.{asked_searches, asks_text}
 use Rattle.pv_search.specs.Found.{found_cid}
-use Rattle.pv_search.specs.Laws.{AreCids}
+use Rattle.pv_search.specs.Laws.{AreAsks, AreCids}
 use Rattle.pv_search.specs.Picked.{IsPicked, picked_from}
 use Rattle.pv_search.specs.Reply.{found, search_reply}
 use Rattle.pv_search.specs.Search.{search_for, search_of}
@@ -48,7 +51,7 @@ nothing_is_part : IsPartial []
 nothing_is_part =
     inl (version.head, canonical_header version.head, IsSpelling-canonical version.head fits-version, record { missing = canonical_header version.head; some_missing = omega arith; parts = refl })
 
-framed-sent : (ms : List Message) (text : List ℕ) → AreSpelled ms text → IsFramed text ms (Rest [])
+pub framed-sent : (ms : List Message) (text : List ℕ) → AreSpelled ms text → IsFramed text ms (Rest [])
 framed-sent ms text spelled =
     record { whole = text; left = []; spelled = spelled; ends = (refl, nothing_is_part); parts = sym (append-nil text) }
 
@@ -81,6 +84,32 @@ search_read_back name cid is_name fits =
       all = sym (ap (λ found. cons_option (search_for cid found) []) (word_read_back NAME_LIMIT name is_name));
     }
 
+-- ---- several searches
+
+abbrev ask_of : Ask → Message
+ask_of a = ask a.name a.cid
+
+spelled-asks : (asks : List Ask) → AreAsks asks → AreSpelled (map ask_of asks) (flat_map (λ (a : Ask). message_text (ask a.name a.cid)) asks)
+spelled-asks [] all = refl
+spelled-asks (a ∷ asks) all =
+    (message_text (ask_of a), flat_map (λ (x : Ask). message_text (ask x.name x.cid)) asks, spelled-sent (ask_of a) (fits-ask a.name a.cid all.0 all.1) (whole-ask a.name a.cid all.0), spelled-asks asks all.2, refl)
+
+picked-asks : (asks : List Ask) → AreAsks asks → asked_searches asks ≡ picked_from search_of (map ask_of asks)
+picked-asks [] all = refl
+picked-asks (a ∷ asks) all =
+    ap (λ (xs : List Search). record { cid = a.cid; name = a.name } ∷ xs) (picked-asks asks all.2)
+    ∙ sym (ap (λ found. cons_option (search_for a.cid found) (picked_from search_of (map ask_of asks))) (word_read_back NAME_LIMIT a.name all.0))
+
+pub searches_read_back : (asks : List Ask) → AreAsks asks → IsPicked search_of (asks_text asks) (asked_searches asks)
+searches_read_back asks all =
+    let text = flat_map (λ (a : Ask). message_text (ask a.name a.cid)) asks in
+    record {
+      messages = version ∷ map ask_of asks;
+      end = Rest [];
+      framed = framed-sent (version ∷ map ask_of asks) (asks_text asks) (message_text version, text, spelled-sent version fits-version whole-version, spelled-asks asks all, refl);
+      all = picked-asks asks all;
+    }
+
 -- ---- a reply
 
 fits-found : (port cid : ℕ) → port < 2 ^ 16 → cid < 2 ^ 32 → IsHeader (found port cid).head
@@ -98,7 +127,7 @@ picked-found : (port : ℕ) (cids : List ℕ) → cids ≡ picked_from found_cid
 picked-found port [] = refl
 picked-found port (cid ∷ cids) = ap (λ (xs : List ℕ). cid ∷ xs) (picked-found port cids)
 
-reply-some : (port cid : ℕ) (cids : List ℕ) → message_text version ++ flat_map (λ (c : ℕ). message_text (found port c)) (cid ∷ cids) ≡ search_reply port (cid ∷ cids)
+pub reply-some : (port cid : ℕ) (cids : List ℕ) → message_text version ++ flat_map (λ (c : ℕ). message_text (found port c)) (cid ∷ cids) ≡ search_reply port (cid ∷ cids)
 reply-some port cid cids =
     let some : (length (cid ∷ cids) == 0) ≡ false = grind (arith, nat_tests) in
     rw some refl

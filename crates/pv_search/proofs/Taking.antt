@@ -25,7 +25,7 @@ pub record IsTaken (m : Message) (old new : List ℕ) : Type 0 where
   pub fits : IsBytes new
   pub shorter : length new < length old
 
-some_bytes : (h : Header) (head : List ℕ) → IsSpelling h head → 0 < length head
+pub some_bytes : (h : Header) (head : List ℕ) → IsSpelling h head → 0 < length head
 some_bytes h head spelling =
     elim spelling.1 as (λ _. 0 < length head) [
       | inl plain ↦ subst (λ (t : List ℕ). 0 < length t) (sym plain.1) (omega arith)
@@ -66,6 +66,17 @@ ended old new (frames.Rest rest) fits next none =
 ended old new (frames.Fault f) fits next none =
     (Fault f, framed-next old [] (frames.Fault f) (Fault f) fits (new, next, tt) refl)
 
+-- a message in front of a framing
+pub more-framed : (old : List ℕ) (m : Message) (new : List ℕ) (ms : List Message) (end : Ending) → IsCut m old new → IsFramed new ms end → IsFramed old (m ∷ ms) end
+more-framed old m new ms end cut f =
+    record {
+      whole = cut.text ++ f.whole;
+      left = f.left;
+      spelled = (cut.text, f.whole, cut.spelled, f.spelled, refl);
+      ends = f.ends;
+      parts = cut.parts ∙ ap (λ (t : List ℕ). cut.text ++ t) f.parts ∙ sym (append_assoc cut.text f.whole f.left);
+    }
+
 module _ {X : Type 0} (pick : Header → List ℕ → Option X) where
   -- what was read so far, and what is read from the framing of what is left, is what is read from the framing of all
   pub record IsReading (datagram left : List ℕ) (picked : List X) : Type 0 where
@@ -75,16 +86,6 @@ module _ {X : Type 0} (pick : Header → List ℕ → Option X) where
 
   pub reading-begins : (datagram : List ℕ) → IsBytes datagram → IsReading datagram datagram []
   reading-begins datagram fits = record { fits = fits; joined = λ ms end f. (ms, f, refl) }
-
-  more-framed : (old : List ℕ) (m : Message) (new : List ℕ) (ms : List Message) (end : Ending) → IsCut m old new → IsFramed new ms end → IsFramed old (m ∷ ms) end
-  more-framed old m new ms end cut f =
-      record {
-        whole = cut.text ++ f.whole;
-        left = f.left;
-        spelled = (cut.text, f.whole, cut.spelled, f.spelled, refl);
-        ends = f.ends;
-        parts = cut.parts ∙ ap (λ (t : List ℕ). cut.text ++ t) f.parts ∙ sym (append_assoc cut.text f.whole f.left);
-      }
 
   reading-on : (datagram old new : List ℕ) (picked : List X) (m : Message) → IsTaken m old new → IsReading datagram old picked
       → IsReading datagram new (picked ++ picked_from pick (m ∷ []))

@@ -1,7 +1,10 @@
 pub mod Answer
 pub mod Ask
+pub mod Asks
 pub mod Found
 pub mod Laws
+pub mod PartFront
+pub mod Parts
 pub mod Picked
 pub mod Reply
 pub mod Search

@@ -4,34 +4,12 @@ ghost use Rattle.std.specs.Fn.{FnReturnsAt};
 ghost use Rattle.pv_search.specs.Answer.{HasUnanswered, IsAnswer, IsTested, names};
 
 use crate::NoMemory;
+use crate::datagram::Datagram;
 use crate::reply::search_reply;
 use crate::search::{Search, searches_in};
 use pv_name::Name;
 use std::alloc::Global;
 use std::marker::Model;
-
-/// The bytes of a datagram.
-#[derive(Debug, Drop)]
-pub struct Datagram {
-    bytes: Vec<u8>,
-}
-
-impl Model for Datagram {
-    ghost use Rattle.std.specs.Prelude.{ℕ, List};
-
-    ghost Value = { List ℕ };
-
-    ghost view = { λ d. d.bytes.items };
-}
-
-impl Datagram {
-    /// It takes no memory.
-    pub fn as_slice(&self) -> &[u8]
-        ensures { result.now ≡ self.now }
-    {
-        self.bytes.as_slice()
-    }
-}
 
 /// Names, in order.
 #[derive(Debug, Drop)]

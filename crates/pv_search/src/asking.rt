@@ -1,8 +1,9 @@
 //! How a name is searched for.
-ghost use Rattle.std.specs.Prelude.{◌≡◌, length, IfOk};
+ghost use Rattle.std.specs.Prelude.{◌≡◌, ◌++◌, length, IfOk, OnOk};
+ghost use Rattle.ca_header.specs.Header.{message_text};
 ghost use Rattle.ca_message.specs.Padding.{nul_ended};
 ghost use Rattle.ca_message.specs.Wire.{size_field};
-ghost use Rattle.pv_search.specs.Ask.{ask_text};
+ghost use Rattle.pv_search.specs.Ask.{ask, ask_text};
 
 use crate::NoMemory;
 use crate::message::{add_message, add_version};
@@ -18,6 +19,21 @@ pub const DONT_REPLY: u16 = 5;
 pub fn ask_text(alloc: Global, name: &Name, cid: u32) -> Result<Vec<u8>, NoMemory>
     ensures { IfOk result (λ text. text.items ≡ ask_text name.now cid) }
 {
+    let mut text = Vec::new(alloc);
+    add_version(&mut text)?;
+    add_ask(alloc, &mut text, name, cid)?;
+    Ok(text)
+}
+
+/// Adds the search for the name.
+pub(crate) fn add_ask(
+    alloc: Global,
+    text: &mut Vec<u8>,
+    name: &Name,
+    cid: u32,
+) -> Result<(), NoMemory>
+    ensures { OnOk result (text.new.items ≡ text.old.items ++ message_text (ask name.now cid)) }
+{
     let payload = nul_ended(alloc, name)?;
     let head = Header {
         command: CA_PROTO_SEARCH,
@@ -27,10 +43,7 @@ pub fn ask_text(alloc: Global, name: &Name, cid: u32) -> Result<Vec<u8>, NoMemor
         count: MINOR_VERSION,
         size: padded_size(name),
     };
-    let mut text = Vec::new(alloc);
-    add_version(&mut text)?;
-    add_message(&mut text, &head, &payload)?;
-    Ok(text)
+    add_message(text, &head, &payload)
 }
 
 /// The name, a NUL and padding.

@@ -3,13 +3,19 @@
 //! - [`answer`] takes a client's datagram, the TCP port at which names are served, and a test of which
 //!   these are. It gives the datagram to send back, which is empty where no name passes, and the names
 //!   that were asked for.
-//! - [`ask_text`] is the datagram that asks servers for a name.
+//! - [`first_part`] cuts a part off a client's datagram that has a few of its searches, and
+//!   [`Datagram::join`] makes one reply of the replies to parts. So nobody waits until a long datagram is
+//!   answered as a whole.
+//! - [`ask_text`] is the datagram that asks servers for a name, and [`ask_datagram`] one that asks for
+//!   several, as many as fit.
 //! - [`read_found`] gives the CIDs of the replies in a server's datagram.
 //!
 //! A datagram is framed as a stream is; other messages, names that can't be read, and what follows the
 //! last whole message are passed over. It is read in one way (`laws::datagrams_are_read_in_one_way`),
 //! and what is asked for and replied to is read back (`laws::searches_are_read_back`,
-//! `laws::replies_are_read_back`). The calls fail only where memory is refused, or where the test says so.
+//! `laws::several_searches_are_read_back`, `laws::replies_are_read_back`). Parts are answered as the whole
+//! is (`laws::parts_are_answered_as_the_whole`). The calls fail only where memory is refused, or where the
+//! test says so.
 //!
 //! ```
 //! let name = Name::read(rt.alloc(), b"T1")?;
@@ -20,16 +26,22 @@
 //! ```
 #![tactic(auto)]
 
-pub use answering::{Datagram, Names, SearchAnswer, answer};
+pub use answering::{Names, SearchAnswer, answer};
 pub use asking::{DONT_REPLY, ask_text};
+pub use asks::{ASK_LIMIT, Ask, AskDatagram, ask_datagram};
+pub use datagram::Datagram;
 pub use found::read_found;
+pub use parts::first_part;
 pub use reply::SENDER_ADDRESS;
 
 mod answering;
 mod asking;
+mod asks;
+mod datagram;
 mod found;
 pub mod laws;
 mod message;
+mod parts;
 mod reply;
 mod search;
 
