@@ -37,7 +37,7 @@ fn ask(call: &Call, told: &mut Told) {
     }
 }
 
-fn t1_alone(alloc: Global, datagram: &[u8]) -> Result<SearchAnswer, NoMemory> {
+pub(crate) fn t1_alone(alloc: Global, datagram: &[u8]) -> Result<SearchAnswer, NoMemory> {
     answer(alloc, datagram, PORT, |name| Ok(name.text() == "T1"))
 }
 
@@ -55,7 +55,7 @@ fn tell_answer(answer: Result<SearchAnswer, NoMemory>, told: &mut Told) {
     }
 }
 
-fn tell_reply(reply: &[u8], told: &mut Told) {
+pub(crate) fn tell_reply(reply: &[u8], told: &mut Told) {
     if reply.is_empty() {
         told.line(&"no reply");
     } else {

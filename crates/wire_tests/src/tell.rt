@@ -8,8 +8,10 @@
 use crate::layouts::Viewed;
 use crate::words::{Call, Told, verb};
 use crate::{
-    caches, headers, layouts, messages, outboxes, searches, streams, to_clients, to_servers,
+    caches, datagrams, headers, layouts, messages, outboxes, schedules, searches, streams,
+    to_clients, to_servers,
 };
+use ask_schedule::Schedule;
 use ca_header::Intake;
 use fanout::Outbox;
 use std::alloc::Global;
@@ -30,6 +32,7 @@ struct Wire {
     viewed: Viewed,
     cached: Cached,
     outbox: Outbox,
+    schedule: Schedule,
 }
 
 impl Wire {
@@ -39,6 +42,7 @@ impl Wire {
             viewed: Viewed::nothing(alloc),
             cached: Cached::empty(),
             outbox: Outbox::new(alloc),
+            schedule: Schedule::new(alloc, schedules::LIMIT),
         }
     }
 
@@ -68,6 +72,10 @@ impl Wire {
             "search" | "answer" | "answer-cut" | "test" | "found" => searches::call(
                 verb, call, told,
             ),
+            "plan" | "look" | "unplan" | "sooner" => {
+                schedules::call(&mut self.schedule, verb, call, told);
+            }
+            "asks" | "asks-sizes" | "parts" | "answer-parts" => datagrams::call(verb, call, told),
             _ => layouts::call(&mut self.viewed, verb, call, told),
         }
     }
@@ -85,6 +93,7 @@ impl Wire {
         told.name(&self.intake);
         told.name(&self.cached);
         told.name(&self.outbox);
+        told.word(&self.schedule.len());
         told.end();
     }
 }

@@ -1,0 +1,19 @@
+//! The rows of a schedule, and the numbers that limit them.
+
+use pv_name::Name;
+
+/// The tries after which a gap grows no more: it has then 8,192 looks, 4.4 minutes where a look is 32 ms.
+pub const MOST_TRIES: u32 = 9;
+
+/// What comes after the last look that can be counted is due at that look.
+pub const LAST_LOOK: u64 = 0xFFFF_FFFF_FFFF_FFFF;
+
+/// A name that is asked for.
+#[derive(Drop)]
+pub struct Row {
+    pub(crate) name: Name,
+    /// How often it was asked for; 9 where it was more often.
+    pub(crate) tries: u32,
+    /// The look from which on it is to be asked for.
+    pub(crate) due: u64,
+}
