@@ -12,7 +12,7 @@ use crate::host_name::fix_host;
 use ca_message::{CreateChannel, ToClient};
 use channel_table::{CHANNEL_LIMIT, Channel, Reach, Visits};
 use gateway_rows::{Refusal, Rows};
-use gateway_state::Native;
+use gateway_state::{Limit, Native};
 use link_table::{Counter, Link};
 use pv_alias::{Lead, group_rights};
 use pv_name::Name;
@@ -210,6 +210,7 @@ fn create_named(
         return Ok(());
     };
     if rows.clients.channel_count(number) >= CHANNEL_LIMIT {
+        rows.meet(Limit::Channels);
         fail_creation(rows, number, cid)?;
         return Ok(());
     }

@@ -13,7 +13,7 @@ use ca_message::codes::ECA_GETFAIL;
 use ca_message::{ReadNotify, ToClient};
 use channel_table::{Channel, READ_LIMIT, Reach, Visits, WaitingRead};
 use gateway_rows::Rows;
-use gateway_state::ReadVerdict;
+use gateway_state::{Limit, ReadVerdict};
 use gateway_values::{ConnectedVariable, reach_with, read_refusal};
 use std::alloc::AllocError;
 use touched_rows::Touched;
@@ -155,6 +155,9 @@ pub(crate) fn hear_read(
         }
         ReadVerdict::Ignored => Ok(Touched::Nothing),
         ReadVerdict::Refused(code) => {
+            if code == ECA_GETFAIL {
+                rows.meet(Limit::Reads);
+            }
             refuse_read(rows, read, code)?;
             Ok(Touched::Nothing)
         }

@@ -11,7 +11,7 @@ use ca_message::EventAdd;
 use ca_message::codes::{ECA_ALLOCMEM, ECA_BADMASK, ECA_INTERNAL};
 use channel_table::{Channel, ClientSub, SUB_LIMIT, TableFault, Visits};
 use gateway_rows::Rows;
-use gateway_state::{Native, SERVED_EVENTS, SubVerdict};
+use gateway_state::{Limit, Native, SERVED_EVENTS, SubVerdict};
 use gateway_values::{ConnectedVariable, value_refusal};
 use std::alloc::AllocError;
 use touched_rows::Touched;
@@ -139,6 +139,9 @@ pub(crate) fn subscribe_client(
         }
         SubVerdict::Ignored => Ok(Touched::Nothing),
         SubVerdict::Refused { cid, code } => {
+            if code == ECA_ALLOCMEM {
+                rows.meet(Limit::Subs);
+            }
             refuse_request(rows, sub.session, cid, code, head)?;
             Ok(Touched::Nothing)
         }

@@ -13,7 +13,7 @@ use ca_message::codes::{ECA_NOWTACCESS, ECA_PUTFAIL};
 use ca_message::{ToClient, ToServer, ValueBytes, Write, WriteFault, WriteNotify, WrittenValue};
 use channel_table::{Channel, Visits};
 use gateway_rows::{Refusal, Rows};
-use gateway_state::WriteVerdict;
+use gateway_state::{Limit, WriteVerdict};
 use gateway_values::{ConnectedVariable, may_write};
 use link_table::{Counter, WRITE_LIMIT, WaitingWrite};
 use std::alloc::AllocError;
@@ -186,6 +186,7 @@ fn hand_on(
     ensures brand { rows.new.brand ≡ rows.old.brand }
 {
     if rows.upstream.writes(write.session) >= WRITE_LIMIT {
+        rows.meet(Limit::Writes);
         return Ok(answer_write(rows, write, ioid, ECA_PUTFAIL)?);
     }
     let id = add_write(rows, write, ioid, server)?;

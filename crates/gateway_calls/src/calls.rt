@@ -7,16 +7,17 @@ ghost use Rattle.gateway_state.specs.Numbers.{is_past_numbers, runs_out};
 ghost use Rattle.gateway_state.specs.Step.{step, run, taken};
 ghost use Rattle.gateway_state.specs.Answer.{reading};
 ghost use Rattle.gateway_state.specs.Asked.{stands, ends, queued, queued_bytes};
+ghost use Rattle.gateway_state.specs.Serving.{server_of};
 ghost use Rattle.gateway_state.specs.Interest.{property_subscription_of, subscription_of};
 ghost use Rattle.gateway_state.specs.Rights.{rights_asked};
-ghost use Rattle.gateway_state.specs.Variables.{asks};
+ghost use Rattle.gateway_state.specs.Variables.{asks, is_missing};
 ghost use Rattle.gateway_state.specs.RowCounts.{row_counts};
 ghost use Rattle.gateway_calls.specs.Searching.{IsSearched};
 
 use crate::NoMemory;
 use crate::fault::{AskFault, Failed, StepFault};
 use fanout::Out;
-use gateway_state::{Config, Dest, Event, Policy, Reading, RowCounts, Sub};
+use gateway_state::{Config, Dest, Event, Fullest, LimitsMet, Policy, Reading, RowCounts, Sub};
 use pv_name::{Host, Name};
 use pv_search::SearchAnswer;
 use std::alloc::Global;
@@ -117,10 +118,33 @@ pub trait GatewayCalls {
         ensures failed { IsErrOf result AskFault.Failed ↔ IsNone (state self.old) }
         ensures same { state self.new ≡ state self.old };
 
+    /// Whether the name is one to ask servers for now: wanted, and without a link.
+    fn is_missing(&mut self, name: &Name) -> Result<bool, Failed>
+        ensures found { IfOk result (λ answer. Some answer ≡ option_map (λ w. is_missing w name.now) (state self.old)) }
+        ensures failed { IsOk result ↔ IsSome (state self.old) }
+        ensures same { state self.new ≡ state self.old };
+
+    /// The number of the server on whose link the session's channel stands, nothing where there is no such
+    /// channel.
+    fn server_of(&mut self, session: u32, sid: u32) -> Result<Option<u32>, Failed>
+        ensures found { IfOk result (λ answer. Some answer ≡ option_map (λ w. server_of w session sid) (state self.old)) }
+        ensures failed { IsOk result ↔ IsSome (state self.old) }
+        ensures same { state self.new ≡ state self.old };
+
     /// What a client's datagram from this host comes to: the names that it searches for, and the datagram
     /// to send back for those that lead to connected variables.
     fn search(&mut self, host: &Host, datagram: &[u8]) -> Result<SearchAnswer, AskFault>
         ensures found { IfOk result (λ answer. IfSome (state self.old) (λ w. IsSearched w host.now datagram.now answer)) }
         ensures failed { IsErrOf result AskFault.Failed ↔ IsNone (state self.old) }
         ensures same { state self.new ≡ state self.old };
+
+    /// How often limits were met since the start. No definition speaks of it: it is for whoever watches.
+    fn limits_met(&self) -> LimitsMet {
+        LimitsMet::NONE
+    }
+
+    /// The most that one client or server has now. No definition speaks of it: it is for whoever watches.
+    fn fullest(&self) -> Fullest {
+        Fullest::NONE
+    }
 }

@@ -11,7 +11,7 @@ ghost use Rattle.touched_rows.specs.Touches.{link_names, names_of, server_names}
 use ca_message::{NameText, ToClient, ToServer};
 use channel_table::{Session, Table, TableFault, Visits};
 use gateway_rows::Rows;
-use gateway_state::Dest;
+use gateway_state::{Dest, Limit};
 use link_table::{Links, Server, TableFault as LinkFault};
 use pv_name::Host;
 use std::alloc::{AllocError, Global};
@@ -38,7 +38,10 @@ pub(crate) fn open_session(rows: &mut Rows, number: u32, host: Host) -> Result<(
             rows.connections.add(rows.alloc, Dest::Session(number))?;
             rows.tell(number, &ToClient::Version)
         }
-        Err(TableFault::Full) => Ok(()),
+        Err(TableFault::Full) => {
+            rows.meet(Limit::Sessions);
+            Ok(())
+        }
         Err(_) => Err(AllocError),
     }
 }
@@ -100,7 +103,10 @@ pub(crate) fn open_server(rows: &mut Rows, number: u32) -> Result<(), AllocError
             rows.connections.add(rows.alloc, Dest::Upstream(number))?;
             introduce(rows, number)
         }
-        Err(LinkFault::Full) => Ok(()),
+        Err(LinkFault::Full) => {
+            rows.meet(Limit::Servers);
+            Ok(())
+        }
         Err(_) => Err(AllocError),
     }
 }

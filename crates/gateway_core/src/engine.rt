@@ -7,9 +7,10 @@ ghost use Rattle.gateway_state.specs.Numbers.{is_past_numbers, runs_out};
 ghost use Rattle.gateway_state.specs.Step.{step, run, taken};
 ghost use Rattle.gateway_state.specs.Answer.{reading};
 ghost use Rattle.gateway_state.specs.Asked.{stands, ends, queued, queued_bytes};
+ghost use Rattle.gateway_state.specs.Serving.{server_of};
 ghost use Rattle.gateway_state.specs.Interest.{property_subscription_of, subscription_of};
 ghost use Rattle.gateway_state.specs.Rights.{rights_asked};
-ghost use Rattle.gateway_state.specs.Variables.{asks};
+ghost use Rattle.gateway_state.specs.Variables.{asks, is_missing};
 ghost use Rattle.gateway_state.specs.RowCounts.{row_counts};
 ghost use Rattle.gateway_calls.specs.Searching.{IsSearched};
 ghost use Rattle.gateway_core.specs.Looks.{event_looks};
@@ -21,7 +22,7 @@ use channel_table::Visits;
 use fanout::Out;
 use gateway_calls::{AskFault, Failed, NoMemory, StepFault};
 use gateway_rows::{Refusal, Rows};
-use gateway_state::{Config, Dest, Event, Policy, Reading, RowCounts, Sub};
+use gateway_state::{Config, Dest, Event, Fullest, LimitsMet, Policy, Reading, RowCounts, Sub};
 use pv_name::{Host, Name};
 use pv_search::SearchAnswer;
 use std::alloc::Global;
@@ -276,6 +277,52 @@ impl Engine {
                 Err(_) => Err(AskFault::OutOfMemory),
             },
             None => Err(AskFault::Failed),
+        }
+    }
+
+    /// Whether the name is one to ask servers for now: wanted, and without a link. It takes no memory.
+    pub fn is_missing(&mut self, name: &Name) -> Result<bool, Failed>
+        ensures found { IfOk result (λ answer. Some answer ≡ option_map (λ w. is_missing w name.now) self.old.state) }
+        ensures failed { IsOk result ↔ IsSome self.old.state }
+        ensures same { self.new.state ≡ self.old.state }
+        ensures looks { self.new.visits ≡ self.old.visits }
+    {
+        match &self.rows {
+            Some(rows) => Ok(rows.is_missing(name)),
+            None => Err(Failed),
+        }
+    }
+
+    /// The number of the server on whose link the session's channel stands, nothing where there is no such
+    /// channel. It takes no memory.
+    pub fn server_of(&mut self, session: u32, sid: u32) -> Result<Option<u32>, Failed>
+        ensures found { IfOk result (λ answer. Some answer ≡ option_map (λ w. server_of w session sid) self.old.state) }
+        ensures failed { IsOk result ↔ IsSome self.old.state }
+        ensures same { self.new.state ≡ self.old.state }
+        ensures bound { self.new.visits ≤ self.old.visits + 1 }
+        ensures no_less { self.old.visits ≤ self.new.visits }
+    {
+        match &self.rows {
+            Some(rows) => Ok(rows.server_of(&mut self.visits, session, sid)),
+            None => Err(Failed),
+        }
+    }
+
+    /// How often each limit was met since the start; none where a step was refused. No definition speaks of
+    /// it: it is for whoever watches.
+    pub fn limits_met(&self) -> LimitsMet {
+        match &self.rows {
+            Some(rows) => rows.limits_met(),
+            None => LimitsMet::NONE,
+        }
+    }
+
+    /// The most that one client or server has now, in proportion to connections; nothing where a step was
+    /// refused, or memory to look. No definition speaks of it: it is for whoever watches.
+    pub fn fullest(&self) -> Fullest {
+        match &self.rows {
+            Some(rows) => rows.fullest(),
+            None => Fullest::NONE,
         }
     }
 

@@ -3,7 +3,7 @@
 use crate::engine::Engine;
 use fanout::Out;
 use gateway_calls::{AskFault, Failed, GatewayCalls, NoMemory, StepFault};
-use gateway_state::{Config, Dest, Event, Policy, Reading, RowCounts, Sub};
+use gateway_state::{Config, Dest, Event, Fullest, LimitsMet, Policy, Reading, RowCounts, Sub};
 use pv_name::{Host, Name};
 use pv_search::SearchAnswer;
 use std::alloc::Global;
@@ -71,6 +71,22 @@ impl GatewayCalls for Engine {
 
     fn asks(&mut self) -> Result<Vec<Name>, AskFault> {
         Engine::asks(self)
+    }
+
+    fn is_missing(&mut self, name: &Name) -> Result<bool, Failed> {
+        Engine::is_missing(self, name)
+    }
+
+    fn server_of(&mut self, session: u32, sid: u32) -> Result<Option<u32>, Failed> {
+        Engine::server_of(self, session, sid)
+    }
+
+    fn limits_met(&self) -> LimitsMet {
+        Engine::limits_met(self)
+    }
+
+    fn fullest(&self) -> Fullest {
+        Engine::fullest(self)
     }
 
     fn search(&mut self, host: &Host, datagram: &[u8]) -> Result<SearchAnswer, AskFault> {

@@ -22,5 +22,5 @@ mod step;
 pub use engine::Engine;
 pub use fanout::Out;
 pub use gateway_calls::{AskFault, Failed, NoMemory, StepFault};
-pub use gateway_state::{Config, Dest, Event, Policy, Reading, RowCounts, Sub};
+pub use gateway_state::{Config, Dest, Event, Fullest, LimitsMet, Policy, Reading, RowCounts, Sub};
 pub use pv_search::SearchAnswer;

@@ -12,7 +12,7 @@ use crate::source::{Source, source_of};
 use ca_message::ToClient;
 use channel_table::{Channel, ClientSub, Visits};
 use gateway_rows::Rows;
-use gateway_state::UpdateNotice;
+use gateway_state::{Limit, UpdateNotice};
 use gateway_values::may_read;
 use pv_name::Name;
 use std::alloc::AllocError;
@@ -312,6 +312,7 @@ fn tell_update(rows: &mut Rows, visits: &mut Visits, notice: UpdateNotice) -> Re
     ensures own { visits.new.brand ≡ visits.old.brand }
 {
     if !rows.is_taking(notice.session) {
+        rows.meet(Limit::Held);
         return Ok(());
     }
     give_update(rows, visits, notice)
@@ -389,7 +390,12 @@ fn tell_in_turn(
 {
     match update_notice_of(rows, visits, sub, name, source)? {
         Some(notice) => give_update(rows, visits, notice),
-        None => Ok(()),
+        None => {
+            if sub.owed {
+                rows.note_held(sub.session);
+            }
+            Ok(())
+        }
     }
 }
 
@@ -471,6 +477,11 @@ pub(crate) fn tell_one_update(
 {
     match update_notice(rows, visits, sub)? {
         Some(notice) => give_update(rows, visits, notice),
-        None => Ok(()),
+        None => {
+            if sub.owed {
+                rows.note_held(sub.session);
+            }
+            Ok(())
+        }
     }
 }

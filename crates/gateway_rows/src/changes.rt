@@ -9,7 +9,7 @@ ghost use Rattle.gateway_state.specs.Variables.{without_cached};
 
 use crate::state::Rows;
 use channel_table::{ClientSub, Visits, WaitingRead};
-use gateway_state::{Policy, SEARCH_LIMIT, Search};
+use gateway_state::{Limit, Policy, SEARCH_LIMIT, Search};
 use link_table::Subject;
 use pv_name::{Host, Name};
 use std::alloc::AllocError;
@@ -102,7 +102,11 @@ impl Rows {
         ensures ok { OnOk result (self.new.state ≡ remembered host.now name.now self.old.state) }
         ensures brand { self.new.brand ≡ self.old.brand }
     {
-        if self.searches.contains(host, name) || self.searches.len() >= SEARCH_LIMIT {
+        if self.searches.contains(host, name) {
+            return Ok(());
+        }
+        if self.searches.len() >= SEARCH_LIMIT {
+            self.meet(Limit::Names);
             return Ok(());
         }
         let host = host.copy()?;

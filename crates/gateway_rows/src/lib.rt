@@ -17,6 +17,7 @@ mod changes;
 mod connections;
 mod fault;
 mod interest;
+mod limits;
 mod own;
 mod policy;
 mod rights;

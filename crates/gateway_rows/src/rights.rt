@@ -1,6 +1,7 @@
 //! What clients may do with their channels.
 ghost use Rattle.std.specs.Prelude.{◌≡◌, ◌≤◌, ◌+◌, ◌&&◌, bit_and, IfOk, IfSome};
 ghost use Rattle.std.specs.Option.{option_copied};
+ghost use Rattle.gateway_state.specs.Serving.{server_of};
 ghost use Rattle.gateway_state.specs.Variables.{link_of};
 ghost use Rattle.gateway_state.specs.Reached.{rights_told};
 ghost use Rattle.gateway_state.specs.Resolution.{is_real, rights_left};
@@ -107,5 +108,19 @@ impl Rows {
             Some(channel) => Some(channel.rights_told),
             None => None,
         }
+    }
+
+    /// The number of the server on whose link a session's channel stands, nothing where there is no such
+    /// channel. It takes no memory.
+    pub fn server_of(&self, visits: &mut Visits, session: u32, sid: u32) -> Option<u32>
+        requires own { visits.old.brand ≡ self.now.brand }
+        ensures found { result ≡ server_of self.now.state session sid }
+        ensures bound { visits.new.looks ≤ visits.old.looks + 1 }
+        ensures no_less { visits.old.looks ≤ visits.new.looks }
+        ensures own { visits.new.brand ≡ visits.old.brand }
+    {
+        let channel = self.channel_of(visits, session, sid)?;
+        let link = self.link_of(&channel.real)?;
+        Some(link.server)
     }
 }

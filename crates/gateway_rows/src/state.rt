@@ -5,7 +5,7 @@ ghost use Rattle.gateway_state.specs.Numbers.{is_past_numbers};
 ghost use Rattle.gateway_state.specs.RowCounts.{row_counts};
 
 use channel_table::{ClientSub, Table, Visits};
-use gateway_state::{Config, Policy, RowCounts};
+use gateway_state::{Config, LimitsMet, Policy, RowCounts};
 use link_table::Links;
 use state_tables::{Cache, Connections, Searches};
 use std::alloc::Global;
@@ -27,6 +27,8 @@ pub struct Rows {
     pub searches: Searches,
     // The memory of a list that is done with. It is no part of what contracts see.
     pub(crate) spare: Vec<ClientSub>,
+    // How often limits were met, without the outboxes that were full. It is no part of it either.
+    pub(crate) met: LimitsMet,
 }
 
 impl Model for Rows {
@@ -56,6 +58,7 @@ impl Drop for Rows {
             searches,
             spare,
             alloc: _,
+            met: _,
         } = self;
         drop(config);
         drop(connections);
@@ -85,6 +88,7 @@ impl Rows {
             cache: Cache::new(alloc),
             searches: Searches::new(alloc, policy),
             spare: Vec::new(alloc),
+            met: LimitsMet::NONE,
         };
         (rows, visits)
     }

@@ -1,3 +1,4 @@
+pub mod AskedNames
 pub mod CachedApart
 pub mod GivenMessages
 pub mod HostsFixed

@@ -17,6 +17,7 @@ pub mod Rights
 pub mod RowCounts
 pub mod Searches
 pub mod Servers
+pub mod Serving
 pub mod Sessions
 pub mod Settled
 pub mod Step

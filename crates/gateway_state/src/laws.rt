@@ -1,8 +1,10 @@
 //! Laws of the definitions: each is the contract of a call that does nothing.
-ghost use Rattle.std.specs.Prelude.{◌≡◌, ◌+◌};
+ghost use Rattle.std.specs.Prelude.{◌≡◌, ◌+◌, ℕ, List};
 ghost use Rattle.gateway_state.specs.declared.config.TheConstants.{LAST_FIRST};
 ghost use Rattle.gateway_state.specs.declared.interest.TheConstants.{ALARM_EVENTS, CTRL_FORM, PLAIN_TYPES, SERVED_EVENTS, TIME_FORM, VALUE_EVENTS};
 ghost use Rattle.gateway_state.specs.declared.limits.TheConstants.{LOWEST_MINOR, SEARCH_LIMIT, UPDATE_LIMIT, UPDATE_MINOR};
+ghost use Rattle.gateway_state.specs.Gateway.{Gateway};
+ghost use Rattle.gateway_state.specs.Variables.{asks, is_among, is_missing};
 
 /// The numbers that the definitions name. Masks are sums of VALUE 1, LOG 2, ALARM 4 and PROPERTY 8; there
 /// are seven plain DBR types, and the TIME form of each is 14 above it, the CTRL form 28 (Channel Access
@@ -20,4 +22,10 @@ pub fn numbers_are_as_documented()
     ensures searches { SEARCH_LIMIT ≡ 4096 }
     ensures updates { UPDATE_LIMIT ≡ 4096 }
     ensures last_first { LAST_FIRST ≡ 0xFFFF_FFFE }
+{}
+
+/// The names to ask servers for are exactly those that are wanted and have no link.
+#[tactic(auto, using(crate::proofs::AskedNames::asks_missing))]
+pub fn asks_are_the_missing_names()
+    ensures { (w : Gateway) (name : List ℕ) → is_among (asks w) name ≡ is_missing w name }
 {}

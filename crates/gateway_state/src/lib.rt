@@ -13,6 +13,7 @@ mod interest;
 mod last_value;
 pub mod laws;
 mod limits;
+mod limits_met;
 mod notice;
 mod reading;
 mod resolution;
@@ -28,6 +29,7 @@ pub use interest::{
 };
 pub use last_value::LastValue;
 pub use limits::{LOWEST_MINOR, SEARCH_LIMIT, UPDATE_LIMIT, UPDATE_MINOR};
+pub use limits_met::{Fullest, Limit, LimitsMet};
 pub use notice::{
     ChannelNotice, LinkNotice, ReadNotice, ReadVerdict, SubVerdict, UpdateNotice, WriteVerdict,
 };

@@ -80,7 +80,8 @@ fn create_as(
 {
     if let Some(variable) = rows.connected(&lead.real) {
         let native = variable.native;
-        let rights = variable.link.rights & group_rights(&rows.policy.groups, lead.group.as_ref());
+        let groups = &rows.searches.policy().groups;
+        let rights = variable.link.rights & group_rights(groups, lead.group.as_ref());
         return create_on(rows, number, cid, asked, &lead.real, rights, native);
     }
     if let Some(session) = find(&rows.sessions, SessionNumbered { number }) {

@@ -188,6 +188,20 @@ impl GatewayCalls for PlainGate {
         }
     }
 
+    fn is_missing(&mut self, name: &Name) -> Result<bool, Failed> {
+        match &self.rows {
+            Some(rows) => Ok(rows.is_missing(name)),
+            None => Err(Failed),
+        }
+    }
+
+    fn server_of(&mut self, session: u32, sid: u32) -> Result<Option<u32>, Failed> {
+        match &self.rows {
+            Some(rows) => Ok(rows.server_of(session, sid)),
+            None => Err(Failed),
+        }
+    }
+
     fn search(&mut self, host: &Host, datagram: &[u8]) -> Result<SearchAnswer, AskFault> {
         match &self.rows {
             Some(rows) => match search(rows, host, datagram) {

@@ -83,7 +83,7 @@ fn add_link_notices(
     ensures { OnOk result (notices.new.items ≡ notices.old.items ++ link_notices_of rows.now link.now) }
 {
     add_interest_notices(rows, notices, link)?;
-    if !rows.is_wanted(&link.name)? {
+    if !rows.is_wanted(&link.name) {
         notices.push(LinkNotice::Dropped {
             server: link.server,
             cid: link.cid,

@@ -2,10 +2,11 @@
 ghost use Rattle.std.specs.Prelude.{◌≡◌, fold, IfOk, OnOk};
 ghost use Rattle.std.specs.List.{list_any};
 ghost use Rattle.std.specs.Option.{option_copied};
+ghost use Rattle.gateway_state.specs.Serving.{server_of};
 ghost use Rattle.gateway_state.specs.Clients.{remembered};
 ghost use Rattle.gateway_state.specs.Reached.{rights_told};
 ghost use Rattle.gateway_state.specs.Rights.{channel_of, is_found, is_served, lead_in, link_connected, link_rights, rights_of};
-ghost use Rattle.gateway_state.specs.Searches.{leads_to, same_search};
+ghost use Rattle.gateway_state.specs.Searches.{same_search};
 ghost use Rattle.channel_table.specs.Channels.{is_channel_on, is_on};
 ghost use Rattle.gateway_state.specs.Variables.{asks, channel_names, connected, is_linked, is_missing, is_wanted, link_of, search_names, with_name, with_unlinked};
 
@@ -28,7 +29,7 @@ impl Rows {
         ensures { IfOk result (λ lead. lead ≡ lead_in self.now number name.now) }
     {
         match find(&self.sessions, SessionNumbered { number }) {
-            Some(session) => lead_of(self.alloc, &self.policy, &session.host, name),
+            Some(session) => lead_of(self.alloc, self.searches.policy(), &session.host, name),
             None => Ok(None),
         }
     }
@@ -87,7 +88,7 @@ impl Rows {
         ensures { IfOk result (λ rights. rights ≡ rights_of self.now channel.now) }
     {
         let lead = self.lead_in(channel.session, &channel.asked)?;
-        Ok(self.link_rights(&channel.real) & rights_left(&self.policy, lead.as_ref()))
+        Ok(self.link_rights(&channel.real) & rights_left(self.searches.policy(), lead.as_ref()))
     }
 
     /// Whether a channel is served: its name still leads to its real name, whose link is connected.
@@ -109,11 +110,21 @@ impl Rows {
         }
     }
 
+    /// The number of the server on whose link a session's channel stands, nothing where there is no such
+    /// channel. It takes no memory.
+    pub(crate) fn server_of(&self, session: u32, sid: u32) -> Option<u32>
+        ensures { result ≡ server_of self.now session sid }
+    {
+        let channel = self.channel_of(session, sid)?;
+        let link = self.link_of(&channel.real)?;
+        Some(link.server)
+    }
+
     /// Whether the name that a host searches for leads to a variable whose link is connected.
     pub(crate) fn is_found(&self, host: &Host, name: &Name) -> Result<bool, AllocError>
         ensures { IfOk result (λ answer. answer ≡ is_found self.now host.now name.now) }
     {
-        match lead_of(self.alloc, &self.policy, host, name)? {
+        match lead_of(self.alloc, self.searches.policy(), host, name)? {
             Some(lead) => Ok(self.link_connected(&lead.real)),
             None => Ok(false),
         }
@@ -125,31 +136,18 @@ impl Rows {
         self.link_of(name).is_some()
     }
 
-    /// Whether a remembered search leads to the real name.
-    fn is_searched(&self, name: &Name) -> Result<bool, AllocError>
-        ensures { IfOk result (λ answer. answer ≡ list_any (leads_to self.now.policy name.now) self.now.searches) }
-    {
-        for row in &self.searches {
-            let lead = lead_of(self.alloc, &self.policy, &row.host, &row.name)?;
-            if is_real(lead.as_ref(), name) {
-                return Ok(true);
-            }
-        }
-        Ok(false)
-    }
-
     /// Whether a channel is open on the real name, or a remembered search leads to it.
-    pub(crate) fn is_wanted(&self, name: &Name) -> Result<bool, AllocError>
-        ensures { IfOk result (λ answer. answer ≡ is_wanted self.now name.now) }
+    pub(crate) fn is_wanted(&self, name: &Name) -> bool
+        ensures { result ≡ is_wanted self.now name.now }
     {
-        Ok(any_on(&self.channels, name) || self.is_searched(name)?)
+        any_on(&self.channels, name) || self.searches.leads_to(name)
     }
 
     /// Whether the real name is wanted and has no link.
-    pub(crate) fn is_missing(&self, name: &Name) -> Result<bool, AllocError>
-        ensures { IfOk result (λ answer. answer ≡ is_missing self.now name.now) }
+    pub(crate) fn is_missing(&self, name: &Name) -> bool
+        ensures { result ≡ is_missing self.now name.now }
     {
-        Ok(self.is_wanted(name)? && !self.is_linked(name))
+        self.is_wanted(name) && !self.is_linked(name)
     }
 
     /// Adds a name where it has no link.
@@ -175,10 +173,8 @@ impl Rows {
     fn add_search_names(&self, names: &mut Vec<Name>) -> Result<(), AllocError>
         ensures { OnOk result (names.new.items ≡ fold (with_unlinked self.now) names.old.items (search_names self.now.policy self.now.searches)) }
     {
-        for row in &self.searches {
-            if let Some(lead) = lead_of(self.alloc, &self.policy, &row.host, &row.name)? {
-                self.add_unlinked(names, &lead.real)?;
-            }
+        for name in self.searches.names() {
+            self.add_unlinked(names, name)?;
         }
         Ok(())
     }
@@ -197,13 +193,13 @@ impl Rows {
     pub(crate) fn remember(&mut self, host: &Host, name: &Name) -> Result<(), AllocError>
         ensures { OnOk result (self.new ≡ remembered host.now name.now self.old) }
     {
-        if any_search(&self.searches, host, name) || self.searches.len() >= SEARCH_LIMIT {
+        let rows = self.searches.rows();
+        if any_search(rows, host, name) || rows.len() >= SEARCH_LIMIT {
             return Ok(());
         }
         let host = host.copy()?;
         let name = name.copy()?;
-        self.searches.push(Search { host, name })?;
-        Ok(())
+        self.searches.add(self.alloc, Search { host, name })
     }
 }
 

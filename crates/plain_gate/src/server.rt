@@ -129,10 +129,7 @@ pub(crate) fn find_at(rows: &mut Rows, name: &Name, server: u32) -> Result<(), R
     ensures ok { OnOk result (rows.new ≡ found rows.old name.now server) }
     ensures used_up { IsErrOf result Refusal.NumbersUsedUp → is_past_numbers (found rows.old name.now server) ≡ true }
 {
-    if rows.is_missing(name)?
-        && rows.acts(Dest::Upstream(server))
-        && rows.links.len() < LINK_LIMIT
-    {
+    if rows.is_missing(name) && rows.acts(Dest::Upstream(server)) && rows.links.len() < LINK_LIMIT {
         make_link(rows, server, name)
     } else {
         Ok(())

@@ -5,8 +5,9 @@ ghost use Rattle.gateway_state.specs.Numbers.{is_past_numbers};
 ghost use Rattle.gateway_state.specs.RowCounts.{row_counts};
 
 use crate::numbers::Numbers;
+use crate::searches::Searches;
 use channel_table::{Channel, ClientSub, Session, WaitingRead};
-use gateway_state::{Config, Connection, LastMessage, Policy, RowCounts, Search};
+use gateway_state::{Config, Connection, LastMessage, Policy, RowCounts};
 use link_table::{Link, Server, WaitingWrite};
 use std::alloc::Global;
 use std::marker::Model;
@@ -17,8 +18,6 @@ use std::marker::Model;
 pub(crate) struct Rows {
     pub alloc: Global,
     pub config: Config,
-    /// The rules and the rights of groups.
-    pub policy: Policy,
     /// The connections that stand, with their outboxes.
     pub connections: Vec<Connection>,
     pub sessions: Vec<Session>,
@@ -35,8 +34,8 @@ pub(crate) struct Rows {
     pub numbers: Numbers,
     /// The last message of each link.
     pub cache: Vec<LastMessage>,
-    /// The searches that are remembered.
-    pub searches: Vec<Search>,
+    /// The policy that holds, and the searches that are remembered.
+    pub searches: Searches,
 }
 
 impl Model for Rows {
@@ -50,7 +49,7 @@ impl Model for Rows {
 
     ghost view = { λ r. record {
       config = r.config;
-      policy = r.policy;
+      policy = r.searches.policy;
       connections = r.connections.items;
       clients = record {
         sessions = r.sessions.items;
@@ -65,7 +64,7 @@ impl Model for Rows {
         counters = r.numbers;
       };
       cache = r.cache.items;
-      searches = r.searches.items;
+      searches = r.searches.rows;
     } };
 }
 
@@ -78,7 +77,6 @@ impl Rows {
         Rows {
             alloc,
             config,
-            policy,
             connections: Vec::new(alloc),
             sessions: Vec::new(alloc),
             channels: Vec::new(alloc),
@@ -89,7 +87,7 @@ impl Rows {
             writes: Vec::new(alloc),
             numbers: Numbers::new(first),
             cache: Vec::new(alloc),
-            searches: Vec::new(alloc),
+            searches: Searches::new(alloc, policy),
         }
     }
 
@@ -105,7 +103,7 @@ impl Rows {
             servers: self.servers.len(),
             links: self.links.len(),
             writes: self.writes.len(),
-            searches: self.searches.len(),
+            searches: self.searches.rows().len(),
         }
     }
 

@@ -92,10 +92,7 @@ fn perform(rows: &mut Rows, event: Event) -> Result<(), Refusal>
         }
         Event::Found(name, number) => find_at(rows, &name, number),
         Event::Search(host, name) => Ok(search_for(rows, &host, &name)?),
-        Event::Edit(policy) => {
-            rows.policy = policy;
-            Ok(())
-        }
+        Event::Edit(policy) => { Ok(rows.searches.set_policy(rows.alloc, policy)?) }
         Event::Sweep => {
             rows.searches.clear();
             Ok(())
@@ -111,7 +108,7 @@ fn perform(rows: &mut Rows, event: Event) -> Result<(), Refusal>
 fn search_for(rows: &mut Rows, host: &Host, name: &Name) -> Result<(), AllocError>
     ensures { OnOk result (rows.new ≡ searched host.now name.now rows.old) }
 {
-    match lead_of(rows.alloc, &rows.policy, host, name)? {
+    match lead_of(rows.alloc, rows.searches.policy(), host, name)? {
         Some(_) => rows.remember(host, name),
         None => Ok(()),
     }

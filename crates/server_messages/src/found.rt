@@ -7,7 +7,7 @@ ghost use Rattle.gateway_state.specs.Variables.{is_linked};
 
 use ca_message::{NameText, ToServer};
 use gateway_rows::{Refusal, Rows};
-use gateway_state::Dest;
+use gateway_state::{Dest, Limit};
 use link_table::{Counter, LINK_LIMIT};
 use pv_name::Name;
 
@@ -18,14 +18,14 @@ pub fn find_at(rows: &mut Rows, name: Name, server: u32) -> Result<(), Refusal>
     ensures used_up { IsErrOf result Refusal.NumbersUsedUp → is_past_numbers (found rows.old.state name server) ≡ true }
     ensures brand { rows.new.brand ≡ rows.old.brand }
 {
-    if rows.is_missing(&name)
-        && rows.acts(Dest::Upstream(server))
-        && rows.upstream.link_count() < LINK_LIMIT
-    {
-        make_link(rows, server, name)
-    } else {
-        Ok(())
+    if !rows.is_missing(&name) || !rows.acts(Dest::Upstream(server)) {
+        return Ok(());
     }
+    if rows.upstream.link_count() >= LINK_LIMIT {
+        rows.meet(Limit::Links);
+        return Ok(());
+    }
+    make_link(rows, server, name)
 }
 
 /// Makes a link, and asks the server for a channel.

@@ -1,5 +1,5 @@
 //! The outboxes of all connections.
-ghost use Rattle.std.specs.Prelude.{◌≡◌, ◌∷◌, ◌++◌, ◌&&◌, [], false, not, length, take, OnOk, OnErr, IfOk};
+ghost use Rattle.std.specs.Prelude.{◌≡◌, ◌∷◌, ◌++◌, ◌&&◌, [], false, not, length, map, take, OnOk, OnErr, IfOk};
 ghost use Rattle.std.specs.List.{list_any, filter, find};
 ghost use Rattle.std.specs.Option.{option_copied};
 ghost use Rattle.fanout.specs.Waiting.{waiting_bytes};
@@ -20,6 +20,8 @@ use std::marker::Model;
 #[derive(Drop)]
 pub struct Connections {
     rows: RowMap<Connection>,
+    /// How often an outbox was found full. It is no part of what contracts see.
+    full: u64,
 }
 
 impl Model for Connections {
@@ -42,6 +44,7 @@ impl Connections {
     {
         Connections {
             rows: RowMap::new(alloc),
+            full: 0,
         }
     }
 
@@ -137,7 +140,19 @@ impl Connections {
         ensures ok { OnOk result (self.new ≡ change_first (is_to dest) (given out) self.old) }
         ensures err { OnErr result (self.new ≡ self.old) }
     {
-        give(&mut self.rows, key_of(dest), out)
+        give(&mut self.rows, key_of(dest), out, &mut self.full)
+    }
+
+    /// How often a message found an outbox full since the start, which marked it.
+    pub fn full(&self) -> u64 {
+        self.full
+    }
+
+    /// All connections, in the order in which they came.
+    pub fn rows(&self, alloc: Global) -> Result<Vec<&Connection>, AllocError>
+        ensures { IfOk result (λ rows. map (λ row. row.now) rows.items ≡ self.now) }
+    {
+        self.rows.rows(alloc)
     }
 
     /// Marks a connection to end.
@@ -168,15 +183,22 @@ fn key_of(dest: Dest) -> Key
 }
 
 #[tactic(auto, using(crate::proofs::ConnectionRows::written_is_changed, crate::proofs::ConnectionRows::written_again, crate::proofs::ConnectionRows::unfound_unchanged))]
-fn give(rows: &mut RowMap<Connection>, key: Key, out: Out) -> Result<(), AllocError>
+fn give(rows: &mut RowMap<Connection>, key: Key, out: Out, full: &mut u64) -> Result<(), AllocError>
     ensures ok { OnOk result (rows.new ≡ change_first (has_key key) (changed_by (given out)) rows.old) }
     ensures err { OnErr result (rows.new ≡ rows.old) }
 {
     let Some(row) = rows.get_mut(key) else {
         return Ok(());
     };
+    let was_marked = row.outbox.marked();
     match row.outbox.append(out) {
-        Ok(()) | Err(AppendFault::Marked(_)) => Ok(()),
+        Ok(()) => Ok(()),
+        Err(AppendFault::Marked(_)) => {
+            if !was_marked {
+                *full = full.saturating_add(1);
+            }
+            Ok(())
+        }
         Err(AppendFault::OutOfMemory(_)) => Err(AllocError),
     }
 }

@@ -1,0 +1,57 @@
+//! How often limits were met, and how much of them is used. No contract sees it: it is for whoever watches
+//! a gateway, and nothing that a gateway does depends on it.
+ghost use Rattle.std.specs.Prelude.{◌≡◌};
+
+use crate::state::Rows;
+use gateway_state::{Connection, Dest, Fullest, Limit, LimitsMet};
+
+impl Rows {
+    /// Notes that a limit was met. Nothing changes that contracts see.
+    pub fn meet(&mut self, limit: Limit)
+        ensures state { self.new.state ≡ self.old.state }
+        ensures brand { self.new.brand ≡ self.old.brand }
+    {
+        self.met.meet(limit);
+    }
+
+    /// Notes that a subscription of a session that is owed an update got none, where that is since too many
+    /// messages wait for the session.
+    pub fn note_held(&mut self, number: u32)
+        ensures state { self.new.state ≡ self.old.state }
+        ensures brand { self.new.brand ≡ self.old.brand }
+    {
+        if !self.is_taking(number) {
+            self.meet(Limit::Held);
+        }
+    }
+
+    /// How often each limit was met.
+    pub fn limits_met(&self) -> LimitsMet {
+        let mut met = self.met;
+        met.full = self.connections.full();
+        met
+    }
+
+    /// The most that one client or server has. It looks at each connection once, and finds nothing where
+    /// memory for that is refused.
+    pub fn fullest(&self) -> Fullest {
+        let mut most = Fullest::NONE;
+        if let Ok(connections) = self.connections.rows(self.alloc) {
+            for connection in &connections {
+                self.raise(&mut most, connection);
+            }
+        }
+        most
+    }
+
+    fn raise(&self, most: &mut Fullest, connection: &Connection) {
+        most.messages = most.messages.max(connection.outbox.len() as u64);
+        if let Dest::Session(number) = connection.dest {
+            let clients = &self.clients;
+            most.channels = most.channels.max(clients.channel_count(number) as u64);
+            most.subs = most.subs.max(clients.sub_count(number) as u64);
+            most.reads = most.reads.max(clients.read_count(number) as u64);
+            most.writes = most.writes.max(self.upstream.writes(number) as u64);
+        }
+    }
+}
