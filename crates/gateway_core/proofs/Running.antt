@@ -29,3 +29,8 @@ running_after before rows event visits v x running after count table is =
 -- a look leaves the rows as they are
 pub running_looked : (before : Looks) (rows : BrandedState) (visits : Looks) (x : BrandedState) → IsRunning before rows → visits.brand ≡ before.brand → Some rows ≡ Some x → IsRunning visits x
 running_looked before rows visits x running count is = running_along visits rows x (record { reached = running.reached; own = count ∙ running.own }) is
+
+-- so does what is only remembered of names
+pub running_kept : (visits : Looks) (rows v x : BrandedState) → IsRunning visits rows → v.state ≡ rows.state → v.brand ≡ rows.brand → Some v ≡ Some x → IsRunning visits x
+running_kept visits rows v x running state brand is =
+    running_along visits v x (record { reached = subst IsReached (sym state) running.reached; own = running.own ∙ sym brand }) is

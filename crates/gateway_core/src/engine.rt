@@ -334,12 +334,12 @@ impl Engine {
         ensures same { self.new.state ≡ self.old.state }
         ensures looks { self.new.visits ≡ self.old.visits }
     {
-        match &self.rows {
-            Some(rows) => match search(rows, host, datagram) {
-                Ok(answer) => Ok(answer),
-                Err(_) => Err(AskFault::OutOfMemory),
-            },
-            None => Err(AskFault::Failed),
+        let Some(rows) = &mut self.rows else {
+            return Err(AskFault::Failed);
+        };
+        match search(rows, host, datagram) {
+            Ok(answer) => Ok(answer),
+            Err(_) => Err(AskFault::OutOfMemory),
         }
     }
 }

@@ -151,7 +151,7 @@ fn search_for(rows: &mut Rows, host: &Host, name: &Name) -> Result<(), AllocErro
     ensures ok { OnOk result (rows.new.state ≡ searched host.now name.now rows.old.state) }
     ensures brand { rows.new.brand ≡ rows.old.brand }
 {
-    match rows.lead_of(host, name)? {
+    match rows.learn_lead(host, name)? {
         Some(_) => rows.remember(host, name),
         None => Ok(()),
     }

@@ -19,7 +19,30 @@ impl Rows {
         self.searches.lead_of(self.alloc, host, name)
     }
 
-    /// The same for the host of a session; nothing where there is no such session.
+    /// The same, which is remembered: asking for it again runs no rule.
+    pub fn learn_lead(&mut self, host: &Host, name: &Name) -> Result<Option<Lead>, AllocError>
+        ensures found { IfOk result (λ lead. lead ≡ lead_of self.old.state.policy host.now name.now) }
+        ensures same { self.new.state ≡ self.old.state }
+        ensures brand { self.new.brand ≡ self.old.brand }
+    {
+        self.searches.learn_lead(self.alloc, host, name)
+    }
+
+    /// Remembers where these names lead that a host asks for, so that asking for them again runs no rule.
+    /// Nothing else changes.
+    pub fn learn_names(&mut self, host: &Host, names: &[Name]) -> Result<(), AllocError>
+        ensures ok { self.new.state ≡ self.old.state }
+        ensures brand { self.new.brand ≡ self.old.brand }
+    {
+        let mut asked = Vec::with_capacity(self.alloc, names.len())?;
+        for name in names {
+            asked.push(Asked { host, name })?;
+        }
+        self.searches.learn_leads(self.alloc, &asked)
+    }
+
+    /// Where the name leads that the host of a session asks for; nothing where it is refused, or where there
+    /// is no such session.
     pub fn lead_in(
         &self,
         visits: &mut Visits,

@@ -1,14 +1,14 @@
 -- What names were found to lead to.
-use Rattle.std.specs.Prelude.{◌≡◌, ◌≤◌, ℕ, List, [], ◌∷◌, ◌++◌, length, map, Some, String, string_bytes}
+use Rattle.std.specs.Prelude.{◌≡◌, ◌≤◌, ℕ, List, [], ◌∷◌, ◌++◌, length, map, Option, String, string_bytes}
 use Rattle.std.specs.List.{All}
 use Rattle.pv_alias.specs.declared.lead.Lead.{Lead}
 use Rattle.rule_desk.specs.declared.policy.Policy.{Policy}
 use Rattle.state_tables.specs.declared.leads.LeadRow.{LeadRow}
 use Rattle.gateway_state.specs.Resolution.{lead_of}
 
--- the name that a host asks for leads there under the policy
-abbrev pub IsLead : Policy → List ℕ → List ℕ → Lead → Type 0
-IsLead policy host name lead = Some lead ≡ lead_of policy host name
+-- the name that a host asks for leads there under the policy, or nowhere
+abbrev pub IsLead : Policy → List ℕ → List ℕ → Option Lead → Type 0
+IsLead policy host name lead = lead ≡ lead_of policy host name
 
 -- the row is of the name that a host asks for
 abbrev pub IsAskedBy : List ℕ → List ℕ → LeadRow → Type 0

@@ -22,12 +22,12 @@ pub struct Asked<'a> {
     pub name: &'a Name,
 }
 
-/// What a name was found to lead to that a host asks for.
+/// What a name was found to lead to that a host asks for; nothing where it is refused.
 #[derive(Drop)]
 pub(crate) struct LeadRow {
     pub(crate) host: Host,
     pub(crate) name: Name,
-    pub(crate) lead: Lead,
+    pub(crate) lead: Option<Lead>,
 }
 
 /// What names lead to that were asked for. It holds `LEADS_LIMIT` of them: when one more comes it is
@@ -62,13 +62,13 @@ impl Leads {
         }
     }
 
-    /// What is remembered of the name that a host asks for.
+    /// What is remembered of the name that a host asks for: where it leads, or that it leads nowhere.
     pub(crate) fn get(
         &self,
         policy: &Policy,
         host: &Host,
         name: &Name,
-    ) -> Result<Option<Lead>, AllocError>
+    ) -> Result<Option<Option<Lead>>, AllocError>
         requires { AreLeads policy.now self.now }
         ensures { IfOk result (λ found. IfSome found (IsLead policy.now host.now name.now)) }
     {
@@ -79,13 +79,13 @@ impl Leads {
         }
     }
 
-    /// Remembers what the name leads to that a host asks for.
+    /// Remembers what the name leads to that a host asks for, or that it leads nowhere.
     pub(crate) fn add(
         &mut self,
         policy: &Policy,
         host: &Host,
         name: &Name,
-        lead: &Lead,
+        lead: &Option<Lead>,
     ) -> Result<(), AllocError>
         requires leads { AreLeads policy.now self.old }
         requires lead { IsLead policy.now host.now name.now lead.now }
@@ -132,7 +132,7 @@ fn key(alloc: Global, host: &Host, name: &Name) -> Result<String, AllocError>
     Ok(key)
 }
 
-fn row(host: &Host, name: &Name, lead: &Lead) -> Result<LeadRow, AllocError>
+fn row(host: &Host, name: &Name, lead: &Option<Lead>) -> Result<LeadRow, AllocError>
     ensures { IfOk result (λ row. row ≡ record { host = host.now; name = name.now; lead = lead.now }) }
 {
     let (Ok(host), Ok(name)) = (host.copy(), name.copy()) else {
@@ -145,7 +145,16 @@ fn row(host: &Host, name: &Name, lead: &Lead) -> Result<LeadRow, AllocError>
     })
 }
 
-fn copy(lead: &Lead) -> Result<Lead, AllocError>
+fn copy(lead: &Option<Lead>) -> Result<Option<Lead>, AllocError>
+    ensures { IfOk result (λ copy. copy ≡ lead.now) }
+{
+    match lead {
+        Some(lead) => Ok(Some(copy_lead(lead)?)),
+        None => Ok(None),
+    }
+}
+
+fn copy_lead(lead: &Lead) -> Result<Lead, AllocError>
     ensures { IfOk result (λ copy. copy ≡ lead.now) }
 {
     let Ok(real) = lead.real.copy() else {

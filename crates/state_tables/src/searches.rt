@@ -99,7 +99,7 @@ impl Searches {
     }
 
     /// Where the name leads that a host asks for; nothing where it is refused. No rule is run where it is
-    /// remembered.
+    /// remembered. Where there are no rules it is quicker to ask the policy than to look.
     pub fn lead_of(
         &self,
         alloc: Global,
@@ -108,14 +108,17 @@ impl Searches {
     ) -> Result<Option<Lead>, AllocError>
         ensures { IfOk result (λ lead. lead ≡ lead_of self.now.policy host.now name.now) }
     {
+        if self.policy.rules.is_open() {
+            return lead_of(alloc, &self.policy, host, name);
+        }
         match self.leads.get(&self.policy, host, name)? {
-            Some(lead) => Ok(Some(lead)),
+            Some(lead) => Ok(lead),
             None => lead_of(alloc, &self.policy, host, name),
         }
     }
 
     /// The same, which is remembered from now on until the policy changes, or until more than
-    /// `LEADS_LIMIT` are. A name that leads nowhere isn't remembered.
+    /// `LEADS_LIMIT` are; also that a name leads nowhere. Where there are no rules nothing is remembered.
     pub fn learn_lead(
         &mut self,
         alloc: Global,
@@ -125,14 +128,14 @@ impl Searches {
         ensures lead { IfOk result (λ lead. lead ≡ lead_of self.old.policy host.now name.now) }
         ensures same { self.new ≡ self.old }
     {
-        let known = self.leads.get(&self.policy, host, name)?;
-        if known.is_some() {
-            return Ok(known);
+        if self.policy.rules.is_open() {
+            return lead_of(alloc, &self.policy, host, name);
+        }
+        if let Some(lead) = self.leads.get(&self.policy, host, name)? {
+            return Ok(lead);
         }
         let lead = lead_of(alloc, &self.policy, host, name)?;
-        if let Some(lead) = &lead {
-            self.leads.add(&self.policy, host, name, lead)?;
-        }
+        self.leads.add(&self.policy, host, name, &lead)?;
         Ok(lead)
     }
 
@@ -141,16 +144,29 @@ impl Searches {
     pub fn learn_leads(&mut self, alloc: Global, asked: &[Asked<'_>]) -> Result<(), AllocError>
         ensures { self.new ≡ self.old }
     {
+        if self.policy.rules.is_open() || self.knows_all(asked)? {
+            return Ok(());
+        }
         learn_all(alloc, &self.policy, &mut self.leads, asked)
     }
 
-    /// Remembers one more.
+    /// Whether it is remembered of each of these what it leads to.
+    fn knows_all(&self, asked: &[Asked<'_>]) -> Result<bool, AllocError> {
+        for one in asked {
+            if self.leads.get(&self.policy, one.host, one.name)?.is_none() {
+                return Ok(false);
+            }
+        }
+        Ok(true)
+    }
+
+    /// Remembers one more. No rule is run where it is remembered what its name leads to.
     #[tactic(auto, using(gateway_state::proofs::SearchedNames::names_with_one_more))]
     pub fn add(&mut self, alloc: Global, search: Search) -> Result<(), AllocError>
         ensures ok { OnOk result (self.new ≡ record self.old { rows = self.old.rows ++ search ∷ [] }) }
         ensures err { OnErr result (self.new ≡ self.old) }
     {
-        let lead = lead_of(alloc, &self.policy, &search.host, &search.name)?;
+        let lead = self.lead_of(alloc, &search.host, &search.name)?;
         self.rows.reserve(1)?;
         let place = self.places.add(&self.rows, &search)?;
         match add_real(&mut self.reals, lead) {
@@ -229,10 +245,8 @@ fn learn(
     if known.is_some() {
         return Ok(());
     }
-    match resolver.resolve(asked.host, asked.name)? {
-        Some(lead) => leads.add(policy, asked.host, asked.name, &lead),
-        None => Ok(()),
-    }
+    let lead = resolver.resolve(asked.host, asked.name)?;
+    leads.add(policy, asked.host, asked.name, &lead)
 }
 
 fn names(rows: &[Search], alloc: Global, policy: &Policy) -> Result<Reals, AllocError>

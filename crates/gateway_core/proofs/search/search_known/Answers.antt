@@ -3,7 +3,7 @@ use Rattle.gateway_rows.specs.BrandedState.{BrandedState}
 use Rattle.gateway_state.specs.Rights.{is_found}
 use Rattle.pv_search.specs.Answer.{IsAnswer}
 use Rattle.pv_search.proofs.AnswerLemmas.{answer_weaker}
-use Rattle.gateway_core.proofs.search.search.Goals as goal
+use Rattle.gateway_core.proofs.search.search_known.Goals as goal
 
 -- the closure answers the test
 pub returns : goal.returns
