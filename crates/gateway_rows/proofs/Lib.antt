@@ -3,3 +3,4 @@ pub mod Counted
 pub mod OwnStays
 pub mod Placed
 pub mod Readers
+pub mod Sorted

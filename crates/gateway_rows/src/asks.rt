@@ -1,11 +1,11 @@
 //! The names to ask servers for.
-ghost use Rattle.std.specs.Prelude.{◌≡◌, ◌≤◌, List, length, fold, OnOk, IfOk, IfErr};
+ghost use Rattle.std.specs.Prelude.{◌≡◌, filter, IfOk};
 ghost use Rattle.std.specs.Cmp.Lexicographic.{slice_cmp};
-ghost use Rattle.std.specs.List.{All, insert};
-ghost use Rattle.std.specs.List.Sorted.{IsStrictlySortedBy};
+ghost use Rattle.std.specs.List.{All};
+ghost use Rattle.std.specs.List.Sorted.{IsPermutation, IsSorted};
 ghost use Rattle.std.specs.Ordering.{nat_cmp};
 ghost use Rattle.gateway_state.specs.Settled.{IsUpToDate};
-ghost use Rattle.gateway_state.specs.Variables.{asks, is_unlinked, search_names, with_name, with_unlinked};
+ghost use Rattle.gateway_state.specs.Variables.{asks, is_unlinked, search_names};
 
 use crate::state::Rows;
 use pv_name::Name;
@@ -13,64 +13,38 @@ use std::alloc::AllocError;
 use std::cmp::Ordering;
 
 impl Rows {
-    /// Adds a name where it has no link.
-    fn add_unlinked(&self, names: &mut Vec<Name>, name: &Name) -> Result<(), AllocError>
-        requires { IsStrictlySortedBy (slice_cmp nat_cmp) names.old.items }
-        ensures { OnOk result (names.new.items ≡ with_unlinked self.now.state names.old.items name.now) }
+    /// The names that searches lead to and that have no link, each as often as searches lead to it.
+    fn unlinked_names(&self) -> Result<Vec<Name>, AllocError>
+        ensures { IfOk result (λ names. names.items ≡ filter (is_unlinked self.now.state) (search_names self.now.state.policy self.now.state.searches)) }
     {
-        if self.is_linked(name) {
-            return Ok(());
-        }
-        let name = name.copy()?;
-        add_in_order(names, name)
-    }
-
-    #[tactic(auto, using(crate::proofs::Placed::sorted_with_unlinked))]
-    fn add_search_names(&self, names: &mut Vec<Name>) -> Result<(), AllocError>
-        requires { IsStrictlySortedBy (slice_cmp nat_cmp) names.old.items }
-        ensures { OnOk result (names.new.items ≡ fold (with_unlinked self.now.state) names.old.items (search_names self.now.state.policy self.now.state.searches)) }
-    {
+        let mut names = Vec::new(self.alloc);
         for name in self.searches.names() {
-            self.add_unlinked(names, name)?;
+            if !self.is_linked(name) {
+                names.push(name.copy()?)?;
+            }
         }
-        Ok(())
+        Ok(names)
     }
 
     /// The names to ask servers for: wanted, without a link, by rising bytes, each once. Where each
-    /// channel is served, no name of a channel is among them.
-    #[tactic(auto, using(crate::proofs::Asked::asks_of_searches, crate::proofs::Placed::sorted_none))]
+    /// channel is served, no name of a channel is among them. They are put in order all at once.
     pub fn asks(&self) -> Result<Vec<Name>, AllocError>
         requires served { All (IsUpToDate self.now.state) self.now.state.clients.channels }
         ensures { IfOk result (λ names. names.items ≡ asks self.now.state) }
     {
-        let mut names = Vec::new(self.alloc);
-        self.add_search_names(&mut names)?;
+        let mut names = self.unlinked_names()?;
+        sort(&mut names);
+        names.dedup();
         Ok(names)
     }
 }
 
-/// Adds a name to names by rising bytes, where it isn't there yet.
-fn add_in_order(names: &mut Vec<Name>, name: Name) -> Result<(), AllocError>
-    requires { IsStrictlySortedBy (slice_cmp nat_cmp) names.old.items }
-    ensures { OnOk result (names.new.items ≡ with_name name names.old.items) }
+/// Puts names in the order of their bytes.
+fn sort(names: &mut Vec<Name>)
+    ensures moved { IsPermutation names.old.items names.new.items }
+    ensures sorted { IsSorted (slice_cmp nat_cmp) names.new.items }
 {
-    match place(names, &name) {
-        Ok(_) => Ok(()),
-        Err(place) => {
-            names.insert(place, name)?;
-            Ok(())
-        }
-    }
-}
-
-/// Where the name is among names by rising bytes, or where it would go.
-fn place(names: &[Name], name: &Name) -> Result<usize, usize>
-    requires { IsStrictlySortedBy (slice_cmp nat_cmp) names.now }
-    ensures found { IfOk result (λ at. with_name name.now names.now ≡ names.now) }
-    ensures added { IfErr result (λ at. with_name name.now names.now ≡ insert names.now at name.now) }
-    ensures bound { IfErr result (λ at. at ≤ length names.now) }
-{
-    names.binary_search_by(|other| by_bytes(other, name))
+    names.sort_unstable_by(|a, b| by_bytes(a, b));
 }
 
 fn by_bytes(a: &Name, b: &Name) -> Ordering
