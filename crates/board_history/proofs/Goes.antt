@@ -1,5 +1,5 @@
 -- A board that has a history has one after each call.
-use Rattle.std.proofs.Common.{◌≡◌, ℕ, List, [], ◌∷◌, ◌++◌, min, Some}
+use Rattle.std.proofs.Common.{◌≡◌, ℕ, List, [], ◌∷◌, ◌++◌, Some}
 use Rattle.rows.specs.Rows.{change_first}
 use Rattle.fanout.specs.declared.outbox.Out.{Out}
 use Rattle.gateway_state.specs.Gateway.{initial}
@@ -8,15 +8,14 @@ use Rattle.gateway_state.specs.declared.event.Dest.{Dest}
 use Rattle.gateway_state.specs.declared.event.Event.{Event}
 use Rattle.rule_desk.specs.declared.policy.Policy.{Policy}
 use Rattle.board_rings.specs.Attachments.{is_attachment_of, with_free}
-use Rattle.board_rings.specs.Rings.{Ring}
+use Rattle.board_rings.specs.Rings.{AttachmentState, Ring}
 use Rattle.board_rings.specs.declared.inbound.Inbound.{Inbound}
 use Rattle.board_history.specs.Board.{BoardState}
 use Rattle.board_history.specs.Calls.{Attaches, DeskFails, Desks, PumpFails, Pumps, Retires, SendFails, Sends}
 use Rattle.board_history.specs.History.{HasHistory, IsOnRun}
-use Rattle.board_history.specs.declared.entry.TheConstants.{MOST_SENT}
 use Rattle.board_history.specs.declared.entry.Entry.{Entry}
 use Rattle.board_history.specs.declared.entry.Entry.TheVariants.{Pumped, Desked, Sent, Attached, Retired}
-use Rattle.board_history.proofs.OnRun.{attached, desk_failed, desked, looked, new_board, pump_failed, pumped, retired, send_failed, sent}
+use Rattle.board_history.proofs.OnRun.{attached, beside, desk_failed, desked, looked, new_board, pump_failed, pumped, retired, send_failed, sent}
 
 pub new_has_history : (config : Config) (policy : Policy) → HasHistory (record { rows = Some (initial config policy); attachments = [] })
 new_has_history config policy = record { config = config; policy = policy; history = []; on_run = new_board config policy }
@@ -45,9 +44,9 @@ pub desk_failed_has_history : (old new : BoardState) → HasHistory old → Desk
 desk_failed_has_history old new had desks =
     stays old new had (desk_failed had.config had.policy had.history old new had.on_run desks)
 
-pub sent_has_history : (dest : Dest) (found : ℕ) (outs : List Out) (old new : BoardState) → HasHistory old → Sends dest found outs old new → HasHistory new
-sent_has_history dest found outs old new had sends =
-    goes_on_by (Sent dest (min MOST_SENT found)) old new had (sent had.config had.policy had.history old new had.on_run dest found outs sends)
+pub sent_has_history : (dest : Dest) (found count : ℕ) (outs : List Out) (old new : BoardState) → HasHistory old → Sends dest found count outs old new → HasHistory new
+sent_has_history dest found count outs old new had sends =
+    goes_on_by (Sent dest count) old new had (sent had.config had.policy had.history old new had.on_run dest found count outs sends)
 
 pub send_failed_has_history : (dest : Dest) (found : ℕ) (old new : BoardState) → HasHistory old → SendFails dest found old new → HasHistory new
 send_failed_has_history dest found old new had sends =
@@ -65,3 +64,8 @@ pub looked_has_history : (dest : Dest) (found : ℕ) (old new : BoardState) → 
     → new.rows ≡ old.rows → new.attachments ≡ change_first (is_attachment_of dest) (with_free found) old.attachments → HasHistory new
 looked_has_history dest found old new had rows attachments =
     stays old new had (looked had.config had.policy had.history old new had.on_run dest found rows attachments)
+
+pub beside_has_history : (f : AttachmentState → AttachmentState) → ((attachment : AttachmentState) → (f attachment).dest ≡ attachment.dest) → ((attachment : AttachmentState) → (f attachment).ends ≡ attachment.ends)
+    → (dest : Dest) (old new : BoardState) → HasHistory old → new.rows ≡ old.rows → new.attachments ≡ change_first (is_attachment_of dest) f old.attachments → HasHistory new
+beside_has_history f keeps ends dest old new had rows attachments =
+    stays old new had (beside had.config had.policy had.history old new had.on_run f keeps ends dest rows attachments)

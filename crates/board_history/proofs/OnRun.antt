@@ -1,10 +1,10 @@
 -- Each call of a board goes on with its history.
-use Rattle.std.proofs.Common.{◌≡◌, ℕ, ◌<◌, List, [], ◌∷◌, ◌++◌, Bool, true, false, cond, not, ◌&&◌, ◌||◌, min, Option, Some, None, IsSome, is_some, refl, sym, ap, subst, ◌∙◌, arith}
+use Rattle.std.proofs.Common.{◌≡◌, ℕ, ◌≤◌, List, [], ◌∷◌, ◌++◌, Bool, true, false, cond, not, ◌&&◌, ◌||◌, min, Option, Some, None, IsSome, is_some, refl, sym, ap, subst, ◌∙◌, arith}
 use Rattle.std.specs.Prelude.{if◌then◌else◌, nat_le, nat_lt}
 use Rattle.std.specs.Option.{option_map, ForSome}
 use Rattle.std.proofs.lemmas.Bool.{and_from, le-leb, lt-ltb}
 use Rattle.std.proofs.lemmas.List.{append-nil}
-use Rattle.std.proofs.Math.Nat.{le-min, min-le_left}
+use Rattle.std.proofs.Math.Nat.{min-le_left}
 use Rattle.rows.specs.Rows.{change_first}
 use Rattle.fanout.specs.declared.outbox.Out.{Out}
 use Rattle.gateway_state.specs.Connections.{same_dest}
@@ -18,7 +18,7 @@ use Rattle.gateway_state.specs.declared.event.Event.TheVariants.{Drain}
 use Rattle.rule_desk.specs.declared.policy.Policy.{Policy}
 use Rattle.board_rings.proofs.AttachmentOrder.{changed_in_order, rest_in_order}
 use Rattle.board_rings.specs.Attachments.{are_in_order, is_attached, is_attachment_of, is_not_attachment_of, attachment_of, new_attachment, with_free, with_received}
-use Rattle.board_rings.specs.Rings.{AttachmentState, Ring}
+use Rattle.board_rings.specs.Rings.{AttachmentState, EndsState, Ring}
 use Rattle.board_rings.specs.declared.inbound.Inbound.{Inbound}
 use Rattle.board_history.specs.Board.{BoardState}
 use Rattle.board_history.specs.Calls.{Attaches, DeskFails, Desks, PumpFails, Pumps, Retires, SendFails, Sends, uses_up, with_sent}
@@ -63,9 +63,9 @@ none_is_left rows none stands = absurd (let wrong : false ≡ true = sym (ap is_
 none_runs : (rows : Option Gateway) (P : Gateway → Type 0) → rows ≡ None → ForSome rows P
 none_runs rows P none = λ w e. absurd (let wrong : None ≡ Some w = sym none ∙ e in cc)
 
--- some are sent where some places are free
-some_sent : (found : ℕ) → 0 < found → 0 < min MOST_SENT found
-some_sent found some = le-min (omega arith) some
+-- no more are sent at once
+most_sent : (found count : ℕ) → count ≤ min MOST_SENT found → count ≤ MOST_SENT
+most_sent found count no_more = omega (arith, no_more, min-le_left MOST_SENT found)
 
 -- REFUSED ITEMS
 
@@ -258,35 +258,35 @@ module _ (config : Config) (policy : Policy) (history : List Entry) where
       attachments = λ at attachment found. on_run.attachments at attachment (sym (ap (λ (attachments : List AttachmentState). attachment_of at attachments) desks.attachments) ∙ found);
     }
 
-    pub sent : (dest : Dest) (found : ℕ) (outs : List Out) → Sends dest found outs old new → IsOnRun new config policy (history ++ Sent dest (min MOST_SENT found) ∷ [])
-    sent dest found outs sends = record {
-      defined = defined_more (Sent dest (min MOST_SENT found)) (Drain dest (min MOST_SENT found)) sends.in_range (run_more_out (initial config policy) history (Sent dest (min MOST_SENT found)));
+    pub sent : (dest : Dest) (found count : ℕ) (outs : List Out) → Sends dest found count outs old new → IsOnRun new config policy (history ++ Sent dest count ∷ [])
+    sent dest found count outs sends = record {
+      defined = defined_more (Sent dest count) (Drain dest count) sends.in_range (run_more_out (initial config policy) history (Sent dest count));
       ordered = ordered_changed (with_sent found outs) (λ _. refl) dest sends.attachments;
       entries =
-          may_follow_more [] history (Sent dest (min MOST_SENT found)) on_run.entries
-          (and_from (is_attached_in history dest) (nat_lt 0 (min MOST_SENT found) && nat_le (min MOST_SENT found) MOST_SENT) (attached_in_history dest true sends.attached)
-          (and_from (nat_lt 0 (min MOST_SENT found)) (nat_le (min MOST_SENT found) MOST_SENT)
-          (lt-ltb 0 (min MOST_SENT found) (some_sent found sends.some_free)) (le-leb (min MOST_SENT found) MOST_SENT (min-le_left MOST_SENT found))));
-      rows = rows_more (Sent dest (min MOST_SENT found)) (Drain dest (min MOST_SENT found)) sends.rows (run_more (initial config policy) history (Sent dest (min MOST_SENT found)));
+          may_follow_more [] history (Sent dest count) on_run.entries
+          (and_from (is_attached_in history dest) (nat_lt 0 count && nat_le count MOST_SENT) (attached_in_history dest true sends.attached)
+          (and_from (nat_lt 0 count) (nat_le count MOST_SENT)
+          (lt-ltb 0 count sends.some_asked) (le-leb count MOST_SENT (most_sent found count sends.no_more))));
+      rows = rows_more (Sent dest count) (Drain dest count) sends.rows (run_more (initial config policy) history (Sent dest count));
       refused = on_run.refused;
       none_refused = λ _. on_run.none_refused sends.stands;
-      attached = λ at. attached_changed (with_sent found outs) (λ _. refl) dest sends.attachments at ∙ sym (attached_more false history (Sent dest (min MOST_SENT found)) at);
-      attachments = attachments_changed (with_sent found outs) (λ _. refl) dest sends.attachments (history ++ Sent dest (min MOST_SENT found) ∷ []) on_run.refused own other;
+      attached = λ at. attached_changed (with_sent found outs) (λ _. refl) dest sends.attachments at ∙ sym (attached_more false history (Sent dest count) at);
+      attachments = attachments_changed (with_sent found outs) (λ _. refl) dest sends.attachments (history ++ Sent dest count ∷ []) on_run.refused own other;
     }
       where
         own : (at : Dest) → same_dest dest at ≡ true → (attachment : AttachmentState) → IsAttachmentOf config policy history on_run.refused at attachment
-            → IsAttachmentOf config policy (history ++ Sent dest (min MOST_SENT found) ∷ []) on_run.refused at (with_sent found outs attachment)
+            → IsAttachmentOf config policy (history ++ Sent dest count ∷ []) on_run.refused at (with_sent found outs attachment)
         own at same attachment was =
-            attachment_more (Sent dest (min MOST_SENT found)) on_run.refused at (with_sent found outs attachment) was.received
+            attachment_more (Sent dest count) on_run.refused at (with_sent found outs attachment) was.received
             (ap (λ (messages : List Out). messages ++ outs) was.pushed
-            ∙ ap (λ (messages : List Out). pushed_in (initial config policy) history at ++ messages) (taken_from (Drain dest (min MOST_SENT found)) dest outs reached old.rows on_run.rows sends.taken)
-            ∙ ap (λ (d : Dest). pushed_in (initial config policy) history at ++ taken reached (Drain dest (min MOST_SENT found)) d) (same_dest_is dest at same))
+            ∙ ap (λ (messages : List Out). pushed_in (initial config policy) history at ++ messages) (taken_from (Drain dest count) dest outs reached old.rows on_run.rows sends.taken)
+            ∙ ap (λ (d : Dest). pushed_in (initial config policy) history at ++ taken reached (Drain dest count) d) (same_dest_is dest at same))
 
         other : (at : Dest) → same_dest dest at ≡ false → (attachment : AttachmentState) → IsAttachmentOf config policy history on_run.refused at attachment
-            → IsAttachmentOf config policy (history ++ Sent dest (min MOST_SENT found) ∷ []) on_run.refused at attachment
+            → IsAttachmentOf config policy (history ++ Sent dest count ∷ []) on_run.refused at attachment
         other at differs attachment was =
-            attachment_stays (Sent dest (min MOST_SENT found)) on_run.refused on_run.refused at attachment refl
-            (ap (λ (messages : List Out). pushed_in (initial config policy) history at ++ messages) (taken_of_other reached dest at (min MOST_SENT found) differs)
+            attachment_stays (Sent dest count) on_run.refused on_run.refused at attachment refl
+            (ap (λ (messages : List Out). pushed_in (initial config policy) history at ++ messages) (taken_of_other reached dest at count differs)
             ∙ append-nil (pushed_in (initial config policy) history at))
             refl was
 
@@ -303,18 +303,26 @@ module _ (config : Config) (policy : Policy) (history : List Entry) where
           (λ at same attachment was. record { received = was.received; pushed = was.pushed }) (λ at differs attachment was. was);
     }
 
-    pub looked : (dest : Dest) (found : ℕ) → new.rows ≡ old.rows → new.attachments ≡ change_first (is_attachment_of dest) (with_free found) old.attachments → IsOnRun new config policy history
-    looked dest found rows attachments = record {
+    -- what is kept with an attachment beside what went through its rings is no history
+    pub beside : (f : AttachmentState → AttachmentState) → ((attachment : AttachmentState) → (f attachment).dest ≡ attachment.dest) → ((attachment : AttachmentState) → (f attachment).ends ≡ attachment.ends)
+        → (dest : Dest) → new.rows ≡ old.rows → new.attachments ≡ change_first (is_attachment_of dest) f old.attachments → IsOnRun new config policy history
+    beside f keeps ends dest rows attachments = record {
       entries = on_run.entries;
       defined = on_run.defined;
-      ordered = ordered_changed (with_free found) (λ _. refl) dest attachments;
+      ordered = ordered_changed f keeps dest attachments;
       rows = λ w h. on_run.rows w (sym rows ∙ h);
       refused = on_run.refused;
       none_refused = none_yet on_run.refused (λ none. none) rows;
-      attached = attached_changed (with_free found) (λ _. refl) dest attachments;
-      attachments = attachments_changed (with_free found) (λ _. refl) dest attachments history on_run.refused
-          (λ at same attachment was. record { received = was.received; pushed = was.pushed }) (λ at differs attachment was. was);
+      attached = attached_changed f keeps dest attachments;
+      attachments = attachments_changed f keeps dest attachments history on_run.refused
+          (λ at same attachment was. record {
+            received = ap (λ (e : EndsState). e.received) (ends attachment) ∙ was.received;
+            pushed = ap (λ (e : EndsState). e.pushed) (ends attachment) ∙ was.pushed;
+          }) (λ at differs attachment was. was);
     }
+
+    pub looked : (dest : Dest) (found : ℕ) → new.rows ≡ old.rows → new.attachments ≡ change_first (is_attachment_of dest) (with_free found) old.attachments → IsOnRun new config policy history
+    looked dest found rows attachments = beside (with_free found) (λ _. refl) (λ _. refl) dest rows attachments
 
     pub attached : (dest : Dest) (in_ring out_ring : Ring) (free : ℕ) → Attaches dest in_ring out_ring free old new → IsOnRun new config policy (history ++ Attached dest ∷ [])
     attached dest in_ring out_ring free attaches = record {

@@ -1,5 +1,5 @@
 -- What each call of a board does to it.
-use Rattle.std.specs.Prelude.{◌≡◌, ℕ, ◌<◌, List, Bool, filter, min, true, false, Option, Some, None, IsSome}
+use Rattle.std.specs.Prelude.{◌≡◌, ℕ, ◌<◌, ◌≤◌, List, Bool, filter, min, true, false, Option, Some, None, IsSome}
 use Rattle.std.specs.Option.{option_map}
 use Rattle.rows.specs.Rows.{change_first}
 use Rattle.fanout.specs.declared.outbox.Out.{Out}
@@ -55,15 +55,17 @@ pub record DeskFails (old new : BoardState) : Type 0 where
 abbrev pub with_sent : ℕ → List Out → AttachmentState → AttachmentState
 with_sent found outs attachment = with_pushed outs (with_free found attachment)
 
--- some places of the ring out were found free, and as many messages, up to 64, were taken for them and
+-- some places of the ring out were found free, and so many messages, up to 64, were taken for them and
 -- pushed, or all
-pub record Sends (dest : Dest) (found : ℕ) (outs : List Out) (old new : BoardState) : Type 0 where
+pub record Sends (dest : Dest) (found count : ℕ) (outs : List Out) (old new : BoardState) : Type 0 where
   pub stands : IsSome old.rows
   pub attached : is_attached dest old.attachments ≡ true
   pub some_free : 0 < found
-  pub in_range : uses_up (Drain dest (min MOST_SENT found)) old.rows ≡ Some false
-  pub taken : Some outs ≡ option_map (λ w. taken w (Drain dest (min MOST_SENT found)) dest) old.rows
-  pub rows : new.rows ≡ option_map (λ w. step w (Drain dest (min MOST_SENT found))) old.rows
+  pub some_asked : 0 < count
+  pub no_more : count ≤ min MOST_SENT found
+  pub in_range : uses_up (Drain dest count) old.rows ≡ Some false
+  pub taken : Some outs ≡ option_map (λ w. taken w (Drain dest count) dest) old.rows
+  pub rows : new.rows ≡ option_map (λ w. step w (Drain dest count)) old.rows
   pub attachments : new.attachments ≡ change_first (is_attachment_of dest) (with_sent found outs) old.attachments
 
 -- some places were found free, and the messages refused

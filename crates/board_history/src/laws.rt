@@ -1,5 +1,5 @@
 //! Laws of histories. Each is a call that does nothing, and its contract is the law.
-ghost use Rattle.std.specs.Prelude.{◌≡◌, ℕ, List, [], ◌∷◌, ◌++◌, min, Some};
+ghost use Rattle.std.specs.Prelude.{◌≡◌, ℕ, List, [], ◌∷◌, ◌++◌, Bool, Some};
 ghost use Rattle.rows.specs.Rows.{change_first};
 ghost use Rattle.fanout.specs.declared.outbox.Out.{Out};
 ghost use Rattle.gateway_state.specs.Gateway.{initial};
@@ -7,7 +7,7 @@ ghost use Rattle.gateway_state.specs.declared.config.Config.{Config};
 ghost use Rattle.gateway_state.specs.declared.event.Dest.{Dest};
 ghost use Rattle.gateway_state.specs.declared.event.Event.{Event};
 ghost use Rattle.rule_desk.specs.declared.policy.Policy.{Policy};
-ghost use Rattle.board_rings.specs.Attachments.{is_attachment_of, with_free};
+ghost use Rattle.board_rings.specs.Attachments.{is_attachment_of, with_free, with_full, with_leaving};
 ghost use Rattle.board_rings.specs.Rings.{Ring};
 ghost use Rattle.board_rings.specs.declared.inbound.Inbound.{Inbound};
 ghost use Rattle.board_history.specs.Board.{BoardState};
@@ -58,9 +58,9 @@ pub fn refused_desks_stay()
 
 /// Where messages are taken and pushed, the history goes on by that.
 pub fn sends_go_on()
-    ensures { (config : Config) (policy : Policy) (history : List Entry) (dest : Dest) (found : ℕ) (outs : List Out) (old new : BoardState)
-        → IsOnRun old config policy history → Sends dest found outs old new
-        → IsOnRun new config policy (history ++ Sent dest (min MOST_SENT found) ∷ []) }
+    ensures { (config : Config) (policy : Policy) (history : List Entry) (dest : Dest) (found count : ℕ) (outs : List Out) (old new : BoardState)
+        → IsOnRun old config policy history → Sends dest found count outs old new
+        → IsOnRun new config policy (history ++ Sent dest count ∷ []) }
 {}
 
 /// Where messages are refused, the history stays, and the board has failed.
@@ -90,5 +90,17 @@ pub fn places_are_no_history()
     ensures { (config : Config) (policy : Policy) (history : List Entry) (dest : Dest) (found : ℕ) (old new : BoardState)
         → IsOnRun old config policy history
         → new.rows ≡ old.rows → new.attachments ≡ change_first (is_attachment_of dest) (with_free found) old.attachments
+        → IsOnRun new config policy history }
+{}
+
+/// Nor are the marks that are kept with an attachment: that its end was said to come, and that too much waits for it.
+pub fn marks_are_no_history()
+    ensures leaving { (config : Config) (policy : Policy) (history : List Entry) (dest : Dest) (old new : BoardState)
+        → IsOnRun old config policy history
+        → new.rows ≡ old.rows → new.attachments ≡ change_first (is_attachment_of dest) with_leaving old.attachments
+        → IsOnRun new config policy history }
+    ensures full { (config : Config) (policy : Policy) (history : List Entry) (dest : Dest) (full : Bool) (old new : BoardState)
+        → IsOnRun old config policy history
+        → new.rows ≡ old.rows → new.attachments ≡ change_first (is_attachment_of dest) (with_full full) old.attachments
         → IsOnRun new config policy history }
 {}

@@ -1,5 +1,5 @@
 -- Attachments that were changed.
-use Rattle.std.proofs.Common.{◌≡◌, ℕ, ◌≤◌, List, [], ◌∷◌, Bool, true, false, Option, Some, None, length, take, if◌then◌else◌, refl, sym, ap, ◌∙◌, arith}
+use Rattle.std.proofs.Common.{◌≡◌, ℕ, ◌≤◌, List, [], ◌∷◌, Bool, true, false, Option, Some, None, length, take, ◌||◌, if◌then◌else◌, refl, sym, ap, ◌∙◌, arith}
 use Rattle.std.specs.Option.{option_map}
 use Rattle.std.proofs.lemmas.List.{length-take}
 use Rattle.rows.specs.Rows.{change_first}
@@ -9,8 +9,8 @@ use Rattle.gateway_state.specs.Gateway.{Gateway}
 use Rattle.gateway_state.specs.Step.{taken}
 use Rattle.gateway_state.specs.declared.event.Dest.{Dest}
 use Rattle.gateway_state.specs.declared.event.Event.TheVariants.{Drain}
-use Rattle.board_rings.proofs.AttachmentChanges.{rings_with_free, rings_with_pushed, rings_with_received}
-use Rattle.board_rings.specs.Attachments.{is_attachment_of, attachment_of, rings_of, with_free, with_pushed, with_received}
+use Rattle.board_rings.proofs.AttachmentChanges.{rings_changed, rings_with_free, rings_with_pushed, rings_with_received}
+use Rattle.board_rings.specs.Attachments.{have_full, is_attachment_of, attachment_of, rings_of, with_free, with_full, with_pushed, with_received}
 use Rattle.board_rings.specs.Rings.{AttachmentState}
 use Rattle.board_rings.specs.declared.inbound.Inbound.{Inbound}
 use Rattle.board_history.specs.Calls.{with_sent}
@@ -26,6 +26,19 @@ dests_kept p f keeps (attachment ∷ attachments) =
 
 pub received_dests : (dest : Dest) (item : Inbound) (seen : ℕ) (attachments left : List AttachmentState) → left ≡ change_first (is_attachment_of dest) (with_received item seen) attachments → dests_of left ≡ dests_of attachments
 received_dests dest item seen attachments left is = ap dests_of is ∙ dests_kept (is_attachment_of dest) (with_received item seen) (λ attachment. refl) attachments
+
+-- a change that keeps whether too much waits for an attachment keeps whether it does for one
+full_kept : (p : AttachmentState → Bool) (f : AttachmentState → AttachmentState) → ((attachment : AttachmentState) → (f attachment).full ≡ attachment.full) → (attachments : List AttachmentState) → have_full (change_first p f attachments) ≡ have_full attachments
+full_kept p f keeps [] = refl
+full_kept p f keeps (attachment ∷ attachments) =
+    elim (p attachment) as (λ b. have_full (if b then f attachment ∷ attachments else attachment ∷ change_first p f attachments) ≡ have_full (attachment ∷ attachments))
+    [ true ↦ ap (λ (b : Bool). b || have_full attachments) (keeps attachment) | false ↦ ap (λ (b : Bool). attachment.full || b) (full_kept p f keeps attachments) ]
+
+pub received_full : (dest : Dest) (item : Inbound) (seen : ℕ) (attachments left : List AttachmentState) → left ≡ change_first (is_attachment_of dest) (with_received item seen) attachments → have_full left ≡ have_full attachments
+received_full dest item seen attachments left is = ap have_full is ∙ full_kept (is_attachment_of dest) (with_received item seen) (λ attachment. refl) attachments
+
+pub weighed_dests : (dest : Dest) (full : Bool) (attachments left : List AttachmentState) → left ≡ change_first (is_attachment_of dest) (with_full full) attachments → dests_of left ≡ dests_of attachments
+weighed_dests dest full attachments left is = ap dests_of is ∙ dests_kept (is_attachment_of dest) (with_full full) (λ attachment. refl) attachments
 
 pub looked_dests : (dest : Dest) (found : ℕ) (attachments left : List AttachmentState) → left ≡ change_first (is_attachment_of dest) (with_free found) attachments → dests_of left ≡ dests_of attachments
 looked_dests dest found attachments left is = ap dests_of is ∙ dests_kept (is_attachment_of dest) (with_free found) (λ attachment. refl) attachments
@@ -79,6 +92,9 @@ looked_rings dest found attachments left is other = ap (rings_of other) is ∙ r
 
 pub pushed_rings : (dest : Dest) (outs : List Out) (attachments left : List AttachmentState) → left ≡ change_first (is_attachment_of dest) (with_pushed outs) attachments → KeepsRings attachments left
 pushed_rings dest outs attachments left is other = ap (rings_of other) is ∙ rings_with_pushed dest other outs attachments
+
+pub weighed_rings : (dest : Dest) (full : Bool) (attachments left : List AttachmentState) → left ≡ change_first (is_attachment_of dest) (with_full full) attachments → KeepsRings attachments left
+weighed_rings dest full attachments left is other = ap (rings_of other) is ∙ rings_changed dest other (with_full full) (λ _. refl) (λ _. refl) attachments
 
 pub rings_stay : (attachments between left : List AttachmentState) → KeepsRings attachments between → KeepsRings between left → KeepsRings attachments left
 rings_stay attachments between left a b other = b other ∙ a other

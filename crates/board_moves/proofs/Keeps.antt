@@ -1,21 +1,25 @@
 -- Each call of a board leaves it with a history.
-use Rattle.std.proofs.Common.{◌≡◌, ℕ, zero, suc, List, [], ◌∷◌, Bool, true, false, Option, Some, None, Result, Ok, Err, inl, inr, filter, not, ◌||◌, if◌then◌else◌, refl, subst, sym, ap, ◌∙◌}
+use Rattle.std.proofs.Common.{◌≡◌, ℕ, zero, suc, List, [], ◌∷◌, Bool, true, false, Option, Some, None, Result, Ok, Err, inl, inr, filter, map, not, ◌||◌, if◌then◌else◌, refl, subst, sym, ap, ◌∙◌}
 use Rattle.std.specs.Prelude.{⊤, IfOk, OnErr}
 use Rattle.std.specs.List.{list_any}
+use Rattle.rows.specs.Rows.{change_first}
+use Rattle.gateway_calls.specs.declared.fault.Failed.{Failed}
 use Rattle.gateway_calls.specs.declared.fault.StepFault.TheVariants as steps
 use Rattle.gateway_state.specs.Gateway.{Gateway}
 use Rattle.gateway_state.specs.declared.event.Dest.{Dest}
+use Rattle.gateway_state.specs.declared.event.Dest.TheVariants.{Session, Upstream}
 use Rattle.gateway_state.specs.declared.event.Event.{Event}
-use Rattle.board_rings.specs.Attachments.{is_attached, is_attachment_of, is_not_attachment_of, new_attachment, IsWith}
+use Rattle.board_rings.specs.Attachments.{is_attached, is_attachment_of, is_not_attachment_of, new_attachment, with_full, with_leaving, IsWith}
 use Rattle.board_rings.specs.Rings.{InletState, AttachmentState, OutletState}
 use Rattle.board_rings.specs.declared.attachment.TheConstants.{RING_SIZE}
 use Rattle.board_history.specs.Board.{BoardState}
 use Rattle.board_history.specs.History.{HasHistory}
-use Rattle.board_history.proofs.Goes.{attached_has_history, desk_failed_has_history, desked_has_history, pump_failed_has_history, pumped_has_history, send_failed_has_history, retired_has_history, sent_has_history}
-use Rattle.board_moves.specs.Answers.{IsDesk, IsPump, IsSendOut}
+use Rattle.board_history.proofs.Goes.{attached_has_history, beside_has_history, desk_failed_has_history, desked_has_history, looked_has_history, pump_failed_has_history, pumped_has_history, send_failed_has_history, retired_has_history, sent_has_history}
+use Rattle.board_moves.specs.Answers.{IsDesk, IsPump, IsSendOut, IsWaiting}
+use Rattle.board_moves.specs.Held.{is_held, is_over_half}
 use Rattle.board_moves.specs.declared.rounds.Call.{Call}
-use Rattle.board_moves.specs.declared.rounds.Call.TheVariants.{Pump, SendOut}
-use Rattle.board_moves.specs.Rounds.{round_calls, AreRounds, IsBatch, IsRound, IsRoundOn, Performs, PerformsAll, PerformsUpTo}
+use Rattle.board_moves.specs.declared.rounds.Call.TheVariants.{Pump, PumpFree, SendOut, Weigh}
+use Rattle.board_moves.specs.Rounds.{dests_of, free_calls, round_calls, AreRounds, IsBatch, IsFreeRound, IsFreeRoundOn, IsRound, IsRoundOn, Performs, PerformsAll, PerformsUpTo, PumpsFree}
 use Rattle.board_moves.specs.declared.fault.BoardFault.{BoardFault}
 use Rattle.board_moves.specs.declared.fault.BoardFault.TheVariants.{OutOfMemory, Attached, NotHere, Step}
 
@@ -40,17 +44,34 @@ desk_keeps event old (Err Attached) new p h = absurd p
 
 pub send_out_keeps : (dest : Dest) (old : BoardState) (result : Result ℕ BoardFault) (new : BoardState) → IsSendOut dest old result new → HasHistory old → HasHistory new
 send_out_keeps dest old (Ok count) new (inl p) h = subst HasHistory (sym p.1.same) h
-send_out_keeps dest old (Ok count) new (inr p) h = sent_has_history dest p.0 p.1.0 old new h p.1.1.1
+send_out_keeps dest old (Ok count) new (inr (inl p)) h = looked_has_history dest p.1.0 old new h p.1.1.rows p.1.1.attachments
+send_out_keeps dest old (Ok count) new (inr (inr p)) h = sent_has_history dest p.0 p.1.0 p.1.1.0 old new h p.1.1.1.1.1
 send_out_keeps dest old (Err (Step steps.OutOfMemory)) new p h = send_failed_has_history dest p.0 old new h p.1
-send_out_keeps dest old (Err (Step steps.NumbersUsedUp)) new p h = send_failed_has_history dest p.0 old new h p.1.0
+send_out_keeps dest old (Err (Step steps.NumbersUsedUp)) new p h = send_failed_has_history dest p.0 old new h p.1.1.0
 send_out_keeps dest old (Err (Step steps.Failed)) new p h = subst HasHistory (sym p.0) h
 send_out_keeps dest old (Err OutOfMemory) new p h = absurd p
 send_out_keeps dest old (Err Attached) new p h = absurd p
 send_out_keeps dest old (Err NotHere) new p h = absurd p
 
+-- the end of a connection is noted
+pub ended_keeps : (dest : Dest) (old new : BoardState) → new.rows ≡ old.rows → new.attachments ≡ change_first (is_attachment_of dest) with_leaving old.attachments → HasHistory old → HasHistory new
+ended_keeps dest old new rows attachments h = beside_has_history with_leaving (λ _. refl) (λ _. refl) dest old new h rows attachments
+
+pub waiting_keeps : (dest : Dest) (old : BoardState) (result : Result ℕ Failed) (new : BoardState) → IsWaiting dest old result new → HasHistory old → HasHistory new
+waiting_keeps dest old (Ok bytes) new p h = looked_has_history dest p.0 old new h p.1.1.0 p.1.1.1
+waiting_keeps dest old (Err failed) new p h = subst HasHistory (sym p.1) h
+
+free_keeps : (dest : Dest) (held : Bool) (old : BoardState) (answer : Result ℕ BoardFault) (new : BoardState) → PumpsFree held dest old answer new → HasHistory old → HasHistory new
+free_keeps dest true old answer new p h = subst HasHistory (sym p.1) h
+free_keeps dest false old answer new p h = pump_keeps dest old p.0 new p.1.0 h
+
 performs_keeps : (call : Call) (old : BoardState) (answer : Result ℕ BoardFault) (new : BoardState) → Performs call old answer new → HasHistory old → HasHistory new
 performs_keeps (Pump dest) old answer new p h = pump_keeps dest old p.0 new p.1.0 h
+performs_keeps (PumpFree dest) old answer new p h = free_keeps dest (is_held dest old) old answer new p h
 performs_keeps (SendOut dest) old answer new p h = send_out_keeps dest old answer new p h
+performs_keeps (Weigh (Session number)) old answer new p h = subst HasHistory (sym p.1) h
+performs_keeps (Weigh (Upstream number)) old answer new p h =
+    beside_has_history (with_full (is_over_half (Upstream number) old.rows)) (λ _. refl) (λ _. refl) (Upstream number) old new h p.1.0 p.1.1
 
 all_keep : (calls : List Call) (old : BoardState) (answer : Result ℕ BoardFault) (new : BoardState) → PerformsAll calls old answer new → HasHistory old → HasHistory new
 all_keep [] old answer new p h = subst HasHistory (sym p.1) h
@@ -69,13 +90,21 @@ round_on_keeps (Some w) old answer new p h = up_to_keeps (round_calls old.attach
 pub round_keeps : (old : BoardState) (answer : Result ℕ BoardFault) (new : BoardState) → IsRound old answer new → HasHistory old → HasHistory new
 round_keeps old answer new p h = round_on_keeps old.rows old answer new p h
 
+free_on_keeps : (rows : Option Gateway) (old : BoardState) (answer : Result ℕ BoardFault) (new : BoardState) → IsFreeRoundOn rows old answer new → HasHistory old → HasHistory new
+free_on_keeps None old answer new p h = subst HasHistory (sym p.1) h
+free_on_keeps (Some w) old answer new p h = up_to_keeps (free_calls old.attachments) old answer new p h
+
+free_round_keeps : (old : BoardState) (answer : Result ℕ BoardFault) (new : BoardState) → IsFreeRound old answer new → HasHistory old → HasHistory new
+free_round_keeps old answer new p h = free_on_keeps old.rows old answer new p h
+
 rounds_keep : (earlier : ℕ) (old : BoardState) (answer : Result ℕ BoardFault) (new : BoardState) → AreRounds earlier old answer new → HasHistory old → HasHistory new
-rounds_keep zero old answer new p h = round_keeps old answer new p h
+rounds_keep zero old answer new p h = free_round_keeps old answer new p h
 rounds_keep (suc earlier) old answer new (count, (last, (between, (before, (one, told))))) h =
-    round_keeps between last new one (rounds_keep earlier old (Ok count) between before h)
+    free_round_keeps between last new one (rounds_keep earlier old (Ok count) between before h)
 
 pub batch_keeps : (old : BoardState) (answer : Result ℕ BoardFault) (new : BoardState) → IsBatch old answer new → HasHistory old → HasHistory new
-batch_keeps old answer new (earlier, all) h = rounds_keep earlier old answer new all h
+batch_keeps old answer new (between, (weighed, (earlier, all))) h =
+    rounds_keep earlier between answer new all (up_to_keeps (map Weigh (dests_of old.attachments)) old (Ok 0) between weighed h)
 
 -- a connection that wasn't attached leaves all attachments
 none_left_out : (dest : Dest) (attachments : List AttachmentState) → is_attached dest attachments ≡ false → filter (is_not_attachment_of dest) attachments ≡ attachments

@@ -1,7 +1,9 @@
 mod Begun
 mod Changed
+mod WhoIsHeld
 mod Keeps
 mod Moved
 mod Performed
 mod RoundCalls
+mod Shares
 mod Turns

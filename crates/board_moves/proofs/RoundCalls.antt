@@ -11,10 +11,10 @@ use Rattle.board_rings.specs.Rings.{AttachmentState}
 use Rattle.board_history.specs.Board.{BoardState}
 use Rattle.board_moves.proofs.Performed.{ended_then, one_done, one_refused, performed_then}
 use Rattle.board_moves.specs.Answers.{board_of}
-use Rattle.board_moves.specs.Rounds.{dests_of, round_calls, told_count, IsRound, IsRoundOn, Performs, PerformsAll, PerformsUpTo}
+use Rattle.board_moves.specs.Rounds.{dests_of, free_calls, round_calls, told_count, IsFreeRound, IsFreeRoundOn, IsRound, IsRoundOn, Performs, PerformsAll, PerformsUpTo}
 use Rattle.board_moves.specs.declared.fault.BoardFault.{BoardFault}
 use Rattle.board_moves.specs.declared.rounds.Call.{Call}
-use Rattle.board_moves.specs.declared.rounds.Call.TheVariants.{Pump, SendOut}
+use Rattle.board_moves.specs.declared.rounds.Call.TheVariants.{SendOut}
 
 -- the first n calls were performed, and so many items moved, as far as can be told
 pub record IsPerformed (calls : List Call) (n : ℕ) (start now : BoardState) (moved : ℕ) : Type 0 where
@@ -140,35 +140,51 @@ round_on None old answer new some all = absurd cc
 round_on (Some w) old answer new some all = all
 
 -- the round begins where the engine was asked whether it failed
-round_of : (engine asked after : Option Gateway) (attachments left : List AttachmentState) (answer : Result ℕ BoardFault) → IsSome engine → asked ≡ engine
+pub round_of : (engine asked after : Option Gateway) (attachments left : List AttachmentState) (answer : Result ℕ BoardFault) → IsSome engine → asked ≡ engine
     → PerformsUpTo (round_calls attachments) (board_of asked attachments) answer (board_of after left) → IsRound (board_of engine attachments) answer (board_of after left)
 round_of engine asked after attachments left answer some same all =
     round_on engine (board_of engine attachments) answer (board_of after left) some
     (subst (λ (rows : Option Gateway). PerformsUpTo (round_calls attachments) (record { rows = rows; attachments = attachments }) answer (board_of after left)) same all)
 
-pub pumps_end : (engine asked after : Option Gateway) (attachments left : List AttachmentState) (fault : BoardFault) → IsSome engine → asked ≡ engine
-    → PerformsUpTo (map Pump (dests_of attachments)) (board_of asked attachments) (Err fault) (board_of after left) → IsRound (board_of engine attachments) (Err fault) (board_of after left)
-pumps_end engine asked after attachments left fault some same all =
-    round_of engine asked after attachments left (Err fault) some same
-    (fault_ends (map Pump (dests_of attachments)) (map SendOut (dests_of attachments)) (board_of asked attachments) (board_of after left) fault all)
+free_on : (rows : Option Gateway) (old : BoardState) (answer : Result ℕ BoardFault) (new : BoardState) → IsSome rows → PerformsUpTo (free_calls old.attachments) old answer new → IsFreeRoundOn rows old answer new
+free_on None old answer new some all = absurd cc
+free_on (Some w) old answer new some all = all
 
-pub sends_end : (engine asked pumped after : Option Gateway) (attachments between left : List AttachmentState) (received : ℕ) (fault : BoardFault) → IsSome engine → asked ≡ engine → dests_of between ≡ dests_of attachments
-    → PerformsUpTo (map Pump (dests_of attachments)) (board_of asked attachments) (Ok received) (board_of pumped between)
-    → PerformsUpTo (map SendOut (dests_of between)) (board_of pumped between) (Err fault) (board_of after left) → IsRound (board_of engine attachments) (Err fault) (board_of after left)
-sends_end engine asked pumped after attachments between left received fault some same dests all others =
-    round_of engine asked after attachments left (Err fault) some same
-    (
-    fault_follows (map Pump (dests_of attachments)) (map SendOut (dests_of attachments)) (board_of asked attachments) (board_of pumped between) (board_of after left) received fault all
-    (subst (λ (ds : List Dest). PerformsUpTo (map SendOut ds) (board_of pumped between) (Err fault) (board_of after left)) dests others)
-    )
+-- the same of a round in which those that are held aren't pumped
+pub free_round_of : (engine asked after : Option Gateway) (attachments left : List AttachmentState) (answer : Result ℕ BoardFault) → IsSome engine → asked ≡ engine
+    → PerformsUpTo (free_calls attachments) (board_of asked attachments) answer (board_of after left) → IsFreeRound (board_of engine attachments) answer (board_of after left)
+free_round_of engine asked after attachments left answer some same all =
+    free_on engine (board_of engine attachments) answer (board_of after left) some
+    (subst (λ (rows : Option Gateway). PerformsUpTo (free_calls attachments) (record { rows = rows; attachments = attachments }) answer (board_of after left)) same all)
 
-pub round_ends : (engine asked pumped after : Option Gateway) (attachments between left : List AttachmentState) (received sent total : ℕ) → IsSome engine → asked ≡ engine → dests_of between ≡ dests_of attachments
-    → PerformsUpTo (map Pump (dests_of attachments)) (board_of asked attachments) (Ok received) (board_of pumped between)
-    → PerformsUpTo (map SendOut (dests_of between)) (board_of pumped between) (Ok sent) (board_of after left) → total ≡ min (received + sent) (2 ^ 64 - 1)
-    → IsRound (board_of engine attachments) (Ok total) (board_of after left)
-round_ends engine asked pumped after attachments between left received sent total some same dests all others is =
-    round_of engine asked after attachments left (Ok total) some same
-    (
-    all_follow (map Pump (dests_of attachments)) (map SendOut (dests_of attachments)) (board_of asked attachments) (board_of pumped between) (board_of after left) received sent total all
-    (subst (λ (ds : List Dest). PerformsUpTo (map SendOut ds) (board_of pumped between) (Ok sent) (board_of after left)) dests others) is
-    )
+-- a round of either kind: its first calls, and what makes it of all its calls
+module _ (first : Dest → Call) (IsWhole : BoardState → Result ℕ BoardFault → BoardState → Type 0)
+    (whole : (engine asked after : Option Gateway) (attachments left : List AttachmentState) (answer : Result ℕ BoardFault) → IsSome engine → asked ≡ engine
+    → PerformsUpTo (map first (dests_of attachments) ++ map SendOut (dests_of attachments)) (board_of asked attachments) answer (board_of after left)
+    → IsWhole (board_of engine attachments) answer (board_of after left)) where
+  pub pumps_end : (engine asked after : Option Gateway) (attachments left : List AttachmentState) (fault : BoardFault) → IsSome engine → asked ≡ engine
+      → PerformsUpTo (map first (dests_of attachments)) (board_of asked attachments) (Err fault) (board_of after left) → IsWhole (board_of engine attachments) (Err fault) (board_of after left)
+  pumps_end engine asked after attachments left fault some same all =
+      whole engine asked after attachments left (Err fault) some same
+      (fault_ends (map first (dests_of attachments)) (map SendOut (dests_of attachments)) (board_of asked attachments) (board_of after left) fault all)
+
+  pub sends_end : (engine asked pumped after : Option Gateway) (attachments between left : List AttachmentState) (received : ℕ) (fault : BoardFault) → IsSome engine → asked ≡ engine → dests_of between ≡ dests_of attachments
+      → PerformsUpTo (map first (dests_of attachments)) (board_of asked attachments) (Ok received) (board_of pumped between)
+      → PerformsUpTo (map SendOut (dests_of between)) (board_of pumped between) (Err fault) (board_of after left) → IsWhole (board_of engine attachments) (Err fault) (board_of after left)
+  sends_end engine asked pumped after attachments between left received fault some same dests all others =
+      whole engine asked after attachments left (Err fault) some same
+      (
+      fault_follows (map first (dests_of attachments)) (map SendOut (dests_of attachments)) (board_of asked attachments) (board_of pumped between) (board_of after left) received fault all
+      (subst (λ (ds : List Dest). PerformsUpTo (map SendOut ds) (board_of pumped between) (Err fault) (board_of after left)) dests others)
+      )
+
+  pub round_ends : (engine asked pumped after : Option Gateway) (attachments between left : List AttachmentState) (received sent total : ℕ) → IsSome engine → asked ≡ engine → dests_of between ≡ dests_of attachments
+      → PerformsUpTo (map first (dests_of attachments)) (board_of asked attachments) (Ok received) (board_of pumped between)
+      → PerformsUpTo (map SendOut (dests_of between)) (board_of pumped between) (Ok sent) (board_of after left) → total ≡ min (received + sent) (2 ^ 64 - 1)
+      → IsWhole (board_of engine attachments) (Ok total) (board_of after left)
+  round_ends engine asked pumped after attachments between left received sent total some same dests all others is =
+      whole engine asked after attachments left (Ok total) some same
+      (
+      all_follow (map first (dests_of attachments)) (map SendOut (dests_of attachments)) (board_of asked attachments) (board_of pumped between) (board_of after left) received sent total all
+      (subst (λ (ds : List Dest). PerformsUpTo (map SendOut ds) (board_of pumped between) (Ok sent) (board_of after left)) dests others) is
+      )

@@ -1,3 +1,5 @@
 pub mod Answers
+pub mod Held
 pub mod Keeping
 pub mod Rounds
+pub mod Share

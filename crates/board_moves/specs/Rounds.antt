@@ -1,13 +1,17 @@
 -- A round of calls.
 use Rattle.std.specs.Prelude.{◌≡◌, ℕ, zero, suc, ◌+◌, ◌-◌, ◌^◌, List, [], ◌∷◌, ◌++◌, map, min, true, false, Bool, Option, Some, None, Result, Ok, Err}
+use Rattle.rows.specs.Rows.{change_first}
 use Rattle.gateway_calls.specs.declared.fault.StepFault.TheVariants as steps
 use Rattle.gateway_state.specs.Gateway.{Gateway}
 use Rattle.gateway_state.specs.declared.event.Dest.{Dest}
+use Rattle.gateway_state.specs.declared.event.Dest.TheVariants.{Session, Upstream}
+use Rattle.board_rings.specs.Attachments.{is_attachment_of, with_full}
 use Rattle.board_rings.specs.Rings.{AttachmentState}
 use Rattle.board_history.specs.Board.{BoardState}
 use Rattle.board_moves.specs.Answers.{IsPump, IsSendOut}
+use Rattle.board_moves.specs.Held.{is_held, is_over_half}
 use Rattle.board_moves.specs.declared.rounds.Call.{Call}
-use Rattle.board_moves.specs.declared.rounds.Call.TheVariants.{Pump, SendOut}
+use Rattle.board_moves.specs.declared.rounds.Call.TheVariants.{Pump, PumpFree, SendOut, Weigh}
 use Rattle.board_moves.specs.declared.fault.BoardFault.{BoardFault}
 use Rattle.board_moves.specs.declared.fault.BoardFault.TheVariants.{Step}
 
@@ -17,10 +21,23 @@ pumped_count (Ok true) = Ok 1
 pumped_count (Ok false) = Ok 0
 pumped_count (Err fault) = Err fault
 
+-- whether too much waits for a server was noted with it, and nothing else changed; of clients it isn't asked
+abbrev pub Weighs : Dest → BoardState → BoardState → Type 0
+Weighs (Session number) old new = new ≡ old
+Weighs (Upstream number) old new =
+    (new.rows ≡ old.rows) × (new.attachments ≡ change_first (is_attachment_of (Upstream number)) (with_full (is_over_half (Upstream number) old.rows)) old.attachments)
+
+-- a connection that is held isn't pumped, and each other is
+abbrev pub PumpsFree : Bool → Dest → BoardState → Result ℕ BoardFault → BoardState → Type 0
+PumpsFree true dest old answer new = (answer ≡ Ok 0) × (new ≡ old)
+PumpsFree false dest old answer new = (pumped : Result Bool BoardFault) × (IsPump dest old pumped new × (answer ≡ pumped_count pumped))
+
 -- what the call does, and how many items it moves
 abbrev pub Performs : Call → BoardState → Result ℕ BoardFault → BoardState → Type 0
 Performs (Pump dest) old answer new = (pumped : Result Bool BoardFault) × (IsPump dest old pumped new × (answer ≡ pumped_count pumped))
+Performs (PumpFree dest) old answer new = PumpsFree (is_held dest old) dest old answer new
 Performs (SendOut dest) old answer new = IsSendOut dest old answer new
+Performs (Weigh dest) old answer new = (answer ≡ Ok 0) × Weighs dest old new
 
 abbrev pub with_more : {F : Type 0} → ℕ → Result ℕ F → Result ℕ F
 with_more count (Ok more) = Ok (count + more)
@@ -70,11 +87,23 @@ abbrev pub told_together : ℕ → Result ℕ BoardFault → Result ℕ BoardFau
 told_together count (Ok more) = Ok (min (count + more) (2 ^ 64 - 1))
 told_together count (Err fault) = Err fault
 
-abbrev pub AreRounds : ℕ → BoardState → Result ℕ BoardFault → BoardState → Type 0
-AreRounds zero old answer new = IsRound old answer new
-AreRounds (suc earlier) old answer new =
-    (count : ℕ) × ((last : Result ℕ BoardFault) × ((between : BoardState) × (AreRounds earlier old (Ok count) between × (IsRound between last new × (answer ≡ told_together count last)))))
+-- a round in which those that are held aren't pumped
+abbrev pub free_calls : List AttachmentState → List Call
+free_calls attachments = map PumpFree (dests_of attachments) ++ map SendOut (dests_of attachments)
 
--- one round or more, up to the first fault
+abbrev pub IsFreeRoundOn : Option Gateway → BoardState → Result ℕ BoardFault → BoardState → Type 0
+IsFreeRoundOn None old answer new = (answer ≡ Err (Step steps.Failed)) × (new ≡ old)
+IsFreeRoundOn (Some w) old answer new = PerformsUpTo (free_calls old.attachments) old answer new
+
+abbrev pub IsFreeRound : BoardState → Result ℕ BoardFault → BoardState → Type 0
+IsFreeRound old answer new = IsFreeRoundOn old.rows old answer new
+
+abbrev pub AreRounds : ℕ → BoardState → Result ℕ BoardFault → BoardState → Type 0
+AreRounds zero old answer new = IsFreeRound old answer new
+AreRounds (suc earlier) old answer new =
+    (count : ℕ) × ((last : Result ℕ BoardFault) × ((between : BoardState) × (AreRounds earlier old (Ok count) between × (IsFreeRound between last new × (answer ≡ told_together count last)))))
+
+-- each connection is weighed; then there is one round or more, up to the first fault
 abbrev pub IsBatch : BoardState → Result ℕ BoardFault → BoardState → Type 0
-IsBatch old answer new = (earlier : ℕ) × AreRounds earlier old answer new
+IsBatch old answer new =
+    (between : BoardState) × (PerformsUpTo (map Weigh (dests_of old.attachments)) old (Ok 0) between × ((earlier : ℕ) × AreRounds earlier between answer new))

@@ -3,8 +3,8 @@ ghost use Rattle.board_moves.specs.Answers.{board_of, KeepsRings};
 ghost use Rattle.board_moves.specs.Rounds.{IsBatch};
 
 use crate::fault::BoardFault;
+use crate::free_rounds::{free_round, weigh_all};
 use crate::news::News;
-use crate::rounds::round;
 use board_rings::Attachments;
 use gateway_calls::GatewayCalls;
 
@@ -15,9 +15,10 @@ const MOST_ROUNDS: usize = 32;
 /// an answer or for the lock waits for no more than their work.
 const MOST_MOVED: usize = 512;
 
-/// Performs a round, and others behind it as long as one saw items that it left and few were moved. It answers
-/// how many items were moved. Each round takes one item of each connection, so none is starved, and sends out
-/// before the next, so that nothing is lost that waited for a connection whose end comes behind.
+/// Weighs what waits for each server. Then it performs a round, but for those that are held, which aren't pumped, and
+/// others behind it as long as one saw items that it left and few were moved. It answers how many items were moved. Each
+/// round takes one item of each connection, so none is starved, and sends out before the next, so that nothing is lost
+/// that waited for a connection whose end comes behind. Once for a batch is enough to weigh: it moves few items.
 pub(crate) fn batch<G: GatewayCalls>(
     gate: &mut G,
     attachments: &mut Attachments,
@@ -26,7 +27,8 @@ pub(crate) fn batch<G: GatewayCalls>(
     ensures batch { IsBatch (board_of (G.state gate.old) attachments.old) result (board_of (G.state gate.new) attachments.new) }
     ensures rings { KeepsRings attachments.old attachments.new }
 {
-    let mut moved = match round(gate, attachments, news) {
+    weigh_all(gate, attachments);
+    let mut moved = match free_round(gate, attachments, news) {
         Ok(count) => count,
         Err(fault) => return Err(fault),
     };
@@ -34,7 +36,7 @@ pub(crate) fn batch<G: GatewayCalls>(
         if !news.has_left() || moved >= MOST_MOVED {
             return Ok(moved);
         }
-        match round(gate, attachments, news) {
+        match free_round(gate, attachments, news) {
             Ok(count) => moved = moved.saturating_add(count),
             Err(fault) => return Err(fault),
         }

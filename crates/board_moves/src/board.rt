@@ -3,13 +3,14 @@ ghost use Rattle.std.specs.Prelude.{◌≡◌, ◌↔◌, ◌⊎◌, [], Some, I
 ghost use Rattle.std.specs.Option.{option_map};
 ghost use Rattle.gateway_calls.specs.Searching.{IsSearched};
 ghost use Rattle.gateway_state.specs.Asked.{stands, ends, queued, queued_bytes};
-ghost use Rattle.gateway_state.specs.Variables.{asks};
+ghost use Rattle.gateway_state.specs.Variables.{asks, is_missing};
 ghost use Rattle.gateway_state.specs.RowCounts.{row_counts};
-ghost use Rattle.board_rings.specs.Attachments.{are_in_order, is_attached, is_not_attachment_of, attachment_of};
+ghost use Rattle.rows.specs.Rows.{change_first};
+ghost use Rattle.board_rings.specs.Attachments.{are_in_order, is_attached, is_attachment_of, is_not_attachment_of, attachment_of, with_leaving};
 ghost use Rattle.board_rings.specs.declared.attachment.TheConstants.{RING_SIZE};
 ghost use Rattle.board_history.specs.Calls.{Attaches};
 ghost use Rattle.board_history.specs.History.{HasHistory};
-ghost use Rattle.board_moves.specs.Answers.{ends_of, IsDesk, IsNew, IsPump, IsSendOut, KeepsRings};
+ghost use Rattle.board_moves.specs.Answers.{ends_of, IsDesk, IsNew, IsPump, IsSendOut, IsWaiting, KeepsRings};
 ghost use Rattle.board_moves.specs.Rounds.{IsBatch, IsRound};
 
 use crate::fault::BoardFault;
@@ -17,7 +18,7 @@ use crate::news::{News, Traffic};
 use crate::{batches, moves, rounds};
 use board_rings::{Attachments, Ends, Inlet, Outlet};
 use gateway_calls::{AskFault, Failed, GatewayCalls};
-use gateway_state::{Dest, Event, RowCounts};
+use gateway_state::{Dest, Event, Fullest, LimitsMet, RowCounts};
 use pv_name::{Host, Name};
 use pv_search::SearchAnswer;
 use std::alloc::Global;
@@ -112,8 +113,10 @@ impl<G: GatewayCalls + Drop> Board<G> {
         moves::desk(&mut self.gate, &self.attachments, &mut self.news, event)
     }
 
-    /// Takes as many messages of a connection as places of its ring out are found free, up to 64, as one
-    /// event, and pushes them. It answers how many there were.
+    /// Takes a connection's share of messages, as one event, and pushes them: as many as places of its ring out are
+    /// found free, up to 64, where all that waits and all that is on its way are below a bound in bytes; else as many
+    /// as would fit if all were equally long, one at least, and none where the bound is reached. It answers how many
+    /// there were.
     #[tactic(auto, using(crate::proofs::Keeps::send_out_keeps))]
     pub fn send_out(&mut self, dest: Dest) -> Result<usize, BoardFault>
         ensures sent { IsSendOut dest self.old result self.new }
@@ -138,8 +141,10 @@ impl<G: GatewayCalls + Drop> Board<G> {
         rounds::round(&mut self.gate, &mut self.attachments, &mut self.news)
     }
 
-    /// Performs a round, and again as long as one saw items that it left, a bounded number of times, up to the
-    /// first fault. It answers how many items were moved.
+    /// Weighs what waits for each server. Then it performs a round, but for those that are held, which aren't pumped, and
+    /// again as long as one saw items that it left, a bounded number of times, up to the first fault. It answers how
+    /// many items were moved. A client is held whose last request is a write, which went to a server for which more than
+    /// half of what is allowed waited, unless its end comes.
     pub fn batch(&mut self) -> Result<usize, BoardFault>
         ensures batch { IsBatch self.old result self.new }
         ensures rings { KeepsRings self.old.attachments self.new.attachments }
@@ -182,6 +187,44 @@ impl<G: GatewayCalls + Drop> Board<G> {
         ensures same { self.new ≡ self.old }
     {
         self.gate.queued_bytes(dest)
+    }
+
+    /// How many bytes wait for the connection in its outbox, and in its ring out as far as they aren't known to be
+    /// taken, after a look at the places of the ring: 0 where it doesn't stand and isn't attached, and at most the
+    /// type's last value.
+    #[tactic(auto, using(crate::proofs::Keeps::waiting_keeps))]
+    pub fn waiting_bytes(&mut self, dest: Dest) -> Result<u64, Failed>
+        ensures waiting { IsWaiting dest self.old result self.new }
+    {
+        moves::waiting_bytes(&mut self.gate, &mut self.attachments, dest)
+    }
+
+    /// Notes that the end of a connection comes: it isn't held any more, so that its end is heard.
+    #[tactic(auto, using(crate::proofs::Keeps::ended_keeps))]
+    pub fn note_end(&mut self, dest: Dest)
+        ensures rows { self.new.rows ≡ self.old.rows }
+        ensures attachments { self.new.attachments ≡ change_first (is_attachment_of dest) with_leaving self.old.attachments }
+    {
+        self.attachments.note_end(dest);
+    }
+
+    /// Whether the name is one to ask servers for now: wanted, and without a link.
+    pub fn is_missing(&mut self, name: &Name) -> Result<bool, Failed>
+        ensures found { IfOk result (λ answer. Some answer ≡ option_map (λ w. is_missing w name.now) self.old.rows) }
+        ensures failed { IsOk result ↔ IsSome self.old.rows }
+        ensures same { self.new ≡ self.old }
+    {
+        self.gate.is_missing(name)
+    }
+
+    /// How often limits were met since the start. No contract speaks of it: it is for whoever watches.
+    pub fn limits_met(&self) -> LimitsMet {
+        self.gate.limits_met()
+    }
+
+    /// The most that one client or server has now. No contract speaks of it: it is for whoever watches.
+    pub fn fullest(&self) -> Fullest {
+        self.gate.fullest()
     }
 
     /// How many messages went through so far.

@@ -3,13 +3,14 @@ ghost use Rattle.std.specs.Prelude.{◌≡◌, ◌↔◌, ◌⊎◌, [], Some, I
 ghost use Rattle.std.specs.Option.{option_map};
 ghost use Rattle.gateway_calls.specs.Searching.{IsSearched};
 ghost use Rattle.gateway_state.specs.Asked.{stands, ends, queued_bytes};
-ghost use Rattle.gateway_state.specs.Variables.{asks};
+ghost use Rattle.gateway_state.specs.Variables.{asks, is_missing};
 ghost use Rattle.gateway_state.specs.RowCounts.{row_counts};
-ghost use Rattle.board_rings.specs.Attachments.{is_attached, is_not_attachment_of, attachment_of};
+ghost use Rattle.rows.specs.Rows.{change_first};
+ghost use Rattle.board_rings.specs.Attachments.{is_attached, is_attachment_of, is_not_attachment_of, attachment_of, with_leaving};
 ghost use Rattle.board_rings.specs.declared.attachment.TheConstants.{RING_SIZE};
 ghost use Rattle.board_history.specs.Calls.{Attaches};
 ghost use Rattle.board_history.specs.History.{is_for_desk};
-ghost use Rattle.board_moves.specs.Answers.{ends_of, IsDesk, KeepsRings};
+ghost use Rattle.board_moves.specs.Answers.{ends_of, IsDesk, IsWaiting, KeepsRings};
 ghost use Rattle.board_moves.specs.Keeping.{has_waiting, is_over, woken, ComesTo, IsBatchTurn, IsTurn, SameBeside, WakesBeside};
 
 use crate::board::Board;
@@ -18,7 +19,7 @@ use crate::news::{News, Traffic};
 use crate::turn::Turn;
 use board_rings::{Ends, Inlet, Outlet};
 use gateway_calls::{AskFault, Failed, GatewayCalls};
-use gateway_state::{Dest, Event, RowCounts};
+use gateway_state::{Dest, Event, Fullest, LimitsMet, RowCounts};
 use pv_name::{Host, Name};
 use pv_search::SearchAnswer;
 use std::marker::Model;
@@ -194,6 +195,45 @@ impl<G: GatewayCalls + Drop> Kept<G> {
         ensures same { self.new ≡ self.old }
     {
         self.board.queued_bytes(dest)
+    }
+
+    /// How many bytes wait for the connection in its outbox, and in its ring out as far as they aren't known to be
+    /// taken, after a look at the places of the ring: 0 where it doesn't stand and isn't attached, and at most the
+    /// type's last value.
+    pub fn waiting_bytes(&mut self, dest: Dest) -> Result<u64, Failed>
+        ensures waiting { IsWaiting dest self.old.board result self.new.board }
+        ensures same { SameBeside self.old self.new }
+    {
+        self.board.waiting_bytes(dest)
+    }
+
+    /// Notes that the end of a connection comes, and counts a wake: it isn't held any more.
+    pub fn note_end(&mut self, dest: Dest)
+        ensures rows { self.new.board.rows ≡ self.old.board.rows }
+        ensures attachments { self.new.board.attachments ≡ change_first (is_attachment_of dest) with_leaving self.old.board.attachments }
+        ensures wakes { WakesBeside self.old self.new }
+    {
+        self.board.note_end(dest);
+        self.wake();
+    }
+
+    /// Whether the name is one to ask servers for now: wanted, and without a link.
+    pub fn is_missing(&mut self, name: &Name) -> Result<bool, Failed>
+        ensures found { IfOk result (λ answer. Some answer ≡ option_map (λ w. is_missing w name.now) self.old.board.rows) }
+        ensures failed { IsOk result ↔ IsSome self.old.board.rows }
+        ensures same { self.new ≡ self.old }
+    {
+        self.board.is_missing(name)
+    }
+
+    /// How often limits were met since the start. No contract speaks of it: it is for whoever watches.
+    pub fn limits_met(&self) -> LimitsMet {
+        self.board.limits_met()
+    }
+
+    /// The most that one client or server has now. No contract speaks of it: it is for whoever watches.
+    pub fn fullest(&self) -> Fullest {
+        self.board.fullest()
     }
 
     /// Performs one round of the board, unless it is closed. Nothing where that moved nothing; else it

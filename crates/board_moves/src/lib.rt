@@ -12,7 +12,8 @@
 //!
 //! Whatever was called, the board has a history (`board_history`): its rows are those of a run of the
 //! events of the history's entries, and what went through each ring is what the history says. A pump that
-//! moves nothing saw nothing in the ring; a send-out that moves nothing found no place, or no message.
+//! moves nothing saw nothing in the ring; a send-out that moves nothing found no place, no message, or too many bytes on
+//! their way.
 //!
 //! [`Kept`] is what a gate has under its lock: a board, a mark that it is closed and a count of wakes.
 //! [`News`] says whom moves concern, for those that wait; no contract speaks of it.
@@ -23,14 +24,19 @@
 mod batches;
 mod board;
 mod fault;
+mod free_rounds;
+mod held;
 mod kept;
+pub mod laws;
 mod moves;
 mod news;
 mod rounds;
+mod share;
 mod turn;
 
 pub use board::Board;
 pub use fault::BoardFault;
 pub use kept::Kept;
 pub use news::{News, SEAT_WORDS, SEATS, Traffic, seat_of};
+pub use share::{HELD_BYTES, HELD_MESSAGES, RING_BYTES};
 pub use turn::Turn;

@@ -1,17 +1,20 @@
 //! The board's calls on its parts: the gateway and the attachments.
-ghost use Rattle.std.specs.Prelude.{◌≡◌, ◌↔◌, ◌⊎◌, IsTrue, IsNone, IsSome, IsErrOf, OnOk, OnErr, Some, None, true, false};
+ghost use Rattle.std.specs.Prelude.{◌≡◌, ◌+◌, ◌-◌, ◌^◌, ◌<◌, min, ◌↔◌, ◌⊎◌, IsTrue, IsNone, IsSome, IsErrOf, OnOk, OnErr, Some, None, true, false};
 ghost use Rattle.std.specs.Option.{option_map};
+ghost use Rattle.gateway_state.specs.Asked.{queued, queued_bytes};
 ghost use Rattle.gateway_state.specs.Step.{step};
+ghost use Rattle.board_rings.specs.Attachments.{have_full};
 ghost use Rattle.board_history.specs.Calls.{uses_up};
 ghost use Rattle.board_history.specs.History.{is_for_desk, item_event};
-ghost use Rattle.board_moves.specs.Answers.{board_of, IsDesk, IsPump, IsSendOut, KeepsRings};
+ghost use Rattle.board_moves.specs.Answers.{board_of, IsDesk, IsPump, IsSendOut, IsWaiting, KeepsRings};
 ghost use Rattle.board_moves.specs.Rounds.{dests_of};
+ghost use Rattle.board_moves.specs.Share.{sent_at_once};
 
 use crate::fault::BoardFault;
 use crate::news::News;
-use board_history::MOST_SENT;
+use crate::share::sent_at_once;
 use board_rings::{Attachments, Inbound};
-use gateway_calls::{GatewayCalls, StepFault};
+use gateway_calls::{Failed, GatewayCalls, StepFault};
 use gateway_state::{Dest, Event};
 
 /// Whether a step was refused before.
@@ -71,7 +74,7 @@ fn perform_item<G: GatewayCalls>(
 
 /// Receives one item of a connection and performs its event, on a gateway that hasn't failed. An item
 /// whose event is refused is gone with the gateway. The guess is where the connection's attachment may stand.
-#[tactic(auto, using(crate::proofs::Moved::pumped, crate::proofs::Moved::pump_refused, crate::proofs::Moved::pump_used_up, crate::proofs::Changed::received_dests, crate::proofs::Changed::received_rings))]
+#[tactic(auto, using(crate::proofs::Moved::pumped, crate::proofs::Moved::pump_refused, crate::proofs::Moved::pump_used_up, crate::proofs::Changed::received_dests, crate::proofs::Changed::received_full, crate::proofs::Changed::received_rings))]
 pub(crate) fn pump_standing<G: GatewayCalls>(
     gate: &mut G,
     attachments: &mut Attachments,
@@ -83,6 +86,7 @@ pub(crate) fn pump_standing<G: GatewayCalls>(
     ensures pump { IsPump dest (board_of (G.state gate.old) attachments.old) result (board_of (G.state gate.new) attachments.new) }
     ensures stands { OnOk result (IsSome (G.state gate.new)) }
     ensures dests { dests_of attachments.new ≡ dests_of attachments.old }
+    ensures full { have_full attachments.new ≡ have_full attachments.old }
     ensures rings { KeepsRings attachments.old attachments.new }
 {
     let Some((item, left)) = attachments.receive(dest, guess) else {
@@ -137,17 +141,45 @@ pub(crate) fn desk<G: GatewayCalls>(
     }
 }
 
-/// Takes as many messages of a connection as places of its ring are free, up to 64, and pushes them, on a
-/// gateway that hasn't failed. The guess is where its attachment may stand.
-#[tactic(auto, using(crate::proofs::Moved::send_refused, crate::proofs::Moved::send_used_up, crate::proofs::Changed::looked_dests, crate::proofs::Changed::looked_rings))]
+/// How many messages of a connection are sent out at once, on a gateway that hasn't failed, where so many places of
+/// its ring are free, so many messages wait, and so many bytes are on their way. Of a single message the length
+/// doesn't matter: it is only asked for of several.
+#[tactic(auto, using(crate::proofs::Shares::one_at_once))]
+fn share<G: GatewayCalls>(
+    gate: &mut G,
+    dest: Dest,
+    places: usize,
+    waiting: usize,
+    on_the_way: u128,
+) -> usize
+    requires stands { IsSome (G.state gate.old) }
+    requires waiting { Some waiting ≡ option_map (λ w. queued w dest) (G.state gate.old) }
+    requires free { 0 < places }
+    ensures share { option_map (λ w. sent_at_once places (queued w dest) (queued_bytes w dest) on_the_way) (G.state gate.old) ≡ Some result }
+    ensures same { G.state gate.new ≡ G.state gate.old }
+{
+    if waiting == 1 {
+        return sent_at_once(places, 1, 0, on_the_way);
+    }
+    match gate.queued_bytes(dest) {
+        Ok(bytes) => sent_at_once(places, waiting, bytes, on_the_way),
+        Err(_) => 0,
+    }
+}
+
+/// Takes a connection's share of messages and pushes them, on a gateway that hasn't failed, where so many wait. The
+/// guess is where its attachment may stand.
+#[tactic(auto, using(crate::proofs::Changed::looked_dests, crate::proofs::Changed::looked_rings))]
 fn send_standing<G: GatewayCalls>(
     gate: &mut G,
     attachments: &mut Attachments,
     news: &mut News,
     dest: Dest,
     guess: usize,
+    waiting: usize,
 ) -> Result<usize, BoardFault>
     requires stands { IsSome (G.state gate.old) }
+    requires waiting { Some waiting ≡ option_map (λ w. queued w dest) (G.state gate.old) }
     ensures sent { IsSendOut dest (board_of (G.state gate.old) attachments.old) result (board_of (G.state gate.new) attachments.new) }
     ensures dests { dests_of attachments.new ≡ dests_of attachments.old }
     ensures rings { KeepsRings attachments.old attachments.new }
@@ -156,7 +188,12 @@ fn send_standing<G: GatewayCalls>(
     if found == 0 {
         return Ok(0);
     }
-    match gate.drain(dest, MOST_SENT.min(found)) {
+    let on_the_way = attachments.on_its_way(dest, guess);
+    let asked = share(gate, dest, found, waiting, on_the_way);
+    if asked == 0 {
+        return Ok(0);
+    }
+    match gate.drain(dest, asked) {
         Ok(outs) => {
             let count = outs.len();
             news.note_sent(dest, count);
@@ -167,8 +204,8 @@ fn send_standing<G: GatewayCalls>(
     }
 }
 
-/// Takes as many messages of a connection as places of its ring are free, up to 64, and pushes them. The
-/// guess is where its attachment may stand. A connection for which no message waits costs one look.
+/// Takes a connection's share of messages and pushes them. The guess is where its attachment may stand. A connection
+/// for which no message waits costs one look.
 pub(crate) fn send_out<G: GatewayCalls>(
     gate: &mut G,
     attachments: &mut Attachments,
@@ -182,8 +219,34 @@ pub(crate) fn send_out<G: GatewayCalls>(
 {
     match gate.queued(dest) {
         Ok(0) => Ok(0),
-        Ok(_) => send_standing(gate, attachments, news, dest, guess),
+        Ok(waiting) => send_standing(gate, attachments, news, dest, guess, waiting),
         Err(_) if attachments.is_attached(dest) => Err(BoardFault::Step(StepFault::Failed)),
         Err(_) => Ok(0),
     }
+}
+
+/// How many bytes wait for a connection in its outbox, and in its ring out as far as they aren't known to be taken.
+#[tactic(auto, using(crate::proofs::Moved::waits_so, crate::proofs::Moved::way_as_found))]
+pub(crate) fn waiting_bytes<G: GatewayCalls>(
+    gate: &mut G,
+    attachments: &mut Attachments,
+    dest: Dest,
+) -> Result<u64, Failed>
+    ensures waiting { IsWaiting dest (board_of (G.state gate.old) attachments.old) result (board_of (G.state gate.new) attachments.new) }
+{
+    let queued = match gate.queued_bytes(dest) {
+        Ok(bytes) => bytes,
+        Err(failed) => return Err(failed),
+    };
+    let _places = attachments.room(dest, 0);
+    let on_the_way = attachments.on_its_way(dest, 0);
+    Ok(told_together(queued, on_the_way))
+}
+
+// Both together, as far as the type tells it.
+fn told_together(queued: u64, on_the_way: u128) -> u64
+    ensures { result ≡ min (queued + on_the_way) (2 ^ 64 - 1) }
+{
+    let told = on_the_way.min(u128::from(u64::MAX)) as u64;
+    queued.saturating_add(told)
 }

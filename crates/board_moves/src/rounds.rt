@@ -1,5 +1,6 @@
 //! A round: a pump for each connection, and then a send-out for each.
 ghost use Rattle.std.specs.Prelude.{◌≡◌, map, IsSome, OnOk};
+ghost use Rattle.board_rings.specs.Attachments.{have_full};
 ghost use Rattle.board_moves.specs.Answers.{board_of, KeepsRings};
 ghost use Rattle.board_moves.specs.Rounds.{dests_of, IsRound, Performs, PerformsUpTo};
 
@@ -10,15 +11,19 @@ use board_rings::Attachments;
 use gateway_calls::{GatewayCalls, StepFault};
 use gateway_state::Dest;
 
-/// One call of a round.
+/// One call of a round or of a batch.
 #[derive(Clone, Copy)]
-enum Call {
+pub(crate) enum Call {
     Pump(Dest),
+    /// A pump, unless the connection is held.
+    PumpFree(Dest),
     SendOut(Dest),
+    /// A look whether too much waits for it.
+    Weigh(Dest),
 }
 
 /// Pumps a connection whose attachment may stand at the guess, and answers how many items it moved.
-fn pump_one<G: GatewayCalls>(
+pub(crate) fn pump_one<G: GatewayCalls>(
     gate: &mut G,
     attachments: &mut Attachments,
     news: &mut News,
@@ -29,6 +34,7 @@ fn pump_one<G: GatewayCalls>(
     ensures performed { Performs (Call.Pump dest) (board_of (G.state gate.old) attachments.old) result (board_of (G.state gate.new) attachments.new) }
     ensures stands { OnOk result (IsSome (G.state gate.new)) }
     ensures dests { dests_of attachments.new ≡ dests_of attachments.old }
+    ensures full { have_full attachments.new ≡ have_full attachments.old }
     ensures rings { KeepsRings attachments.old attachments.new }
 {
     match pump_standing(gate, attachments, news, dest, guess) {
@@ -67,7 +73,7 @@ fn pump_all<G: GatewayCalls>(
 
 /// Sends out to each attached connection, in order.
 #[tactic(auto, using(crate::proofs::RoundCalls::next_performed))]
-fn send_all<G: GatewayCalls>(
+pub(crate) fn send_all<G: GatewayCalls>(
     gate: &mut G,
     attachments: &mut Attachments,
     news: &mut News,

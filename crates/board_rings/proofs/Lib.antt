@@ -1,3 +1,5 @@
 mod DestOrder
+mod AttachmentAnswers
 pub mod AttachmentChanges
 pub mod AttachmentOrder
+pub mod OnTheWay

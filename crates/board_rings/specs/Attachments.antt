@@ -1,12 +1,14 @@
 -- The attachments of attached connections.
-use Rattle.std.specs.Prelude.{◌≡◌, ℕ, ◌-◌, List, [], ◌∷◌, ◌++◌, length, Bool, true, false, not, nat_lt, ◌&&◌, if◌then◌else◌, Option, Some}
+use Rattle.std.specs.Prelude.{◌≡◌, ℕ, ◌-◌, ◌==◌, List, [], ◌∷◌, ◌++◌, length, Bool, true, false, not, nat_lt, ◌&&◌, ◌||◌, if◌then◌else◌, Option, Some, None}
 use Rattle.std.specs.List.{find, list_any}
 use Rattle.std.specs.Option.{option_map}
+use Rattle.ca_message.specs.declared.commands.TheConstants.{CA_PROTO_WRITE, CA_PROTO_WRITE_NOTIFY}
 use Rattle.fanout.specs.declared.outbox.Out.{Out}
 use Rattle.gateway_state.specs.Connections.{same_dest}
 use Rattle.gateway_state.specs.declared.event.Dest.{Dest}
 use Rattle.gateway_state.specs.declared.event.Dest.TheVariants.{Session, Upstream}
 use Rattle.board_rings.specs.declared.inbound.Inbound.{Inbound}
+use Rattle.board_rings.specs.declared.inbound.Inbound.TheVariants.{Message, Gone}
 use Rattle.board_rings.specs.Rings.{AttachmentState, Ring}
 
 -- the attachment of this connection
@@ -48,11 +50,33 @@ abbrev pub are_in_order : List AttachmentState → Bool
 are_in_order [] = true
 are_in_order (attachment ∷ attachments) = are_behind attachment.dest attachments && are_in_order attachments
 
+-- a write, which has the SID of its channel as its first parameter
+abbrev pub is_write : ℕ → Bool
+is_write command = command == CA_PROTO_WRITE || command == CA_PROTO_WRITE_NOTIFY
+
+-- the SID of the last request, where that is a write, once this item came behind the others
+abbrev pub sid_after : Inbound → Option ℕ → Option ℕ
+sid_after (Message message) before = if is_write message.head.command then Some message.head.p1 else None
+sid_after Gone before = before
+
+-- the SID of a connection's last request, where that is a write, nothing where its end comes
+abbrev pub last_sid : AttachmentState → Option ℕ
+last_sid attachment = if attachment.leaving then None else attachment.last
+
+abbrev pub sid_or_none : Option AttachmentState → Option ℕ
+sid_or_none None = None
+sid_or_none (Some attachment) = last_sid attachment
+
+-- nothing where it isn't attached
+abbrev pub last_sid_of : Dest → List AttachmentState → Option ℕ
+last_sid_of dest attachments = sid_or_none (attachment_of dest attachments)
+
 -- one item more was received, and so many are known to follow
 abbrev pub with_received : Inbound → ℕ → AttachmentState → AttachmentState
 with_received item seen attachment = record attachment {
   ends = record attachment.ends { received = attachment.ends.received ++ item ∷ [] };
   seen = seen;
+  last = sid_after item attachment.last;
 }
 
 -- so many places were found free
@@ -66,6 +90,26 @@ with_pushed outs attachment = record attachment {
   free = attachment.free - length outs;
 }
 
+-- its end was said to come
+abbrev pub with_leaving : AttachmentState → AttachmentState
+with_leaving attachment = record attachment { leaving = true }
+
+-- it was weighed
+abbrev pub with_full : Bool → AttachmentState → AttachmentState
+with_full full attachment = record attachment { full = full }
+
+-- too much waited for the connection
+abbrev pub full_or_not : Option AttachmentState → Bool
+full_or_not None = false
+full_or_not (Some attachment) = attachment.full
+
+abbrev pub is_full : Dest → List AttachmentState → Bool
+is_full dest attachments = full_or_not (attachment_of dest attachments)
+
+-- too much waited for one of them
+abbrev pub have_full : List AttachmentState → Bool
+have_full attachments = list_any (λ (attachment : AttachmentState). attachment.full) attachments
+
 -- an attachment through which nothing went yet
 abbrev pub new_attachment : Dest → Ring → Ring → ℕ → AttachmentState
 new_attachment dest in_ring out_ring free = record {
@@ -73,6 +117,9 @@ new_attachment dest in_ring out_ring free = record {
   ends = record { in_ring = in_ring; received = []; out_ring = out_ring; pushed = [] };
   free = free;
   seen = 0;
+  last = None;
+  leaving = false;
+  full = false;
 }
 
 -- no item is known to be in the ring in of the connection

@@ -1,5 +1,5 @@
 -- What contracts see of the ends of rings.
-use Rattle.std.specs.Prelude.{ℕ, List}
+use Rattle.std.specs.Prelude.{ℕ, List, Bool, Option}
 use Rattle.std.specs.declared.alloc.Global.{Global}
 use denote.RawPtr.{Ptr}
 use Rattle.rtrb.specs.Shared.{Names}
@@ -40,9 +40,13 @@ pub record EndsState : Type 0 where
   pub pushed : List Out
 
 -- the attachment of a connection that is attached, how many places of its ring out are known to be free, and
--- how many items are known to be in its ring in
+-- how many items are known to be in its ring in; the channel that its last request writes to, by its SID, where that is a write;
+-- whether its end was said to come, and whether too much waited for it when it was last weighed
 pub record AttachmentState : Type 0 where
   pub dest : Dest
   pub ends : EndsState
   pub free : ℕ
   pub seen : ℕ
+  pub last : Option ℕ
+  pub leaving : Bool
+  pub full : Bool

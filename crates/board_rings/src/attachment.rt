@@ -1,10 +1,14 @@
 //! The board's side of one attachment.
-ghost use Rattle.std.specs.Prelude.{◌≡◌, ◌≤◌, ◌-◌, ◌++◌, [], length, IfOk, IfSome, IsNone};
+ghost use Rattle.std.specs.Prelude.{◌≡◌, ◌^◌, ◌≤◌, ◌+◌, ◌-◌, ◌++◌, [], length, map, IfOk, IfSome, IsNone};
 ghost use Rattle.rtrb.specs.Ring.{sent, known_free, SameProducer};
-ghost use Rattle.board_rings.specs.Attachments.{is_attachment_of, new_attachment, with_free, with_pushed, with_received};
+ghost use Rattle.fanout.specs.Waiting.{out_len};
+ghost use Rattle.board_rings.specs.Attachments.{is_attachment_of, is_write, last_sid, new_attachment, sid_after, with_free, with_full, with_leaving, with_pushed, with_received};
+ghost use Rattle.board_rings.specs.OnTheWay.{bytes_on_the_way};
 
 use crate::ends::{Ends, Inlet, Outlet};
 use crate::inbound::Inbound;
+use crate::lengths::Lengths;
+use ca_message::commands::{CA_PROTO_WRITE, CA_PROTO_WRITE_NOTIFY};
 use fanout::Out;
 use gateway_state::Dest;
 use rtrb::{Consumer, Producer, RingBuffer};
@@ -20,12 +24,19 @@ pub struct Attachment {
     dest: Dest,
     read: Consumer<Inbound>,
     write: Producer<Out>,
+    /// The lengths of what was pushed and isn't known to be taken.
+    lengths: Lengths,
+    last: Option<u32>,
+    leaving: bool,
+    full: bool,
 }
 
 impl Model for Attachment {
-    ghost use Rattle.std.specs.Prelude.{◌≡◌, length};
+    ghost use Rattle.std.specs.Prelude.{◌≡◌, ◌≤◌, ◌-◌, length, map};
     ghost use Rattle.rtrb.specs.Ring.{sent, received, known_free, known_items, producer_capacity, consumer_capacity};
     ghost use Rattle.board_rings.specs.declared.attachment.TheConstants.{RING_SIZE};
+    ghost use Rattle.fanout.specs.Waiting.{out_len};
+    ghost use Rattle.board_rings.specs.OnTheWay.{last_of};
     ghost use Rattle.board_rings.specs.Rings.{AttachmentState, ring_of};
 
     ghost Value = { AttachmentState };
@@ -40,9 +51,17 @@ impl Model for Attachment {
       };
       free = known_free l.write;
       seen = length (known_items l.read);
+      last = l.last;
+      leaving = l.leaving;
+      full = l.full;
     } };
 
-    ghost invariant = { λ l. (producer_capacity l.write ≡ RING_SIZE) × (consumer_capacity l.read ≡ RING_SIZE) };
+    ghost invariant = { λ l. record {
+      places : producer_capacity l.write ≡ RING_SIZE;
+      items : consumer_capacity l.read ≡ RING_SIZE;
+      few : known_free l.write ≤ RING_SIZE;
+      lengths : l.lengths ≡ map out_len (last_of (RING_SIZE - known_free l.write) (sent l.write));
+    } };
 }
 
 impl Attachment {
@@ -54,7 +73,15 @@ impl Attachment {
     {
         let (inward, read) = RingBuffer::new(alloc, RING_SIZE)?;
         let (write, outward) = RingBuffer::new(alloc, RING_SIZE)?;
-        let attachment = Attachment { dest, read, write };
+        let attachment = Attachment {
+            dest,
+            read,
+            write,
+            lengths: Lengths::new(alloc)?,
+            last: None,
+            leaving: false,
+            full: false,
+        };
         let inlet = Inlet { ring: inward, dest };
         Ok((attachment, inlet, Outlet { ring: outward }))
     }
@@ -82,6 +109,7 @@ impl Attachment {
     {
         match self.read.pop() {
             Ok(item) => {
+                self.last = sid_after(&item, self.last);
                 let seen = self.read.slots();
                 Some((item, seen))
             }
@@ -95,7 +123,16 @@ impl Attachment {
         ensures more { self.old.free ≤ result }
         ensures most { result ≤ RING_SIZE }
     {
-        self.write.slots()
+        let free = self.write.slots();
+        self.lengths.keep_last(RING_SIZE - free);
+        free
+    }
+
+    /// How many bytes were pushed and aren't known to be taken.
+    pub(crate) fn bytes(&self) -> u128
+        ensures { result ≡ bytes_on_the_way self.now.free self.now }
+    {
+        self.lengths.bytes()
     }
 
     /// Pushes messages for which there is room.
@@ -103,7 +140,35 @@ impl Attachment {
         requires { length outs.items ≤ self.old.free }
         ensures { self.new ≡ with_pushed outs.items self.old }
     {
-        push_each(&mut self.write, outs);
+        push_each(&mut self.write, &mut self.lengths, outs);
+    }
+
+    /// Notes that its end comes.
+    pub(crate) fn note_end(&mut self)
+        ensures { self.new ≡ with_leaving self.old }
+    {
+        self.leaving = true;
+    }
+
+    /// Notes whether too much waits for it.
+    pub(crate) fn note_full(&mut self, full: bool)
+        ensures { self.new ≡ with_full full self.old }
+    {
+        self.full = full;
+    }
+
+    /// Whether too much waited for it when that was noted last.
+    pub(crate) fn is_full(&self) -> bool
+        ensures { result ≡ self.now.full }
+    {
+        self.full
+    }
+
+    /// The SID of the last request, where that is a write, unless its end comes.
+    pub(crate) fn last_sid(&self) -> Option<u32>
+        ensures { result ≡ last_sid self.now }
+    {
+        if self.leaving { None } else { self.last }
     }
 
     /// Gives up the ends of both rings.
@@ -114,18 +179,51 @@ impl Attachment {
             dest: _,
             read,
             write,
+            lengths: _,
+            last: _,
+            leaving: _,
+            full: _,
         } = self;
         Ends { read, write }
     }
 }
 
-fn push_each(ring: &mut Producer<Out>, outs: Vec<Out>)
-    requires { length outs.items ≤ known_free ring.old }
+/// Whether a request is a write, whose first parameter is the SID of its channel.
+fn is_write(command: u16) -> bool
+    ensures { result ≡ is_write command }
+{
+    command == CA_PROTO_WRITE || command == CA_PROTO_WRITE_NOTIFY
+}
+
+/// The SID of the last request, where that is a write, once this item came behind the others.
+fn sid_after(item: &Inbound, before: Option<u32>) -> Option<u32>
+    ensures { result ≡ sid_after item.now before }
+{
+    match item {
+        Inbound::Message(message) if is_write(message.head.command) => Some(message.head.p1),
+        Inbound::Message(_) => None,
+        Inbound::Gone => before,
+    }
+}
+
+/// How many bytes a message has as it goes out.
+fn len_of(out: &Out) -> u128
+    ensures len { result ≡ out_len out.now }
+    ensures short { result ≤ 2 ^ 65 }
+{
+    out.head.as_slice().len() as u128 + out.payload.len() as u128
+}
+
+fn push_each(ring: &mut Producer<Out>, lengths: &mut Lengths, outs: Vec<Out>)
+    requires room { length outs.items ≤ known_free ring.old }
+    requires counted { length lengths.old + length outs.items ≤ RING_SIZE }
     ensures same { SameProducer ring.old ring.new }
     ensures pushed { sent ring.new ≡ sent ring.old ++ outs.items }
     ensures free { known_free ring.new ≡ known_free ring.old - length outs.items }
+    ensures lengths { lengths.new ≡ lengths.old ++ map out_len outs.items }
 {
     for out in outs {
+        lengths.push(len_of(&out));
         ring.push_reserved(out);
     }
 }

@@ -4,7 +4,8 @@ ghost use Rattle.std.specs.List.{filter, position};
 ghost use Rattle.std.specs.Option.{option_map};
 ghost use Rattle.rows.specs.Rows.{change_first};
 ghost use Rattle.board_rings.specs.Rings.{AttachmentState};
-ghost use Rattle.board_rings.specs.Attachments.{are_in_order, is_attached, is_attachment_of, is_not_attachment_of, attachment_of, new_attachment, with_free, with_pushed, with_received, IsWith, SeesNothing};
+ghost use Rattle.board_rings.specs.Attachments.{are_in_order, have_full, is_attached, is_full, is_attachment_of, is_not_attachment_of, attachment_of, last_sid_of, new_attachment, with_free, with_full, with_leaving, with_pushed, with_received, IsWith, SeesNothing};
+ghost use Rattle.board_rings.specs.OnTheWay.{bytes_known_to};
 
 use crate::attachment::{Attachment, RING_SIZE};
 use crate::ends::{Ends, Inlet, Outlet};
@@ -117,6 +118,14 @@ impl Attachments {
         room(&mut self.rows, dest, guess)
     }
 
+    /// How many bytes were pushed and aren't known to be taken, 0 where the connection isn't attached: those of
+    /// the messages that were pushed last, one for each place that wasn't found free.
+    pub fn on_its_way(&self, dest: Dest, guess: usize) -> u128
+        ensures { result ≡ bytes_known_to dest self.now }
+    {
+        on_its_way(&self.rows, dest, guess)
+    }
+
     /// Pushes messages for which there is room, in order. Where the connection isn't attached, they are
     /// dropped.
     pub fn push_all(&mut self, dest: Dest, guess: usize, outs: Vec<Out>)
@@ -124,6 +133,41 @@ impl Attachments {
         ensures { self.new ≡ change_first (is_attachment_of dest) (with_pushed outs.items) self.old }
     {
         push_all(&mut self.rows, dest, guess, outs);
+    }
+
+    /// Notes that a connection's end comes.
+    pub fn note_end(&mut self, dest: Dest)
+        ensures { self.new ≡ change_first (is_attachment_of dest) with_leaving self.old }
+    {
+        note_end(&mut self.rows, dest);
+    }
+
+    /// Notes of a connection whether too much waits for it.
+    pub fn note_full(&mut self, dest: Dest, guess: usize, full: bool)
+        ensures { self.new ≡ change_first (is_attachment_of dest) (with_full full) self.old }
+    {
+        note_full(&mut self.rows, dest, guess, full);
+    }
+
+    /// Whether too much waited for a connection when that was noted last.
+    pub fn is_full(&self, dest: Dest) -> bool
+        ensures { result ≡ is_full dest self.now }
+    {
+        is_full(&self.rows, dest)
+    }
+
+    /// Whether one of them was noted so.
+    pub fn have_full(&self) -> bool
+        ensures { result ≡ have_full self.now }
+    {
+        self.rows.iter().any(|attachment| attachment.is_full())
+    }
+
+    /// The SID of a connection's last request, where that is a write, nothing where its end comes.
+    pub fn last_sid(&self, dest: Dest, guess: usize) -> Option<u32>
+        ensures { result ≡ last_sid_of dest self.now }
+    {
+        last_sid(&self.rows, dest, guess)
     }
 
     /// Takes off the attachment of a connection, and gives up the board's ends.
@@ -188,6 +232,28 @@ fn push_all(rows: &mut Vec<Attachment>, dest: Dest, guess: usize, outs: Vec<Out>
     }
 }
 
+#[tactic(auto, using(rows::proofs::RowLemmas::set_is_change_first, rows::proofs::RowLemmas::change_first_none, rows::proofs::RowLemmas::find_is_there))]
+fn note_end(rows: &mut Vec<Attachment>, dest: Dest)
+    requires { are_in_order rows.old.items ≡ true }
+    ensures { rows.new.items ≡ change_first (is_attachment_of dest) with_leaving rows.old.items }
+{
+    if let Some(place) = place_of(rows, dest) {
+        let attachment = &mut rows[place];
+        attachment.note_end();
+    }
+}
+
+#[tactic(auto, using(rows::proofs::RowLemmas::set_is_change_first, rows::proofs::RowLemmas::change_first_none, rows::proofs::RowLemmas::find_is_there))]
+fn note_full(rows: &mut Vec<Attachment>, dest: Dest, guess: usize, full: bool)
+    requires { are_in_order rows.old.items ≡ true }
+    ensures { rows.new.items ≡ change_first (is_attachment_of dest) (with_full full) rows.old.items }
+{
+    if let Some(place) = place_near(rows, dest, guess) {
+        let attachment = &mut rows[place];
+        attachment.note_full(full);
+    }
+}
+
 #[tactic(auto, using(rows::proofs::RowLemmas::find_is_there, rows::proofs::RowLemmas::find_none, crate::proofs::AttachmentOrder::removed_is_rest, crate::proofs::AttachmentOrder::rest_is_all))]
 fn retire(rows: &mut Vec<Attachment>, dest: Dest) -> Option<Ends>
     requires { are_in_order rows.old.items ≡ true }
@@ -196,6 +262,48 @@ fn retire(rows: &mut Vec<Attachment>, dest: Dest) -> Option<Ends>
 {
     match place_of(rows, dest) {
         Some(place) => Some(rows.remove(place).into_ends()),
+        None => None,
+    }
+}
+
+#[tactic(auto, using(crate::proofs::AttachmentAnswers::way_at, crate::proofs::AttachmentAnswers::way_nowhere))]
+fn on_its_way(rows: &[Attachment], dest: Dest, guess: usize) -> u128
+    requires { are_in_order rows.now ≡ true }
+    ensures { result ≡ bytes_known_to dest rows.now }
+{
+    match place_near(rows, dest, guess) {
+        Some(place) => {
+            let attachment = &rows[place];
+            attachment.bytes()
+        }
+        None => 0,
+    }
+}
+
+#[tactic(auto, using(crate::proofs::AttachmentAnswers::full_at, crate::proofs::AttachmentAnswers::full_nowhere))]
+fn is_full(rows: &[Attachment], dest: Dest) -> bool
+    requires { are_in_order rows.now ≡ true }
+    ensures { result ≡ is_full dest rows.now }
+{
+    match place_of(rows, dest) {
+        Some(place) => {
+            let attachment = &rows[place];
+            attachment.is_full()
+        }
+        None => false,
+    }
+}
+
+#[tactic(auto, using(crate::proofs::AttachmentAnswers::sid_at, crate::proofs::AttachmentAnswers::sid_nowhere))]
+fn last_sid(rows: &[Attachment], dest: Dest, guess: usize) -> Option<u32>
+    requires { are_in_order rows.now ≡ true }
+    ensures { result ≡ last_sid_of dest rows.now }
+{
+    match place_near(rows, dest, guess) {
+        Some(place) => {
+            let attachment = &rows[place];
+            attachment.last_sid()
+        }
         None => None,
     }
 }

@@ -35,6 +35,7 @@ mod attachments;
 mod ends;
 mod inbound;
 pub mod laws;
+mod lengths;
 mod places;
 
 pub use attachment::{Attachment, RING_SIZE};

@@ -6,6 +6,7 @@ use Rattle.board_rings.specs.contracts.ends.Outlet as outlet
 use Rattle.board_rings.specs.contracts.attachment.Attachment as attachment
 use Rattle.board_rings.specs.contracts.attachments.Attachments as attachments
 use Rattle.board_rings.specs.contracts.inbound.Inbound as inbound
+use Rattle.board_rings.specs.contracts.lengths.Lengths as lengths
 use Rattle.rtrb.proofs.end.End.TheSendSync as end
 use Rattle.gate_board.proofs.PartsCross.{out_send, bytes_cross}
 
@@ -18,8 +19,11 @@ inlet_send = search (sendable, crosses, send, end.the_send, inbound_send) depth 
 pub outlet_send : IsSend outlet.the_row
 outlet_send = search (sendable, crosses, send, end.the_send, out_send) depth 60 fits 20000
 
+lengths_send : IsSend lengths.the_row
+lengths_send = search (sendable, crosses) depth 60 fits 20000
+
 attachment_send : IsSend attachment.the_row
-attachment_send = search (sendable, crosses, send, end.the_send, out_send, inbound_send) depth 60 fits 20000
+attachment_send = search (sendable, crosses, send, end.the_send, out_send, inbound_send, lengths_send) depth 60 fits 20000
 
 pub attachments_send : IsSend attachments.the_row
 attachments_send = search (sendable, crosses, attachment_send) depth 60 fits 20000

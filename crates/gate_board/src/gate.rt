@@ -6,16 +6,19 @@
 //! notifies whoever may wait for it:
 //!
 //! - **The core** waits for items and events. `wake` (which a reader calls after it put items), `desk`,
-//!   `attach` and `close` notify it. `take` does so where messages wait that found no place before.
+//!   `attach` and `close` notify it. `take` does so where messages wait that found no place before, or while
+//!   too many bytes were on their way: so it does where a server's outbox comes down, and those that were held
+//!   because of it are looked at again, since each batch that moved something is followed by another. `put` does
+//!   so before it offers a connection's end, which is heard though the connection was held.
 //! - **The keeper** (`pause`) is notified by the same calls, and by each turn, a round or a batch, that moved
 //!   something.
 //! - **A writer** waits at its connection's seat until messages are pushed, or the connection ends. The
 //!   turn that pushed, or pumped the item by which it ended, notes the seat; the loss of a connection at
-//!   the desk does too. An outbox that is marked since it is full still has messages: they are pushed
-//!   first, and the writer looks at the end by itself once it took them all.
+//!   the desk does too. An outbox that is marked still may have messages: they are pushed first, and the writer
+//!   looks at the end by itself once it took them all.
 //! - **A reader** waits at the same seat until its ring has places. It is full then, and nobody else fills
 //!   it: so the ring comes down through exactly half, where the turn notes the seat. It notes it at an
-//!   empty ring too.
+//!   empty ring too. As long as its connection is held it waits, and the peer with it.
 //! - Closing and a fault of the gateway notify all.
 //!
 //! Connections that share a seat wake each other for nothing, and look again.
@@ -28,7 +31,7 @@ use board_moves::{Board, BoardFault, Kept, News, SEAT_WORDS, SEATS, Traffic, Tur
 use board_rings::{Ends, Inbound, Inlet, Outlet};
 use fanout::Out;
 use gateway_calls::{AskFault, Failed, GatewayCalls};
-use gateway_state::{Dest, Event, RowCounts};
+use gateway_state::{Dest, Event, Fullest, LimitsMet, RowCounts};
 use pv_name::{Host, Name};
 use pv_search::SearchAnswer;
 use std::array;
@@ -137,6 +140,27 @@ impl<G: GatewayCalls + Drop> GateOver<G> {
         self.kept.lock(rt).queued_bytes(dest)
     }
 
+    /// How many bytes wait for the connection in its outbox, and in its ring out as far as they aren't known to be
+    /// taken: 0 where it doesn't stand and isn't attached, and at most the type's last value.
+    pub fn waiting_bytes<R: Wait>(&self, rt: &R, dest: Dest) -> Result<u64, Failed> {
+        self.kept.lock(rt).waiting_bytes(dest)
+    }
+
+    /// Whether the name is one to ask servers for now: wanted, and without a link.
+    pub fn is_missing<R: Wait>(&self, rt: &R, name: &Name) -> Result<bool, Failed> {
+        self.kept.lock(rt).is_missing(name)
+    }
+
+    /// How often limits were met since the start.
+    pub fn limits_met<R: Wait>(&self, rt: &R) -> LimitsMet {
+        self.kept.lock(rt).limits_met()
+    }
+
+    /// The most that one client or server has now.
+    pub fn fullest<R: Wait>(&self, rt: &R) -> Fullest {
+        self.kept.lock(rt).fullest()
+    }
+
     /// How many rows of each kind the gateway has.
     pub fn row_counts<R: Wait>(&self, rt: &R) -> Result<RowCounts, Failed> {
         self.kept.lock(rt).row_counts()
@@ -221,7 +245,7 @@ impl<G: GatewayCalls + Drop> GateOver<G> {
     }
 
     /// Offers an item, and waits for a place where there is none. The item comes back where the gate is
-    /// closed or the engine has failed.
+    /// closed or the engine has failed. Before an end it says to the board that it comes.
     pub fn put<R: Wait>(&self, rt: &R, inlet: &mut Inlet, item: Inbound) -> Result<(), Inbound>
         ensures ok { OnOk result (inlet.new.offered ≡ inlet.old.offered ++ item ∷ []) }
         ensures err { IfErr result (λ back. back ≡ item) }
@@ -229,6 +253,9 @@ impl<G: GatewayCalls + Drop> GateOver<G> {
         ensures full { OnErr result (inlet.new.free ≡ 0) }
         ensures ring { inlet.new.ring ≡ inlet.old.ring }
     {
+        if matches!(item, Inbound::Gone) {
+            self.note_end(rt, inlet.dest());
+        }
         let mut item = match inlet.offer(item) {
             Ok(()) => return Ok(()),
             Err(back) => back,
@@ -245,6 +272,14 @@ impl<G: GatewayCalls + Drop> GateOver<G> {
             }
         }
         unreachable!()
+    }
+
+    // Notes that a connection's end comes behind what is in its ring, and wakes: where it is held it isn't any more.
+    fn note_end<R: Wait>(&self, rt: &R, dest: Dest) {
+        let mut kept = self.kept.lock(rt);
+        kept.note_end(dest);
+        drop(kept);
+        self.notify_core();
     }
 
     // Waits at a connection's seat while the count of wakes is this one. True where the gate is closed or
@@ -290,12 +325,11 @@ impl<G: GatewayCalls + Drop> GateOver<G> {
         if kept.has_stopped() {
             return Some(Taken::Stopped);
         }
-        if kept.is_over(dest) {
-            return Some(Taken::Closed);
-        }
         if kept.has_waiting(dest) {
             kept.wake();
             self.core.notify_all();
+        } else if kept.is_over(dest) {
+            return Some(Taken::Closed);
         }
         let seen = kept.wakes();
         let _woken = self

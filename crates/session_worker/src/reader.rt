@@ -40,12 +40,16 @@ enum Heard {
     End(InEnd),
 }
 
-// Offers an item, and waits for a place where there is none. False where nothing is moved any more.
+// Offers an item, and waits for a place where there is none. False where nothing is moved any more. An end goes by
+// the gate, which says to the board that it comes: the ring may have a place for it behind items that are held.
 fn hand_over<R: Wait>(rt: &R, inlet: &mut Inlet, gate: &Gate, item: Inbound) -> bool
     ensures some { IsTrue result → inlet.new.offered ≡ inlet.old.offered ++ item ∷ [] }
     ensures none { IsFalse result → inlet.new.offered ≡ inlet.old.offered }
     ensures ring { inlet.new.ring ≡ inlet.old.ring }
 {
+    if matches!(item, Inbound::Gone) {
+        return gate.put(rt, inlet, item).is_ok();
+    }
     match inlet.offer(item) {
         Ok(()) => true,
         Err(back) => gate.put(rt, inlet, back).is_ok(),

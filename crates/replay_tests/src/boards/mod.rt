@@ -4,6 +4,7 @@
 //! over waits until the gate's turns perform it; `refused` the one of a board that is refused memory.
 
 mod core_alone;
+mod held;
 mod refused;
 mod stories;
 mod tell;

@@ -8,8 +8,15 @@
 //! - `attach s1`: it gets its rings; `retire s1`: the board's ends are taken off;
 //! - `offer s1 N`: so many ECHO messages are offered, and it is told how many found a place; `gone s1`: the
 //!   end of its stream is offered;
-//! - `pump s1`, `send s1`, `round`: items are moved; `pumps s1 N`: so many are, and it is told how many
-//!   there were;
+//! - `say s1 DIGITS`: the message that stands there as hexadecimal digits is offered, and it is told whether it
+//!   found a place; `found T1 u1`: it is handed in that a server has the name;
+//! - `flood s1 N DIGITS`: the message is offered again and again, so many times at most, with a batch wherever it
+//!   finds no place, until that moves nothing: it is told how many found a place;
+//! - `pump s1`, `send s1`, `round`, `batch`: items are moved; `pumps s1 N`: so many are, and it is told how many
+//!   there were; `settle`: batches are performed until one moves nothing, and nothing is told;
+//! - `ending s1`: it is noted that its end comes;
+//! - `take u1 N`: so many messages are taken out of its ring out, and it is told how many there were;
+//! - `queued u1`, `waiting u1`: how many messages wait for it, and how many bytes do with those on their way;
 //! - `next s1`: the command of the next message in its ring out, or `none`;
 //! - `stands s1`, `ends s1`: whether it stands, and whether it must end.
 //!
@@ -17,7 +24,7 @@
 //! one, and ways out of functions that own are dear to prove.
 use crate::boards::told::Told;
 use bytes::Bytes;
-use ca_header::{Header, Message};
+use ca_header::{Header, Intake, Message};
 use gate_board::{Board, Inbound, Inlet, Outlet};
 use gateway_core::{Config, Dest, Engine, Event, Policy};
 use pv_name::{Host, Name};
@@ -87,10 +94,57 @@ impl Table {
             "pump" => told.debug(&self.board.pump(dest)),
             "send" => told.debug(&self.board.send_out(dest)),
             "round" => told.debug(&self.board.round()),
+            _ => self.call_more(alloc, dest, line, told),
+        }
+    }
+
+    fn call_more(&mut self, alloc: Global, dest: Dest, line: &str, told: &mut Told) {
+        match word(line, 0) {
+            "say" => match said(alloc, word(line, 2)) {
+                Some(message) => say(&mut self.inlets, dest, message, told),
+                None => told.line(&"failed"),
+            },
+            "found" => match Name::read(alloc, word(line, 1).as_bytes()) {
+                Ok(name) => told.debug(
+                    &self
+                        .board
+                        .desk(Event::Found(name, number_of(word(line, 2)))),
+                ),
+                Err(_) => told.line(&"failed"),
+            },
+            "flood" => self.flood(alloc, dest, line, told),
+            "batch" => told.debug(&self.board.batch()),
+            "settle" => self.settle(),
+            "ending" => self.board.note_end(dest),
+            "take" => take(&mut self.outlets, dest, number(line, 2), told),
+            "queued" => told.debug(&self.board.queued(dest)),
+            "waiting" => told.debug(&self.board.waiting_bytes(dest)),
             "next" => next(&mut self.outlets, dest, told),
             "stands" => told.debug(&self.board.is_open(dest)),
             _ => told.debug(&self.board.must_end(dest)),
         }
+    }
+
+    // Performs batches until one moves nothing.
+    fn settle(&mut self) {
+        for _ in 0..1_000 {
+            if !matches!(self.board.batch(), Ok(1..)) {
+                return;
+            }
+        }
+    }
+
+    // Offers a message again and again, and performs a batch where it finds no place, until that moves nothing.
+    fn flood(&mut self, alloc: Global, dest: Dest, line: &str, told: &mut Told) {
+        let mut taken = 0u32;
+        for _ in 0..number(line, 2) {
+            if say_again(alloc, &mut self.inlets, dest, word(line, 3)) {
+                taken = taken.saturating_add(1);
+            } else if matches!(self.board.batch(), Ok(0)) {
+                break;
+            }
+        }
+        told.line(&taken);
     }
 
     fn open(&mut self, alloc: Global, dest: Dest, told: &mut Told) {
@@ -119,6 +173,14 @@ fn word(line: &str, place: usize) -> &str {
 
 fn number(line: &str, place: usize) -> u32 {
     word(line, place).parse().unwrap_or(0)
+}
+
+// The number of a connection.
+fn number_of(word: &str) -> u32 {
+    match dest(word) {
+        Dest::Session(number) => number,
+        Dest::Upstream(number) => number,
+    }
 }
 
 fn dest(word: &str) -> Dest {
@@ -204,4 +266,48 @@ fn next(outlets: &mut [(Dest, Outlet)], dest: Dest, told: &mut Told) {
 
 fn command_of_next(outlet: &mut Outlet) -> Option<u8> {
     outlet.next()?.head.as_slice().get(1).copied()
+}
+
+// The message that stands in a text as digits.
+fn said(alloc: Global, digits: &str) -> Option<Message> {
+    let bytes = hex::decode(alloc, digits).ok()?;
+    let mut intake = Intake::new(alloc);
+    intake.feed(bytes.as_slice()).ok()?;
+    intake.take().ok()?
+}
+
+fn say(inlets: &mut [(Dest, Inlet)], dest: Dest, message: Message, told: &mut Told) {
+    told.line(&is_said(inlets, dest, message));
+}
+
+fn say_again(alloc: Global, inlets: &mut [(Dest, Inlet)], dest: Dest, digits: &str) -> bool {
+    match said(alloc, digits) {
+        Some(message) => is_said(inlets, dest, message),
+        None => false,
+    }
+}
+
+// Whether a message found a place in the ring of a connection.
+fn is_said(inlets: &mut [(Dest, Inlet)], dest: Dest, message: Message) -> bool {
+    for (owner, inlet) in inlets.iter_mut() {
+        if *owner == dest {
+            return inlet.offer(Inbound::Message(message)).is_ok();
+        }
+    }
+    false
+}
+
+// Takes so many messages out of the ring of a connection.
+fn take(outlets: &mut [(Dest, Outlet)], dest: Dest, count: u32, told: &mut Told) {
+    let mut taken = 0u32;
+    for (owner, outlet) in outlets.iter_mut() {
+        if *owner == dest {
+            for _ in 0..count {
+                if outlet.next().is_some() {
+                    taken = taken.saturating_add(1);
+                }
+            }
+        }
+    }
+    told.line(&taken);
 }

@@ -5,18 +5,30 @@ use Rattle.board_moves.specs.Answers.{board_of}
 use Rattle.board_moves.proofs.batches.batch.Goals as goal
 
 -- the first round met a fault
-pub returns-in-Err-clause-batch : goal.returns-in-Err-clause-batch
-returns-in-Err-clause-batch g c = (0, c.in-Err.ensures.round)
+pub returns-in-Err : goal.returns-in-Err
+returns-in-Err g c = record {
+  batch = (board_of (g.G.GatewayCalls.state c.weigh_all.new.gate) c.weigh_all.new.attachments, (c.weigh_all.ensures.calls, (0, c.in-Err.ensures.round)));
+  rings = rings_stay c.args.attachments.now c.weigh_all.new.attachments c.free_round.new.attachments c.weigh_all.ensures.rings c.free_round.ensures.rings;
+}
 
--- a later one did
-pub returns-in-Err-round-clause-batch : goal.returns-in-Err-round-clause-batch
-returns-in-Err-round-clause-batch g c =
-    (suc c.loop.invariant.0.0, (c.loop.moved, (Err c.in-Err-round.fault, (board_of (g.G.GatewayCalls.state c.loop.gate) c.loop.attachments, (c.loop.invariant.0.1, (c.in-Err-round.ensures.round, refl))))))
+-- the first round was performed
+pub loop-init : goal.loop-init
+loop-init g c = (
+  (board_of (g.G.GatewayCalls.state c.weigh_all.new.gate) c.weigh_all.new.attachments, (c.weigh_all.ensures.calls, (0, c.in-Ok.ensures.round))),
+  rings_stay c.args.attachments.now c.weigh_all.new.attachments c.free_round.new.attachments c.weigh_all.ensures.rings c.free_round.ensures.rings,
+)
+
+-- a later one met a fault
+pub returns-in-Err-free_round-clause-batch : goal.returns-in-Err-free_round-clause-batch
+returns-in-Err-free_round-clause-batch g c =
+    let so_far = c.loop.invariant.0 in
+    (so_far.0, (so_far.1.0, (suc so_far.1.1.0, (c.loop.moved, (Err c.in-Err-free_round.fault, (board_of (g.G.GatewayCalls.state c.loop.gate) c.loop.attachments, (so_far.1.1.1, (c.in-Err-free_round.ensures.round, refl))))))))
 
 -- one round more was performed
 pub loop-preserved : goal.loop-preserved
 loop-preserved g c =
-    let told : c.saturating_add-moved.result ≡ min (c.loop.moved + c.in-Ok-round.count) (2 ^ 64 - 1) = omega (arith, c.saturating_add-moved.ensures) in (
-      (suc c.loop.invariant.0.0, (c.loop.moved, (Ok c.in-Ok-round.count, (board_of (g.G.GatewayCalls.state c.loop.gate) c.loop.attachments, (c.loop.invariant.0.1, (c.in-Ok-round.ensures.round, ap Ok told)))))),
-      rings_stay c.args.attachments.now c.loop.attachments c.round-in-loop.new.attachments c.loop.invariant.1 c.round-in-loop.ensures.rings,
+    let so_far = c.loop.invariant.0 in
+    let told : c.saturating_add-moved.result ≡ min (c.loop.moved + c.in-Ok-free_round.count) (2 ^ 64 - 1) = omega (arith, c.saturating_add-moved.ensures) in (
+      (so_far.0, (so_far.1.0, (suc so_far.1.1.0, (c.loop.moved, (Ok c.in-Ok-free_round.count, (board_of (g.G.GatewayCalls.state c.loop.gate) c.loop.attachments, (so_far.1.1.1, (c.in-Ok-free_round.ensures.round, ap Ok told)))))))),
+      rings_stay c.args.attachments.now c.loop.attachments c.free_round-in-loop.new.attachments c.loop.invariant.1 c.free_round-in-loop.ensures.rings,
     )

@@ -1,0 +1,35 @@
+-- Connections that are held, and those that aren't.
+use Rattle.std.proofs.Common.{◌≡◌, ℕ, List, [], ◌∷◌, Bool, true, false, cond, Option, Some, None, Result, Ok, refl, sym, subst}
+use Rattle.std.proofs.lemmas.Bool.{or_parts}
+use Rattle.gateway_state.specs.Gateway.{Gateway}
+use Rattle.gateway_state.specs.declared.event.Dest.{Dest}
+use Rattle.gateway_state.specs.declared.event.Dest.TheVariants.{Session, Upstream}
+use Rattle.board_rings.specs.Attachments.{attachment_of, full_or_not, have_full, is_attachment_of, is_full, last_sid_of}
+use Rattle.board_rings.specs.Rings.{AttachmentState}
+use Rattle.board_history.specs.Board.{BoardState}
+use Rattle.board_moves.specs.Answers.{board_of, IsPump}
+use Rattle.board_moves.specs.Held.{is_full_server, is_held, server_for}
+use Rattle.board_moves.specs.Rounds.{pumped_count, PumpsFree}
+use Rattle.board_moves.specs.declared.fault.BoardFault.{BoardFault}
+
+-- where too much waits for nobody, it does for no connection
+none_full : (dest : Dest) (attachments : List AttachmentState) → have_full attachments ≡ false → is_full dest attachments ≡ false
+none_full dest [] none = refl
+none_full dest (attachment ∷ attachments) none =
+    let parts = or_parts attachment.full (have_full attachments) none in
+    elim (is_attachment_of dest attachment) as (λ b. full_or_not (cond b (Some attachment) (attachment_of dest attachments)) ≡ false)
+    [ true ↦ parts.0 | false ↦ none_full dest attachments parts.1 ]
+
+pub none_held : (dest : Dest) (rows : Option Gateway) (attachments : List AttachmentState) → have_full attachments ≡ false → is_held dest (board_of rows attachments) ≡ false
+none_held (Upstream number) rows attachments none = refl
+none_held (Session number) rows attachments none = by (server_for rows number (last_sid_of (Session number) attachments))
+  where
+    by : (server : Option ℕ) → is_full_server server attachments ≡ false
+    by None = refl
+    by (Some server) = none_full (Upstream server) attachments none
+
+pub held_stays : (dest : Dest) (old new : BoardState) → is_held dest old ≡ true → new ≡ old → PumpsFree (is_held dest old) dest old (Ok 0) new
+held_stays dest old new is same = subst (λ (b : Bool). PumpsFree b dest old (Ok 0) new) (sym is) (refl, same)
+
+pub free_pumped : (dest : Dest) (old new : BoardState) (answer : Result ℕ BoardFault) → is_held dest old ≡ false → (pumped : Result Bool BoardFault) × (IsPump dest old pumped new × (answer ≡ pumped_count pumped)) → PumpsFree (is_held dest old) dest old answer new
+free_pumped dest old new answer is pump = subst (λ (b : Bool). PumpsFree b dest old answer new) (sym is) pump

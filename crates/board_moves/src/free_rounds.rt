@@ -1,0 +1,114 @@
+//! Rounds in which those that are held aren't pumped.
+ghost use Rattle.std.specs.Prelude.{◌≡◌, map, IsSome, Ok, OnOk};
+ghost use Rattle.board_rings.specs.Attachments.{have_full};
+ghost use Rattle.board_moves.specs.Answers.{board_of, KeepsRings};
+ghost use Rattle.board_moves.specs.Rounds.{dests_of, IsFreeRound, Performs, PerformsUpTo, Weighs};
+
+use crate::fault::BoardFault;
+use crate::held::{is_held, is_over_half};
+use crate::moves::has_failed;
+use crate::news::News;
+use crate::rounds::{Call, pump_one, send_all};
+use board_rings::Attachments;
+use gateway_calls::{GatewayCalls, StepFault};
+use gateway_state::Dest;
+
+/// Weighs a server, whose attachment may stand at the guess. Of clients it isn't asked.
+fn weigh<G: GatewayCalls>(gate: &mut G, attachments: &mut Attachments, dest: Dest, guess: usize)
+    ensures weighed { Weighs dest (board_of (G.state gate.old) attachments.old) (board_of (G.state gate.new) attachments.new) }
+    ensures dests { dests_of attachments.new ≡ dests_of attachments.old }
+    ensures rings { KeepsRings attachments.old attachments.new }
+{
+    if let Dest::Upstream(_) = dest {
+        let full = is_over_half(gate, dest);
+        attachments.note_full(dest, guess, full);
+    }
+}
+
+/// Weighs each attached connection, in order.
+pub(crate) fn weigh_all<G: GatewayCalls>(gate: &mut G, attachments: &mut Attachments)
+    ensures calls { PerformsUpTo (map Call.Weigh (dests_of attachments.old)) (board_of (G.state gate.old) attachments.old) (Ok 0) (board_of (G.state gate.new) attachments.new) }
+    ensures rings { KeepsRings attachments.old attachments.new }
+{
+    for n in 0..attachments.len() {
+        let Some(dest) = attachments.dest(n) else {
+            break;
+        };
+        weigh(gate, attachments, dest, n);
+    }
+}
+
+/// Pumps a connection unless it is held.
+#[tactic(auto, using(crate::proofs::WhoIsHeld::free_pumped, crate::proofs::WhoIsHeld::held_stays))]
+fn pump_unless_held<G: GatewayCalls>(
+    gate: &mut G,
+    attachments: &mut Attachments,
+    news: &mut News,
+    dest: Dest,
+    guess: usize,
+    some_full: bool,
+) -> Result<usize, BoardFault>
+    requires stands { IsSome (G.state gate.old) }
+    requires full { some_full ≡ have_full attachments.old }
+    ensures performed { Performs (Call.PumpFree dest) (board_of (G.state gate.old) attachments.old) result (board_of (G.state gate.new) attachments.new) }
+    ensures stands { OnOk result (IsSome (G.state gate.new)) }
+    ensures dests { dests_of attachments.new ≡ dests_of attachments.old }
+    ensures full { have_full attachments.new ≡ have_full attachments.old }
+    ensures rings { KeepsRings attachments.old attachments.new }
+{
+    if is_held(gate, attachments, dest, guess, some_full) {
+        return Ok(0);
+    }
+    pump_one(gate, attachments, news, dest, guess)
+}
+
+/// Pumps each attached connection that isn't held, in order, on a gateway that hasn't failed.
+#[tactic(auto, using(crate::proofs::RoundCalls::next_performed))]
+fn pump_free<G: GatewayCalls>(
+    gate: &mut G,
+    attachments: &mut Attachments,
+    news: &mut News,
+) -> Result<usize, BoardFault>
+    requires stands { IsSome (G.state gate.old) }
+    ensures calls { PerformsUpTo (map Call.PumpFree (dests_of attachments.old)) (board_of (G.state gate.old) attachments.old) result (board_of (G.state gate.new) attachments.new) }
+    ensures stands { OnOk result (IsSome (G.state gate.new)) }
+    ensures dests { dests_of attachments.new ≡ dests_of attachments.old }
+    ensures rings { KeepsRings attachments.old attachments.new }
+{
+    news.begin_round();
+    let some_full = attachments.have_full();
+    let mut moved = 0usize;
+    for n in 0..attachments.len() {
+        let Some(dest) = attachments.dest(n) else {
+            break;
+        };
+        match pump_unless_held(gate, attachments, news, dest, n, some_full) {
+            Ok(count) => moved = moved.saturating_add(count),
+            Err(fault) => return Err(fault),
+        }
+    }
+    Ok(moved)
+}
+
+/// Pumps each attached connection that isn't held, then sends out to each, up to the first fault. It answers how many
+/// items were moved.
+pub(crate) fn free_round<G: GatewayCalls>(
+    gate: &mut G,
+    attachments: &mut Attachments,
+    news: &mut News,
+) -> Result<usize, BoardFault>
+    ensures round { IsFreeRound (board_of (G.state gate.old) attachments.old) result (board_of (G.state gate.new) attachments.new) }
+    ensures rings { KeepsRings attachments.old attachments.new }
+{
+    if has_failed(gate) {
+        return Err(BoardFault::Step(StepFault::Failed));
+    }
+    let pumped = match pump_free(gate, attachments, news) {
+        Ok(pumped) => pumped,
+        Err(fault) => return Err(fault),
+    };
+    match send_all(gate, attachments, news) {
+        Ok(sent) => Ok(pumped.saturating_add(sent)),
+        Err(fault) => Err(fault),
+    }
+}
