@@ -35,6 +35,8 @@ FILES = {
     "longest": b"A" * 199 + b"\xc3\xa9 B\n",
     "shorter": b"A" * 198 + b" B\n",
     "unended": b"ops READ\n\nops WRITE\r",
+    "dear": b".* ALLOW\n# x\n" + b"(" * 120 + b"a*" + b")*" * 120 + b" DENY\nB DENY\n",
+    "slow": b".* ALLOW\n" + b".*" * 500 + b" DENY\n",
 }
 
 OK = b"ok 3 rows ALLOW, DENY\n"
@@ -100,6 +102,10 @@ SERVE_REFUSALS = [
       for value in ("", " 0", " 86401", " 4294967297", " 1.5", " +1", " ten", " 10s", f" 10 {option} 10")),
     *((f"127.0.0.1:0 127.0.0.1:1 --log{value}", b"", 2) for value in ("", " trace", " INFO", " off", " 3", " info,debug", " info --log info")),
     *((f"127.0.0.1:0 127.0.0.1:1 --status{value}", b"", 2) for value in ("", " 127.0.0.1", " localhost:0", " 127.0.0.1:0 --status 127.0.0.1:0")),
+    *((f"127.0.0.1:0 127.0.0.1:1 --clients-of-host{value}", b"", 2)
+      for value in ("", " 0", " 1025", " 4294967297", " 1.5", " +1", " ten", " 10 --clients-of-host 10")),
+    ("127.0.0.1:0 127.0.0.1:1 --rules .", b"", 3),
+    ("127.0.0.1:0 127.0.0.1:1 --rules /dev/zero", b"", 3),
     ("127.0.0.1:0 127.0.0.1:1 --status 192.0.2.1:0", b"", 3),
     ("127.0.0.1:0 127.0.0.1:1 --status 192.0.2.1:0 --rules no-verb", b"line 3: NoVerb\n", 1),
     ("127.0.0.1 127.0.0.1:1 --rules missing", b"", 2),
@@ -137,7 +143,7 @@ NOTES = [
 SERVE_OPTIONS = [
     "--most-waiting 1", "--reconnect 1", "--reconnect 86400", "--sweep 1", "--sweep 86400", "--sweep 007 --reconnect 10",
     "--log error", "--log warn", "--log info", "--log debug", "--log debug --reconnect 1 --sweep 1 --rules rules",
-    "--status 127.0.0.1:0", "--status [::1]:0 --log error",
+    "--status 127.0.0.1:0", "--status [::1]:0 --log error", "--clients-of-host 1", "--clients-of-host 1024",
 ]
 
 # Arguments of `check-rules`, and all that it writes to standard error.
@@ -154,6 +160,8 @@ SAID = [
     ("longest", ["line 1: says: " + "A" * 199 + "\\"]),
     ("shorter", ["line 1: says: " + "A" * 198 + " B"]),
     ("rules --groups unended", ["groups line 3: says: ops WRITE\\x0d"]),
+    ("dear --plain-groups", ["note: line 3: its pattern takes more than 1 MiB or 5 ms to make ready"]),
+    ("slow", ["note: line 2: its pattern takes more than 1 MiB or 5 ms to make ready"]),
 ]
 
 # Names and hosts that the two rule files of the examples, one in each syntax, answer alike.

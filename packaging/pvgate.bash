@@ -13,12 +13,13 @@ _pvgate() {
     serve:--sweep) : ;;
     serve:--log) : ;;
     serve:--status) : ;;
+    serve:--clients-of-host) : ;;
     *)
         case "$((COMP_CWORD > 1)):${COMP_WORDS[1]}" in
         0:*) words="replay check-rules serve help -h --help -V --version" ;;
         1:replay) words="--plain -h --help" ;;
         1:check-rules) words="--groups --name --host --plain-groups -h --help" files=yes ;;
-        1:serve) words="--rules --groups --plain-groups --most-waiting --reconnect --sweep --log --status -h --help" ;;
+        1:serve) words="--rules --groups --plain-groups --most-waiting --reconnect --sweep --log --status --clients-of-host -h --help" ;;
         1:help) words="replay check-rules serve" ;;
         esac
         ;;

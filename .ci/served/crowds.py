@@ -95,14 +95,15 @@ def thousand(room):
 
 
 def descriptors(room):
-    """With no descriptor left clients wait, nothing spins, and what is closed makes room."""
+    """Clients that come when only those kept for servers are left are refused, nothing spins, and what is closed makes room."""
     up = room.upstream(variable("V", values=[1]))
     server = room.server(up, most_files=40)
     first = room.client(server)
     channel = first.open("V")
     links = [socket.create_connection(server.address, timeout=PATIENCE) for _ in range(80)]
     room.started.append(lambda: [it.close() for it in links])
-    room.eventually("the descriptors are used up", lambda: server.files() >= 38)
+    room.eventually("the descriptors of clients are used up", lambda: server.has_logged("refused: no descriptors are free"))
+    room.check("and no others", server.files() <= 34, server.files())
     began, busy = time.monotonic(), server.processor()
     time.sleep(2)
     spent, share = server.processor() - busy, time.monotonic() - began
@@ -110,6 +111,7 @@ def descriptors(room):
     room.check("who is there is served", first.echo() and first.values(channel) == [1])
     for link in links:
         link.close()
+    room.eventually("then there is room", lambda: room.admitted(server) is not None)
     after = room.client(server)
     again = after.open("V")
     room.equal("who comes then is served", again and after.values(again), [1])

@@ -36,14 +36,14 @@ def text_of(address):
 class Server:
     """The gateway, running."""
 
-    def __init__(self, words, most_files=None, stdin=subprocess.PIPE):
+    def __init__(self, words, most_files=None, stdin=subprocess.PIPE, stderr=subprocess.PIPE):
         def limited():
             if most_files is not None:
                 resource.setrlimit(resource.RLIMIT_NOFILE, (most_files, most_files))
-        self.process = subprocess.Popen(words, stdin=stdin, stdout=subprocess.PIPE, stderr=subprocess.PIPE, preexec_fn=limited)
+        self.process = subprocess.Popen(words, stdin=stdin, stdout=subprocess.PIPE, stderr=stderr, preexec_fn=limited)
         self.printed, self.logged = [], []
         self.readers = [threading.Thread(target=self.collect, args=it, daemon=True)
-                        for it in ((self.process.stdout, self.printed), (self.process.stderr, self.logged))]
+                        for it in ((self.process.stdout, self.printed), (self.process.stderr, self.logged)) if it[0] is not None]
         for reader in self.readers:
             reader.start()
 
@@ -150,12 +150,12 @@ class Room:
                 words += [option, self.file(name, text)]
         return words
 
-    def server(self, *upstreams, rules=None, groups=None, most_files=None, options=()):
+    def server(self, *upstreams, rules=None, groups=None, most_files=None, options=(), stderr=subprocess.PIPE):
         """A gateway before these upstreams, listening."""
         for _ in range(5):
             address = ("127.0.0.1", free_port())
             words = self.words(text_of(address), [text_of(up.address) for up in upstreams], rules, groups, options)
-            it = Server(words, most_files)
+            it = Server(words, most_files, stderr=stderr)
             it.address = address
             self.started.append(it.kill)
             if self.wait(lambda: it.printed or it.process.poll() is not None):
@@ -167,6 +167,14 @@ class Room:
         it = Client(server.address, host, source)
         self.started.append(it.close)
         return it
+
+    def admitted(self, server):
+        """A client that is served; None where it is refused."""
+        try:
+            it = self.client(server)
+            return it if it.echo() else None
+        except OSError:
+            return None
 
     def end(self):
         for stop in reversed(self.started):

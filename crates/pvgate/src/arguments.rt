@@ -93,6 +93,8 @@ In a pattern \\( and \\) enclose a part of the name, and \\| stands between two 
 themselves. With --plain-groups it is the other way round. The first rule that seems to be meant so is
 noted on standard error:
   note: line N: ( ) | stand for themselves here; --plain-groups reads them as groups
+and so is the first rule whose pattern is dear, of which thousands would fill the memory:
+  note: line N: its pattern takes more than 1 MiB or 5 ms to make ready
 A group file has lines GROUP NONE, GROUP READ and GROUP WRITE.
 
 Causes, of which the first that applies is printed:
@@ -143,6 +145,9 @@ whole number from 1 to 86400; neither is done without its option, and no time is
 With --status each who connects to ADDRESS is told of the gateway in one line of JSON, and is hung up on:
 clients, upstreams, rows of each kind, edits of the rules, messages in and out, and the largest outbox.
 
+With --clients-of-host one more client of a host that has N is refused at once: it is told on standard
+error, and its connection is closed.
+
 Exit status: 0 where it was told to end, 1 for a faulty line of the rule files, 2 for bad arguments, 3
 where a file, LISTEN or a standard stream can't be opened, read or written, 4 where memory runs out.
 
@@ -177,7 +182,7 @@ pub struct CheckRules<'a> {
 
 /// What `serve` is to serve: the texts of its addresses, the paths of the rule files, the syntax of patterns,
 /// and the texts of how many MiB may wait for a client, after how many seconds lost servers are connected to
-/// again and names are forgotten, and what is logged.
+/// again and names are forgotten, what is logged, who is told of it, and how many clients a host may have.
 #[derive(Drop)]
 pub struct Serve<'a> {
     pub listen: &'a str,
@@ -190,6 +195,7 @@ pub struct Serve<'a> {
     pub sweep: Option<&'a str>,
     pub log: &'a str,
     pub status: Option<&'a str>,
+    pub clients_of_host: Option<&'a str>,
 }
 
 /// Reads a command line, the program's own name first.
@@ -281,13 +287,15 @@ fn operating_options<'a>(alloc: Global, command: Command<'a>) -> Result<Command<
     let sweep = "So often it is forgotten which names clients looked for; 1 to 86400";
     let log = "What is told on standard error: error, warn, info or debug";
     let status = "It tells each who connects to this address of itself, in one line of JSON";
+    let clients_of_host = "So many clients of one host may be connected at once; 1 to 1024";
     Ok(
         command
             .arg(option(alloc, "most-waiting", "MIB", most_waiting).default_value(MOST_WAITING))?
             .arg(option(alloc, "reconnect", "SECONDS", reconnect))?
             .arg(option(alloc, "sweep", "SECONDS", sweep))?
             .arg(option(alloc, "log", "LEVEL", log).default_value(LOG))?
-            .arg(option(alloc, "status", "ADDRESS", status))?,
+            .arg(option(alloc, "status", "ADDRESS", status))?
+            .arg(option(alloc, "clients-of-host", "N", clients_of_host))?,
     )
 }
 
@@ -340,5 +348,6 @@ fn serve_arguments<'a>(alloc: Global, found: &ArgMatches<'a>) -> Result<Serve<'a
         sweep: found.get_str("sweep"),
         log: found.get_str("log").unwrap_or(LOG),
         status: found.get_str("status"),
+        clients_of_host: found.get_str("clients-of-host"),
     })
 }

@@ -2,6 +2,7 @@
 
 use crate::arguments::CheckRules;
 use crate::fault::Fault;
+use crate::heavy::first_heavy;
 use pv_name::{Host, Name};
 use rule_check::{Asked, Note, Said, check, status};
 use std::alloc::Global;
@@ -21,6 +22,11 @@ pub fn check_rules(rt: &HostRuntime, arguments: &CheckRules<'_>) -> Result<u8, F
     let syntax = arguments.syntax;
     if let Some(note) = Note::of(rules.as_str(), syntax) {
         let _ = eprintln!(rt; "{note}");
+    }
+    if let Some(line) = first_heavy(rt, rules.as_str(), syntax) {
+        let _ = eprintln!(rt;
+            "note: line {line}: its pattern takes more than 1 MiB or 5 ms to make ready"
+        );
     }
     let mut out = BufWriter::new(alloc, io::writer(rt))?;
     let groups = groups.as_ref().map(|text| text.as_str());

@@ -25,6 +25,9 @@ pub enum Fault {
     /// A number of seconds that is none.
     #[error("the number of seconds is bad, as 10 is good: {0}")]
     BadSeconds(String),
+    /// A number of clients that is none.
+    #[error("the number of clients is bad, as 64 is good: {0}")]
+    BadSeats(String),
     /// A level that is none.
     #[error("the level is bad, as info is good: {0}")]
     BadLevel(String),
@@ -52,6 +55,7 @@ impl Fault {
             | Fault::BadMost(_)
             | Fault::BadSeconds(_)
             | Fault::BadLevel(_)
+            | Fault::BadSeats(_)
             | Fault::TooManyUpstreams => status::BAD_INPUT,
             Fault::File(_, _) | Fault::Listen(_) | Fault::Reports(_) | Fault::Output =>
                 status::STREAM_FAILED,

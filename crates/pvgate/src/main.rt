@@ -4,6 +4,7 @@
 mod arguments;
 mod check_rules;
 mod fault;
+mod heavy;
 mod site;
 
 use arguments::{Body, Program};

@@ -1,7 +1,9 @@
 //! The program `serve`: what its command line says.
 use crate::arguments::Serve;
 use crate::fault::Fault;
-use serve::{Files, Level, MostWaiting, Options, SERVER_LIMIT, Seconds, ServeFault, read_level};
+use serve::{
+    Files, HostSeats, Level, MostWaiting, Options, SERVER_LIMIT, Seconds, ServeFault, read_level,
+};
 use std::alloc::{AllocError, Global};
 use std::net::SocketAddr;
 
@@ -31,6 +33,8 @@ pub fn read_site(alloc: Global, arguments: &Serve<'_>) -> Result<Site, Fault> {
         sweep: read_seconds(alloc, arguments.sweep)?,
         status: read_status(alloc, arguments.status)?,
         log: read_log(alloc, arguments.log)?,
+        clients_of_host: read_seats(alloc, arguments.clients_of_host)?,
+        refuse_empty: false,
     };
     let files = Files {
         rules: copy(alloc, arguments.rules)?,
@@ -73,6 +77,16 @@ fn read_seconds(alloc: Global, text: Option<&str>) -> Result<Option<Seconds>, Fa
     match Seconds::read(text.as_bytes()) {
         Some(seconds) => Ok(Some(seconds)),
         None => Err(Fault::BadSeconds(String::from_str(alloc, text)?)),
+    }
+}
+
+fn read_seats(alloc: Global, text: Option<&str>) -> Result<Option<HostSeats>, Fault> {
+    let Some(text) = text else {
+        return Ok(None);
+    };
+    match HostSeats::read(text.as_bytes()) {
+        Some(seats) => Ok(Some(seats)),
+        None => Err(Fault::BadSeats(String::from_str(alloc, text)?)),
     }
 }
 

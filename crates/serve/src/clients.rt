@@ -1,12 +1,14 @@
 //! Clients that connect.
-use crate::hub::{Arrival, AsHub, Hub};
+use crate::hub::{Arrival, AsHub, Hub, Stream};
 use crate::machine::System;
+use crate::opening::SERVER_LIMIT;
 use crate::workers::start_workers;
 use gateway_core::{Dest, Event};
 use pv_name::Host;
-use serve_state::{Notice, Refusal};
+use serve_state::{Notice, Refusal, is_kept_back};
 use std::fmt::Write;
-use std::net::{Shutdown, SocketAddr, TcpStream};
+use std::net::{IpAddr, Shutdown, SocketAddr, TcpStream};
+use std::os::fd::AsRawFd;
 use std::sync::Arc;
 use std::thread;
 use std::thread::Scope;
@@ -24,9 +26,30 @@ pub fn accept_clients<R: System, H: AsHub>(rt: R, hub: &H) {
             return;
         }
         match accepted {
-            Ok((stream, peer)) => hand_on(rt, hub.hub(), Arrival { stream, peer }),
+            Ok((stream, peer)) => arrive(rt, hub.hub(), stream, peer),
             Err(_) => thread::sleep(&rt, Duration::from_millis(PAUSE)),
         }
+    }
+}
+
+fn arrive<R: System>(rt: R, hub: &Hub, stream: TcpStream, peer: SocketAddr) {
+    if is_spare(hub, &stream) {
+        let _ = stream.shutdown(Shutdown::Both);
+        hub.tell(
+            &rt,
+            Notice::ClientRefused(peer, "no descriptors are free but those kept for upstreams"),
+        );
+        return;
+    }
+    hand_on(rt, hub, Arrival { stream, peer });
+}
+
+// Whether its descriptor is one of those that are kept for servers.
+fn is_spare(hub: &Hub, stream: &TcpStream) -> bool {
+    let servers = u32::try_from(hub.servers.len()).unwrap_or(SERVER_LIMIT);
+    match u64::try_from(stream.as_raw_fd()) {
+        Ok(descriptor) => is_kept_back(descriptor, hub.most_files, servers),
+        Err(_) => false,
     }
 }
 
@@ -81,12 +104,12 @@ fn greet<'x, 's: 'x, E: 's, R: System + 's, H: AsHub + Sync + 's>(
         hub.hub().tell(&rt, Notice::OutOfMemory);
         return;
     };
-    let admitted = hub.hub().roster.lock(&rt).admit_client(link, peer);
+    let admitted = admit(rt, hub.hub(), link, peer);
     let number = match admitted {
         Ok(number) => number,
         Err(refusal) => {
             let _ = stream.shutdown(Shutdown::Both);
-            refuse(rt, hub.hub(), peer, refusal);
+            tell_of(rt, hub.hub(), peer, refusal);
             return;
         }
     };
@@ -95,11 +118,33 @@ fn greet<'x, 's: 'x, E: 's, R: System + 's, H: AsHub + Sync + 's>(
     start_workers(rt, &*scope, &*hub, Dest::Session(number), stream);
 }
 
-fn refuse<R: System>(rt: R, hub: &Hub, peer: SocketAddr, refusal: Refusal) {
+fn admit<R: System>(rt: R, hub: &Hub, link: Stream, peer: SocketAddr) -> Result<u32, Refusal> {
+    let mut roster = hub.roster.lock(&rt);
+    match hub.options.clients_of_host {
+        Some(seats) => {
+            roster.admit_client_of_host(link, peer, host_number(&peer), seats.number as usize)
+        }
+        None => roster.admit_client(link, peer),
+    }
+}
+
+// An IPv4 address is that of IPv6 that stands for it.
+fn host_number(peer: &SocketAddr) -> u128 {
+    match peer.ip() {
+        IpAddr::V4(ip) => ip.to_ipv6_mapped().to_bits(),
+        IpAddr::V6(ip) => ip.to_bits(),
+    }
+}
+
+fn tell_of<R: System>(rt: R, hub: &Hub, peer: SocketAddr, refusal: Refusal) {
     match refusal {
         Refusal::Full => hub.tell(
             &rt,
             Notice::ClientRefused(peer, "1024 clients are connected"),
+        ),
+        Refusal::HostFull => hub.tell(
+            &rt,
+            Notice::ClientRefused(peer, "as many clients of its host are connected as may be"),
         ),
         Refusal::OutOfMemory => hub.tell(&rt, Notice::ClientRefused(peer, "out of memory")),
         Refusal::Closing | Refusal::Held => (),

@@ -1,10 +1,10 @@
 //! What all threads share.
+use crate::logging::LogBook;
 use crate::machine::System;
 use gate_board::Gate;
 use gateway_core::Dest;
-use log::sink::Console;
-use log::{Level, Logged, log};
-use serve_state::{Asked, Cut, MostWaiting, Notice, Outages, Roster, Seconds};
+use log::Level;
+use serve_state::{Asked, Cut, HostSeats, MostWaiting, Notice, Outages, Roster, Seconds};
 use std::alloc::Global;
 use std::collections::VecDeque;
 use std::net::{Shutdown, SocketAddr, TcpListener, TcpStream, UdpSocket};
@@ -38,6 +38,10 @@ pub struct Options {
     pub status: Option<SocketAddr>,
     /// What has this level or a graver one is logged.
     pub log: Level,
+    /// So many clients of one host may be connected at once.
+    pub clients_of_host: Option<HostSeats>,
+    /// A rule file without a byte is refused when it is read again.
+    pub refuse_empty: bool,
 }
 
 /// What is wanted of the asker.
@@ -68,6 +72,9 @@ pub struct Hub {
     pub sockets: Sockets,
     pub servers: Vec<SocketAddr>,
     pub options: Options,
+    /// How many descriptors the process may have.
+    pub most_files: u64,
+    pub book: Arc<LogBook, Global>,
     pub roster: Mutex<Rows>,
     /// A row has to be looked at.
     pub changed: Condvar,
@@ -82,12 +89,21 @@ pub struct Hub {
 }
 
 impl Hub {
-    pub fn new(alloc: Global, sockets: Sockets, servers: Vec<SocketAddr>, options: Options) -> Hub {
+    pub fn new(
+        alloc: Global,
+        sockets: Sockets,
+        servers: Vec<SocketAddr>,
+        options: Options,
+        most_files: u64,
+        book: Arc<LogBook, Global>,
+    ) -> Hub {
         Hub {
             alloc,
             sockets,
             servers,
             options,
+            most_files,
+            book,
             roster: Mutex::new(Roster::new(alloc)),
             changed: Condvar::new(),
             arrivals: Mutex::new(Arrivals {
@@ -114,7 +130,7 @@ impl Hub {
 
     /// Logs it. Nobody who calls this holds a lock.
     pub fn tell<R: System>(&self, rt: &R, notice: Notice<'_>) {
-        tell(rt, self.options.log, notice);
+        self.book.tell(rt, notice);
     }
 
     pub fn is_closing<R: Wait>(&self, rt: &R) -> bool {
@@ -207,10 +223,4 @@ impl<G: AsGate, P: AsRest> AsHub for Served<G, P> {
     fn hub(&self) -> &Hub {
         self.rest.lent()
     }
-}
-
-/// Logs it on standard error, where what has its level is logged.
-pub fn tell<R: System>(rt: &R, log: Level, notice: Notice<'_>) {
-    let logger = Logged::new(*rt, log, Console(*rt));
-    log!(logger; target: "pvgate", notice.level(), "{notice}");
 }

@@ -12,8 +12,8 @@
 //!   for a client;
 //! - two for each connection, which read and write;
 //! - one reads the orders of standard input, one performs those that are to be repeated, where any is, one tells of
-//!   the gateway, where it is to, and one for each connection to a server that is being made: these stand outside,
-//!   and nobody waits for them.
+//!   the gateway, where it is to, one writes the log, and one for each connection to a server that is being made: these
+//!   stand outside, and nobody waits for them, but for some moments at the end for the log's last lines.
 #![tactic(auto)]
 
 mod asker;
@@ -23,6 +23,7 @@ mod fault;
 mod hub;
 mod keeper;
 mod link;
+mod logging;
 mod machine;
 mod opening;
 mod orders;
@@ -39,7 +40,7 @@ pub use log::Level;
 pub use machine::{Machine, System};
 pub use opening::{SERVER_LIMIT, open};
 pub use rules::Files;
-pub use serve_state::{MostWaiting, Seconds, read_level};
+pub use serve_state::{HostSeats, MostWaiting, Seconds, read_level};
 
 /// What the exit statuses of the program mean.
 pub mod status {

@@ -1,46 +1,102 @@
 //! What the machine does for the gateway, besides threads and sockets.
-use rule_check::Note;
+use libc::types::rlimit;
+use libc::{RLIMIT_NOFILE, getrlimit};
+use serve_state::FileText;
 use std::alloc::Global;
-use std::fs::Files;
+use std::fs::{File, Metadata, metadata};
 use std::io;
+use std::io::Read;
 use std::rt::Clock;
 use std::sync::Wait;
+use std::time::UNIX_EPOCH;
 
 /// What each thread may do: wait, sleep and log.
 pub trait System: Wait + Clock + Eprint + Copy + Send + Sync + Drop {}
 
 impl<R: Wait + Clock + Eprint + Copy + Send + Sync + Drop> System for R {}
 
-/// Files and standard streams.
-pub trait Machine {
-    /// The text of a file.
-    fn read_text(&self, alloc: Global, path: &str) -> io::Result<String>;
+/// The most bytes that a rule file has.
+const MOST_BYTES: u64 = 16 * 1_024 * 1_024;
 
-    /// Adds the next line of standard input, with its line feed, to a text, and answers how many bytes it
-    /// has: 0 at the end of input.
-    fn read_order_line(&self, line: &mut String) -> io::Result<usize>;
+/// Why a file isn't read.
+#[derive(Drop)]
+pub enum TextFault {
+    /// It is a folder, a FIFO or a device.
+    NoFile,
+    /// It has more than 16 MiB.
+    TooLarge,
+    Stream(io::Error),
+}
+
+impl From<io::Error> for TextFault {
+    fn from(fault: io::Error) -> TextFault {
+        TextFault::Stream(fault)
+    }
+}
+
+/// Files, standard streams and limits.
+pub trait Machine {
+    /// What a regular file of at most 16 MiB has. No other is opened.
+    fn read_text(&self, alloc: Global, path: &str) -> Result<FileText, TextFault>;
+
+    /// Reads what has come on standard input, and answers how many bytes: 0 at its end.
+    fn read_input(&self, piece: &mut [u8]) -> io::Result<usize>;
 
     /// Writes a line to standard output.
     fn print_line(&self, line: &str) -> io::Result<()>;
 
-    /// Writes a note to standard error, where that can be written.
-    fn print_note(&self, note: Note);
+    /// How many descriptors the process may have.
+    fn most_files(&self) -> u64;
+}
+
+// When it was last written, 0 where that isn't known.
+fn stamp(about: &Metadata) -> u128 {
+    let Ok(moment) = about.modified() else {
+        return 0;
+    };
+    match moment.duration_since(UNIX_EPOCH) {
+        Ok(since) => since.as_nanos(),
+        Err(_) => 0,
+    }
 }
 
 impl Machine for HostRuntime {
-    fn read_text(&self, _alloc: Global, path: &str) -> io::Result<String> {
-        std::fs::read_to_string(self, path)
+    fn read_text(&self, alloc: Global, path: &str) -> Result<FileText, TextFault> {
+        let about = metadata(self, path)?;
+        if !about.is_file() {
+            return Err(TextFault::NoFile);
+        }
+        if about.len() > MOST_BYTES {
+            return Err(TextFault::TooLarge);
+        }
+        let mut text = String::new(alloc);
+        let mut file = File::open(self, path)?.take(MOST_BYTES + 1);
+        let count = file.read_to_string(&mut text)?;
+        // It may have grown.
+        if count as u64 > MOST_BYTES {
+            return Err(TextFault::TooLarge);
+        }
+        Ok(FileText::new(text, stamp(&about)))
     }
 
-    fn read_order_line(&self, line: &mut String) -> io::Result<usize> {
-        self.read_line(line)
+    fn read_input(&self, piece: &mut [u8]) -> io::Result<usize> {
+        let mut reader = self.reader();
+        reader.read(piece)
     }
 
     fn print_line(&self, line: &str) -> io::Result<()> {
         self.println(line)
     }
 
-    fn print_note(&self, note: Note) {
-        let _ = eprintln!(self; "{note}");
+    fn most_files(&self) -> u64 {
+        let mut limit = rlimit {
+            rlim_cur: 0,
+            rlim_max: 0,
+        };
+        if getrlimit(RLIMIT_NOFILE, &mut limit) == 0 {
+            limit.rlim_cur
+        } else {
+            u64::MAX
+        }
     }
 }

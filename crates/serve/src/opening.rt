@@ -5,15 +5,16 @@ use crate::datagrams::{DATAGRAM_SIZE, receive};
 use crate::fault::ServeFault;
 use crate::hub::{AsGate, AsHub, AsRest, Hub, Options, Served, Sockets};
 use crate::keeper::keep_rows;
+use crate::logging::{LogBook, Teller, write_lines};
 use crate::machine::{Machine, System};
 use crate::orders::{Orders, read_orders};
 use crate::repeating::{repeat_orders, repeats};
 use crate::reports::tell_reports;
-use crate::rules::{Files, read_policy, read_texts};
+use crate::rules::{Files, When, read_policy, read_texts};
 use crate::servers::connect;
 use crate::status;
 use crate::watcher::watch;
-use crate::workers::STACK_SIZE;
+use crate::workers::{RULES_STACK_SIZE, STACK_SIZE};
 use gate_board::{Board, Gate};
 use gateway_core::{Config, Engine, Policy};
 use pv_name::Name;
@@ -48,12 +49,17 @@ pub fn open<
     options: Options,
 ) -> Result<u8, ServeFault> {
     let mut desk = Desk::with_syntax(alloc, files.syntax);
-    let texts = read_texts(&rt, alloc, &files, options.log)?;
-    let policy = read_policy(&rt, alloc, &mut desk, &texts, options.log)?;
+    let teller = Teller::AtStart(options.log);
+    let texts = read_texts(&rt, alloc, &files, When::AtStart, teller)?;
+    let policy = read_policy(&rt, alloc, &mut desk, &texts, teller)?;
     let (sockets, address) = open_sockets(rt, listen).map_err(ServeFault::Listen)?;
     let reports = open_reports(rt, options.status).map_err(ServeFault::Reports)?;
     let gate = gate(alloc, address.port(), policy)?;
-    let rest = Hub::new(alloc, sockets, servers, options);
+    let Ok(book) = Arc::new(alloc, LogBook::new(alloc, options.log)) else {
+        return Err(ServeFault::OutOfMemory);
+    };
+    start_log(rt, &book)?;
+    let rest = Hub::new(alloc, sockets, servers, options, rt.most_files(), book);
     tell_address(&rt, alloc, address)?;
     serve(rt, alloc, gate, rest, reports, Orders { desk, files })
 }
@@ -95,9 +101,25 @@ fn serve<
     buffer.resize(DATAGRAM_SIZE, 0u8)?;
     let shared: &Served<G, P> = &hub;
     let ended = run(rt, shared, buffer);
+    hub.hub().book.finish(&rt);
     // The process ends now, with whatever waits for clients.
     forget(hub);
     Ok(ended)
+}
+
+// The thread that writes the log. Nobody waits for it but for a moment at the end.
+fn start_log<R: System + Threads + 'static>(
+    rt: R,
+    book: &Arc<LogBook, Global>,
+) -> Result<(), ServeFault> {
+    let again = Arc::try_clone(book)?;
+    let writing = Builder::new()
+        .stack_size(STACK_SIZE)
+        .spawn(&rt, move || write_lines(rt, again));
+    match writing {
+        Ok(_) => Ok(()),
+        Err(_) => Err(ServeFault::OutOfMemory),
+    }
 }
 
 // The threads that perform orders, written and repeated. Nobody waits for them.
@@ -107,7 +129,7 @@ fn start_orders<
 >(rt: R, hub: &Arc<H, Global>, orders: Orders) -> Result<(), ServeFault> {
     let again = Arc::try_clone(hub)?;
     let reading = Builder::new()
-        .stack_size(STACK_SIZE)
+        .stack_size(RULES_STACK_SIZE)
         .spawn(&rt, move || read_orders(rt, again, orders));
     if reading.is_err() {
         return Err(ServeFault::OutOfMemory);
@@ -117,7 +139,7 @@ fn start_orders<
     }
     let again = Arc::try_clone(hub)?;
     let repeating = Builder::new()
-        .stack_size(STACK_SIZE)
+        .stack_size(RULES_STACK_SIZE)
         .spawn(&rt, move || repeat_orders(rt, again));
     match repeating {
         Ok(_) => Ok(()),
@@ -152,10 +174,10 @@ fn run<R: System + Threads, H: AsHub + Sync>(rt: R, hub: &H, buffer: Vec<u8>) ->
     thread::scope(scope_env(), &rt, |scope| {
         let others = start_others(rt, &*scope, &*hub, buffer);
         let keeper = Builder::new()
-            .stack_size(STACK_SIZE)
+            .stack_size(RULES_STACK_SIZE)
             .spawn_scoped(scope, move || keep_rows(rt, scope, hub));
         let greeter = Builder::new()
-            .stack_size(STACK_SIZE)
+            .stack_size(RULES_STACK_SIZE)
             .spawn_scoped(scope, move || greet_clients(rt, scope, hub));
         if !others || keeper.is_err() || greeter.is_err() {
             hub.hub().tell(&rt, Notice::OutOfMemory);
@@ -181,10 +203,10 @@ fn start_others<'x, 's: 'x, E: 's, R: System + 's, H: AsHub + Sync + 's>(
         .stack_size(STACK_SIZE)
         .spawn_scoped(&*scope, move || accept_clients(rt, hub));
     let receiver = Builder::new()
-        .stack_size(STACK_SIZE)
+        .stack_size(RULES_STACK_SIZE)
         .spawn_scoped(&*scope, move || receive(rt, hub, buffer));
     let asker = Builder::new()
-        .stack_size(STACK_SIZE)
+        .stack_size(RULES_STACK_SIZE)
         .spawn_scoped(&*scope, move || ask_servers(rt, hub));
     let watcher = Builder::new()
         .stack_size(STACK_SIZE)

@@ -1,18 +1,22 @@
 //! Orders on standard input.
 use crate::fault::ServeFault;
 use crate::hub::{AsHub, Hub};
+use crate::logging::{LogBook, Teller};
 use crate::machine::{Machine, System};
-use crate::rules::{Files, read_policy, read_texts};
+use crate::rules::{Files, When, read_policy, read_texts};
 use crate::servers::connect;
 use crate::status;
 use gateway_core::Event;
 use rule_desk::Desk;
-use serve_state::{Notice, Order, Try, read_order};
+use serve_state::{Notice, Order, OrderLine, OrderLines, Try};
 use std::alloc::Global;
 use std::io::ErrorKind;
 use std::net::{Net, TcpListener, TcpStream};
 use std::sync::Arc;
 use std::thread::Threads;
+
+/// So many bytes of standard input are read at once, where they are there.
+const PIECE_SIZE: usize = 256;
 
 /// What orders work on: the desk that reads rule files, and their paths.
 #[derive(Drop)]
@@ -36,31 +40,68 @@ fn perform_lines<
     R: Machine + System + Threads + Net<Listener = TcpListener, Stream = TcpStream> + 'static,
     H: AsHub + Send + Sync + Drop + 'static,
 >(rt: R, hub: &Arc<H, Global>, desk: &mut Desk, files: &Files) -> u8 {
+    let mut lines = OrderLines::new(hub.hub().alloc);
+    let mut piece = [0u8; PIECE_SIZE];
     for _ in rt.forever() {
-        let mut line = String::new(hub.hub().alloc);
-        match rt.read_order_line(&mut line) {
-            Ok(0) => return status::GOOD,
-            Ok(_) => {
-                let order = read_order(without_line_feed(line.as_bytes()));
-                if let Some(ended) = perform(rt, hub, desk, files, order) {
+        match rt.read_input(&mut piece[..]) {
+            Ok(0) => {
+                let last = perform_line(rt, hub, desk, files, lines.end());
+                return last.unwrap_or(status::GOOD);
+            }
+            Ok(count) => {
+                let came = piece.get(..count).unwrap_or(&[]);
+                if let Some(ended) = perform_piece(rt, hub, desk, files, &mut lines, came) {
                     return ended;
                 }
             }
-            // A line that is no text is none of the orders.
-            Err(fault) if fault.kind() == ErrorKind::InvalidData => hub
-                .hub()
-                .tell(&rt, Notice::NoOrder),
-            Err(fault) if fault.kind() == ErrorKind::OutOfMemory => return status::FAILED,
+            Err(fault) if fault.kind() == ErrorKind::Interrupted => (),
             Err(_) => return status::STREAM_FAILED,
         }
     }
     unreachable!()
 }
 
-fn without_line_feed(line: &[u8]) -> &[u8] {
+// The same, where one of the lines that end in this piece orders that.
+fn perform_piece<
+    R: Machine + System + Threads + Net<Listener = TcpListener, Stream = TcpStream> + 'static,
+    H: AsHub + Send + Sync + Drop + 'static,
+>(
+    rt: R,
+    hub: &Arc<H, Global>,
+    desk: &mut Desk,
+    files: &Files,
+    lines: &mut OrderLines,
+    piece: &[u8],
+) -> Option<u8> {
+    for byte in piece {
+        let Ok(line) = lines.hear(*byte) else {
+            return Some(status::FAILED);
+        };
+        if let Some(ended) = perform_line(rt, hub, desk, files, line) {
+            return Some(ended);
+        }
+    }
+    None
+}
+
+// The same, where a line ended and orders that.
+fn perform_line<
+    R: Machine + System + Threads + Net<Listener = TcpListener, Stream = TcpStream> + 'static,
+    H: AsHub + Send + Sync + Drop + 'static,
+>(
+    rt: R,
+    hub: &Arc<H, Global>,
+    desk: &mut Desk,
+    files: &Files,
+    line: Option<OrderLine>,
+) -> Option<u8> {
     match line {
-        [front @ .., b'\n'] => front,
-        whole => whole,
+        Some(OrderLine::Order(order)) => perform(rt, hub, desk, files, order),
+        Some(OrderLine::NoOrder) => {
+            hub.hub().tell(&rt, Notice::NoOrder);
+            None
+        }
+        None => None,
     }
 }
 
@@ -68,15 +109,14 @@ fn without_line_feed(line: &[u8]) -> &[u8] {
 fn perform<
     R: Machine + System + Threads + Net<Listener = TcpListener, Stream = TcpStream> + 'static,
     H: AsHub + Send + Sync + Drop + 'static,
->(rt: R, hub: &Arc<H, Global>, desk: &mut Desk, files: &Files, order: Option<Order>) -> Option<u8> {
+>(rt: R, hub: &Arc<H, Global>, desk: &mut Desk, files: &Files, order: Order) -> Option<u8> {
     let shared: &H = hub;
     match order {
-        Some(Order::Ask) => hub.hub().ask(&rt),
-        Some(Order::Sweep) => sweep(rt, shared),
-        Some(Order::Reload) => return reload(rt, shared, desk, files),
-        Some(Order::Connect(number)) => connect(rt, hub, number, Try::Ordered),
-        Some(Order::Quit) => return Some(status::GOOD),
-        None => hub.hub().tell(&rt, Notice::NoOrder),
+        Order::Ask => hub.hub().ask(&rt),
+        Order::Sweep => sweep(rt, shared),
+        Order::Reload => return reload(rt, shared, desk, files),
+        Order::Connect(number) => connect(rt, hub, number, Try::Ordered),
+        Order::Quit => return Some(status::GOOD),
     }
     None
 }
@@ -93,7 +133,12 @@ fn reload<R: Machine + System, H: AsHub>(
     desk: &mut Desk,
     files: &Files,
 ) -> Option<u8> {
-    let texts = match read_texts(&rt, hub.hub().alloc, files, hub.hub().options.log) {
+    let book: &LogBook = &hub.hub().book;
+    let teller = Teller::WhileServing(book);
+    let when = When::AtReload {
+        refuse_empty: hub.hub().options.refuse_empty,
+    };
+    let texts = match read_texts(&rt, hub.hub().alloc, files, when, teller) {
         Ok(texts) => texts,
         Err(ServeFault::OutOfMemory) => {
             hub.hub().tell(&rt, Notice::OutOfMemory);
@@ -101,7 +146,7 @@ fn reload<R: Machine + System, H: AsHub>(
         }
         Err(_) => return None,
     };
-    match read_policy(&rt, hub.hub().alloc, desk, &texts, hub.hub().options.log) {
+    match read_policy(&rt, hub.hub().alloc, desk, &texts, teller) {
         Ok(policy) => {
             let _ = hub.gate().desk(&rt, Event::Edit(policy));
             count_edit(rt, hub.hub());

@@ -1,16 +1,19 @@
 //! The rule files.
 use crate::fault::ServeFault;
-use crate::hub::tell;
-use crate::machine::{Machine, System};
+use crate::logging::Teller;
+use crate::machine::{Machine, System, TextFault};
 use gateway_core::Policy;
-use log::Level;
 use pvlist::Syntax;
 use rule_check::Note;
 use rule_desk::{Desk, DeskFault};
-use serve_state::Notice;
+use serve_state::{FileCause, FileText, Notice, READINGS, Reading, Steady};
 use std::alloc::Global;
 use std::fmt::Write;
-use std::io;
+use std::time::Duration;
+use std::{io, thread};
+
+/// How many milliseconds pass between two readings of a file.
+const PAUSE: u64 = 20;
 
 /// The paths of the rule files, and the syntax of their patterns.
 #[derive(Drop)]
@@ -27,15 +30,25 @@ pub struct Texts {
     groups: Option<String>,
 }
 
+/// When files are read, and so how.
+#[derive(Clone, Copy)]
+pub enum When {
+    /// Each once.
+    AtStart,
+    /// Each until two readings agree. One without a byte is refused, or isn't.
+    AtReload { refuse_empty: bool },
+}
+
 /// Reads the files, the rule file first.
 pub fn read_texts<R: Machine + System>(
     rt: &R,
     alloc: Global,
     files: &Files,
-    log: Level,
+    when: When,
+    teller: Teller<'_>,
 ) -> Result<Texts, ServeFault> {
-    let rules = read_text(rt, alloc, &files.rules, log)?;
-    let groups = read_text(rt, alloc, &files.groups, log)?;
+    let rules = read_text(rt, alloc, &files.rules, when, teller)?;
+    let groups = read_text(rt, alloc, &files.groups, when, teller)?;
     Ok(Texts { rules, groups })
 }
 
@@ -43,61 +56,116 @@ fn read_text<R: Machine + System>(
     rt: &R,
     alloc: Global,
     path: &Option<String>,
-    log: Level,
+    when: When,
+    teller: Teller<'_>,
 ) -> Result<Option<String>, ServeFault> {
     let Some(path) = path else {
         return Ok(None);
     };
+    match when {
+        When::AtStart => Ok(Some(read_once(rt, alloc, path, teller)?.into_text())),
+        When::AtReload { refuse_empty } => {
+            let text = read_steady(rt, alloc, path, teller)?;
+            if refuse_empty && text.is_empty() {
+                return Err(refuse_file(rt, path, FileCause::Empty, teller));
+            }
+            Ok(Some(text))
+        }
+    }
+}
+
+// Somebody may be writing it.
+fn read_steady<R: Machine + System>(
+    rt: &R,
+    alloc: Global,
+    path: &String,
+    teller: Teller<'_>,
+) -> Result<String, ServeFault> {
+    let mut steady = Steady::new();
+    for _ in 0..READINGS {
+        let text = read_once(rt, alloc, path, teller)?;
+        match steady.read(text) {
+            Reading::Steady(text) => return Ok(text.into_text()),
+            Reading::Again => thread::sleep(rt, Duration::from_millis(PAUSE)),
+            Reading::Unsteady => break,
+        }
+    }
+    Err(refuse_file(rt, path, FileCause::Unsteady, teller))
+}
+
+fn read_once<R: Machine + System>(
+    rt: &R,
+    alloc: Global,
+    path: &String,
+    teller: Teller<'_>,
+) -> Result<FileText, ServeFault> {
     match rt.read_text(alloc, path.as_str()) {
-        Ok(text) => Ok(Some(text)),
-        Err(fault) if fault.kind() == io::ErrorKind::OutOfMemory => Err(ServeFault::OutOfMemory),
-        Err(fault) => {
-            tell(rt, log, Notice::FileUnread(path.as_str()));
+        Ok(text) => Ok(text),
+        Err(TextFault::NoFile) => Err(refuse_file(rt, path, FileCause::NoFile, teller)),
+        Err(TextFault::TooLarge) => Err(refuse_file(rt, path, FileCause::TooLarge, teller)),
+        Err(TextFault::Stream(fault)) if fault.kind() == io::ErrorKind::OutOfMemory => {
+            Err(ServeFault::OutOfMemory)
+        }
+        Err(TextFault::Stream(fault)) => {
+            teller.tell(rt, Notice::FileUnread(path.as_str()));
             Err(ServeFault::File(path.clone()?, fault))
         }
     }
 }
 
+fn refuse_file<R: System>(
+    rt: &R,
+    path: &String,
+    cause: FileCause,
+    teller: Teller<'_>,
+) -> ServeFault {
+    teller.tell(rt, Notice::FileRefused(path.as_str(), cause));
+    match path.clone() {
+        Ok(path) => ServeFault::File(path, io::Error::other(cause.words())),
+        Err(_) => ServeFault::OutOfMemory,
+    }
+}
+
 /// The policy that the texts say. Where they are refused the line that says so is printed. What is noted
-/// of the rule file goes to standard error.
+/// of the rule file is told too.
 pub fn read_policy<R: Machine + System>(
     rt: &R,
     alloc: Global,
     desk: &mut Desk,
     texts: &Texts,
-    log: Level,
+    teller: Teller<'_>,
 ) -> Result<Policy, ServeFault> {
     let rules = texts.rules.as_ref().map(|text| text.as_str());
     let groups = texts.groups.as_ref().map(|text| text.as_str());
     if let Some(note) = rules.and_then(|text| Note::of(text, desk.syntax())) {
-        rt.print_note(note);
+        teller.note(rt, note);
     }
     match desk.edit(rules, groups) {
         Ok(policy) => {
             if policy.rules.is_open() {
-                tell(rt, log, Notice::OpenToAll);
+                teller.tell(rt, Notice::OpenToAll);
             } else {
-                tell(rt, log, Notice::RulesRead(policy.rules.rows().len()));
+                teller.tell(rt, Notice::RulesRead(policy.rules.rows().len()));
             }
             Ok(policy)
         }
         Err(DeskFault::OutOfMemory) => {
-            tell(rt, log, Notice::OutOfMemory);
+            teller.tell(rt, Notice::OutOfMemory);
             Err(ServeFault::OutOfMemory)
         }
-        Err(fault) => Err(print_refusal(rt, alloc, log, fault)),
+        Err(fault) => Err(print_refusal(rt, alloc, fault, teller)),
     }
 }
 
 fn print_refusal<R: Machine + System>(
     rt: &R,
     alloc: Global,
-    log: Level,
     fault: DeskFault,
+    teller: Teller<'_>,
 ) -> ServeFault {
     match fault {
-        DeskFault::Rules(line, cause) => tell(rt, log, Notice::RulesRefused(line, cause)),
-        DeskFault::Groups(line, cause) => tell(rt, log, Notice::GroupsRefused(line, cause)),
+        DeskFault::Rules(line, cause) => teller.tell(rt, Notice::RulesRefused(line, cause)),
+        DeskFault::Groups(line, cause) => teller.tell(rt, Notice::GroupsRefused(line, cause)),
         DeskFault::OutOfMemory => (),
     }
     let mut line = String::new(alloc);

@@ -2,7 +2,7 @@
 use crate::hub::{AsHub, Hub};
 use crate::machine::System;
 use gateway_core::Dest;
-use serve_state::Cut;
+use serve_state::{Cut, Rhythm};
 use std::net::Shutdown;
 use std::sync::CondvarTimeouts;
 use std::time::Duration;
@@ -14,11 +14,15 @@ const PAUSE: u64 = 250;
 /// of clients for whom too much waits. A writer finds the former itself, but not while it waits for a peer that
 /// doesn't read; nobody else looks for the latter.
 pub fn watch<R: System, H: AsHub>(rt: R, hub: &H) {
+    let mut seconds = Rhythm::each_second();
     for _ in rt.forever() {
         if !rests(rt, hub.hub()) {
             return;
         }
         look_at_all(rt, hub);
+        if seconds.look() {
+            hub.hub().book.end_second(&rt);
+        }
     }
 }
 

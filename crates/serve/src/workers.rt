@@ -11,8 +11,12 @@ use std::net::Shutdown;
 use std::sync::Arc;
 use std::thread::{Builder, Scope};
 
-/// How many bytes of stack a worker has.
+/// How many bytes of stack a worker has, and each other thread that runs no rules.
 pub const STACK_SIZE: usize = 256 * 1024;
+
+/// How many bytes of stack a thread has that reads rules, or may run them on a name. The deepest patterns that a line
+/// has room for need more than a worker's.
+pub const RULES_STACK_SIZE: usize = 8 * 1024 * 1024;
 
 /// Attaches a connection that was handed in as opened, and starts its workers. Where that fails it is handed
 /// in as lost, and its socket is shut.

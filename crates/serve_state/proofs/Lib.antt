@@ -1,2 +1,4 @@
+mod LimitLemmas
+mod LogQueueLemmas
 mod NumberLemmas
 mod RhythmLemmas

@@ -1,7 +1,14 @@
 pub mod Asks
+pub mod FileText
+pub mod Hosts
 pub mod Levels
+pub mod Limits
+pub mod LogQueue
 pub mod Most
+pub mod OrderLines
 pub mod Orders
 pub mod Outages
 pub mod Rhythm
 pub mod Roster
+pub mod Spare
+pub mod Steady

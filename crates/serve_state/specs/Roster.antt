@@ -1,5 +1,5 @@
 -- The rows of connections.
-use Rattle.std.specs.Prelude.{◌≡◌, ℕ, ◌-◌, ◌==◌, ◌≤◌, ◌<◌, List, [], ◌∷◌, ◌++◌, Bool, true, false, Option, Some, None}
+use Rattle.std.specs.Prelude.{◌≡◌, ℕ, ◌-◌, ◌==◌, ◌≤◌, ◌<◌, List, [], ◌∷◌, ◌++◌, length, filter, Bool, true, false, Option, Some, None}
 use Rattle.std.specs.List.{list_any}
 use Rattle.std.specs.Option.{option_or}
 use Rattle.rows.specs.Rows.{change_first, remove_first}
@@ -9,13 +9,14 @@ use Rattle.gateway_state.specs.declared.event.Dest.TheVariants.{Session}
 use Rattle.serve_state.specs.declared.notice.Cut.{Cut}
 use Rattle.serve_state.specs.declared.notice.Cut.TheVariants.{TooSlow}
 
--- a connection: how many of its workers have not ended, whether it was made and waits for them, and why it is
--- cut off
+-- a connection: how many of its workers have not ended, whether it was made and waits for them, why it is
+-- cut off, and the number of the host as one of whose clients it was admitted
 pub record RowState : Type 0 where
   pub dest : Dest
   pub workers : ℕ
   pub reached : Bool
   pub cut : Option Cut
+  pub host : Option ℕ
 
 -- the rows in the order in which connections began, and the status that a closing program ends with
 pub record RosterState : Type 0 where
@@ -31,10 +32,28 @@ holds dest rows = list_any (is_row dest) rows
 
 -- a connection has two workers
 abbrev pub new_row : Dest → RowState
-new_row dest = record { dest = dest; workers = 2; reached = false; cut = None }
+new_row dest = record { dest = dest; workers = 2; reached = false; cut = None; host = None }
+
+-- the same of a client that is admitted as one of a host's
+abbrev pub row_of : Option ℕ → Dest → RowState
+row_of host dest = record (new_row dest) { host = host }
 
 abbrev pub with_row : Dest → RosterState → RosterState
 with_row dest roster = record roster { rows = roster.rows ++ new_row dest ∷ [] }
+
+abbrev pub with_row_of : Option ℕ → Dest → RosterState → RosterState
+with_row_of host dest roster = record roster { rows = roster.rows ++ row_of host dest ∷ [] }
+
+abbrev pub has_host : ℕ → Option ℕ → Bool
+has_host host (Some own) = own == host
+has_host host None = false
+
+abbrev pub is_of_host : ℕ → RowState → Bool
+is_of_host host row = has_host host row.host
+
+-- how many clients were admitted as this host's
+abbrev pub clients_of : ℕ → List RowState → ℕ
+clients_of host rows = length (filter (is_of_host host) rows)
 
 -- the least number of clients, which are 1 to 1024, that no connection holds
 pub record IsLeastFree (n : ℕ) (rows : List RowState) : Type 0 where

@@ -3,9 +3,15 @@
 //! - [`read_order`] reads a line of standard input;
 //! - [`Asked`] keeps the names that servers were asked for, with the CIDs of the asks;
 //! - [`Roster`] keeps the connections: which numbers are held, and how many workers each still has;
+//! - [`HostSeats`] is how many clients a host may have;
 //! - [`MostWaiting`] is how many bytes may wait for a client;
 //! - [`Rhythm`] says at which looks an order is due that is performed every so many [`Seconds`];
 //! - [`Outages`] keeps of which servers it was told that they can't be reached;
+//! - [`LogQueue`] keeps the lines of the log that wait to be written;
+//! - [`OrderLines`] cuts standard input into lines;
+//! - [`Steady`] says when a file that somebody may be writing has been read;
+//! - [`LimitWatch`] says when it is told how often a limit was met;
+//! - [`is_kept_back`] says which descriptors are kept for servers;
 //! - [`server_of`] tells a server's datagram from a client's;
 //! - [`Versions`] hears whether a client's version of the protocol is too old;
 //! - [`Notice`] is what is logged, with its text and its level;
@@ -13,25 +19,39 @@
 #![tactic(auto)]
 
 mod asked;
+mod file_text;
+mod hosts;
 mod level;
+mod limits;
+mod log_queue;
 mod most;
 mod notice;
 mod order;
+mod order_lines;
 mod outages;
 mod peers;
 mod report;
 mod rhythm;
 mod roster;
+mod spare;
+mod steady;
 mod versions;
 
 pub use asked::{ASKED_LIMIT, Asked};
+pub use file_text::FileText;
+pub use hosts::HostSeats;
 pub use level::read_level;
+pub use limits::{Limit, LimitWatch, limits_are_told_once, told_limits_rest};
+pub use log_queue::{BYTES_LIMIT, Dropped, KIND_LIMIT, LINES_LIMIT, LogLine, LogQueue, ToLog};
 pub use most::MostWaiting;
-pub use notice::{Cut, Notice};
+pub use notice::{Cut, FileCause, Notice};
 pub use order::{Order, read_order};
+pub use order_lines::{LINE_LIMIT, OrderLine, OrderLines};
 pub use outages::{Outages, Try};
 pub use peers::server_of;
 pub use report::{Report, ServerReport};
 pub use rhythm::{Rhythm, Seconds, rhythms_are_due_each_period};
 pub use roster::{Refusal, Roster, Row, SESSION_LIMIT};
+pub use spare::{OTHERS, is_kept_back};
+pub use steady::{READINGS, Reading, Steady};
 pub use versions::Versions;

@@ -1,7 +1,8 @@
 //! What is logged.
 ghost use Rattle.std.specs.Prelude.{◌≡◌};
-ghost use Rattle.serve_state.specs.Levels.{level_of};
+ghost use Rattle.serve_state.specs.Levels.{kind_of, level_of};
 
+use crate::limits::Limit;
 use log::Level;
 use pvlist::RuleCause;
 use std::fmt;
@@ -38,6 +39,35 @@ impl fmt::Display for Cut {
     }
 }
 
+/// Why a rule file isn't taken.
+#[derive(Clone, Copy, Debug, PartialEq, Eq)]
+pub enum FileCause {
+    /// It is a folder, a FIFO or a device.
+    NoFile,
+    TooLarge,
+    Empty,
+    /// No two readings one after the other agreed.
+    Unsteady,
+}
+
+impl FileCause {
+    /// What is said of the file.
+    pub fn words(&self) -> &'static str {
+        match self {
+            FileCause::NoFile => "is no regular file",
+            FileCause::TooLarge => "has more than 16777216 bytes",
+            FileCause::Empty => "is empty",
+            FileCause::Unsteady => "changes while it is read",
+        }
+    }
+}
+
+impl fmt::Display for FileCause {
+    fn fmt<W: fmt::Write>(&self, f: &mut fmt::Formatter<W>) -> fmt::Result {
+        f.write_str(self.words())
+    }
+}
+
 /// What is logged, one line each. Connections are told by number and address.
 #[derive(Clone, Copy)]
 pub enum Notice<'a> {
@@ -46,6 +76,8 @@ pub enum Notice<'a> {
     RulesRefused(usize, RuleCause),
     GroupsRefused(usize, RuleCause),
     FileUnread(&'a str),
+    /// The file at this path isn't taken, for this reason.
+    FileRefused(&'a str, FileCause),
     Reloaded,
     /// Whoever connects to this address is told of the gateway.
     ReportsAt(SocketAddr),
@@ -59,6 +91,10 @@ pub enum Notice<'a> {
     ClientGone(u32, SocketAddr),
     ClientCut(u32, SocketAddr, Cut),
     ClientRefused(SocketAddr, &'a str),
+    /// A limit was met so often since that was last told.
+    LimitMet(Limit, u64),
+    /// So many lines of the log were dropped.
+    LinesDropped(u64),
     NamesNearLimit(usize),
     /// So many names were asked for.
     NamesAsked(usize),
@@ -81,6 +117,9 @@ impl<'a> Notice<'a> {
             Notice::RulesRefused(_, _)
             | Notice::GroupsRefused(_, _)
             | Notice::FileUnread(_)
+            | Notice::FileRefused(_, _)
+            | Notice::LimitMet(_, _)
+            | Notice::LinesDropped(_)
             | Notice::ServerUnreached(_, _)
             | Notice::ServerLost(_, _)
             | Notice::ServerCut(_, _, _)
@@ -103,6 +142,42 @@ impl<'a> Notice<'a> {
     }
 }
 
+impl<'a> Notice<'a> {
+    /// The number of its kind. Lines of one kind are counted together.
+    pub fn kind(&self) -> u8
+        ensures { result ≡ kind_of self.now }
+    {
+        match self {
+            Notice::RulesRead(_) => 0,
+            Notice::OpenToAll => 1,
+            Notice::RulesRefused(_, _) => 2,
+            Notice::GroupsRefused(_, _) => 3,
+            Notice::FileUnread(_) => 4,
+            Notice::FileRefused(_, _) => 5,
+            Notice::Reloaded => 6,
+            Notice::ReportsAt(_) => 7,
+            Notice::ServerConnected(_, _) => 8,
+            Notice::ServerUnreached(_, _) => 9,
+            Notice::ServerStillUnreached(_, _) => 10,
+            Notice::ServerLost(_, _) => 11,
+            Notice::ServerCut(_, _, _) => 12,
+            Notice::ClientConnected(_, _) => 13,
+            Notice::ClientGone(_, _) => 14,
+            Notice::ClientCut(_, _, _) => 15,
+            Notice::ClientRefused(_, _) => 16,
+            Notice::NamesNearLimit(_) => 17,
+            Notice::NamesAsked(_) => 18,
+            Notice::Swept => 19,
+            Notice::NoOrder => 20,
+            Notice::OutOfMemory => 21,
+            Notice::Failed => 22,
+            Notice::Closing => 23,
+            Notice::LimitMet(_, _) => 24,
+            Notice::LinesDropped(_) => 25,
+        }
+    }
+}
+
 impl<'a> fmt::Display for Notice<'a> {
     fn fmt<W: fmt::Write>(&self, f: &mut fmt::Formatter<W>) -> fmt::Result {
         match self {
@@ -114,6 +189,10 @@ impl<'a> fmt::Display for Notice<'a> {
                 "rules refused: groups line {line}: {cause}"
             ),
             Notice::FileUnread(path) => write!(f, "rules refused: {path} can't be read"),
+            Notice::FileRefused(path, cause) => write!(f, "rules refused: {path} {cause}"),
+            Notice::LimitMet(limit, 1) => write!(f, "limit met: {limit}"),
+            Notice::LimitMet(limit, times) => write!(f, "limit met {times} times: {limit}"),
+            Notice::LinesDropped(lines) => write!(f, "{lines} lines dropped"),
             Notice::Reloaded => f.write_str("reload: the new rules hold"),
             Notice::ReportsAt(address) => write!(f, "status at {address}"),
             Notice::ServerConnected(number, peer) => write!(

@@ -59,6 +59,16 @@ impl Rhythm {
         }
     }
 
+    /// The same of what is due each second.
+    pub fn each_second() -> Rhythm
+        ensures { result ≡ beginning 1 }
+    {
+        Rhythm {
+            period: LOOKS,
+            left: LOOKS,
+        }
+    }
+
     /// Takes the next look: whether the order is due.
     pub fn look(&mut self) -> bool
         ensures due { result ≡ is_due self.old }

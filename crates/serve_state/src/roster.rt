@@ -3,7 +3,7 @@ ghost use Rattle.std.specs.Prelude.{◌≡◌, ◌↔◌, ◌++◌, [], ◌∷�
 ghost use Rattle.std.specs.List.{find, list_any, position};
 ghost use Rattle.rows.specs.Rows.{change_first, remove_first};
 ghost use Rattle.gateway_state.specs.declared.event.Dest.TheVariants.{Session, Upstream};
-ghost use Rattle.serve_state.specs.Roster.{RowState, RosterState, is_row, holds, new_row, with_row, IsLeastFree, IsFull, closed_with, with_cut, with_left, with_reached, with_served, changed, without, is_reached, has_ended};
+ghost use Rattle.serve_state.specs.Roster.{RowState, RosterState, is_row, holds, with_row, with_row_of, row_of, is_of_host, clients_of, IsLeastFree, IsFull, closed_with, with_cut, with_left, with_reached, with_served, changed, without, is_reached, has_ended};
 
 use crate::notice::Cut;
 use gateway_state::Dest;
@@ -23,6 +23,8 @@ pub enum Refusal {
     Closing,
     /// As many clients as can be are connected.
     Full,
+    /// As many clients of its host as may be are connected.
+    HostFull,
     /// The server has a row already.
     Held,
     OutOfMemory,
@@ -40,6 +42,8 @@ pub struct Row<L, P> {
     // The connection was made, and its workers are not started.
     is_reached: bool,
     cut: Option<Cut>,
+    // The number of the host, where a client was admitted as one of a host's.
+    host: Option<u128>,
 }
 
 impl<L, P> Model for Row<L, P> {
@@ -52,12 +56,13 @@ impl<L, P> Model for Row<L, P> {
       workers = r.workers;
       reached = r.is_reached;
       cut = r.cut;
+      host = r.host;
     } };
 }
 
 impl<L: Drop, P: Drop> Row<L, P> {
-    fn new(dest: Dest, link: Option<L>, peer: P) -> Row<L, P>
-        ensures { result ≡ new_row dest }
+    fn new(dest: Dest, link: Option<L>, peer: P, host: Option<u128>) -> Row<L, P>
+        ensures { result ≡ row_of host dest }
     {
         Row {
             dest,
@@ -66,6 +71,7 @@ impl<L: Drop, P: Drop> Row<L, P> {
             workers: WORKERS,
             is_reached: false,
             cut: None,
+            host,
         }
     }
 
@@ -95,6 +101,15 @@ impl<L: Drop, P: Drop> Row<L, P> {
         ensures { result ≡ is_row dest self.now }
     {
         self.dest == dest
+    }
+
+    fn is_of_host(&self, host: u128) -> bool
+        ensures { result ≡ is_of_host host self.now }
+    {
+        match self.host {
+            Some(own) => own == host,
+            None => false,
+        }
     }
 
     fn has_ended(&self) -> bool
@@ -207,7 +222,35 @@ impl<L: Drop, P: Drop> Roster<L, P> {
         let Some(number) = least_free(&self.rows) else {
             return Err(Refusal::Full);
         };
-        self.add(Dest::Session(number), Some(link), peer)?;
+        self.add(Dest::Session(number), Some(link), peer, None)?;
+        Ok(number)
+    }
+
+    /// The same for a client of the host that has this number, of which at most `most` clients are admitted as such.
+    pub fn admit_client_of_host(
+        &mut self,
+        link: L,
+        peer: P,
+        host: u128,
+        most: usize,
+    ) -> Result<u32, Refusal>
+        ensures number { IfOk result (λ n. IsLeastFree n self.old.rows) }
+        ensures ok { IfOk result (λ n. self.new ≡ with_row_of (Some host) (Session n) self.old) }
+        ensures open { IfOk result (λ _. self.old.closing ≡ None) }
+        ensures seats { IfOk result (λ n. clients_of host self.old.rows < most) }
+        ensures err { OnErr result (self.new ≡ self.old) }
+        ensures of_host { IsErrOf result Refusal.HostFull ↔ (most ≤ clients_of host self.old.rows) }
+        ensures full { IsErrOf result Refusal.Full → IsFull self.old.rows }
+        ensures closing { IsErrOf result Refusal.Closing → IsSome self.old.closing }
+        ensures held { IsErrOf result Refusal.Held → ⊥ }
+    {
+        if clients_of(&self.rows, host) >= most {
+            return Err(Refusal::HostFull);
+        }
+        let Some(number) = least_free(&self.rows) else {
+            return Err(Refusal::Full);
+        };
+        self.add(Dest::Session(number), Some(link), peer, Some(host))?;
         Ok(number)
     }
 
@@ -223,21 +266,28 @@ impl<L: Drop, P: Drop> Roster<L, P> {
         if holds(&self.rows, Dest::Upstream(number)) {
             return Err(Refusal::Held);
         }
-        self.add(Dest::Upstream(number), None, peer)
+        self.add(Dest::Upstream(number), None, peer, None)
     }
 
-    fn add(&mut self, dest: Dest, link: Option<L>, peer: P) -> Result<(), Refusal>
-        ensures ok { OnOk result (self.new ≡ with_row dest self.old) }
+    fn add(
+        &mut self,
+        dest: Dest,
+        link: Option<L>,
+        peer: P,
+        host: Option<u128>,
+    ) -> Result<(), Refusal>
+        ensures ok { OnOk result (self.new ≡ with_row_of host dest self.old) }
         ensures open { OnOk result (self.old.closing ≡ None) }
         ensures err { OnErr result (self.new ≡ self.old) }
         ensures closing { IsErrOf result Refusal.Closing → IsSome self.old.closing }
         ensures full { IsErrOf result Refusal.Full → ⊥ }
+        ensures of_host { IsErrOf result Refusal.HostFull → ⊥ }
         ensures held { IsErrOf result Refusal.Held → ⊥ }
     {
         if self.closing.is_some() {
             return Err(Refusal::Closing);
         }
-        match self.rows.push(Row::new(dest, link, peer)) {
+        match self.rows.push(Row::new(dest, link, peer, host)) {
             Ok(()) => Ok(()),
             Err(_) => Err(Refusal::OutOfMemory),
         }
@@ -311,6 +361,12 @@ fn holds<L: Drop, P: Drop>(rows: &[Row<L, P>], dest: Dest) -> bool
     ensures { result ≡ holds dest rows.now }
 {
     rows.iter().any(|row| row.is_of(dest))
+}
+
+fn clients_of<L: Drop, P: Drop>(rows: &[Row<L, P>], host: u128) -> usize
+    ensures { result ≡ clients_of host rows.now }
+{
+    rows.iter().filter(|row| row.is_of_host(host)).count()
 }
 
 fn least_free<L: Drop, P: Drop>(rows: &[Row<L, P>]) -> Option<u32>

@@ -1,0 +1,236 @@
+"""What must not stop the gateway: a log that nobody reads, the deepest patterns, files that are none, lines without end, a host with
+many clients, and clients that hold every descriptor."""
+import fcntl
+import os
+import socket
+import subprocess
+import threading
+import time
+
+import ca_wire as ca
+from served.room import PATIENCE, free_port, text_of, variable
+
+CROWD = 400  # clients that come and go, of each of which two lines tell
+SMALL = 4096  # bytes that the pipe of the log holds: fewer lines than come in a second
+SET_PIPE_SIZE = 1031  # of fcntl
+SOON = 10  # seconds that an end takes on a machine that does much else; on an idle one 0.3
+
+
+def crowd(server, many):
+    """So many clients come, and go at once."""
+    for _ in range(many):
+        with socket.create_connection(server.address, timeout=PATIENCE) as link:
+            link.settimeout(PATIENCE)
+            link.recv(1)
+
+
+def unread(room):
+    """Nobody reads standard error: all else goes on, and what was left out is told where somebody reads at last."""
+    up = room.upstream(variable("V", values=[1]))
+    inward, outward = os.pipe()
+    fcntl.fcntl(outward, SET_PIPE_SIZE, SMALL)
+    server = room.server(up, options=("--reconnect", "1", "--log", "info"), stderr=outward)
+    os.close(outward)
+    try:
+        crowd(server, CROWD)
+        client = room.client(server)
+        channel = client.open("V")
+        room.equal("a client is served beside a log that nobody reads", channel and client.values(channel), [1])
+        up.stop()
+        room.eventually("a lost server's channel goes", lambda: client.take(lambda it: it.command == ca.SERVER_DISCONN) is not None)
+        up.start()
+        room.eventually("it comes back", lambda: (again := client.try_open("V")) is not None and client.values(again) == [1])
+        told = room_for_all(room, inward, server)
+        lines = sum(" client " in it and ("connected" in it or "gone" in it) for it in told)
+        dropped = [int(it.split("] ")[1].split()[0]) for it in told if it.endswith(" lines dropped")]
+        room.check("lines of one kind are at most 50 a second, and the others are told of", lines < 2 * CROWD and len(dropped) > 0, (lines, dropped))
+        room.equal("each line is there or counted", lines + sum(dropped), 2 * CROWD + 1)
+        room.check("in order", told[0].startswith("[INFO  pvgate] no rule file"), told[:2])
+    finally:
+        os.close(inward)
+    began = time.monotonic()
+    room.equal("quit, with a reader that has gone", server.quit(), 0)
+    room.check("it ends soon", time.monotonic() - began < SOON, f"{time.monotonic() - began:.2f} s")
+
+
+def room_for_all(room, inward, server):
+    """All lines of the log so far, until each that was dropped is told of."""
+    os.set_blocking(inward, False)
+    text = b""
+    until = time.monotonic() + 5
+    while time.monotonic() < until:
+        try:
+            text += os.read(inward, 1 << 16)
+        except BlockingIOError:
+            time.sleep(0.05)
+    return text.decode().splitlines()
+
+
+def unwritable(room):
+    """A pipe that is full at the end, a full disk, and no standard error at all."""
+    up = room.upstream(variable("V", values=[1]))
+    inward, outward = os.pipe()
+    os.set_blocking(outward, False)
+    try:
+        while True:
+            os.write(outward, bytes(1 << 12))
+    except BlockingIOError:
+        os.set_blocking(outward, True)
+    with open("/dev/full", "wb") as full:
+        for label, stream in (("a pipe that is full", outward), ("a full disk", full)):
+            server = beginning(room, up, stream)
+            client = room.client(server)
+            room.equal(f"{label}: a client is served", client.values(client.open("V")), [1])
+            room.file("rules", "nonsense\n")
+            server.write("reload")
+            room.eventually(f"{label}: a line of the log holds no order up", lambda: server.printed[1:] == ["line 1: NoVerb"])
+            began = time.monotonic()
+            room.equal(f"{label}: quit", server.quit(), 0)
+            room.check(f"{label}: it ends soon", time.monotonic() - began < SOON, f"{time.monotonic() - began:.2f} s")
+            room.eventually(f"{label}: its connection is gone", lambda: up.count_clients() == 0)
+    os.close(inward), os.close(outward)
+    words = room.words(f"127.0.0.1:{free_port()}", [text_of(up.address)])
+    ran = subprocess.run(["sh", "-c", 'exec "$@" 2>&-', "sh", *words], input=b"ask\nreload\nquit\n", stdout=subprocess.PIPE, timeout=60)
+    room.equal("no standard error", ran.returncode, 0)
+
+
+def beginning(room, up, stream):
+    """A gateway whose start says nothing on standard error: its rules are told of there before it listens."""
+    return room.server(up, rules=".* ALLOW\n", options=("--log", "warn"), stderr=stream)
+
+
+def deep(room):
+    """The deepest patterns that are good are read at the start and by `reload`, and run on a name."""
+    up = room.upstream(variable("AAAA", values=[1]), variable("B", values=[2]))
+    shapes = ((("--plain-groups",), "(", ")*"), ((), r"\(", r"\)*"), (("--plain-groups",), "(A|", ")"), ((), r"\(A\|", r"\)"))
+    for options, before, behind in shapes:
+        deepest, text = deepest_of(room, options, before, behind)
+        room.check("patterns may be deep", deepest > 90, deepest)
+        server = room.server(up, rules=text, options=options)
+        client = room.client(server)
+        channel = client.open("AAAA") if behind.endswith("*") else client.open("B")
+        room.check(f"{before} {deepest} deep: a name is found", channel is not None)
+        server.write("reload")
+        room.eventually("it is read again", lambda: server.has_logged("the new rules hold"))
+        room.check("and run again", client.try_open("C") is None and client.echo())
+        room.equal("quit", server.quit(), 0)
+
+
+def deepest_of(room, options, before, behind):
+    """How deep a pattern of this shape may be, and a rule file of it."""
+    good, bad = 1, 350
+    while bad - good > 1:
+        half = (good + bad) // 2
+        path = room.file("deep", deep_text(before, behind, half))
+        ran = subprocess.run([room.program, "check-rules", path, *options], stdout=subprocess.DEVNULL, stderr=subprocess.DEVNULL, timeout=60)
+        good, bad = (half, bad) if ran.returncode == 0 else (good, half)
+    return good, deep_text(before, behind, good)
+
+
+def deep_text(before, behind, many):
+    return before * many + ("A" if behind.endswith("*") else "B") + behind * many + " ALLOW\n"
+
+
+def files(room):
+    """What is no regular file of at most 16 MiB is refused, at the start and by `reload`."""
+    up = room.upstream(variable("V", values=[1]))
+    fifo, large = os.path.join(room.folder, "fifo"), room.file("large", "# x\n" * (1 << 22) + "#\n")
+    os.mkfifo(fifo)
+    here = f"127.0.0.1:{free_port()}"
+    for label, path in (("a FIFO", fifo), ("a device", "/dev/zero"), ("a folder", room.folder), ("a file of more than 16 MiB", large)):
+        words = [room.program, "serve", here, text_of(up.address), "--rules", path]
+        ran = subprocess.run(words, stdin=subprocess.DEVNULL, capture_output=True, timeout=60)
+        room.equal(f"{label} at the start", (ran.returncode, ran.stdout), (3, b""))
+        room.check(f"{label}: it says so", b"rules refused: " in ran.stderr, ran.stderr)
+    server = room.server(up, rules=".* ALLOW\n")
+    client = room.client(server)
+    path = os.path.join(room.folder, "rules")
+    for label, other, said in (("a FIFO", fifo, "is no regular file"), ("a file of more than 16 MiB", large, "has more than 16777216 bytes")):
+        os.unlink(path)
+        os.link(other, path)
+        server.write("reload")
+        room.eventually(f"{label} by `reload`", lambda: server.has_logged("WARN", "rules refused", said))
+    room.equal("the rules hold on", client.values(client.open("V")), [1])
+    rewritten(room, server, path)
+    room.equal("quit", server.quit(), 0)
+
+
+def rewritten(room, server, path):
+    """A file that somebody writes in place is taken once it rests, and never half of it."""
+    os.unlink(path)
+    text = ".* ALLOW\n" * 500
+    goes = [True]
+
+    def write():
+        while goes[0]:
+            with open(path, "w") as file:
+                time.sleep(0.003)
+                file.write(text)
+            time.sleep(0.003)
+    writer = threading.Thread(target=write, daemon=True)
+    writer.start()
+    for _ in range(3):
+        server.write("reload")
+    room.eventually("a file that changes all the while is refused", lambda: server.has_logged("WARN", "rules refused", "changes while it is read"))
+    goes[0] = False
+    writer.join(PATIENCE)
+    server.write("reload")
+    room.eventually("it is taken once it rests", lambda: server.has_logged("rules read: 500 rows"))
+    room.check("and no part of it was", not any(f"rules read: {it} rows" in line for line in server.logged for it in range(500) if it != 1))
+
+
+def endless(room):
+    """A line without end is passed over, and takes no memory."""
+    up = room.upstream(variable("V", values=[1]))
+    server = room.server(up, options=("--log", "debug"))
+    before = server.resident()
+    for _ in range(64):
+        server.process.stdin.write(b"quit" * (1 << 18))
+    server.process.stdin.flush()
+    room.check("64 MiB of a line", server.resident() < before + 4, f"{before:.1f} to {server.resident():.1f} MB")
+    server.process.stdin.write(b"\n" + b" " * 1024 + b"\nsweep\n")
+    server.process.stdin.flush()
+    room.eventually("the next line is an order again", lambda: server.has_logged("swept"))
+    room.equal("each long line is none", sum("a line that is no order" in it for it in server.logged), 2)
+    server.process.stdin.write(b"quit")
+    server.process.stdin.close()
+    room.equal("a last line without a line feed", server.status(), 0)
+
+
+def seats(room):
+    """A host has at most so many clients."""
+    up = room.upstream(variable("V", values=[1]))
+    server = room.server(up, options=("--clients-of-host", "2"))
+    one, two, three = (room.client(server) for _ in range(3))
+    room.check("two are served", one.open("V") is not None and two.open("V") is not None)
+    room.check("the third is closed at once", three.take(lambda it: False) is None)
+    port = three.socket.getsockname()[1]
+    room.eventually("and told of", lambda: server.has_logged(f"WARN  pvgate] a client (127.0.0.1:{port}) refused: as many clients of its host"))
+    other = room.client(server, source="127.0.0.2")
+    room.check("another host has its own", other.open("V") is not None)
+    two.close()
+    room.eventually("a seat that is left is taken", lambda: room.admitted(server) is not None)
+    room.check("the first is there", one.echo() and other.echo())
+    room.equal("quit", server.quit(), 0)
+
+
+def kept(room):
+    """With every descriptor in use a lost server comes back, and clients beyond are refused."""
+    up = room.upstream(variable("V", values=[1]))
+    server = room.server(up, most_files=40, options=("--reconnect", "1"))
+    first = room.client(server)
+    room.check("a channel", first.open("V") is not None)
+    links = [socket.create_connection(server.address, timeout=PATIENCE) for _ in range(60)]
+    room.started.append(lambda: [it.close() for it in links])
+    room.eventually("clients beyond are told of", lambda: server.has_logged("WARN", "refused: no descriptors are free"))
+    for _ in range(2):
+        up.stop()
+        room.check("the server is lost", first.take(lambda it: it.command == ca.SERVER_DISCONN) is not None)
+        up.start()
+        room.eventually("it comes back", lambda: first.try_open("V") is not None)
+    server.write("reload", "connect 1")
+    room.check("who is there is served", first.echo())
+    for link in links:
+        link.close()
+    room.eventually("and then there is room for others", lambda: room.admitted(server) is not None)
+    room.equal("quit", server.quit(), 0)

@@ -1,0 +1,24 @@
+//! How many clients a host may have.
+ghost use Rattle.std.specs.Prelude.{◌≡◌};
+ghost use Rattle.serve_state.specs.Hosts.{seats_of};
+
+use crate::order::read_number;
+use crate::roster::SESSION_LIMIT;
+
+/// How many clients of one host may be connected at once.
+#[derive(Clone, Copy, Debug, PartialEq, Eq)]
+pub struct HostSeats {
+    pub number: u32,
+}
+
+impl HostSeats {
+    /// The number that decimal digits write; `None` where it isn't from 1 to 1,024, or they are none.
+    pub fn read(digits: &[u8]) -> Option<HostSeats>
+        ensures { result ≡ seats_of digits.now }
+    {
+        match read_number(digits) {
+            Some(number) if number >= 1 && number <= SESSION_LIMIT => Some(HostSeats { number }),
+            _ => None,
+        }
+    }
+}

@@ -1,0 +1,104 @@
+//! Which limits were met, and when that is told.
+ghost use Rattle.std.specs.Prelude.{◌≡◌, ◌+◌, ◌≤◌, ℕ, List, length};
+ghost use Rattle.serve_state.specs.Limits.{WatchState, told_now, after_look, after_looks, told_in, IsSilentFor, IsToldOnce, unwatched};
+
+use std::fmt;
+use std::marker::Model;
+
+/// How many looks pass, of which there are four a second, until the same limit is told again.
+const REST: u32 = 240;
+
+/// A limit of what clients may have, or of what the gateway keeps.
+#[derive(Clone, Copy, Debug, PartialEq, Eq)]
+pub enum Limit {
+    /// Searched names that are remembered.
+    Names,
+    /// Channels of a client.
+    Channels,
+    /// Subscriptions of a client.
+    Subscriptions,
+    /// Reads of a client that wait.
+    Reads,
+    /// Writes of a client that wait.
+    Writes,
+    /// Variables that are open upstream.
+    Links,
+    /// Clients.
+    Clients,
+    /// Messages that wait for a client, above which updates are held back.
+    Held,
+    /// Messages that wait for a connection, at which it is cut off.
+    Full,
+}
+
+impl fmt::Display for Limit {
+    fn fmt<W: fmt::Write>(&self, f: &mut fmt::Formatter<W>) -> fmt::Result {
+        f.write_str(match self {
+            Limit::Names => "4096 searched names are remembered: others aren't looked for",
+            Limit::Channels => "a client has 4096 channels: others aren't made",
+            Limit::Subscriptions => "a client has 8192 subscriptions: others are refused",
+            Limit::Reads => "256 reads of a client wait: others are refused",
+            Limit::Writes => "256 writes of a client wait: others are refused",
+            Limit::Links => "65536 variables are open upstream: others aren't opened",
+            Limit::Clients => "1024 clients are connected: others are refused",
+            Limit::Held => "4096 messages wait for a client: its updates are held back",
+            Limit::Full => "16384 messages wait for a connection: it is cut off",
+        })
+    }
+}
+
+/// When it is told how often a limit was met. It is shown the count at each look, of which there are four a second.
+#[derive(Drop)]
+pub struct LimitWatch {
+    // How often it was met when that was last told.
+    told: u64,
+    // At so many looks nothing is told.
+    rest: u32,
+}
+
+impl Model for LimitWatch {
+    ghost use Rattle.serve_state.specs.Limits.{WatchState};
+
+    ghost Value = { WatchState };
+
+    ghost view = { λ w. record { told = w.told; rest = w.rest } };
+}
+
+impl LimitWatch {
+    /// Nothing was told.
+    pub fn new() -> LimitWatch
+        ensures { result ≡ unwatched }
+    {
+        LimitWatch { told: 0, rest: 0 }
+    }
+
+    /// Takes the next look: since the start the limit was met so often. How often it was met since that was last
+    /// told, where it is to be told now.
+    pub fn look(&mut self, met: u64) -> Option<u64>
+        ensures told { result ≡ told_now met self.old }
+        ensures new { self.new ≡ after_look met self.old }
+    {
+        if self.rest > 0 {
+            self.rest -= 1;
+            return None;
+        }
+        if met <= self.told {
+            return None;
+        }
+        let since = met - self.told;
+        self.told = met;
+        self.rest = REST;
+        Some(since)
+    }
+}
+
+/// What was told isn't told again at the next 240 looks, whatever is met meanwhile.
+pub fn told_limits_rest()
+    ensures { (met : ℕ) (watch : WatchState) (counts : List ℕ) → IsSilentFor met watch counts }
+{}
+
+/// What is told at any looks is, all together, what was met between the first and the last that told of it: nothing
+/// is told twice, and nothing that was met meanwhile is left out.
+pub fn limits_are_told_once()
+    ensures { (counts : List ℕ) (watch : WatchState) → IsToldOnce counts watch }
+{}
