@@ -106,6 +106,8 @@ SERVE_REFUSALS = [
       for value in ("", " 0", " 1025", " 4294967297", " 1.5", " +1", " ten", " 10 --clients-of-host 10")),
     ("127.0.0.1:0 127.0.0.1:1 --rules .", b"", 3),
     ("127.0.0.1:0 127.0.0.1:1 --rules /dev/zero", b"", 3),
+    *((f"127.0.0.1:0 127.0.0.1:1 {option}{value}", b"", 2) for option in ("--back-off", "--site")
+      for value in ("=", "=1", "=true", " yes", " 1", f" {option}")),
     ("127.0.0.1:0 127.0.0.1:1 --status 192.0.2.1:0", b"", 3),
     ("127.0.0.1:0 127.0.0.1:1 --status 192.0.2.1:0 --rules no-verb", b"line 3: NoVerb\n", 1),
     ("127.0.0.1 127.0.0.1:1 --rules missing", b"", 2),
@@ -144,6 +146,7 @@ SERVE_OPTIONS = [
     "--most-waiting 1", "--reconnect 1", "--reconnect 86400", "--sweep 1", "--sweep 86400", "--sweep 007 --reconnect 10",
     "--log error", "--log warn", "--log info", "--log debug", "--log debug --reconnect 1 --sweep 1 --rules rules",
     "--status 127.0.0.1:0", "--status [::1]:0 --log error", "--clients-of-host 1", "--clients-of-host 1024",
+    "--back-off", "--site", "--site --back-off", "--reconnect 1 --back-off --sweep 1",
 ]
 
 # Arguments of `check-rules`, and all that it writes to standard error.

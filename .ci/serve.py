@@ -20,8 +20,8 @@ LONGEST = 280
 sys.dont_write_bytecode = True
 sys.path.insert(0, os.path.join(ROOT, ".ci"))
 import served  # noqa: E402  (sets the path to examples/)
-from served import (chain, crowds, damage, idlers, lines, packaged, repeating, reports, rules, samples, servers, standing,  # noqa: E402
-                    values, waiting)
+from served import (asking, chain, crowds, damage, idlers, lines, packaged, repeating, reports, rules, samples, servers,  # noqa: E402
+                    standing, values, waiting)
 from served.room import Room  # noqa: E402
 
 # The long ones first.
@@ -31,7 +31,8 @@ STORIES = [crowds.thousand, crowds.never_reading, crowds.quitting, idlers.announ
            values.writing, rules.rights, rules.hosts, lines.ordering, lines.starting, lines.remembering,
            chain.chained, packaged.packaged, repeating.unrepeated, repeating.levels, reports.reporting,
            reports.reporting_nowhere, waiting.waiting_too_much, waiting.waiting_little, standing.unread, standing.unwritable, standing.deep,
-           standing.files, standing.endless, standing.seats, standing.kept]
+           standing.files, standing.endless, standing.seats, standing.kept, asking.backing_off, asking.asking, asking.leading,
+           asking.answering, asking.clashing]
 
 
 def tell(program, name):

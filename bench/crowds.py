@@ -1,7 +1,7 @@
 #!/usr/bin/env python3
 """What well-behaved clients see of the built server beside clients that never read, say little, or come and go without end.
 
-    bench/crowds.py [--program PATH] [WORD ..]      WORDs: lazy, echoing, idle, going, announced; all if not given
+    bench/crowds.py [--program PATH] [WORD ..]      WORDs: lazy, echoing, idle, going, announced, dead, long; all if not given
 
 - lazy: two clients are subscribed to 100 variables that change 50,000 times a second together, with nobody beside them and then with a
   third that never reads. The milliseconds from the sending of an update to its coming are given as half, 99 in 100 and all are below.
@@ -9,6 +9,10 @@
 - idle: 200 clients say nothing, and 200 send a byte a second, for 20 seconds.
 - going: one client opens and closes 10,000 connections.
 - announced: 1,000 clients announce the most that a payload may have, and then send some of it.
+- dead: a client of libca has 1,000 names that no server has, beside 16 servers, for 20 seconds, without an option and with --back-off. The
+  datagrams that come to all servers and their bytes are counted, and how soon a live name is found meanwhile. It is passed over where Debian's
+  packages libca4.13.5 and libcom3.17.6 aren't installed.
+- long: datagrams of 64 KB with names that are new come ten times a second, beside 4,096 rules, of which some match all of a kind.
 
 The status is 1 where a bar isn't met. All is on 127.0.0.1, and takes two minutes. Other work on the machine makes all figures worse.
 """
@@ -18,6 +22,7 @@ import selectors
 import socket
 import statistics
 import struct
+import subprocess
 import sys
 import threading
 import time
@@ -29,7 +34,8 @@ from load import UPDATE, Feeder, Taker, ca, update, wait
 ROOT = os.path.dirname(os.path.dirname(os.path.abspath(__file__)))
 sys.path.insert(0, os.path.join(ROOT, ".ci"))
 from served.idlers import Watcher, come_and_go, connected, most_announced, threads  # noqa: E402
-from served.room import Room, variable  # noqa: E402
+from served import libca  # noqa: E402
+from served.room import Room, free_port, text_of, variable  # noqa: E402
 
 NAMES = [f"V{it:03}" for it in range(100)]
 RATE, SECONDS, TURNS, READERS = 50_000, 6, 3, 2
@@ -220,7 +226,97 @@ def announced(room):
           f"{server.resident():.1f} MB once they are gone")
 
 
-PARTS = [lazy, echoing, idle, going, announced]
+class Ears:
+    """So many servers that hear what they are asked for by UDP, and answer nothing."""
+
+    def __init__(self, room, many):
+        self.sockets = [socket.socket(socket.AF_INET, socket.SOCK_DGRAM) for _ in range(many)]
+        self.datagrams = self.bytes = 0
+        self.selector = selectors.DefaultSelector()
+        for it in self.sockets:
+            it.bind(("127.0.0.1", 0))
+            it.setblocking(False)
+            it.setsockopt(socket.SOL_SOCKET, socket.SO_RCVBUF, 1 << 22)
+            self.selector.register(it, selectors.EVENT_READ)
+        self.upstreams = [SimpleNamespace(address=it.getsockname()) for it in self.sockets]
+        self.thread = threading.Thread(target=self.hear, daemon=True)
+        self.thread.start()
+
+    def hear(self):
+        while True:
+            for key, _ in self.selector.select():
+                try:
+                    while True:
+                        self.bytes += len(key.fileobj.recv(1 << 16))
+                        self.datagrams += 1
+                except BlockingIOError:
+                    pass
+
+
+# What a process of its own does: many channels on names that aren't there.
+LOOKING = """
+import sys, time
+sys.path[:0] = sys.argv[1:3]
+import served
+from served import libca
+host, _, port = sys.argv[3].rpartition(":")
+library = libca.Library((host, int(port)), int(sys.argv[6]))
+channels = [library.channel(f"DEAD:{it:04}") for it in range(int(sys.argv[4]))]
+print("begun", flush=True)
+time.sleep(float(sys.argv[5]))
+"""
+
+
+def dead(room):
+    if not libca.is_installed():
+        print("dead: libca isn't installed")
+        return
+    for options in ((), ("--back-off",)):
+        ears, up = Ears(room, 15), room.upstream(*(variable(f"LIVE{it}", values=[1]) for it in range(10)))
+        server = room.server(*ears.upstreams, up, options=options)
+        looking = subprocess.Popen([sys.executable, "-c", LOOKING, os.path.join(ROOT, ".ci"), os.path.join(ROOT, "examples"),
+                                    text_of(server.address), "1000", "20", str(free_port())], stdout=subprocess.PIPE, stderr=subprocess.DEVNULL)
+        room.started.append(looking.kill)
+        looking.stdout.readline()
+        client, took = room.client(server), []
+        for it in range(10):
+            time.sleep(1.5)
+            began = time.monotonic()
+            client.search(f"LIVE{it}")
+            room.eventually(f"LIVE{it} is asked for", lambda: any(row[3].name == f"LIVE{it}" for row in list(up.channels)))
+            took.append(time.monotonic() - began)
+        looking.wait()
+        # The sixteenth server gets what each of the others does.
+        datagrams, size = ears.datagrams * 16 // 15, ears.bytes * 16 // 15
+        print(f"dead{''.join(f' {it}' for it in options)}: {datagrams:,} datagrams and {size / 1e6:.2f} MB upstream; a live name has a channel "
+              f"{statistics.median(took) * 1e3:.0f} ms after its search, at most {max(took) * 1e3:.0f}", flush=True)
+        if options:
+            room.check("at most 4,000 datagrams and 6 MB", datagrams <= 4000 and size <= 6e6, f"{datagrams}, {size}")
+            room.check("a live name is found within 0.2 s", max(took) <= 0.2, f"{max(took):.3f} s")
+        server.kill()
+
+
+def long(room):
+    rules = ["EVALUATION ORDER ALLOW, DENY"]
+    for it in range(1365):
+        rules += [f"A{it}:.* ALLOW", f"B{it}:\\(.*\\) ALIAS C{it}:\\1", f"D{it}:.* DENY FROM 10.0.0.{it % 250}"]
+    rules.append(".* ALLOW")
+    for options in ((), ("--back-off",)):
+        server = room.server(room.upstream(variable("V", values=[1])), rules="".join(f"{it}\n" for it in rules), options=options)
+        alone = watched(room, server, lambda: time.sleep(5))
+        asker = socket.socket(socket.AF_INET, socket.SOCK_DGRAM)
+
+        def ask():
+            for at in range(100):
+                asker.sendto(b"".join(ca.search(f"{at:03}{it:04}", it) for it in range(2_700)), server.address)
+                time.sleep(0.1)
+        beside = watched(room, server, ask)
+        print(f"long{''.join(f' {it}' for it in options)}: another client's ECHO alone {told(alone)}; beside it {told(beside)}", flush=True)
+        room.check("another client's ECHO takes less than 50 ms", beside[2] < 50, told(beside))
+        server.kill()
+
+
+PARTS = [lazy, echoing, idle, going, announced, dead, long]
 
 
 def main():

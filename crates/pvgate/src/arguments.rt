@@ -128,7 +128,8 @@ name is served. Once it listens it prints: listening ADDR";
 const SERVE_AFTER_HELP: &str = "\
 Lines of standard input:
   ask         the servers are asked for the names that clients look for
-  sweep       the gateway forgets which names clients looked for
+  sweep       the gateway forgets which names clients looked for; one that is still looked for needs
+              two searches before the next sweep
   reload      the rule files are read again; a faulty line is printed, and changes nothing
   connect N   UPSTREAM number N is connected to again, where it is lost
   quit        the gateway ends, as at the end of input
@@ -141,6 +142,11 @@ With --reconnect each UPSTREAM that isn't connected is tried again every so many
 `connect N`, and names are asked for once it is connected, as by `ask`. That it can't be reached is told
 once until then. With --sweep names are forgotten every so many seconds, as by `sweep`. SECONDS is a
 whole number from 1 to 86400; neither is done without its option, and no time is kept to the second.
+
+With --back-off a name that no server has is asked for when it is first looked for, and then after gaps
+that double up to 4.4 minutes, and each UPSTREAM gets at most 4 datagrams in 32 ms. Without it each
+search has all names asked for that no server has, at most ten times a second. --site is what a site
+wants together: --back-off, --clients-of-host 256, and that a reload of an empty rule file is refused.
 
 With --status each who connects to ADDRESS is told of the gateway in one line of JSON, and is hung up on:
 clients, upstreams, rows of each kind, edits of the rules, messages in and out, and the largest outbox.
@@ -182,7 +188,8 @@ pub struct CheckRules<'a> {
 
 /// What `serve` is to serve: the texts of its addresses, the paths of the rule files, the syntax of patterns,
 /// and the texts of how many MiB may wait for a client, after how many seconds lost servers are connected to
-/// again and names are forgotten, what is logged, who is told of it, and how many clients a host may have.
+/// again and names are forgotten, what is logged, who is told of it, how many clients a host may have, and whether
+/// names are asked for more and more seldom and it has what a site wants.
 #[derive(Drop)]
 pub struct Serve<'a> {
     pub listen: &'a str,
@@ -196,6 +203,8 @@ pub struct Serve<'a> {
     pub log: &'a str,
     pub status: Option<&'a str>,
     pub clients_of_host: Option<&'a str>,
+    pub back_off: bool,
+    pub site: bool,
 }
 
 /// Reads a command line, the program's own name first.
@@ -288,6 +297,8 @@ fn operating_options<'a>(alloc: Global, command: Command<'a>) -> Result<Command<
     let log = "What is told on standard error: error, warn, info or debug";
     let status = "It tells each who connects to this address of itself, in one line of JSON";
     let clients_of_host = "So many clients of one host may be connected at once; 1 to 1024";
+    let back_off = "Names that no server has are asked for more and more seldom";
+    let site = "What a site wants: --back-off, --clients-of-host 256, and that no empty rule file is taken at reload";
     Ok(
         command
             .arg(option(alloc, "most-waiting", "MIB", most_waiting).default_value(MOST_WAITING))?
@@ -295,14 +306,21 @@ fn operating_options<'a>(alloc: Global, command: Command<'a>) -> Result<Command<
             .arg(option(alloc, "sweep", "SECONDS", sweep))?
             .arg(option(alloc, "log", "LEVEL", log).default_value(LOG))?
             .arg(option(alloc, "status", "ADDRESS", status))?
-            .arg(option(alloc, "clients-of-host", "N", clients_of_host))?,
+            .arg(option(alloc, "clients-of-host", "N", clients_of_host))?
+            .arg(flag(alloc, "back-off", back_off))?
+            .arg(flag(alloc, "site", site))?,
     )
 }
 
 fn plain_groups<'a>(alloc: Global) -> Arg<'a> {
-    Arg::new(alloc, "plain-groups")
-        .long("plain-groups")
-        .help("Patterns write groups as ( ) |, as those for PCRE do, and not as \\( \\) \\|")
+    let help = "Patterns write groups as ( ) |, as those for PCRE do, and not as \\( \\) \\|";
+    flag(alloc, "plain-groups", help)
+}
+
+fn flag<'a>(alloc: Global, id: &'a str, help: &'a str) -> Arg<'a> {
+    Arg::new(alloc, id)
+        .long(id)
+        .help(help)
         .action(ArgAction::SetTrue)
 }
 
@@ -349,5 +367,7 @@ fn serve_arguments<'a>(alloc: Global, found: &ArgMatches<'a>) -> Result<Serve<'a
         log: found.get_str("log").unwrap_or(LOG),
         status: found.get_str("status"),
         clients_of_host: found.get_str("clients-of-host"),
+        back_off: found.get_flag("back-off"),
+        site: found.get_flag("site"),
     })
 }

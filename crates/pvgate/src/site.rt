@@ -7,6 +7,9 @@ use serve::{
 use std::alloc::{AllocError, Global};
 use std::net::SocketAddr;
 
+/// How many clients a host may have at a site, where nothing else is said.
+const SITE_SEATS: &str = "256";
+
 /// What the command line says of a gateway: its own address, those of servers, the rule files, and how it serves.
 #[derive(Drop)]
 pub struct Site {
@@ -33,8 +36,9 @@ pub fn read_site(alloc: Global, arguments: &Serve<'_>) -> Result<Site, Fault> {
         sweep: read_seconds(alloc, arguments.sweep)?,
         status: read_status(alloc, arguments.status)?,
         log: read_log(alloc, arguments.log)?,
-        clients_of_host: read_seats(alloc, arguments.clients_of_host)?,
-        refuse_empty: false,
+        clients_of_host: read_seats(alloc, seats_of(arguments))?,
+        refuse_empty: arguments.site,
+        back_off: arguments.back_off || arguments.site,
     };
     let files = Files {
         rules: copy(alloc, arguments.rules)?,
@@ -77,6 +81,14 @@ fn read_seconds(alloc: Global, text: Option<&str>) -> Result<Option<Seconds>, Fa
     match Seconds::read(text.as_bytes()) {
         Some(seconds) => Ok(Some(seconds)),
         None => Err(Fault::BadSeconds(String::from_str(alloc, text)?)),
+    }
+}
+
+// A site has at least four hosts before its seats are taken.
+fn seats_of<'a>(arguments: &Serve<'a>) -> Option<&'a str> {
+    match arguments.clients_of_host {
+        None if arguments.site => Some(SITE_SEATS),
+        given => given,
     }
 }
 

@@ -1,87 +1,221 @@
 //! What asks servers for names.
-use crate::hub::{AsHub, Hub};
+use crate::asks::{Asks, ask_each};
+use crate::hub::{AsHub, Hub, Wanted};
 use crate::machine::System;
+use ask_schedule::Schedule;
 use gateway_core::AskFault;
 use pv_name::{Name, NoMemory};
-use pv_search::ask_text;
-use serve_state::Notice;
-use std::thread;
+use serve_state::{AskBudget, AskRhythm, Notice};
+use std::sync::CondvarTimeouts;
 use std::time::Duration;
-
-/// After so many asks it rests for a millisecond, so that the replies find room.
-const BURST: usize = 64;
 
 /// So many wanted names that no server has are worth a notice.
 const MANY_NAMES: usize = 3_500;
 
-/// Asks for all wanted names each time that somebody had it asked.
+/// How many milliseconds a look has, in which so many datagrams may be sent.
+const LOOK: u64 = 32;
+
+/// How many milliseconds a look of the schedule has, which is the first gap between two asks for a name. It is a long
+/// one, so that names that are sought one after the other are asked for again together, in full datagrams.
+const FIRST_GAP: u64 = 512;
+
+/// How many names the schedule keeps.
+const NAME_LIMIT: usize = 65_536;
+
+/// How many names are taken from the schedule at once: as many as four datagrams hold, of names of 31 bytes.
+const PART: usize = 112;
+
+/// What the asker knows besides what is wanted of it.
+#[derive(Drop)]
+struct Asker {
+    rhythm: AskRhythm,
+    schedule: Schedule,
+    budget: AskBudget,
+    // Taken from the schedule, and not sent yet.
+    asks: Asks,
+    had_many: bool,
+    // The time, in milliseconds of the system's clock.
+    now: u64,
+}
+
+impl Asker {
+    fn new(hub: &Hub) -> Asker {
+        Asker {
+            rhythm: AskRhythm::new(hub.options.back_off),
+            schedule: Schedule::new(hub.alloc, NAME_LIMIT),
+            budget: AskBudget::new(),
+            asks: Asks::new(hub.alloc),
+            had_many: false,
+            now: 0,
+        }
+    }
+
+    fn look(&self) -> u64 {
+        self.now / LOOK
+    }
+
+    // The look of the schedule.
+    fn turn(&self) -> u64 {
+        self.now / FIRST_GAP
+    }
+
+    // How many milliseconds it may wait. None where it has nothing to do until something is wanted of it.
+    fn pause(&self) -> Option<u64> {
+        let pause = self.rhythm.wait(self.now);
+        if self.schedule.len() == 0 && self.asks.is_empty() {
+            return pause;
+        }
+        let left = LOOK - self.now % LOOK;
+        Some(pause.unwrap_or(left).min(left))
+    }
+}
+
+/// Asks for wanted names, as often as it is to: for all of them each time that somebody has them asked, or, with
+/// `back_off`, for each at looks that get rarer.
 pub fn ask_servers<R: System, H: AsHub>(rt: R, hub: &H) {
-    let mut had_many = false;
-    while_wanted(rt, hub, &mut had_many);
-}
-
-fn while_wanted<R: System, H: AsHub>(rt: R, hub: &H, had_many: &mut bool) {
+    let mut asker = Asker::new(hub.hub());
     for _ in rt.forever() {
-        if !is_wanted(rt, hub.hub()) {
+        let Some(wanted) = next_wanted(rt, hub.hub(), asker.pause()) else {
             return;
+        };
+        asker.now = milliseconds(rt, asker.now);
+        if wanted.asks {
+            asker.rhythm.want();
         }
-        match hub.gate().asks(&rt) {
-            Ok(names) => {
-                tell_of(rt, hub.hub(), names.len(), had_many);
-                ask_for(rt, hub.hub(), names);
-            }
-            Err(AskFault::OutOfMemory) => hub.hub().tell(&rt, Notice::OutOfMemory),
-            Err(AskFault::Failed) => (),
+        let done = if hub.hub().options.back_off {
+            back_off(rt, hub, &mut asker, wanted)
+        } else {
+            ask_for_all(rt, hub, &mut asker)
+        };
+        if done.is_err() {
+            hub.hub().tell(&rt, Notice::OutOfMemory);
         }
     }
 }
 
-// So many names are asked for.
-fn tell_of<R: System>(rt: R, hub: &Hub, names: usize, had_many: &mut bool) {
-    let has_many = names >= MANY_NAMES;
-    if has_many && !*had_many {
-        hub.tell(&rt, Notice::NamesNearLimit(names));
+/// The time of the system's clock, or a little more than the last one where it can't be read.
+pub fn milliseconds<R: System>(rt: R, last: u64) -> u64 {
+    match rt.monotonic() {
+        Ok(time) => u64::try_from(time.as_millis()).unwrap_or(u64::MAX),
+        Err(_) => last.saturating_add(LOOK),
     }
-    *had_many = has_many;
+}
+
+// What is wanted, once something is or the pause is over. None where the gateway ends.
+fn next_wanted<R: System>(rt: R, hub: &Hub, pause: Option<u64>) -> Option<Wanted> {
+    let wanted = hub.wanted.lock(&rt);
+    let mut wanted = match pause {
+        Some(pause) => {
+            let pause = Duration::from_millis(pause);
+            let (wanted, _) = hub
+                .asker
+                .wait_timeout_while(&rt, wanted, pause, |wanted| wanted.is_nothing());
+            wanted
+        }
+        None => hub
+            .asker
+            .wait_while(&rt, wanted, |wanted| wanted.is_nothing()),
+    };
+    if wanted.end {
+        return None;
+    }
+    Some(wanted.take(hub.alloc))
+}
+
+// The names that are wanted now, where it is due to find out.
+fn wanted_names<R: System, H: AsHub>(rt: R, hub: &H, asker: &mut Asker) -> Option<Vec<Name>> {
+    if !asker.rhythm.look(asker.now) {
+        return None;
+    }
+    match hub.gate().asks(&rt) {
+        Ok(names) => {
+            let has_many = names.len() >= MANY_NAMES;
+            if has_many && !asker.had_many {
+                hub.hub().tell(&rt, Notice::NamesNearLimit(names.len()));
+            }
+            asker.had_many = has_many;
+            Some(names)
+        }
+        Err(AskFault::OutOfMemory) => {
+            hub.hub().tell(&rt, Notice::OutOfMemory);
+            None
+        }
+        Err(AskFault::Failed) => None,
+    }
+}
+
+fn tell_asked<R: System>(rt: R, hub: &Hub, names: usize) {
     if names > 0 {
         hub.tell(&rt, Notice::NamesAsked(names));
     }
 }
 
-// Waits until asks are wanted. False where the gateway ends.
-fn is_wanted<R: System>(rt: R, hub: &Hub) -> bool {
-    let wanted = hub.wanted.lock(&rt);
-    let mut wanted = hub
-        .asker
-        .wait_while(&rt, wanted, |wanted| !wanted.asks && !wanted.end);
-    wanted.asks = false;
-    !wanted.end
-}
-
-fn ask_for<R: System>(rt: R, hub: &Hub, names: Vec<Name>) {
-    let mut count = 0usize;
-    for name in names {
-        if count >= BURST {
-            thread::sleep(&rt, Duration::from_millis(1));
-            if hub.is_closing(&rt) {
-                return;
-            }
-            count = 0;
+// Asks for all names that are wanted, where it is due.
+fn ask_for_all<R: System, H: AsHub>(rt: R, hub: &H, asker: &mut Asker) -> Result<(), NoMemory> {
+    match wanted_names(rt, hub, asker) {
+        Some(names) => {
+            tell_asked(rt, hub.hub(), names.len());
+            ask_each(rt, hub.hub(), names)
         }
-        if ask(rt, hub, name).is_err() {
-            hub.tell(&rt, Notice::OutOfMemory);
-            return;
-        }
-        count += 1;
+        None => Ok(()),
     }
 }
 
-fn ask<R: System>(rt: R, hub: &Hub, name: Name) -> Result<(), NoMemory> {
-    let again = name.copy()?;
-    let cid = hub.asked.lock(&rt).add(again)?;
-    let text = ask_text(hub.alloc, &name, cid)?;
-    for server in hub.servers.as_slice() {
-        let _ = hub.sockets.datagrams.send_to(text.as_slice(), *server);
+// Takes new names into the schedule, and asks for those that are due.
+fn back_off<R: System, H: AsHub>(
+    rt: R,
+    hub: &H,
+    asker: &mut Asker,
+    wanted: Wanted,
+) -> Result<(), NoMemory> {
+    let turn = asker.turn();
+    if wanted.soon {
+        asker.schedule.soon(turn, 0);
+    }
+    for name in &wanted.names {
+        if matches!(hub.gate().is_missing(&rt, name), Ok(true)) {
+            asker.schedule.add(name)?;
+        }
+    }
+    if let Some(names) = wanted_names(rt, hub, asker) {
+        for name in &names {
+            asker.schedule.add(name)?;
+        }
+    }
+    let sent = ask_due(rt, hub, asker);
+    tell_asked(rt, hub.hub(), sent?);
+    Ok(())
+}
+
+// Asks for names that are due, as many as a look's datagrams hold, and answers how many.
+fn ask_due<R: System, H: AsHub>(rt: R, hub: &H, asker: &mut Asker) -> Result<usize, NoMemory> {
+    let look = asker.look();
+    let mut sent = 0usize;
+    for _ in rt.forever() {
+        if !asker.budget.may_send(look) {
+            break;
+        }
+        if asker.asks.is_empty() {
+            take_due(rt, hub, asker)?;
+        }
+        if asker.asks.is_empty() {
+            break;
+        }
+        asker.budget.send(look);
+        sent = sent.saturating_add(asker.asks.send(hub.hub())?);
+    }
+    Ok(sent)
+}
+
+// Takes the names that are due from the schedule. Those that aren't missing any more leave it.
+fn take_due<R: System, H: AsHub>(rt: R, hub: &H, asker: &mut Asker) -> Result<(), NoMemory> {
+    let turn = asker.turn();
+    for name in asker.schedule.due(turn, PART)? {
+        match hub.gate().is_missing(&rt, &name) {
+            Ok(true) => asker.asks.add(rt, hub.hub(), name)?,
+            Ok(false) => asker.schedule.remove(&name),
+            Err(_) => (),
+        }
     }
     Ok(())
 }

@@ -4,9 +4,11 @@ use crate::machine::System;
 use gate_board::Gate;
 use gateway_core::Dest;
 use log::Level;
+use pv_name::Name;
 use serve_state::{Asked, Cut, HostSeats, MostWaiting, Notice, Outages, Roster, Seconds};
 use std::alloc::Global;
 use std::collections::VecDeque;
+use std::mem::replace;
 use std::net::{Shutdown, SocketAddr, TcpListener, TcpStream, UdpSocket};
 use std::sync::{Arc, Condvar, Mutex, Wait};
 
@@ -42,13 +44,55 @@ pub struct Options {
     pub clients_of_host: Option<HostSeats>,
     /// A rule file without a byte is refused when it is read again.
     pub refuse_empty: bool,
+    /// Names are asked for at looks that get rarer.
+    pub back_off: bool,
 }
 
+/// So many names that clients sought wait for the asker. Where there are more, it looks for all.
+const MOST_SOUGHT: usize = 16_384;
+
 /// What is wanted of the asker.
-#[derive(Clone, Copy)]
+#[derive(Drop)]
 pub struct Wanted {
+    /// It is to be found out which names are to be asked for.
     pub asks: bool,
+    /// Each name is to be asked for as if nobody had asked for it yet.
+    pub soon: bool,
+    /// Names that clients sought, and that are missing.
+    pub names: Vec<Name>,
     pub end: bool,
+}
+
+impl Wanted {
+    fn nothing(alloc: Global) -> Wanted {
+        Wanted {
+            asks: false,
+            soon: false,
+            names: Vec::new(alloc),
+            end: false,
+        }
+    }
+
+    pub fn is_nothing(&self) -> bool {
+        !self.asks && !self.soon && !self.end && self.names.is_empty()
+    }
+
+    /// What was wanted; from now on nothing is.
+    pub fn take(&mut self, alloc: Global) -> Wanted {
+        replace(self, Wanted::nothing(alloc))
+    }
+
+    fn seek(&mut self, names: Vec<Name>) {
+        for name in names {
+            if self.names.len() >= MOST_SOUGHT {
+                self.asks = true;
+                return;
+            }
+            if self.names.push(name).is_err() {
+                self.asks = true;
+            }
+        }
+    }
 }
 
 /// A client that was accepted, and isn't greeted yet.
@@ -111,10 +155,7 @@ impl Hub {
                 end: false,
             }),
             arrived: Condvar::new(),
-            wanted: Mutex::new(Wanted {
-                asks: false,
-                end: false,
-            }),
+            wanted: Mutex::new(Wanted::nothing(alloc)),
             asker: Condvar::new(),
             asked: Mutex::new(Asked::new(alloc)),
             outages: Mutex::new(Outages::new()),
@@ -124,7 +165,25 @@ impl Hub {
 
     /// Has the servers asked for all names that are wanted.
     pub fn ask<R: Wait>(&self, rt: &R) {
-        self.wanted.lock(rt).asks = true;
+        {
+            let mut wanted = self.wanted.lock(rt);
+            wanted.asks = true;
+            wanted.soon = true;
+        }
+        self.asker.notify_all();
+    }
+
+    /// Has these names asked for, and those that may be wanted from now on, where there are others. Only who backs
+    /// off looks for it.
+    pub fn seek<R: Wait>(&self, rt: &R, names: Vec<Name>, has_others: bool) {
+        if !self.options.back_off || (names.is_empty() && !has_others) {
+            return;
+        }
+        {
+            let mut wanted = self.wanted.lock(rt);
+            wanted.asks |= has_others;
+            wanted.seek(names);
+        }
         self.asker.notify_all();
     }
 

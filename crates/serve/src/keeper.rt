@@ -80,7 +80,7 @@ fn serve_server<'x, 's: 'x, E: 's, R: System + 's, H: AsHub + Sync + 's>(
     let _ = hub.gate().desk(&rt, Event::UpOpened(number));
     start_workers(rt, &*scope, &*hub, Dest::Upstream(number), stream);
     // Who connects to it again and again isn't there to write `ask`.
-    if hub.hub().options.reconnect.is_some() {
+    if hub.hub().options.reconnect.is_some() || hub.hub().options.back_off {
         hub.hub().ask(&rt);
     }
 }
@@ -112,6 +112,10 @@ fn ended_at<R: System>(rt: R, hub: &Hub, place: &mut usize) -> Option<Dest> {
 
 fn retire<R: System, H: AsHub>(rt: R, hub: &H, dest: Dest) {
     drop(hub.gate().retire(&rt, dest));
+    // Its names are looked for at the other servers.
+    if hub.hub().options.back_off && matches!(dest, Dest::Upstream(_)) {
+        hub.hub().ask(&rt);
+    }
     let removed = hub.hub().roster.lock(&rt).remove(dest);
     if let Some(row) = removed {
         tell_of_end(rt, hub.hub(), dest, *row.peer(), row.cut());

@@ -5,7 +5,8 @@
 //!
 //! - the calling thread moves the board (`serve_core`);
 //! - one accepts clients, one greets them and starts their workers, and one receives datagrams;
-//! - one asks servers for names: it alone sends asks, and rests after 64;
+//! - one asks servers for names: it alone sends asks, as many in a datagram as fit, and rests after 64, or has a
+//!   budget for each look;
 //! - one keeps the connections: it starts the workers of a server that was reached, and takes the rows away of
 //!   those that are lost;
 //! - one looks now and then whether a connection must end whose writer waits for its peer, or too much waits
@@ -17,6 +18,7 @@
 #![tactic(auto)]
 
 mod asker;
+mod asks;
 mod clients;
 mod datagrams;
 mod fault;

@@ -124,6 +124,7 @@ fn perform<
 /// Has it forgotten which names clients looked for.
 pub fn sweep<R: System, H: AsHub>(rt: R, hub: &H) {
     let _ = hub.gate().desk(&rt, Event::Sweep);
+    hub.hub().seek(&rt, Vec::new(hub.hub().alloc), true);
     hub.hub().tell(&rt, Notice::Swept);
 }
 
@@ -149,6 +150,7 @@ fn reload<R: Machine + System, H: AsHub>(
     match read_policy(&rt, hub.hub().alloc, desk, &texts, teller) {
         Ok(policy) => {
             let _ = hub.gate().desk(&rt, Event::Edit(policy));
+            hub.hub().seek(&rt, Vec::new(hub.hub().alloc), true);
             count_edit(rt, hub.hub());
             hub.hub().tell(&rt, Notice::Reloaded);
             None

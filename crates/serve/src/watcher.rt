@@ -53,7 +53,7 @@ fn look_at_all<R: System, H: AsHub>(rt: R, hub: &H) {
 // Why a connection is to be shut; None where it goes on, or the gateway failed.
 fn why_shut<R: System, H: AsHub>(rt: R, hub: &H, dest: Dest) -> Option<Cut> {
     let must_end = hub.gate().must_end(&rt, dest).ok()?;
-    let bytes = hub.gate().queued_bytes(&rt, dest).ok()?;
+    let bytes = hub.gate().waiting_bytes(&rt, dest).ok()?;
     hub.hub()
         .options
         .most_waiting

@@ -1,3 +1,4 @@
+mod BudgetLemmas
 mod LimitLemmas
 mod LogQueueLemmas
 mod NumberLemmas

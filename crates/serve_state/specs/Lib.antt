@@ -1,4 +1,6 @@
+pub mod AskRhythm
 pub mod Asks
+pub mod Clashes
 pub mod FileText
 pub mod Hosts
 pub mod Levels

@@ -1,6 +1,6 @@
 //! The names that servers were asked for.
-ghost use Rattle.std.specs.Prelude.{◌≡◌, [], IfOk, OnOk, OnErr, option_copied};
-ghost use Rattle.serve_state.specs.Asks.{AskedState, age, kept, name_under, with_ask};
+ghost use Rattle.std.specs.Prelude.{◌≡◌, ◌<◌, [], length, IfOk, IfSome, OnOk, OnErr, option_copied};
+ghost use Rattle.serve_state.specs.Asks.{AskedState, age, kept, name_under, other_server, place_under, with_answer, with_ask};
 
 use pv_name::{Name, NoMemory};
 use std::alloc::{AllocError, Global};
@@ -13,11 +13,18 @@ pub const ASKED_LIMIT: usize = 65_536;
 /// The CID after the last one is this one again.
 const FIRST_CID: u32 = 1;
 
+/// A name that servers were asked for, and the number of the one that answered first.
+#[derive(Drop)]
+struct Ask {
+    name: Name,
+    server: Option<u32>,
+}
+
 /// The last asks, each a name under a CID. CIDs rise from 1, and after the last 32-bit number come from 1
 /// again.
 #[derive(Drop)]
 pub struct Asked {
-    names: VecDeque<Name>,
+    asks: VecDeque<Ask>,
     // The CID of the next ask.
     next: u32,
 }
@@ -27,16 +34,16 @@ impl Model for Asked {
 
     ghost Value = { AskedState };
 
-    ghost view = { λ a. record { names = a.names.items; next = a.next } };
+    ghost view = { λ a. record { asks = a.asks.items; next = a.next } };
 }
 
 impl Asked {
     /// No asks yet. It takes no memory.
     pub fn new(alloc: Global) -> Asked
-        ensures { result ≡ record { names = []; next = 1 } }
+        ensures { result ≡ record { asks = []; next = 1 } }
     {
         Asked {
-            names: VecDeque::new(alloc),
+            asks: VecDeque::new(alloc),
             next: FIRST_CID,
         }
     }
@@ -46,12 +53,12 @@ impl Asked {
     pub fn add(&mut self, name: Name) -> Result<u32, NoMemory>
         ensures cid { IfOk result (λ cid. cid ≡ self.old.next) }
         ensures ok { OnOk result (self.new ≡ with_ask name self.old) }
-        ensures err { OnErr result (self.new ≡ record self.old { names = kept self.old.names }) }
+        ensures err { OnErr result (self.new ≡ record self.old { asks = kept self.old.asks }) }
     {
-        if self.names.len() == ASKED_LIMIT {
-            self.names.pop_front();
+        if self.asks.len() == ASKED_LIMIT {
+            self.asks.pop_front();
         }
-        if self.names.push_back(name).is_err() {
+        if self.asks.push_back(Ask { name, server: None }).is_err() {
             return Err(AllocError);
         }
         let cid = self.next;
@@ -63,14 +70,43 @@ impl Asked {
     pub fn find(&self, cid: u32) -> Option<&Name>
         ensures { option_copied result ≡ name_under cid self.now }
     {
+        let place = self.place_of(cid)?;
+        match self.asks.get(place) {
+            Some(ask) => Some(&ask.name),
+            None => None,
+        }
+    }
+
+    /// The server of this number answered the ask under the CID. The server that answered it before, where that is
+    /// another one.
+    pub fn hear(&mut self, cid: u32, server: u32) -> Option<u32>
+        ensures other { result ≡ other_server cid server self.old }
+        ensures new { self.new ≡ with_answer cid server self.old }
+    {
+        let place = self.place_of(cid)?;
+        let ask = self.asks.get_mut(place)?;
+        match ask.server {
+            Some(first) if first != server => Some(first),
+            Some(_) => None,
+            None => {
+                ask.server = Some(server);
+                None
+            }
+        }
+    }
+
+    // The place of the ask under the CID.
+    fn place_of(&self, cid: u32) -> Option<usize>
+        ensures place { result ≡ place_under cid self.now }
+    {
         if cid == 0 {
             return None;
         }
         let age = age(cid, self.next);
-        if self.names.len() < age {
+        if self.asks.len() < age {
             return None;
         }
-        self.names.get(self.names.len() - age)
+        Some(self.asks.len() - age)
     }
 }
 

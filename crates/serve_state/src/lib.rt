@@ -1,7 +1,10 @@
 //! What a serving gateway keeps beside its rows, and decides without a socket or a thread.
 //!
 //! - [`read_order`] reads a line of standard input;
-//! - [`Asked`] keeps the names that servers were asked for, with the CIDs of the asks;
+//! - [`Asked`] keeps the names that servers were asked for, with the CIDs of the asks, and who answered first;
+//! - [`AskRhythm`] says when it is found out which names are to be asked for, and [`AskBudget`] how many datagrams may ask
+//!   for them;
+//! - [`Clashes`] keeps of which names it was told that two servers answered them;
 //! - [`Roster`] keeps the connections: which numbers are held, and how many workers each still has;
 //! - [`HostSeats`] is how many clients a host may have;
 //! - [`MostWaiting`] is how many bytes may wait for a client;
@@ -18,7 +21,9 @@
 //! - [`Report`] is what the gateway tells of itself, as a line of JSON.
 #![tactic(auto)]
 
+mod ask_rhythm;
 mod asked;
+mod clashes;
 mod file_text;
 mod hosts;
 mod level;
@@ -37,7 +42,9 @@ mod spare;
 mod steady;
 mod versions;
 
+pub use ask_rhythm::{AskBudget, AskRhythm, askings_are_apart, looks_have_four_datagrams};
 pub use asked::{ASKED_LIMIT, Asked};
+pub use clashes::Clashes;
 pub use file_text::FileText;
 pub use hosts::HostSeats;
 pub use level::read_level;

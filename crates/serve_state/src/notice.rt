@@ -98,6 +98,8 @@ pub enum Notice<'a> {
     NamesNearLimit(usize),
     /// So many names were asked for.
     NamesAsked(usize),
+    /// Two servers answered for this name, the first of which answered first.
+    NameOfTwo(&'a str, u32, u32),
     /// It was forgotten which names clients looked for.
     Swept,
     /// A line of standard input is none of the orders.
@@ -125,7 +127,8 @@ impl<'a> Notice<'a> {
             | Notice::ServerCut(_, _, _)
             | Notice::ClientCut(_, _, _)
             | Notice::ClientRefused(_, _)
-            | Notice::NamesNearLimit(_) => Level::Warn,
+            | Notice::NamesNearLimit(_)
+            | Notice::NameOfTwo(_, _, _) => Level::Warn,
             Notice::RulesRead(_)
             | Notice::OpenToAll
             | Notice::Reloaded
@@ -174,6 +177,7 @@ impl<'a> Notice<'a> {
             Notice::Closing => 23,
             Notice::LimitMet(_, _) => 24,
             Notice::LinesDropped(_) => 25,
+            Notice::NameOfTwo(_, _, _) => 26,
         }
     }
 }
@@ -238,6 +242,10 @@ impl<'a> fmt::Display for Notice<'a> {
                 )
             }
             Notice::NamesAsked(names) => write!(f, "names asked for: {names}"),
+            Notice::NameOfTwo(name, first, other) => write!(
+                f,
+                "upstreams {first} and {other} both have {name}: the first that answers serves it"
+            ),
             Notice::Swept => f.write_str("swept: searched names are forgotten"),
             Notice::NoOrder => f.write_str("a line that is no order"),
             Notice::OutOfMemory => f.write_str("out of memory"),
