@@ -31,8 +31,8 @@ STORIES = [crowds.thousand, crowds.never_reading, crowds.quitting, idlers.announ
            values.writing, rules.rights, rules.hosts, lines.ordering, lines.starting, lines.remembering,
            chain.chained, packaged.packaged, repeating.unrepeated, repeating.levels, reports.reporting,
            reports.reporting_nowhere, waiting.waiting_too_much, waiting.waiting_little, standing.unread, standing.unwritable, standing.deep,
-           standing.files, standing.endless, standing.seats, standing.kept, asking.backing_off, asking.asking, asking.leading,
-           asking.answering, asking.clashing]
+           standing.files, standing.endless, standing.seats, standing.kept, standing.limited, asking.backing_off, asking.asking,
+           asking.leading, asking.answering, asking.clashing]
 
 
 def tell(program, name):

@@ -19,7 +19,7 @@ _pvgate() {
         0:*) words="replay check-rules serve help -h --help -V --version" ;;
         1:replay) words="--plain -h --help" ;;
         1:check-rules) words="--groups --name --host --plain-groups -h --help" files=yes ;;
-        1:serve) words="--rules --groups --plain-groups --most-waiting --reconnect --sweep --log --status --clients-of-host -h --help" ;;
+        1:serve) words="--rules --groups --plain-groups --most-waiting --reconnect --sweep --log --status --clients-of-host --back-off --site -h --help" ;;
         1:help) words="replay check-rules serve" ;;
         esac
         ;;

@@ -58,6 +58,7 @@ def remembering(room):
     server.write("ask")
     room.eventually("many of them are logged", lambda: server.has_logged("of 4096", "sweep"))
     room.check("it isn't asked for", client.try_open("V") is None and not up.channels)
+    room.eventually("that the table is full is told", lambda: server.has_logged("WARN", "limit met", "4096 searched names are remembered"))
     server.write("sweep")
     channel = client.open("V")
     room.equal("it is after a sweep", channel and client.values(channel), [1])

@@ -6,7 +6,9 @@ import subprocess
 from served.room import free_port, text_of, variable
 
 KEYS = ["clients", "upstreams", "channels", "links", "subscriptions", "reads_waiting", "writes_waiting", "names_remembered", "edits",
-        "messages_in", "messages_out", "largest_outbox_bytes"]
+        "messages_in", "messages_out", "largest_outbox_bytes", "limits"]
+LIMITS = {"names_remembered": 4096, "channels_of_a_client": 4096, "subscriptions_of_a_client": 8192, "reads_of_a_client": 256,
+          "writes_of_a_client": 256, "links": 65536, "clients": 1024, "messages_before_updates_are_held": 4096, "messages_of_a_connection": 16384}
 
 
 def told(address, request=b""):
@@ -38,6 +40,7 @@ def reporting(room):
     room.equal("its keys, in order", list(found), KEYS)
     servers = [{"number": 1, "address": text_of(up.address), "connected": True}, {"number": 2, "address": nobody, "connected": False}]
     room.equal("servers", found["upstreams"], servers)
+    room.equal("limits", found["limits"], {it: {"used": 0, "most": most, "met": 0} for it, most in LIMITS.items()})
     room.equal("nothing is there yet", [found[it] for it in KEYS[2:9]] + [found["clients"]], [0] * 8)
     client, other = room.client(server), room.client(server)
     one, two = client.open("V"), client.open("W")
@@ -50,6 +53,7 @@ def reporting(room):
     room.wait(lambda: figures(address, *KEYS[2:8], "clients") == counted)
     room.equal("rows are counted", figures(address, *KEYS[2:8], "clients"), counted)
     before = json.loads(told(address))
+    room.equal("limits are used", [it["used"] for it in before["limits"].values()][:7], [4, 2, 2, 0, 1, 2, 2])
     room.check("messages are counted", before["messages_in"] > found["messages_in"] and before["messages_out"] > found["messages_out"])
     for _ in range(100):
         client.echo()

@@ -1,6 +1,7 @@
 """What must not stop the gateway: a log that nobody reads, the deepest patterns, files that are none, lines without end, a host with
 many clients, and clients that hold every descriptor."""
 import fcntl
+import json
 import os
 import socket
 import subprocess
@@ -8,6 +9,7 @@ import threading
 import time
 
 import ca_wire as ca
+from served.reports import told
 from served.room import PATIENCE, free_port, text_of, variable
 
 CROWD = 400  # clients that come and go, of each of which two lines tell
@@ -233,4 +235,30 @@ def kept(room):
     for link in links:
         link.close()
     room.eventually("and then there is room for others", lambda: room.admitted(server) is not None)
+    room.equal("quit", server.quit(), 0)
+
+
+def limited(room):
+    """Each limit that a client meets is told once, with how often, and counted in what the gateway tells of itself."""
+    up = room.upstream(variable("V", values=[1]), variable("W", values=[2]))
+    up.statuses["W"] = None
+    address = ("127.0.0.1", free_port())
+    server = room.server(up, options=("--status", text_of(address)))
+    client = room.client(server)
+    one, two = client.open("V"), client.open("W")
+    client.send(*(ca.create("V", 100 + it) for it in range(4100)))
+    room.check("channels", client.take(lambda it: it.command == ca.CREATE_CH_FAIL) is not None and client.echo())
+    client.send(*(ca.subscribe(one.sid, 1 + it, ca.LONG) for it in range(8200)))
+    room.equal("subscriptions", client.error(), 48)
+    room.check("all were heard", client.echo())
+    for _ in range(260):
+        client.start_write(two, [5])
+    room.equal("writes", client.take(lambda it: it.command == ca.WRITE_NOTIFY).p1, 160)
+    room.check("all were heard", client.echo())
+    for words in (("a client has 4096 channels",), ("a client has 8192 subscriptions",), ("256 writes of a client wait",)):
+        room.eventually(f"{words[0]}: it is told", lambda: server.has_logged("WARN", "limit met", *words))
+    room.equal("each once", sum("limit met" in it for it in server.logged), 3)
+    limits = json.loads(told(address))["limits"]
+    room.equal("they are used up", [limits[it]["used"] for it in ("channels_of_a_client", "subscriptions_of_a_client", "writes_of_a_client")], [4096, 8192, 256])
+    room.equal("and counted", [limits[it]["met"] for it in ("channels_of_a_client", "subscriptions_of_a_client", "writes_of_a_client")], [6, 8, 4])
     room.equal("quit", server.quit(), 0)

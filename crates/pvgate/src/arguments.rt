@@ -298,7 +298,8 @@ fn operating_options<'a>(alloc: Global, command: Command<'a>) -> Result<Command<
     let status = "It tells each who connects to this address of itself, in one line of JSON";
     let clients_of_host = "So many clients of one host may be connected at once; 1 to 1024";
     let back_off = "Names that no server has are asked for more and more seldom";
-    let site = "What a site wants: --back-off, --clients-of-host 256, and that no empty rule file is taken at reload";
+    let site =
+        "What a site wants: --back-off, --clients-of-host 256, and that no empty rule file is taken at reload";
     Ok(
         command
             .arg(option(alloc, "most-waiting", "MIB", most_waiting).default_value(MOST_WAITING))?

@@ -138,10 +138,13 @@ fn host_number(peer: &SocketAddr) -> u128 {
 
 fn tell_of<R: System>(rt: R, hub: &Hub, peer: SocketAddr, refusal: Refusal) {
     match refusal {
-        Refusal::Full => hub.tell(
-            &rt,
-            Notice::ClientRefused(peer, "1024 clients are connected"),
-        ),
+        Refusal::Full => {
+            count_refused(rt, hub);
+            hub.tell(
+                &rt,
+                Notice::ClientRefused(peer, "1024 clients are connected"),
+            );
+        }
         Refusal::HostFull => hub.tell(
             &rt,
             Notice::ClientRefused(peer, "as many clients of its host are connected as may be"),
@@ -149,6 +152,11 @@ fn tell_of<R: System>(rt: R, hub: &Hub, peer: SocketAddr, refusal: Refusal) {
         Refusal::OutOfMemory => hub.tell(&rt, Notice::ClientRefused(peer, "out of memory")),
         Refusal::Closing | Refusal::Held => (),
     }
+}
+
+fn count_refused<R: System>(rt: R, hub: &Hub) {
+    let mut refused = hub.refused.lock(&rt);
+    *refused = refused.saturating_add(1);
 }
 
 /// The host that has this address.

@@ -130,6 +130,8 @@ pub struct Hub {
     pub outages: Mutex<Outages>,
     /// How many edits of the rules were taken.
     pub edits: Mutex<u64>,
+    /// How many clients were refused, since as many as can be were connected.
+    pub refused: Mutex<u64>,
 }
 
 impl Hub {
@@ -160,6 +162,7 @@ impl Hub {
             asked: Mutex::new(Asked::new(alloc)),
             outages: Mutex::new(Outages::new()),
             edits: Mutex::new(0),
+            refused: Mutex::new(0),
         }
     }
 

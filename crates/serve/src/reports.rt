@@ -47,6 +47,9 @@ fn report_line<R: System, H: AsHub>(rt: R, hub: &H) -> Option<String> {
         received: traffic.received,
         sent: traffic.sent,
         largest_outbox: largest_outbox(rt, hub),
+        fullest: hub.gate().fullest(&rt),
+        met: hub.gate().limits_met(&rt),
+        refused: *hub.hub().refused.lock(&rt),
     };
     report.line(hub.hub().alloc).ok()
 }

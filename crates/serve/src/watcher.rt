@@ -2,7 +2,7 @@
 use crate::hub::{AsHub, Hub};
 use crate::machine::System;
 use gateway_core::Dest;
-use serve_state::{Cut, Rhythm};
+use serve_state::{Cut, LIMITS, Limit, LimitWatch, Notice, Rhythm};
 use std::net::Shutdown;
 use std::sync::CondvarTimeouts;
 use std::time::Duration;
@@ -15,13 +15,37 @@ const PAUSE: u64 = 250;
 /// doesn't read; nobody else looks for the latter.
 pub fn watch<R: System, H: AsHub>(rt: R, hub: &H) {
     let mut seconds = Rhythm::each_second();
+    let mut watches = [
+        LimitWatch::new(),
+        LimitWatch::new(),
+        LimitWatch::new(),
+        LimitWatch::new(),
+        LimitWatch::new(),
+        LimitWatch::new(),
+        LimitWatch::new(),
+        LimitWatch::new(),
+        LimitWatch::new(),
+    ];
     for _ in rt.forever() {
         if !rests(rt, hub.hub()) {
             return;
         }
         look_at_all(rt, hub);
+        tell_limits(rt, hub, &mut watches);
         if seconds.look() {
             hub.hub().book.end_second(&rt);
+        }
+    }
+}
+
+// Tells which limits were met since they were last told of.
+fn tell_limits<R: System, H: AsHub>(rt: R, hub: &H, watches: &mut [LimitWatch; LIMITS]) {
+    let met = hub.gate().limits_met(&rt);
+    let refused = *hub.hub().refused.lock(&rt);
+    for place in 0..LIMITS {
+        let limit = Limit::ALL[place];
+        if let Some(times) = watches[place].look(limit.met(&met, refused)) {
+            hub.hub().tell(&rt, Notice::LimitMet(limit, times));
         }
     }
 }

@@ -1,5 +1,46 @@
 -- When it is told how often a limit was met. Time is counted in looks, of which there are four a second.
-use Rattle.std.specs.Prelude.{◌≡◌, ℕ, zero, suc, ◌+◌, ◌-◌, ◌≤◌, nat_lt, if◌then◌else◌, List, [], ◌∷◌, length, Option, Some, None, Bool}
+use Rattle.std.specs.Prelude.{◌≡◌, ℕ, zero, suc, ◌+◌, ◌-◌, ◌≤◌, ◌^◌, min, nat_lt, if◌then◌else◌, List, [], ◌∷◌, length, Option, Some, None, Bool}
+use Rattle.gateway_state.specs.declared.limits_met.Fullest.{Fullest}
+use Rattle.gateway_state.specs.declared.limits_met.LimitsMet.{LimitsMet}
+use Rattle.gateway_state.specs.declared.row_counts.RowCounts.{RowCounts}
+use Rattle.serve_state.specs.declared.limits.Limit.{Limit}
+use Rattle.serve_state.specs.declared.limits.Limit.TheVariants.{Names, Channels, Subscriptions, Reads, Writes, Links, Clients, Held, Full}
+
+-- how much there may be
+abbrev pub most_under : Limit → ℕ
+most_under Names = 4096
+most_under Channels = 4096
+most_under Subscriptions = 8192
+most_under Reads = 256
+most_under Writes = 256
+most_under Links = 65536
+most_under Clients = 1024
+most_under Held = 4096
+most_under Full = 16384
+
+-- how often it was met; the server itself refuses clients too
+abbrev pub met_of : Limit → LimitsMet → ℕ → ℕ
+met_of Names met refused = met.names
+met_of Channels met refused = met.channels
+met_of Subscriptions met refused = met.subs
+met_of Reads met refused = met.reads
+met_of Writes met refused = met.writes
+met_of Links met refused = met.links
+met_of Clients met refused = min (met.sessions + refused) (2 ^ 64 - 1)
+met_of Held met refused = met.held
+met_of Full met refused = met.full
+
+-- how much there is now: of all rows, or of whom has most
+abbrev pub used_of : Limit → RowCounts → Fullest → ℕ
+used_of Names rows fullest = rows.searches
+used_of Channels rows fullest = fullest.channels
+used_of Subscriptions rows fullest = fullest.subs
+used_of Reads rows fullest = fullest.reads
+used_of Writes rows fullest = fullest.writes
+used_of Links rows fullest = rows.links
+used_of Clients rows fullest = rows.sessions
+used_of Held rows fullest = fullest.messages
+used_of Full rows fullest = fullest.messages
 
 -- how often the limit was met when that was last told, and at how many looks nothing is told
 pub record WatchState : Type 0 where

@@ -48,7 +48,7 @@ pub use clashes::Clashes;
 pub use file_text::FileText;
 pub use hosts::HostSeats;
 pub use level::read_level;
-pub use limits::{Limit, LimitWatch, limits_are_told_once, told_limits_rest};
+pub use limits::{LIMITS, Limit, LimitWatch, limits_are_told_once, told_limits_rest};
 pub use log_queue::{BYTES_LIMIT, Dropped, KIND_LIMIT, LINES_LIMIT, LogLine, LogQueue, ToLog};
 pub use most::MostWaiting;
 pub use notice::{Cut, FileCause, Notice};

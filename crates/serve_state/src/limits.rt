@@ -1,12 +1,16 @@
 //! Which limits were met, and when that is told.
 ghost use Rattle.std.specs.Prelude.{◌≡◌, ◌+◌, ◌≤◌, ℕ, List, length};
-ghost use Rattle.serve_state.specs.Limits.{WatchState, told_now, after_look, after_looks, told_in, IsSilentFor, IsToldOnce, unwatched};
+ghost use Rattle.serve_state.specs.Limits.{WatchState, told_now, after_look, after_looks, told_in, IsSilentFor, IsToldOnce, met_of, most_under, unwatched, used_of};
 
+use gateway_state::{Fullest, LimitsMet, RowCounts};
 use std::fmt;
 use std::marker::Model;
 
 /// How many looks pass, of which there are four a second, until the same limit is told again.
 const REST: u32 = 240;
+
+/// So many limits are watched.
+pub const LIMITS: usize = 9;
 
 /// A limit of what clients may have, or of what the gateway keeps.
 #[derive(Clone, Copy, Debug, PartialEq, Eq)]
@@ -29,6 +33,83 @@ pub enum Limit {
     Held,
     /// Messages that wait for a connection, at which it is cut off.
     Full,
+}
+
+impl Limit {
+    /// All limits, in the order in which they are told.
+    pub const ALL: [Limit; LIMITS] = [
+        Limit::Names,
+        Limit::Channels,
+        Limit::Subscriptions,
+        Limit::Reads,
+        Limit::Writes,
+        Limit::Links,
+        Limit::Clients,
+        Limit::Held,
+        Limit::Full,
+    ];
+
+    /// How much there may be.
+    pub fn most(self) -> u64
+        ensures { result ≡ most_under self }
+    {
+        match self {
+            Limit::Names | Limit::Channels | Limit::Held => 4_096,
+            Limit::Subscriptions => 8_192,
+            Limit::Reads | Limit::Writes => 256,
+            Limit::Links => 65_536,
+            Limit::Clients => 1_024,
+            Limit::Full => 16_384,
+        }
+    }
+
+    /// How often it was met since the start, where clients were refused so often beside what the gateway counts.
+    pub fn met(self, met: &LimitsMet, refused: u64) -> u64
+        ensures { result ≡ met_of self met.now refused }
+    {
+        match self {
+            Limit::Names => met.names,
+            Limit::Channels => met.channels,
+            Limit::Subscriptions => met.subs,
+            Limit::Reads => met.reads,
+            Limit::Writes => met.writes,
+            Limit::Links => met.links,
+            Limit::Clients => met.sessions.saturating_add(refused),
+            Limit::Held => met.held,
+            Limit::Full => met.full,
+        }
+    }
+
+    /// How much there is now: in all, or of the client or connection that has most.
+    pub fn used(self, rows: &RowCounts, fullest: &Fullest) -> u64
+        ensures { result ≡ used_of self rows.now fullest.now }
+    {
+        match self {
+            Limit::Names => rows.searches as u64,
+            Limit::Channels => fullest.channels,
+            Limit::Subscriptions => fullest.subs,
+            Limit::Reads => fullest.reads,
+            Limit::Writes => fullest.writes,
+            Limit::Links => rows.links as u64,
+            Limit::Clients => rows.sessions as u64,
+            Limit::Held | Limit::Full => fullest.messages,
+        }
+    }
+
+    /// What it is called in what the gateway tells of itself.
+    pub fn key(self) -> &'static str {
+        match self {
+            Limit::Names => "names_remembered",
+            Limit::Channels => "channels_of_a_client",
+            Limit::Subscriptions => "subscriptions_of_a_client",
+            Limit::Reads => "reads_of_a_client",
+            Limit::Writes => "writes_of_a_client",
+            Limit::Links => "links",
+            Limit::Clients => "clients",
+            Limit::Held => "messages_before_updates_are_held",
+            Limit::Full => "messages_of_a_connection",
+        }
+    }
 }
 
 impl fmt::Display for Limit {

@@ -1,5 +1,6 @@
 //! What the gateway tells of itself.
-use gateway_state::RowCounts;
+use crate::limits::Limit;
+use gateway_state::{Fullest, LimitsMet, RowCounts};
 use std::alloc::Global;
 use std::fmt;
 use std::fmt::Write;
@@ -40,6 +41,12 @@ pub struct Report<'a> {
     pub sent: u64,
     /// How many bytes wait for the connection for which most wait.
     pub largest_outbox: u64,
+    /// What those have who have most.
+    pub fullest: Fullest,
+    /// How often limits were met.
+    pub met: LimitsMet,
+    /// How many clients were refused since as many as can be were connected.
+    pub refused: u64,
 }
 
 impl<'a> Report<'a> {
@@ -83,8 +90,20 @@ impl<'a> fmt::Display for Report<'a> {
         )?;
         write!(
             f,
-            ",\"edits\":{},\"messages_in\":{},\"messages_out\":{},\"largest_outbox_bytes\":{}}}",
+            ",\"edits\":{},\"messages_in\":{},\"messages_out\":{},\"largest_outbox_bytes\":{},\"limits\":{{",
             self.edits, self.received, self.sent, self.largest_outbox
-        )
+        )?;
+        let mut comma = "";
+        for limit in &Limit::ALL {
+            let used = limit.used(&self.rows, &self.fullest);
+            let met = limit.met(&self.met, self.refused);
+            let (key, most) = (limit.key(), limit.most());
+            write!(
+                f,
+                "{comma}\"{key}\":{{\"used\":{used},\"most\":{most},\"met\":{met}}}"
+            )?;
+            comma = ",";
+        }
+        f.write_str("}}")
     }
 }
