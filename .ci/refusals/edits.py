@@ -101,9 +101,10 @@ def owner_at(text, line):
 
 
 def path_of(text, file, function):
-    """The path of a function below its crate, as a check prints it."""
+    """The path of a function below its crate, as a check prints it; of a method its type and its name, since the type may
+    stand in another module."""
     name, first, _ = function
     module = re.sub(r"(/mod|^src/lib|^src/main)?\.rt$", "", file).removeprefix("src").strip("/")
     is_method = text.split("\n")[first - 1].startswith(" ")
-    parts = [*module.split("/"), owner_at(text, first) if is_method else "", name]
+    parts = [owner_at(text, first), name] if is_method else [*module.split("/"), name]
     return "::".join(it for it in parts if it)

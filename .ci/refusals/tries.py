@@ -71,16 +71,16 @@ def write(texts, folder):
             it.write(text)
 
 
-def refusal(said, functions):
+def refusal(said, functions, texts):
     """The line of a check that refuses the goals of one of these functions, or None."""
     for line in said:
         at = PLACE.match(line)
         if not at or NOT_ITS_OWN.search(at[3]):
             continue
         for file, (name, first, last) in functions:
-            module = re.sub(r"(/mod|^src/lib|^src/main)?\.rt$", "", file).removeprefix("src")
+            answers = path_of(texts[file], file, (name, first, last)).replace("::", "/")
             is_goal = at[1] == file and first <= int(at[2]) <= last and "it is not proved" in at[3]
-            is_answer = re.fullmatch(rf"proofs{module}/(\w+/)?{name}/\S+", at[1]) and at[3].startswith("error")
+            is_answer = re.fullmatch(rf"proofs/(\w+/)*{answers}/\w+\.antt", at[1]) and at[3].startswith("error")
             if is_goal or is_answer:
                 return line
     return None
@@ -119,7 +119,7 @@ def tried_together(group, folder, jobs, is_whole):
     shutil.rmtree(f"{folder}/out/incremental", ignore_errors=True)
     came, left = [], []
     for edit, functions in group["edits"]:
-        why = refusal(said, functions) if is_proved is False else None
+        why = refusal(said, functions, texts) if is_proved is False else None
         if is_proved is False and len(group["edits"]) == 1 and not any(UNREAD.match(it) for it in said):
             why = why or next((it for it in said if PLACE.match(it) and not NOT_ITS_OWN.search(it)), None)
         if why:
