@@ -4,6 +4,7 @@ pub mod BySid
 pub mod Counting
 pub mod Following
 pub mod Indexed
+pub mod Joined
 pub mod Keyed
 pub mod Listed
 pub mod Lists

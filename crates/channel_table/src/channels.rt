@@ -157,7 +157,7 @@ impl Channels {
     pub(crate) fn count_on(&self, name: &Name) -> usize
         ensures { result ≡ length (filter (is_on name.now) self.now) }
     {
-        self.rows.keys_on(name).len()
+        self.rows.count_on(name)
     }
 
     pub(crate) fn nth_on(&self, name: &Name, n: usize) -> Option<&Channel>

@@ -24,7 +24,7 @@
 //! of sessions in rising order, so that a look-up costs the same beside many rows as beside few. What is
 //! asked for of each real name is counted as rows come, go and change. A channel that goes, or whose
 //! rights change, finds what hangs on it by its ID, and looks at no row beside. A removal may still walk the
-//! keys of the same name, and the IDs of its own session.
+//! IDs of its own session; of the keys of the same name it moves some hundred at most.
 //!
 //! A contract sees a `Table` as four lists. Each call changes the rows that it names alone, a refused
 //! one none, and a limit refuses exactly where it is reached; limits are in `laws::numbers_are_these`.

@@ -5,12 +5,12 @@ ghost use Rattle.std.specs.Option.{option_copied};
 ghost use Rattle.rows.specs.Rows.{change_first};
 ghost use Rattle.row_index.specs.declared.key.Key.{Key as RowKey};
 ghost use Rattle.row_index.specs.Lists.{is_key, of, AddsTo, RemovesFrom, SameLists};
+ghost use Rattle.row_index.specs.Pieces.{joined};
 ghost use Rattle.row_index.specs.Rows.{has_key, lacks_key, value_at};
 ghost use Rattle.channel_table.specs.Indexes.{changed_by, is_at, is_not_at, is_owned, row_at, IsApart, IsListedOn, IsUnlisted, IsUnlistedOn};
 
-use crate::keys::nth_key;
 use pv_name::Name;
-use row_index::{Key, NameLists, RowMap};
+use row_index::{Key, NameKeys, RowMap, Sequence};
 use std::alloc::{AllocError, Global};
 use std::marker::Model;
 
@@ -47,7 +47,7 @@ pub(crate) trait Changing: Row {
 #[derive(Drop)]
 pub(crate) struct NamedRows<T: Row> {
     rows: RowMap<T>,
-    on: NameLists,
+    on: NameKeys,
 }
 
 impl<T: Row> Model for NamedRows<T> {
@@ -69,7 +69,7 @@ impl<T: Row> NamedRows<T> {
     {
         NamedRows {
             rows: RowMap::new(alloc),
-            on: NameLists::new(alloc),
+            on: NameKeys::new(alloc),
         }
     }
 
@@ -118,9 +118,16 @@ impl<T: Row> NamedRows<T> {
         self.rows.of(owner, n)
     }
 
-    /// The keys that are listed under a name.
-    pub(crate) fn keys_on(&self, name: &Name) -> &[Key]
-        ensures { result.now ≡ of self.now.on name.now }
+    /// How many keys are listed under a name.
+    pub(crate) fn count_on(&self, name: &Name) -> usize
+        ensures { result ≡ length (of self.now.on name.now) }
+    {
+        self.on.count(name)
+    }
+
+    /// The keys that are listed under a name: those of some pieces, and those behind them.
+    pub(crate) fn keys_on(&self, name: &Name) -> (&[Sequence<Key>], &[Key])
+        ensures { joined result.0.now ++ result.1.now ≡ of self.now.on name.now }
     {
         self.on.of(name)
     }
@@ -129,7 +136,7 @@ impl<T: Row> NamedRows<T> {
     pub(crate) fn nth_on(&self, name: &Name, n: usize) -> Option<&T>
         ensures { option_copied result ≡ row_at T.key self.now.rows (slice_get (of self.now.on name.now) n) }
     {
-        match nth_key(&self.on, name, n) {
+        match self.on.nth(name, n) {
             Some(key) => self.rows.get(key),
             None => None,
         }
@@ -155,7 +162,7 @@ impl<T: Row> NamedRows<T> {
         ensures rows { self.new.rows ≡ filter (is_not_at T.key key) self.old.rows }
         ensures on { RemovesFrom name.now key self.old.on self.new.on }
     {
-        self.on.remove(name, key);
+        self.on.remove(name, key, &self.rows);
         self.rows.remove(key);
     }
 }
@@ -213,7 +220,7 @@ fn keep_if<T: Row>(
 }
 
 /// Lists a row that stands under its own name. It isn't listed yet.
-fn list<T: Named>(rows: &RowMap<T>, on: &mut NameLists, key: Key) -> Result<(), AllocError>
+fn list<T: Named>(rows: &RowMap<T>, on: &mut NameKeys, key: Key) -> Result<(), AllocError>
     requires new { IsUnlisted T.name (value_at key rows.now) key on.old }
     ensures ok { OnOk result (IsListedOn T.name (value_at key rows.now) key on.old on.new) }
     ensures err { OnErr result (SameLists on.old on.new) }
@@ -225,11 +232,11 @@ fn list<T: Named>(rows: &RowMap<T>, on: &mut NameLists, key: Key) -> Result<(), 
 }
 
 /// Takes a row off the list of its own name.
-fn unlist<T: Named>(rows: &RowMap<T>, on: &mut NameLists, key: Key)
+fn unlist<T: Named>(rows: &RowMap<T>, on: &mut NameKeys, key: Key)
     ensures { IsUnlistedOn T.name (value_at key rows.now) key on.old on.new }
 {
     if let Some(row) = rows.get(key) {
-        on.remove(row.name(), key);
+        on.remove(row.name(), key, rows);
     }
 }
 

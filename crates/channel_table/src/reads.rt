@@ -3,13 +3,14 @@ ghost use Rattle.std.specs.Prelude.{◌≡◌, ℕ, List, [], ◌∷◌, ◌++�
 ghost use Rattle.std.specs.List.{filter, find, count_by, list_any};
 ghost use Rattle.std.specs.Option.{option_map};
 ghost use Rattle.row_index.specs.Lists.{is_key, of, AddsTo, RemovesFrom, SameLists};
+ghost use Rattle.row_index.specs.Pieces.{joined};
 ghost use Rattle.channel_table.specs.Indexes.{is_at, is_kept, is_kept_like, is_kept_on, is_not_kept, read_home, read_in, read_key, reads_in, row_at, rows_at, IsApart, IsUnlistedBySid};
 ghost use Rattle.channel_table.specs.Reads.{is_read_of};
 
 use crate::keys::key_of;
 use crate::named_rows::{NamedRows, Row};
 use pv_name::Name;
-use row_index::{Key, OwnerKeys};
+use row_index::{Key, OwnerKeys, Sequence};
 use std::alloc::{AllocError, Global};
 use std::marker::Model;
 
@@ -110,7 +111,7 @@ impl Reads {
     pub(crate) fn count_on(&self, name: &Name) -> usize
         ensures { result ≡ length (of self.now.on name.now) }
     {
-        self.rows.keys_on(name).len()
+        self.rows.count_on(name)
     }
 
     pub(crate) fn nth_on(&self, name: &Name, n: usize) -> Option<WaitingRead>
@@ -126,7 +127,11 @@ impl Reads {
     pub(crate) fn all_on(&self, name: &Name, alloc: Global) -> Result<Vec<WaitingRead>, AllocError>
         ensures { IfOk result (λ reads. reads.items ≡ map read_in (rows_at read_key self.now.rows (of self.now.on name.now))) }
     {
-        reads_at(&self.rows, self.rows.keys_on(name), alloc)
+        let (pieces, last) = self.rows.keys_on(name);
+        let mut reads = Vec::new(alloc);
+        add_pieces(&self.rows, pieces, &mut reads)?;
+        add_at(&self.rows, last, &mut reads)?;
+        Ok(reads)
     }
 
     /// The first read on a channel. No other is looked at than those that name its ID.
@@ -235,21 +240,35 @@ fn copied(rows: &[&KeptRead], alloc: Global) -> Result<Vec<WaitingRead>, AllocEr
     Ok(reads)
 }
 
-/// The reads under these keys.
-fn reads_at(
+/// Adds the reads under the keys of these pieces to a list.
+#[tactic(auto, using(crate::proofs::Joined::read_joined))]
+fn add_pieces(
+    rows: &NamedRows<KeptRead>,
+    pieces: &[Sequence<Key>],
+    reads: &mut Vec<WaitingRead>,
+) -> Result<(), AllocError>
+    ensures added { OnOk result (reads.new.items ≡ reads.old.items ++ map read_in (rows_at read_key rows.now.rows (joined pieces.now))) }
+{
+    for piece in pieces {
+        add_at(rows, piece.as_slice(), reads)?;
+    }
+    Ok(())
+}
+
+/// Adds the reads under these keys to a list.
+fn add_at(
     rows: &NamedRows<KeptRead>,
     keys: &[Key],
-    alloc: Global,
-) -> Result<Vec<WaitingRead>, AllocError>
-    ensures { IfOk result (λ reads. reads.items ≡ map read_in (rows_at read_key rows.now.rows keys.now)) }
+    reads: &mut Vec<WaitingRead>,
+) -> Result<(), AllocError>
+    ensures added { OnOk result (reads.new.items ≡ reads.old.items ++ map read_in (rows_at read_key rows.now.rows keys.now)) }
 {
-    let mut reads = Vec::new(alloc);
     for key in keys {
         if let Some(row) = rows.get(*key) {
             reads.push(row.read)?;
         }
     }
-    Ok(reads)
+    Ok(())
 }
 
 /// The first of these rows that is on a channel.

@@ -4,6 +4,7 @@ ghost use Rattle.std.specs.List.{filter, find, count_by, list_any};
 ghost use Rattle.std.specs.Option.{option_copied};
 ghost use Rattle.rows.specs.Rows.{change_first};
 ghost use Rattle.row_index.specs.Lists.{is_key, of, AddsTo, RemovesFrom, SameLists};
+ghost use Rattle.row_index.specs.Pieces.{joined};
 ghost use Rattle.channel_table.specs.Indexes.{is_at, sub_home, sub_key, rows_at, IsApart, IsUnlistedBySid};
 ghost use Rattle.channel_table.specs.Subs.{is_sub, is_not_sub, is_sub_of, is_sub_on, with_owed};
 ghost use Rattle.channel_table.specs.Demand.{all_exchanged, exchanged_on};
@@ -13,7 +14,7 @@ use crate::keys::key_of;
 use crate::named_rows::{Changing, NamedRows, Row};
 use mask_merge::Tally;
 use pv_name::Name;
-use row_index::{Key, OwnerKeys};
+use row_index::{Key, OwnerKeys, Sequence};
 use std::alloc::{AllocError, Global};
 use std::marker::Model;
 
@@ -126,7 +127,7 @@ impl Subs {
     pub(crate) fn count_on(&self, name: &Name) -> usize
         ensures { result ≡ length (of self.now.on name.now) }
     {
-        self.rows.keys_on(name).len()
+        self.rows.count_on(name)
     }
 
     /// Fills an empty list with the subscriptions that lead to a real name.
@@ -134,7 +135,10 @@ impl Subs {
         requires empty { subs.old.items ≡ [] }
         ensures listed { OnOk result (subs.new.items ≡ rows_at sub_key self.now.rows (of self.now.on name.now)) }
     {
-        list_at(&self.rows, self.rows.keys_on(name), subs)
+        let (pieces, last) = self.rows.keys_on(name);
+        list_pieces(&self.rows, pieces, subs)?;
+        list_at(&self.rows, last, subs)?;
+        Ok(())
     }
 
     /// The first subscription on a channel. No other is looked at than those that name its ID.
@@ -209,14 +213,28 @@ fn unlist(rows: &NamedRows<ClientSub>, by_sid: &mut OwnerKeys, key: Key)
     }
 }
 
-/// Fills an empty list with the subscriptions under these keys.
+/// Adds the subscriptions under the keys of these pieces to a list.
+#[tactic(auto, using(crate::proofs::Joined::first_joined))]
+fn list_pieces(
+    rows: &NamedRows<ClientSub>,
+    pieces: &[Sequence<Key>],
+    subs: &mut Vec<ClientSub>,
+) -> Result<(), AllocError>
+    ensures listed { OnOk result (subs.new.items ≡ subs.old.items ++ rows_at sub_key rows.now.rows (joined pieces.now)) }
+{
+    for piece in pieces {
+        list_at(rows, piece.as_slice(), subs)?;
+    }
+    Ok(())
+}
+
+/// Adds the subscriptions under these keys to a list.
 fn list_at(
     rows: &NamedRows<ClientSub>,
     keys: &[Key],
     subs: &mut Vec<ClientSub>,
 ) -> Result<(), AllocError>
-    requires empty { subs.old.items ≡ [] }
-    ensures listed { OnOk result (subs.new.items ≡ rows_at sub_key rows.now.rows keys.now) }
+    ensures listed { OnOk result (subs.new.items ≡ subs.old.items ++ rows_at sub_key rows.now.rows keys.now) }
 {
     subs.reserve(keys.len())?;
     for key in keys {

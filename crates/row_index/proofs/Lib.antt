@@ -1,4 +1,5 @@
 pub mod Agreeing
+pub mod InPieces
 pub mod Keys
 pub mod Known
 pub mod Sequences

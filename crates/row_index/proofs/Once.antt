@@ -49,7 +49,8 @@ module _ {X : Type 0} (p : X → Bool) where
       let rest = one_passes xs i x at passes in
       elim (p y) as (λ t. 1 ≤ length (cond t (y ∷ filter p xs) (filter p xs))) [ true ↦ omega arith | false ↦ rest ]
 
-  all_fail : (xs : List X) → length (filter p xs) ≤ 0 → xs ≡ filter (λ x. not (p x)) xs
+  -- those that don't pass are all
+  pub all_fail : (xs : List X) → length (filter p xs) ≤ 0 → xs ≡ filter (λ x. not (p x)) xs
   all_fail [] none = refl
   all_fail (x ∷ xs) none =
       elim (p x) as (λ t. length (cond t (x ∷ filter p xs) (filter p xs)) ≤ 0 → x ∷ xs ≡ cond (not t) (x ∷ filter (λ y. not (p y)) xs) (filter (λ y. not (p y)) xs)) [

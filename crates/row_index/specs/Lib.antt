@@ -1,7 +1,9 @@
+pub mod HeldApart
 pub mod HeldIds
 pub mod HeldKeys
 pub mod KeyLists
 pub mod Lists
+pub mod Pieces
 pub mod RowLends
 pub mod Rows
 pub mod SlotLends

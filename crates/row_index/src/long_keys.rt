@@ -5,6 +5,7 @@ ghost use Rattle.row_index.specs.KeyLists.{AreApart, IsUpTo};
 ghost use Rattle.row_index.specs.Lists.{is_key, is_not_key};
 
 use crate::key::Key;
+use crate::places::place_in;
 use crate::sequence::Sequence;
 use std::alloc::{AllocError, Global};
 use std::marker::Model;
@@ -148,66 +149,5 @@ fn raised(top: Key, key: Key) -> Key
     Key {
         owner: top.owner.max(key.owner),
         id: top.id.max(key.id),
-    }
-}
-
-// A place of a key: an end, or what a search finds.
-fn place_in(keys: &[Key], key: Key) -> Option<usize>
-    ensures { IfSome result (λ place. slice_get keys.now place ≡ Some key) }
-{
-    let last = keys.len().saturating_sub(1);
-    if is_at(keys, 0, key) {
-        Some(0)
-    } else if is_at(keys, last, key) {
-        Some(last)
-    } else {
-        searched(keys, key)
-    }
-}
-
-// A place of a key among IDs that rise, among owners that rise, or else by a walk.
-fn searched(keys: &[Key], key: Key) -> Option<usize>
-    ensures { IfSome result (λ place. slice_get keys.now place ≡ Some key) }
-{
-    let by_id = by_id(keys, key.id);
-    if is_at(keys, by_id, key) {
-        return Some(by_id);
-    }
-    let by_owner = by_owner(keys, key.owner);
-    if is_at(keys, by_owner, key) {
-        return Some(by_owner);
-    }
-    walked(keys, key)
-}
-
-fn walked(keys: &[Key], key: Key) -> Option<usize>
-    ensures { IfSome result (λ place. slice_get keys.now place ≡ Some key) }
-{
-    match keys.iter().position(|other| *other == key) {
-        Some(place) if is_at(keys, place, key) => Some(place),
-        _ => None,
-    }
-}
-
-fn by_id(keys: &[Key], id: u32) -> usize {
-    match keys.binary_search_by_key(&id, |other| other.id) {
-        Ok(place) => place,
-        Err(place) => place,
-    }
-}
-
-fn by_owner(keys: &[Key], owner: u32) -> usize {
-    match keys.binary_search_by_key(&owner, |other| other.owner) {
-        Ok(place) => place,
-        Err(place) => place,
-    }
-}
-
-fn is_at(keys: &[Key], place: usize, key: Key) -> bool
-    ensures { IsTrue result → slice_get keys.now place ≡ Some key }
-{
-    match keys.get(place) {
-        Some(other) => *other == key,
-        None => false,
     }
 }

@@ -61,6 +61,11 @@ impl<V> RowMap<V> {
         self.rows.get(key)
     }
 
+    // Rows that were added later have higher places: a guide for searches, of which nothing is promised.
+    pub(crate) fn place(&self, key: Key) -> usize {
+        self.rows.place(key).unwrap_or(0)
+    }
+
     /// Whether there is a row under this key.
     #[inline]
     pub fn contains(&self, key: Key) -> bool

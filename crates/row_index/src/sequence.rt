@@ -1,16 +1,17 @@
 //! Lists that give up their first ones.
 ghost use Rattle.std.specs.Prelude.{◌≡◌, ◌<◌, ◌≤◌, suc, [], ◌∷◌, ◌++◌, IfOk, OnOk, OnErr, length, take, drop};
 ghost use Rattle.std.specs.List.{filter};
-ghost use Rattle.row_index.specs.Lists.{is_not_id, is_not_key};
+ghost use Rattle.row_index.specs.Lists.{is_key, is_not_id, is_not_key};
 
 use crate::key::Key;
+use crate::places::place_in;
 use std::alloc::{AllocError, Global};
 use std::marker::Model;
 
 /// A list in the order of adding. The first one goes without moving the others; at most half of the
 /// memory is for such as went.
 #[derive(Drop)]
-pub(crate) struct Sequence<X> {
+pub struct Sequence<X> {
     items: Vec<X>,
     gone: usize,
 }
@@ -44,7 +45,8 @@ impl<X: Copy> Sequence<X> {
         Ok(list)
     }
 
-    pub(crate) fn as_slice(&self) -> &[X]
+    /// The list.
+    pub fn as_slice(&self) -> &[X]
         ensures { result.now ≡ self.now }
     {
         &self.items[self.gone..]
@@ -55,6 +57,15 @@ impl<X: Copy> Sequence<X> {
         ensures err { OnErr result (self.new ≡ self.old) }
     {
         self.items.push(one)?;
+        Ok(())
+    }
+
+    /// Adds these as the last ones.
+    pub(crate) fn extend(&mut self, more: &[X]) -> Result<(), AllocError>
+        ensures ok { OnOk result (self.new ≡ self.old ++ more.now) }
+        ensures err { OnErr result (self.new ≡ self.old) }
+    {
+        self.items.extend_from_slice(more)?;
         Ok(())
     }
 
@@ -90,6 +101,17 @@ impl Sequence<Key> {
         squeeze(&mut self.items, self.gone);
         self.gone = 0;
         keep_other_keys(&mut self.items, key);
+    }
+
+    /// Takes out a key that stands there once at most. Those behind it move, but where it is the first.
+    pub(crate) fn remove_only(&mut self, key: Key)
+        requires once { length (filter (is_key key) self.old) ≤ 1 }
+        ensures { self.new ≡ filter (is_not_key key) self.old }
+    {
+        match place_in(self.as_slice(), key) {
+            Some(place) => self.remove(place),
+            None => self.remove_all(key),
+        }
     }
 }
 

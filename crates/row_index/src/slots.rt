@@ -67,6 +67,11 @@ impl<V> Slots<V> {
         }
     }
 
+    /// The place of a row among the slots, where there is one: rows that were added later have higher ones.
+    pub(crate) fn place(&self, key: Key) -> Option<usize> {
+        find_place(&self.slots, &self.places, &self.hints, key)
+    }
+
     #[inline]
     pub(crate) fn get_mut(&mut self, key: Key) -> Option<&mut V>
         ensures* writes_back { sem 𝓛 (lends_value V.row self.entry key result) }

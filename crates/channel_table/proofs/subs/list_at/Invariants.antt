@@ -6,4 +6,4 @@ use Rattle.channel_table.proofs.subs.list_at.Given as goal
 abbrev pub invariant-loop-key : goal.invariant-loop-key
 invariant-loop-key l =
     l.subs.items ++ rows_at sub_key l.rows.rows (drop l.key-index l.keys)
-    ≡ rows_at sub_key l.rows.rows l.keys
+    ≡ l.initial.subs.items ++ rows_at sub_key l.rows.rows l.keys
