@@ -8,10 +8,9 @@ from codes import (
     ECA_NORDACCESS, ECA_NOWTACCESS, ECA_PUTFAIL, ECA_TOLARGE, TEXTS,
 )
 from rows import (
-    ALARM, LOWEST_MINOR, MESSAGES_WAIT, MINOR, MOST_CHANNELS, MOST_LINKS, MOST_READS,
-    MOST_SEARCHES, MOST_SERVERS, MOST_SESSIONS, MOST_SUBS, MOST_WRITES, PROPERTIES, PROPERTY,
-    SERVED_EVENTS, UPDATES_WAIT, VALUE, VALUES,
-    Channel, Link, Outbox, Session, Subscription, Upstream, Waiting,
+    ALARM, LOWEST_MINOR, MESSAGES_WAIT, MINOR, PROPERTIES, PROPERTY, SERVED_EVENTS, UPDATES_WAIT,
+    VALUE, VALUES,
+    Channel, Limits, Link, Outbox, Search, Session, Subscription, Upstream, Waiting,
 )
 from rules import resolved
 from servers import Servers
@@ -27,6 +26,7 @@ class Gateway(Servers):
         self.links, self.searches = [], []
         self.rules, self.groups = None, {}
         self.next = dict.fromkeys(("sid", "cid", "sub", "ioid"), 1)
+        self.limits, self.last_age = Limits(), dict(self.next)
 
     def number(self, counter):
         self.next[counter] += 1
@@ -84,7 +84,7 @@ class Gateway(Servers):
         return connected and lead is not None and lead[0] == channel.real
 
     def wanted(self):
-        leads = (resolved(self.rules, host, name) for host, name in self.searches)
+        leads = (resolved(self.rules, search.host, search.name) for search in self.searches)
         return {channel.real for channel in self.channels} | {lead[0] for lead in leads if lead}
 
     def asks(self):
@@ -145,9 +145,9 @@ class Gateway(Servers):
         self.give_updates()
 
     def opened(self, session, host):
-        if session in self.sessions or len(self.sessions) >= MOST_SESSIONS:
+        if session in self.sessions or len(self.sessions) >= self.limits.sessions:
             return
-        self.sessions[session] = Session(host)
+        self.sessions[session] = Session(host, host)
         self.boxes["s", session] = Outbox()
         self.tell(session, wire.VERSION, 0, MINOR, 0, 0)
 
@@ -159,7 +159,7 @@ class Gateway(Servers):
             rows[:] = [row for row in rows if row.session != session]
 
     def up_opened(self, server):
-        if server in self.servers or len(self.servers) >= MOST_SERVERS:
+        if server in self.servers or len(self.servers) >= self.limits.servers:
             return
         self.servers[server] = 0
         self.boxes["u", server] = Outbox()
@@ -175,7 +175,8 @@ class Gateway(Servers):
         self.writes = [write for write in self.writes if write.server != server]
 
     def found(self, name, server):
-        if not self.acts(("u", server)) or name not in self.asks() or len(self.links) >= MOST_LINKS:
+        full = len(self.links) >= self.limits.links
+        if full or not self.acts(("u", server)) or name not in self.asks():
             return
         link = Link(self.number("cid"), server, name)
         self.links.append(link)
@@ -183,16 +184,59 @@ class Gateway(Servers):
 
     def search(self, host, name):
         """Somebody at the host looks for a name."""
-        if resolved(self.rules, host, name) is None or len(self.searches) >= MOST_SEARCHES:
-            return
-        if (host.lower(), name) not in ((h.lower(), n) for h, n in self.searches):
-            self.searches.append((host, name))
+        if resolved(self.rules, host, name) is not None:
+            self.remember(host, name)
+
+    def search_for(self, host, name):
+        return next((s for s in self.searches if s.is_from(host) and s.name == name), None)
+
+    def remember(self, host, name):
+        search = self.search_for(host, name)
+        if search:
+            search.fresh = True
+            if self.limits.makes_room:
+                self.searches.remove(search)
+                self.searches.append(search)
+        elif self.limits.makes_room:
+            self.make_room(host)
+            self.searches.append(Search(host, name))
+        elif len(self.searches) < self.limits.searches:
+            self.searches.append(Search(host, name))
+
+    def make_room(self, host):
+        """One old search goes where the host has its share, or where all are as many as may be."""
+        own = [search for search in self.searches if search.is_from(host)]
+        if own and len(own) >= self.limits.share:
+            self.searches.remove(own[0])
+        elif self.searches and len(self.searches) >= self.limits.searches:
+            self.searches.pop(0)
 
     def sweep(self):
         self.searches = []
 
     def edit(self, rules, groups):
         self.rules, self.groups = rules, groups
+
+    def limit(self, name, value):
+        setattr(self.limits, name, value)
+
+    def age(self):
+        """What was asked for before the last age and didn't come is given up."""
+        for link in [link for link in self.links if self.owes_properties(link)]:
+            self.fail_reads(link, PROPERTIES)
+        self.links = [link for link in self.links
+                      if link.state != "creating" or link.cid >= self.last_age["cid"]]
+        self.last_age = dict(self.next)
+        self.searches = [search for search in self.searches if search.fresh]
+        for search in self.searches:
+            search.fresh = False
+
+    def owes_properties(self, link):
+        asked = link.upstream.get(PROPERTIES)
+        return asked is not None and asked.id < self.last_age["sub"] and link.properties is None
+
+    def probe(self, server):
+        self.ask(server, wire.ECHO, 0, 0, 0, 0)
 
     def drain(self, dest, count, taken):
         if dest in self.boxes:
@@ -269,6 +313,7 @@ class Gateway(Servers):
             link = self.link(channel.real)
             takes = not self.sessions[sub.session].paused and not box.marked
             takes = takes and len(box.messages) < UPDATES_WAIT
+            takes = takes and sum(map(len, box.messages)) < self.limits.update_bytes
             given = takes and self.may_read(channel) and self.covers(link, sub.dtype, sub.count)
             if sub.owed and given:
                 sub.owed = False
@@ -316,7 +361,11 @@ class Gateway(Servers):
                 row.host = host
         elif request.command == wire.ECHO:
             self.tell(session, *request)
-        elif request.command != wire.CLIENT_NAME:
+        elif request.command == wire.CLIENT_NAME:
+            user = wire.nul_ended(request.payload, wire.is_name)
+            if user and not row.host_fixed:
+                row.user = user
+        else:
             self.error(session, request, ECA_INTERNAL)
 
     def error(self, session, request, code, cid=wire.NO_CHANNEL):
@@ -328,11 +377,11 @@ class Gateway(Servers):
         row.host_fixed = True
         name = wire.nul_ended(request.payload, wire.is_name)
         lead = resolved(self.rules, row.host, name) if name else None
-        full = sum(c.session == session for c in self.channels) >= MOST_CHANNELS
+        full = sum(c.session == session for c in self.channels) >= self.limits.channels
         link = self.link(lead[0]) if lead else None
         if lead is None or full or link is None or link.state != "connected":
             if lead and not full:
-                self.search(row.host, name)
+                self.remember(row.host, name)
             self.tell(session, wire.CREATE_CH_FAIL, 0, 0, request.p1, 0)
             return
         rights = link.rights & self.left_by_group(lead[1])
@@ -340,6 +389,9 @@ class Gateway(Servers):
         self.channels.append(Channel(session, sid, request.p1, name, lead[0], rights))
         self.tell(session, wire.ACCESS_RIGHTS, 0, 0, request.p1, rights)
         self.tell(session, wire.CREATE_CHAN, link.native, link.count, request.p1, sid)
+        search = self.search_for(row.peer, name)
+        if search and self.limits.makes_room:
+            self.searches.remove(search)
 
     def event_add(self, session, request, channel):
         mask = struct.unpack(">H", request.payload[12:14])[0]
@@ -349,7 +401,7 @@ class Gateway(Servers):
             code = ECA_INTERNAL
         elif code is None and not mask & SERVED_EVENTS:
             code = ECA_BADMASK
-        elif code is None and len(own) >= MOST_SUBS:
+        elif code is None and len(own) >= self.limits.subscriptions:
             code = ECA_ALLOCMEM
         if code:
             self.error(session, request, code, channel.cid)
@@ -376,7 +428,7 @@ class Gateway(Servers):
         code = self.read_refusal(channel, request.dtype, request.count)
         waiting = sum(other.session == session for other in self.reads)
         covered = code or self.covers(link, request.dtype, request.count)
-        if not covered and waiting >= MOST_READS:
+        if not covered and waiting >= self.limits.reads:
             code = ECA_GETFAIL
         self.reads.append(read)
         if code:
@@ -414,7 +466,8 @@ class Gateway(Servers):
 
     def write_notify(self, session, request, channel):
         value, code = self.written(channel, request)
-        if code is None and sum(w.session == session for w in self.writes) >= MOST_WRITES:
+        waiting = sum(other.session == session for other in self.writes)
+        if code is None and waiting >= self.limits.writes:
             code = ECA_PUTFAIL
         dtype, count = request.dtype, request.count
         if code:

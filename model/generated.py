@@ -21,6 +21,11 @@ RULES = [
 ]
 FAULTY_RULES = ["A", "[A ALLOW", "T1 PERMIT", "X DENY FROM"]
 GROUPS = ["ops READ", "ops NONE", "g2 WRITE", "ops WRITE", "g2 READ"]
+LIMITS = [
+    "sessions", "servers", "links", "searches", "share", "channels", "subscriptions", "reads",
+    "writes", "searches", "share",
+]
+FLAGS = ["makes-room"] * 4 + ["reuses-numbers", "passes-over-gone", "tells-unreadable"]
 
 
 def text(word):
@@ -62,12 +67,14 @@ class Scripts:
         self.begin()
         kinds = [self.client_line] * 40 + [self.server_line] * 28 + [self.found] * 6
         kinds += [self.search] * 5 + [self.edit] * 4 + [self.question] * 8
-        kinds += [self.connection] * 4 + [self.flow] * 3 + [self.meet] * 3
+        kinds += [self.connection] * 4 + [self.flow] * 3 + [self.meet] * 3 + [self.upkeep] * 3
         for _ in range(self.source.randint(5, 60)):
             self.pick(kinds)()
         return "\n".join(self.lines) + "\n"
 
     def begin(self):
+        for _ in range(self.pick(0, 0, 0, 1, 2, 4)):
+            self.limit()
         for chance, line in [(0.9, "open s1 10.0.0.5"), (0.7, f"open s2 {self.pick(HOSTS)}"),
                              (0.9, "open u1"), (0.6, "open u2")]:
             if self.chance(chance):
@@ -148,7 +155,7 @@ class Scripts:
             message(wire.EVENTS_OFF, 0, 0, 0, 0), message(wire.EVENTS_ON, 0, 0, 0, 0),
             message(wire.EVENTS_ON, 0, 0, 0, 0),
             message(wire.HOST_NAME, 0, 0, 0, 0, self.pick(text(self.pick(HOSTS)), b"  ")),
-            message(wire.CLIENT_NAME, 0, 0, 0, 0, text("me")),
+            message(wire.CLIENT_NAME, 0, 0, 0, 0, self.pick(text("me"), text("you"), b" ")),
             message(wire.VERSION, 0, self.pick(13, 13, 11, 9, 8), 0, 0),
             message(wire.ECHO, self.pick(0, 3), self.pick(0, 70_000), 5, 6, bytes(self.pick(0, 8))),
             message(self.pick(3, 7, 99, 27), 1, 1, 1, 1))
@@ -264,6 +271,24 @@ class Scripts:
             lambda: self.add("flow", dest), lambda: self.add("drain", dest, self.pick(0, 1, 5)),
             lambda: self.add("sweep"),
         ])()
+
+    def upkeep(self):
+        """Somebody sees after the gateway."""
+        self.pick(self.limit, self.age, self.age, self.probe)()
+
+    def limit(self):
+        if self.chance(0.3):
+            self.add("limit", self.pick(FLAGS), self.pick(1, 1, 1, 0))
+        elif self.chance(0.1):
+            self.add("limit", "update-bytes", self.pick(0, 1, 24, 40, 100, 2**64 - 1))
+        else:
+            self.add("limit", self.pick(LIMITS), self.pick(0, 1, 1, 2, 2, 3, 3, 4, 5, 100))
+
+    def age(self):
+        self.add("age")
+
+    def probe(self):
+        self.add("probe", self.pick(1, 1, 2, 3))
 
 
 PIECES = [

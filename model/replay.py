@@ -7,12 +7,13 @@ import rules
 import values
 import wire
 from gateway import Gateway
-from rows import PROPERTIES, VALUES
+from rows import PROPERTIES, VALUES, Limits
 from wire import framed, is_name, is_word, message
 
 GOOD, BAD_INPUT = 0, 2
 U32, USIZE = 2**32 - 1, 2**64 - 1
 PORT = 5064
+LIMITS = {field.replace("_", "-"): field for field in vars(Limits())}
 
 
 class BadLine(Exception):
@@ -37,6 +38,12 @@ def data(word):
     if not re.fullmatch("([0-9a-fA-F]{2})+", word):
         raise BadLine
     return bytes.fromhex(word)
+
+
+def flag(word):
+    if word not in ("0", "1"):
+        raise BadLine
+    return word == "1"
 
 
 def host_named(word):
@@ -97,6 +104,7 @@ class Replay:
                 ("sub", 2): self.subscription, ("props", 2): self.properties,
                 ("rights", 3): self.rights,
                 ("hold", 2): self.hold, ("flow", 2): self.flow, ("drain", 3): self.drain,
+                ("limit", 3): self.limit, ("age", 1): self.age, ("probe", 2): self.probe,
             }.get((words[0], len(words)))
             if perform is None or "" in words:
                 raise BadLine
@@ -228,6 +236,21 @@ class Replay:
 
     def drain(self, at, count):
         self.take(dest(at), number(count, USIZE))
+
+    def limit(self, limit, value):
+        if limit not in LIMITS:
+            raise BadLine
+        if isinstance(getattr(self.gateway.limits, LIMITS[limit]), bool):
+            value = flag(value)
+        else:
+            value = number(value, USIZE)
+        self.gateway.step("limit", LIMITS[limit], value)
+
+    def age(self):
+        self.gateway.step("age")
+
+    def probe(self, server):
+        self.gateway.step("probe", number(server, U32))
 
     # What follows each line.
 

@@ -1,4 +1,4 @@
-"""What a gateway knows of its clients, servers and variables, and its limits."""
+"""What a gateway knows of its clients, servers, variables and searches, and its limits."""
 from dataclasses import dataclass, field
 from typing import Any
 
@@ -6,16 +6,46 @@ VALUE, LOG, ALARM, PROPERTY = 1, 2, 4, 8
 SERVED_EVENTS = VALUE | LOG | ALARM | PROPERTY
 VALUES, PROPERTIES = "values", "properties"
 MINOR, LOWEST_MINOR = 13, 9
-MOST_SESSIONS, MOST_SERVERS, MOST_LINKS = 1_024, 16, 65_536
-MOST_CHANNELS, MOST_SUBS, MOST_READS, MOST_WRITES = 4_096, 8_192, 256, 256
-MOST_SEARCHES, UPDATES_WAIT, MESSAGES_WAIT = 4_096, 4_096, 16_384
+UPDATES_WAIT, MESSAGES_WAIT = 4_096, 16_384
+
+
+@dataclass
+class Limits:
+    """How much a gateway takes on, and what it does where it is full."""
+    sessions: int = 1_024
+    servers: int = 16
+    links: int = 65_536
+    searches: int = 4_096
+    share: int = 4_096
+    channels: int = 4_096
+    subscriptions: int = 8_192
+    reads: int = 256
+    writes: int = 256
+    update_bytes: int = 2**64 - 1
+    makes_room: bool = False
+    reuses_numbers: bool = False
+    passes_over_gone: bool = False
+    tells_unreadable: bool = False
 
 
 @dataclass
 class Session:
+    peer: str
     host: str
+    user: str = ""
     host_fixed: bool = False
     paused: bool = False
+
+
+@dataclass(eq=False)
+class Search:
+    """Somebody at a host looks for a name; it is fresh where that was since the last age."""
+    host: str
+    name: str
+    fresh: bool = True
+
+    def is_from(self, host):
+        return self.host.lower() == host.lower()
 
 
 @dataclass(eq=False)

@@ -20,6 +20,12 @@ def is_hexadecimal(word):
     return word == b"-" or re.fullmatch(rb"([0-9a-fA-F]{2})+", word)
 
 
+def one_of(words):
+    return lambda word: word in words
+
+
+LIMITS = {b"sessions", b"servers", b"links", b"searches", b"share", b"channels", b"subscriptions", b"reads", b"writes", b"update-bytes"}
+FLAGS = {b"makes-room", b"reuses-numbers", b"passes-over-gone", b"tells-unreadable"}
 CLIENT, SERVER, EITHER = connection((b"s",)), connection((b"u",)), connection((b"s", b"u"))
 NAME, HOST = of_printable(255), of_printable(127)
 
@@ -30,6 +36,7 @@ FORMS = {
     b"edit": [(number(SIZE), number(SIZE))], b"hold": [(EITHER,)], b"flow": [(EITHER,)], b"drain": [(EITHER, number(SIZE))],
     b"asks": [()], b"read": [(CLIENT, number(NUMBER32), number(NUMBER16), number(NUMBER32))], b"sub": [(NAME,)],
     b"props": [(NAME,)], b"rights": [(CLIENT, number(NUMBER32))],
+    b"limit": [(one_of(LIMITS), number(SIZE)), (one_of(FLAGS), one_of({b"0", b"1"}))], b"age": [()], b"probe": [(number(NUMBER32),)],
 }
 
 

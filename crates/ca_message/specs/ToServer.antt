@@ -7,10 +7,10 @@ use Rattle.ca_header.specs.declared.header.TheConstants.{MAX_PAYLOAD}
 use Rattle.pv_name.specs.Name.{IsName}
 use Rattle.ca_message.specs.Padding.{nul_ended, padded}
 use Rattle.ca_message.specs.Wire.{message}
-use Rattle.ca_message.specs.declared.commands.TheConstants.{CA_PROTO_VERSION, CA_PROTO_EVENT_ADD, CA_PROTO_EVENT_CANCEL, CA_PROTO_CLEAR_CHANNEL, CA_PROTO_CREATE_CHAN, CA_PROTO_CLIENT_NAME, CA_PROTO_HOST_NAME, CA_PROTO_WRITE, CA_PROTO_WRITE_NOTIFY, MINOR_VERSION}
+use Rattle.ca_message.specs.declared.commands.TheConstants.{CA_PROTO_VERSION, CA_PROTO_EVENT_ADD, CA_PROTO_EVENT_CANCEL, CA_PROTO_CLEAR_CHANNEL, CA_PROTO_CREATE_CHAN, CA_PROTO_CLIENT_NAME, CA_PROTO_HOST_NAME, CA_PROTO_ECHO, CA_PROTO_WRITE, CA_PROTO_WRITE_NOTIFY, MINOR_VERSION}
 use Rattle.ca_message.specs.declared.payload.TheConstants.{EVENT_MASK_OFFSET}
 use Rattle.ca_message.specs.declared.to_server.ToServer.{ToServer}
-use Rattle.ca_message.specs.declared.to_server.ToServer.TheVariants.{Version, EventAdd, EventCancel, ClearChannel, CreateChannel, Write, WriteNotify, ClientName, HostName}
+use Rattle.ca_message.specs.declared.to_server.ToServer.TheVariants.{Version, EventAdd, EventCancel, ClearChannel, CreateChannel, Write, WriteNotify, ClientName, HostName, Echo}
 
 -- what an EVENT_ADD carries: three obsolete numbers of four bytes each, the mask, and two bytes of padding
 abbrev pub event_payload : ℕ → List ℕ
@@ -27,6 +27,7 @@ server_message (Write sid value) = message CA_PROTO_WRITE value.dtype value.coun
 server_message (WriteNotify sid ioid value) = message CA_PROTO_WRITE_NOTIFY value.dtype value.count sid ioid (padded value.bytes)
 server_message (ClientName name) = message CA_PROTO_CLIENT_NAME 0 0 0 0 (nul_ended name)
 server_message (HostName name) = message CA_PROTO_HOST_NAME 0 0 0 0 (nul_ended name)
+server_message Echo = message CA_PROTO_ECHO 0 0 0 0 []
 
 abbrev pub server_head : ToServer → Header
 server_head m = (server_message m).head

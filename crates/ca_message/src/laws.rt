@@ -110,6 +110,7 @@ pub fn requests_are_read_back()
         → asks (server.ClientName name) (requests.ClientName name) }
     ensures host { (name : List ℕ) → IsHost name
         → asks (server.HostName name) (requests.HostName name) }
+    ensures echo { asks server.Echo requests.Echo }
 {}
 
 /// A gateway reads what another one says to it as a client.

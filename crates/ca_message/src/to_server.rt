@@ -6,9 +6,9 @@ ghost use Rattle.ca_message.specs.ToServer.{server_head, server_payload, event_p
 
 use crate::NoMemory;
 use crate::commands::{
-    CA_PROTO_CLEAR_CHANNEL, CA_PROTO_CLIENT_NAME, CA_PROTO_CREATE_CHAN, CA_PROTO_EVENT_ADD,
-    CA_PROTO_EVENT_CANCEL, CA_PROTO_HOST_NAME, CA_PROTO_VERSION, CA_PROTO_WRITE,
-    CA_PROTO_WRITE_NOTIFY, MINOR_VERSION,
+    CA_PROTO_CLEAR_CHANNEL, CA_PROTO_CLIENT_NAME, CA_PROTO_CREATE_CHAN, CA_PROTO_ECHO,
+    CA_PROTO_EVENT_ADD, CA_PROTO_EVENT_CANCEL, CA_PROTO_HOST_NAME, CA_PROTO_VERSION,
+    CA_PROTO_WRITE, CA_PROTO_WRITE_NOTIFY, MINOR_VERSION,
 };
 use crate::payload::{EVENT_PAYLOAD_LEN, header, size_of_nul_ended, write_nul_ended};
 use crate::text::NameText;
@@ -67,6 +67,8 @@ pub enum ToServer<'a> {
         sid: u32,
         cid: u32,
     },
+    /// The gateway asks whether the server is there; it answers with the same message.
+    Echo,
 }
 
 /// Prints the variant's name alone.
@@ -82,6 +84,7 @@ impl<'a> fmt::Debug for ToServer<'a> {
             ToServer::Write { .. } => "Write",
             ToServer::WriteNotify { .. } => "WriteNotify",
             ToServer::ClearChannel { .. } => "ClearChannel",
+            ToServer::Echo => "Echo",
         })
     }
 }
@@ -126,6 +129,7 @@ impl<'a> ToServer<'a> {
                 value.head(CA_PROTO_WRITE_NOTIFY, *sid, *ioid)
             }
             ToServer::ClearChannel { sid, cid } => header(CA_PROTO_CLEAR_CHANNEL, 0, 0, *sid, *cid),
+            ToServer::Echo => header(CA_PROTO_ECHO, 0, 0, 0, 0),
         }
     }
 
@@ -143,9 +147,10 @@ impl<'a> ToServer<'a> {
                 value.payload(alloc)
             }
             ToServer::EventAdd { mask, .. } => event_payload(alloc, *mask),
-            ToServer::Version | ToServer::EventCancel { .. } | ToServer::ClearChannel { .. } => {
-                Ok(Bytes::new())
-            }
+            ToServer::Version
+            | ToServer::EventCancel { .. }
+            | ToServer::ClearChannel { .. }
+            | ToServer::Echo => Ok(Bytes::new()),
         }
     }
 }

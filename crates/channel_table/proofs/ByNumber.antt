@@ -8,7 +8,7 @@ use Rattle.rows.specs.Rows.{change_first}
 use Rattle.channel_table.specs.declared.sessions.Session.{Session}
 use Rattle.channel_table.specs.Indexes.{AreNumbersOf}
 use Rattle.channel_table.specs.Numbers.{is_lower, is_not_number, is_number, with_number}
-use Rattle.channel_table.specs.Sessions.{has_below, is_not_numbered, is_numbered, nth_by_number, with_host_and_pause}
+use Rattle.channel_table.specs.Sessions.{has_below, is_not_numbered, is_numbered, nth_by_number}
 use Rattle.channel_table.proofs.Keyed.{Each}
 use Rattle.channel_table.proofs.Lists.{none_dropped}
 use Rattle.channel_table.proofs.Rising.{counted_first}
@@ -83,18 +83,20 @@ numbers_undone number numbers sessions same new test =
     ∙ same others ∙ sym (counted_among (λ (s : Session). test s.number) (is_not_numbered number) sessions)
     ∙ ap (count_by (λ (s : Session). test s.number)) (none_dropped (is_numbered number) sessions new)
 
-counted_changed : (test : ℕ → Bool) (p : Session → Bool) (host : List ℕ) (host_fixed paused : Bool) (sessions : List Session)
-    → count_by (λ (s : Session). test s.number) (change_first p (with_host_and_pause host host_fixed paused) sessions) ≡ count_by (λ (s : Session). test s.number) sessions
-counted_changed test p host host_fixed paused [] = refl
-counted_changed test p host host_fixed paused (session ∷ sessions) =
-    let change = with_host_and_pause host host_fixed paused in
-    let own : Session → Bool = λ s. test s.number in
-    (elim (p session) as (λ t. count_by own (cond t (change session ∷ sessions) (session ∷ change_first p change sessions)) ≡ cond (own session) 1 0 + count_by own sessions)
-    [ true ↦ counted_first own (change session) sessions | false ↦ counted_first own session (change_first p change sessions) ∙ ap (λ n. cond (own session) 1 0 + n) (counted_changed test p host host_fixed paused sessions) ])
-    ∙ sym (counted_first own session sessions)
+module _ (p : Session → Bool) (change : Session → Session) (keeps : (s : Session) → (change s).number ≡ s.number) where
+  counted_changed : (test : ℕ → Bool) (sessions : List Session) → count_by (λ (s : Session). test s.number) (change_first p change sessions) ≡ count_by (λ (s : Session). test s.number) sessions
+  counted_changed test [] = refl
+  counted_changed test (session ∷ sessions) =
+      let own : Session → Bool = λ s. test s.number in
+      (elim (p session) as (λ t. count_by own (cond t (change session ∷ sessions) (session ∷ change_first p change sessions)) ≡ cond (own session) 1 0 + count_by own sessions) [
+        | true ↦ counted_first own (change session) sessions ∙ ap (λ n. cond (test n) 1 0 + count_by own sessions) (keeps session)
+        | false ↦ counted_first own session (change_first p change sessions) ∙ ap (λ n. cond (own session) 1 0 + n) (counted_changed test sessions)
+      ])
+      ∙ sym (counted_first own session sessions)
 
-pub numbers_kept : (p : Session → Bool) (host : List ℕ) (host_fixed paused : Bool) (numbers : List ℕ) (sessions : List Session) → AreNumbersOf numbers sessions → AreNumbersOf numbers (change_first p (with_host_and_pause host host_fixed paused) sessions)
-numbers_kept p host host_fixed paused numbers sessions same test = same test ∙ sym (counted_changed test p host host_fixed paused sessions)
+  -- a change that leaves the numbers as they are
+  pub numbers_kept : (numbers : List ℕ) (sessions : List Session) → AreNumbersOf numbers sessions → AreNumbersOf numbers (change_first p change sessions)
+  numbers_kept numbers sessions same test = same test ∙ sym (counted_changed test sessions)
 
 -- ---- the nth
 

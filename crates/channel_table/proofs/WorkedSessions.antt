@@ -4,7 +4,7 @@ use Rattle.channel_table.specs.declared.sessions.Session.{Session}
 use Rattle.channel_table.specs.Sessions.{nth_by_number}
 
 abbrev numbered : ℕ → Session
-numbered number = record { number = number; host = codes "10.0.0.5"; host_fixed = false; paused = false }
+numbered number = record { number = number; peer = codes "10.0.0.5"; host = codes "10.0.0.5"; user = []; host_fixed = false; paused = false }
 
 abbrev sessions : List Session
 sessions = numbered 3 ∷ numbered 1 ∷ numbered 2 ∷ []

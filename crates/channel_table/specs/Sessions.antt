@@ -27,3 +27,7 @@ nth_by_number n sessions = find (has_below n sessions) sessions
 abbrev pub with_host_and_pause : List ℕ → Bool → Bool → Session → Session
 with_host_and_pause host host_fixed paused session =
     record session { host = host; host_fixed = host_fixed; paused = paused }
+
+-- the session with what its client said of its user
+abbrev pub with_user : List ℕ → Session → Session
+with_user user session = record session { user = user }

@@ -2,7 +2,8 @@
 //! for a value. The [`Table`] keeps what it is given, and decides nothing about it.
 //!
 //! - `add_session`, `add_channel`, `add_sub` and `add_read` put a row last. They refuse one whose
-//!   session or channel doesn't stand, and one past its limit ([`TableFault`]).
+//!   session or channel doesn't stand, and one past its limit ([`TableFault`]). `add_session_within` and the
+//!   like take the limit from their caller.
 //! - `session`, `channel` and `sub` find a row by its IDs; `channels`, `subs` and `reads` are all rows
 //!   in the order of adding, `list_subs_to` the subscriptions to a real name, `reads_for` the reads that wait
 //!   for one, and `channel_count` and the like count those of a session.
@@ -11,7 +12,7 @@
 //!   `read_on` those of a real name: of the channels on it, and of what waits on these.
 //! - `want_on` tells what the subscriptions to a real name and the channels on it want together, and
 //!   `props_on` whether any of them needs the properties of the variable.
-//! - `put_session`, `put_channel` and `put_sub` change a row that stands.
+//! - `put_session`, `put_user`, `put_channel` and `put_sub` change a row that stands.
 //! - `remove_session` and `remove_channel` take the rows that name theirs along.
 //!
 //! Whoever looks at a row, or changes one, hands in the table's [`Visits`], which count it: a list of
@@ -33,7 +34,9 @@
 //! let (mut table, mut visits) = Table::new(rt.alloc());
 //! table.add_session(Session {
 //!     number: 1,
+//!     peer: Host::read(rt.alloc(), b"10.0.0.5")?,
 //!     host: Host::read(rt.alloc(), b"10.0.0.5")?,
+//!     user: User::none(rt.alloc()),
 //!     host_fixed: false,
 //!     paused: false,
 //! })?;
@@ -63,6 +66,7 @@ mod reads;
 mod sessions;
 mod subs;
 mod table;
+mod user;
 mod visits;
 
 pub use asks::{READ_RIGHT, may_read, own_ask, reach_ask};
@@ -71,4 +75,5 @@ pub use reads::WaitingRead;
 pub use sessions::Session;
 pub use subs::ClientSub;
 pub use table::{CHANNEL_LIMIT, READ_LIMIT, SESSION_LIMIT, SUB_LIMIT, Table, TableFault};
+pub use user::User;
 pub use visits::Visits;

@@ -5,9 +5,10 @@ ghost use Rattle.std.specs.Option.{option_copied};
 ghost use Rattle.rows.specs.Rows.{change_first};
 ghost use Rattle.row_index.specs.Rows.{has_key};
 ghost use Rattle.channel_table.specs.Indexes.{changed_by};
-ghost use Rattle.channel_table.specs.Sessions.{is_numbered, is_not_numbered, nth_by_number, with_host_and_pause};
+ghost use Rattle.channel_table.specs.Sessions.{is_numbered, is_not_numbered, nth_by_number, with_host_and_pause, with_user};
 
 use crate::numbers::Numbers;
+use crate::user::User;
 use pv_name::Host;
 use row_index::{Key, RowMap};
 use std::alloc::{AllocError, Global};
@@ -18,8 +19,12 @@ use std::marker::Model;
 pub struct Session {
     /// The number that the caller gave it.
     pub number: u32,
-    /// The host that it counts as: the address text of its peer, or what the client said.
+    /// The text of the address that its connection comes from. It never changes.
+    pub peer: Host,
+    /// The host that it counts as: its peer, or what the client said.
     pub host: Host,
+    /// What the client said that its user is called.
+    pub user: User,
     /// Whether the host stays as it is, since the client asked for a channel.
     pub host_fixed: bool,
     /// Whether the client wants no updates for now.
@@ -122,6 +127,16 @@ impl Sessions {
         put(&mut self.rows, key, host, host_fixed, paused);
     }
 
+    pub(crate) fn put_user(&mut self, number: u32, user: User)
+        ensures { self.new ≡ change_first (is_numbered number) (with_user user) self.old }
+    {
+        let key = Key {
+            owner: number,
+            id: 0,
+        };
+        put_user(&mut self.rows, key, user);
+    }
+
     pub(crate) fn remove(&mut self, number: u32)
         ensures { self.new ≡ filter (is_not_numbered number) self.old }
     {
@@ -141,5 +156,13 @@ fn put(rows: &mut RowMap<Session>, key: Key, host: Host, host_fixed: bool, pause
         row.host = host;
         row.host_fixed = host_fixed;
         row.paused = paused;
+    }
+}
+
+fn put_user(rows: &mut RowMap<Session>, key: Key, user: User)
+    ensures { rows.new ≡ change_first (has_key key) (changed_by (with_user user)) rows.old }
+{
+    if let Some(row) = rows.get_mut(key) {
+        row.user = user;
     }
 }

@@ -6,13 +6,14 @@ ghost use Rattle.gateway_state.specs.Settled.{HasSidsInOrder};
 ghost use Rattle.gateway_state.specs.Variables.{connected};
 ghost use Rattle.std.specs.List.{find};
 ghost use Rattle.channel_table.specs.Sessions.{is_numbered};
-ghost use Rattle.touched_rows.specs.declared.touched.Touched.TheVariants.{Nothing};
+ghost use Rattle.touched_rows.specs.Touches.{create_touches, create_touches_as, create_touches_over, left_touches, search_left_for};
 
 use crate::host_name::fix_host;
+use crate::left::left_touches;
 use ca_message::{CreateChannel, ToClient};
-use channel_table::{CHANNEL_LIMIT, Channel, Reach, Visits};
+use channel_table::{Channel, Reach, Visits};
 use gateway_rows::{Refusal, Rows};
-use gateway_state::{Limit, Native};
+use gateway_state::{Limit, Native, Search};
 use link_table::{Counter, Link};
 use pv_alias::{Lead, group_rights};
 use pv_name::Name;
@@ -26,43 +27,50 @@ pub(crate) fn fail_creation(rows: &mut Rows, number: u32, cid: u32) -> Result<()
     rows.tell(number, &ToClient::CreateChannelFail { cid })
 }
 
-/// The session's host looks for the name.
+/// The session's host looks for the name. It gives the other search that goes for that.
 fn remember(
     rows: &mut Rows,
     visits: &mut Visits,
     number: u32,
     name: &Name,
-) -> Result<(), AllocError>
+) -> Result<Option<Search>, AllocError>
     requires own { visits.old.brand ≡ rows.old.brand }
     ensures ok { OnOk result (rows.new.state ≡ remembered_by (find (is_numbered number) rows.old.state.clients.sessions) name.now rows.old.state) }
+    ensures left { IfOk result (λ left. left ≡ search_left_for (find (is_numbered number) rows.old.state.clients.sessions) name.now rows.old.state) }
     ensures bound { visits.new.looks ≤ visits.old.looks + 1 }
     ensures no_less { visits.old.looks ≤ visits.new.looks }
     ensures brand { rows.new.brand ≡ rows.old.brand }
     ensures own { visits.new.brand ≡ visits.old.brand }
 {
-    if let Some(session) = rows.clients.session(visits, number) {
-        let host = session.host.copy()?;
-        rows.remember(&host, name)?;
+    match rows.clients.session(visits, number) {
+        Some(session) => {
+            let host = session.host.copy()?;
+            rows.remember(&host, name)
+        }
+        None => Ok(None),
     }
-    Ok(())
 }
 
+/// The name's variable isn't connected: the channel fails, and the session's host looks for the name.
 fn leave_unconnected(
     rows: &mut Rows,
     visits: &mut Visits,
     number: u32,
     cid: u32,
     name: &Name,
-) -> Result<(), AllocError>
+) -> Result<Touched, AllocError>
     requires own { visits.old.brand ≡ rows.old.brand }
     ensures ok { OnOk result (rows.new.state ≡ not_connected number cid name.now rows.old.state) }
+    ensures touched { IfOk result (λ touched. touched ≡ left_touches rows.old.state.policy (search_left_for (find (is_numbered number) rows.old.state.clients.sessions) name.now rows.old.state)) }
     ensures bound { visits.new.looks ≤ visits.old.looks + 1 }
     ensures no_less { visits.old.looks ≤ visits.new.looks }
     ensures brand { rows.new.brand ≡ rows.old.brand }
     ensures own { visits.new.brand ≡ visits.old.brand }
 {
-    remember(rows, visits, number, name)?;
-    fail_creation(rows, number, cid)
+    let left = remember(rows, visits, number, name)?;
+    let touched = left_touches(rows, left)?;
+    fail_creation(rows, number, cid)?;
+    Ok(touched)
 }
 
 /// Adds a channel, which nothing was read on yet.
@@ -96,7 +104,10 @@ fn add_channel(
         },
         rights_told: rights,
     };
-    match rows.clients.add_channel(channel) {
+    match rows
+        .clients
+        .add_channel_within(rows.limits.channels, channel)
+    {
         Ok(()) => Ok(sid),
         Err(_) => Err(Refusal::OutOfMemory),
     }
@@ -138,31 +149,35 @@ fn rights_on(rows: &Rows, lead: &Lead, link: &Link) -> u32
     link.rights & group_rights(&rows.searches.policy().groups, lead.group.as_ref())
 }
 
+/// The same, where its name leads somewhere and one more may be open.
+#[tactic(auto, unfolding(gateway_state::specs::Telling::sent, gateway_state::specs::Numbers::is_past_numbers))]
 fn create_as(
     rows: &mut Rows,
     visits: &mut Visits,
     number: u32,
     cid: u32,
-    asked: &Name,
+    name: &Name,
     lead: Lead,
-) -> Result<(), Refusal>
+) -> Result<Touched, Refusal>
     requires order { HasSidsInOrder rows.old.state }
     requires own { visits.old.brand ≡ rows.old.brand }
-    ensures ok { OnOk result (rows.new.state ≡ created_over number cid asked.now lead (connected rows.old.state lead.real) rows.old.state) }
-    ensures used_up { IsErrOf result Refusal.NumbersUsedUp → is_past_numbers (created_over number cid asked.now lead (connected rows.old.state lead.real) rows.old.state) ≡ true }
+    ensures ok { OnOk result (rows.new.state ≡ created_over number cid name.now lead (connected rows.old.state lead.real) rows.old.state) }
+    ensures touched { IfOk result (λ touched. touched ≡ create_touches_over rows.old.state (find (is_numbered number) rows.old.state.clients.sessions) name.now (connected rows.old.state lead.real)) }
+    ensures used_up { IsErrOf result Refusal.NumbersUsedUp → is_past_numbers (created_over number cid name.now lead (connected rows.old.state lead.real) rows.old.state) ≡ true }
     ensures bound { visits.new.looks ≤ visits.old.looks + 1 }
     ensures no_less { visits.old.looks ≤ visits.new.looks }
     ensures brand { rows.new.brand ≡ rows.old.brand }
     ensures own { visits.new.brand ≡ visits.old.brand }
 {
     let Some(variable) = rows.connected(&lead.real) else {
-        leave_unconnected(rows, visits, number, cid, asked)?;
-        return Ok(());
+        return Ok(leave_unconnected(rows, visits, number, cid, name)?);
     };
     let native = variable.native;
     let rights = rights_on(rows, &lead, variable.link);
-    let asked = asked.copy()?;
-    create_on(rows, number, cid, asked, lead.real, rights, native)
+    let asked = name.copy()?;
+    create_on(rows, number, cid, asked, lead.real, rights, native)?;
+    let left = rows.end_search(visits, number, name);
+    Ok(left_touches(rows, left)?)
 }
 
 /// A client wants a channel on a name.
@@ -175,7 +190,7 @@ pub(crate) fn create_channel(
     requires order { HasSidsInOrder rows.old.state }
     requires own { visits.old.brand ≡ rows.old.brand }
     ensures ok { OnOk result (rows.new.state ≡ channel_asked number create.now.cid create.now.name rows.old.state) }
-    ensures touched { IfOk result (λ touched. touched ≡ Nothing) }
+    ensures touched { IfOk result (λ touched. touched ≡ create_touches rows.old.state number create.now.name) }
     ensures used_up { IsErrOf result Refusal.NumbersUsedUp → is_past_numbers (channel_asked number create.now.cid create.now.name rows.old.state) ≡ true }
     ensures bound { visits.new.looks ≤ visits.old.looks + 4 }
     ensures no_less { visits.old.looks ≤ visits.new.looks }
@@ -183,20 +198,22 @@ pub(crate) fn create_channel(
     ensures own { visits.new.brand ≡ visits.old.brand }
 {
     let name = create.name.to_name(rows.alloc)?;
-    create_named(rows, visits, number, create.cid, &name)?;
-    Ok(Touched::Nothing)
+    create_named(rows, visits, number, create.cid, &name)
 }
 
+/// The same by a name of its own.
+#[tactic(auto, using(crate::proofs::FixedHost::touches_as_fixed))]
 fn create_named(
     rows: &mut Rows,
     visits: &mut Visits,
     number: u32,
     cid: u32,
     name: &Name,
-) -> Result<(), Refusal>
+) -> Result<Touched, Refusal>
     requires order { HasSidsInOrder rows.old.state }
     requires own { visits.old.brand ≡ rows.old.brand }
     ensures ok { OnOk result (rows.new.state ≡ channel_asked number cid name.now rows.old.state) }
+    ensures touched { IfOk result (λ touched. touched ≡ create_touches rows.old.state number name.now) }
     ensures used_up { IsErrOf result Refusal.NumbersUsedUp → is_past_numbers (channel_asked number cid name.now rows.old.state) ≡ true }
     ensures bound { visits.new.looks ≤ visits.old.looks + 4 }
     ensures no_less { visits.old.looks ≤ visits.new.looks }
@@ -205,14 +222,36 @@ fn create_named(
 {
     let lead = rows.learn_lead_in(visits, number, name)?;
     fix_host(rows, visits, number)?;
+    create_led(rows, visits, number, cid, name, lead)
+}
+
+/// The client's channel, whose name leads so.
+fn create_led(
+    rows: &mut Rows,
+    visits: &mut Visits,
+    number: u32,
+    cid: u32,
+    name: &Name,
+    lead: Option<Lead>,
+) -> Result<Touched, Refusal>
+    requires order { HasSidsInOrder rows.old.state }
+    requires own { visits.old.brand ≡ rows.old.brand }
+    ensures ok { OnOk result (rows.new.state ≡ created_as number cid name.now lead rows.old.state) }
+    ensures touched { IfOk result (λ touched. touched ≡ create_touches_as rows.old.state number name.now lead) }
+    ensures used_up { IsErrOf result Refusal.NumbersUsedUp → is_past_numbers (created_as number cid name.now lead rows.old.state) ≡ true }
+    ensures bound { visits.new.looks ≤ visits.old.looks + 1 }
+    ensures no_less { visits.old.looks ≤ visits.new.looks }
+    ensures brand { rows.new.brand ≡ rows.old.brand }
+    ensures own { visits.new.brand ≡ visits.old.brand }
+{
     let Some(lead) = lead else {
         fail_creation(rows, number, cid)?;
-        return Ok(());
+        return Ok(Touched::Nothing);
     };
-    if rows.clients.channel_count(number) >= CHANNEL_LIMIT {
+    if rows.clients.channel_count(number) >= rows.limits.channels {
         rows.meet(Limit::Channels);
         fail_creation(rows, number, cid)?;
-        return Ok(());
+        return Ok(Touched::Nothing);
     }
     create_as(rows, visits, number, cid, name, lead)
 }

@@ -11,6 +11,7 @@ ghost use Rattle.touched_rows.specs.declared.touched.Touched.TheVariants.{Nothin
 ghost use Rattle.touched_rows.specs.Touches.{request_touches, with_touched};
 
 use crate::clear_channel::clear_channel;
+use crate::client_name::hear_client_name;
 use crate::create_channel::{create_channel, fail_creation};
 use crate::host_name::{fix_host, hear_host_name};
 use crate::pause::{pause, resume};
@@ -59,7 +60,7 @@ pub fn hear_client(
 }
 
 /// A client asked for something.
-#[tactic(auto, using(touched_rows::proofs::KeptLate::sub_keeps_none, touched_rows::proofs::KeptLate::cancel_keeps_none, touched_rows::proofs::KeptLate::clear_keeps_none))]
+#[tactic(auto, using(touched_rows::proofs::KeptLate::sub_keeps_none, touched_rows::proofs::KeptLate::cancel_keeps_none, touched_rows::proofs::KeptLate::clear_keeps_none, touched_rows::proofs::KeptLate::create_keeps_none))]
 fn hear_request(
     rows: &mut Rows,
     visits: &mut Visits,
@@ -93,7 +94,7 @@ fn hear_request(
         ClientRequest::ReadNotify(read) => hear_read(rows, visits, new_read(number, read), head)?,
         ClientRequest::CreateChannel(create) => create_channel(rows, visits, number, &create)?,
         ClientRequest::WriteNotify(write) => hear_write_notify(rows, visits, number, &write, head)?,
-        ClientRequest::ClientName(_) => Touched::Nothing,
+        ClientRequest::ClientName(name) => hear_client_name(rows, visits, number, &name)?,
         ClientRequest::HostName(host) => hear_host_name(rows, visits, number, &host)?,
         ClientRequest::Echo => echo(rows, number, message)?,
     })

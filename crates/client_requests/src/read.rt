@@ -11,7 +11,7 @@ use crate::refusals::refuse_channel;
 use ca_header::Header;
 use ca_message::codes::ECA_GETFAIL;
 use ca_message::{ReadNotify, ToClient};
-use channel_table::{Channel, READ_LIMIT, Reach, Visits, WaitingRead};
+use channel_table::{Channel, Reach, Visits, WaitingRead};
 use gateway_rows::Rows;
 use gateway_state::{Limit, ReadVerdict};
 use gateway_values::{ConnectedVariable, reach_with, read_refusal};
@@ -41,7 +41,7 @@ fn is_one_too_many(
 ) -> Result<bool, AllocError>
     ensures { IfOk result (λ too_many. too_many ≡ is_one_too_many rows.now.state channel.now.session (cached_value rows.now.state variable.now.link.cid variable.now.native.count dtype count)) }
 {
-    if rows.clients.read_count(channel.session) < READ_LIMIT {
+    if rows.clients.read_count(channel.session) < rows.limits.reads {
         return Ok(false);
     }
     match rows.cached_value(variable.link.cid, variable.native.count, dtype, count)? {

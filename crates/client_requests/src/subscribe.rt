@@ -9,7 +9,7 @@ use crate::refusals::{refuse_channel, refuse_request};
 use ca_header::Header;
 use ca_message::EventAdd;
 use ca_message::codes::{ECA_ALLOCMEM, ECA_BADMASK, ECA_INTERNAL};
-use channel_table::{Channel, ClientSub, SUB_LIMIT, TableFault, Visits};
+use channel_table::{Channel, ClientSub, TableFault, Visits};
 use gateway_rows::Rows;
 use gateway_state::{Limit, Native, SERVED_EVENTS, SubVerdict};
 use gateway_values::{ConnectedVariable, value_refusal};
@@ -37,7 +37,7 @@ fn subscription_limit(rows: &Rows, number: u32, mask: u16) -> Option<u32>
 {
     if mask & SERVED_EVENTS == 0 {
         Some(ECA_BADMASK)
-    } else if rows.clients.sub_count(number) >= SUB_LIMIT {
+    } else if rows.clients.sub_count(number) >= rows.limits.subs {
         Some(ECA_ALLOCMEM)
     } else {
         None
@@ -110,7 +110,7 @@ fn add_sub(rows: &mut Rows, sub: ClientSub) -> Result<(), AllocError>
     ensures ok { OnOk result (rows.new.state ≡ with_sub sub rows.old.state) }
     ensures brand { rows.new.brand ≡ rows.old.brand }
 {
-    match rows.clients.add_sub(sub) {
+    match rows.clients.add_sub_within(rows.limits.subs, sub) {
         Ok(()) => Ok(()),
         Err(TableFault::OutOfMemory | TableFault::Missing | TableFault::Full) => Err(AllocError),
     }

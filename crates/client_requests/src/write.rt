@@ -15,7 +15,7 @@ use channel_table::{Channel, Visits};
 use gateway_rows::{Refusal, Rows};
 use gateway_state::{Limit, WriteVerdict};
 use gateway_values::{ConnectedVariable, may_write};
-use link_table::{Counter, WRITE_LIMIT, WaitingWrite};
+use link_table::{Counter, WaitingWrite};
 use std::alloc::AllocError;
 use touched_rows::Touched;
 
@@ -164,7 +164,7 @@ fn add_write(rows: &mut Rows, write: ClientWrite, ioid: u32, server: u32) -> Res
         count: write.count,
         ioid,
     };
-    match rows.upstream.add_write(waiting) {
+    match rows.upstream.add_write_within(rows.limits.writes, waiting) {
         Ok(()) => Ok(id),
         Err(_) => Err(Refusal::OutOfMemory),
     }
@@ -185,7 +185,7 @@ fn hand_on(
     ensures used_up { IsErrOf result Refusal.NumbersUsedUp → is_past_numbers (write_handed_on write.session write.sid ioid write.dtype write.count server sid value.entry rows.old.state) ≡ true }
     ensures brand { rows.new.brand ≡ rows.old.brand }
 {
-    if rows.upstream.writes(write.session) >= WRITE_LIMIT {
+    if rows.upstream.writes(write.session) >= rows.limits.writes {
         rows.meet(Limit::Writes);
         return Ok(answer_write(rows, write, ioid, ECA_PUTFAIL)?);
     }

@@ -8,7 +8,10 @@ use Rattle.value_cache.specs.contracts.cached.Cached as cached
 use Rattle.fanout.specs.contracts.outbox.Outbox as outbox
 use Rattle.fanout.specs.contracts.outbox.Out as out
 use Rattle.pv_name.specs.contracts.name.Name as name
+use Rattle.row_index.specs.contracts.apart_keys.ApartKeys as apart_keys
+use Rattle.row_index.specs.contracts.name_keys.NameKeys as name_keys
 use Rattle.row_index.specs.contracts.name_lists.NameLists as name_lists
+use Rattle.row_index.specs.contracts.tall_keys.TallKeys as tall_keys
 use Rattle.channel_table.specs.contracts.sessions.Sessions as sessions
 use Rattle.channel_table.specs.contracts.channels.Channels as channels
 use Rattle.channel_table.specs.contracts.subs.Subs as subs
@@ -43,23 +46,32 @@ cached_send = search (sendable, bytes_cross) depth 40 fits 5000
 pub name_send : IsSend name.the_row
 name_send = search (sendable, crosses) depth 40 fits 5000
 
-name_lists_send : IsSend name_lists.the_row
+pub name_lists_send : IsSend name_lists.the_row
 name_lists_send = search (sendable, crosses, name_send) depth 60 fits 20000
+
+tall_keys_send : IsSend tall_keys.the_row
+tall_keys_send = search (sendable, crosses) depth 60 fits 20000
+
+apart_keys_send : IsSend apart_keys.the_row
+apart_keys_send = search (sendable, crosses, tall_keys_send) depth 60 fits 20000
+
+name_keys_send : IsSend name_keys.the_row
+name_keys_send = search (sendable, crosses, name_send, apart_keys_send) depth 60 fits 20000
 
 sessions_send : IsSend sessions.the_row
 sessions_send = search (sendable, crosses, name_send) depth 60 fits 20000
 
 channels_send : IsSend channels.the_row
-channels_send = search (sendable, crosses, name_send, name_lists_send) depth 60 fits 20000
+channels_send = search (sendable, crosses, name_send, name_keys_send) depth 60 fits 20000
 
 subs_send : IsSend subs.the_row
-subs_send = search (sendable, crosses, name_send, name_lists_send) depth 60 fits 20000
+subs_send = search (sendable, crosses, name_send, name_keys_send) depth 60 fits 20000
 
 demand_send : IsSend demand.the_row
 demand_send = search (sendable, crosses, name_send) depth 60 fits 20000
 
 reads_send : IsSend reads.the_row
-reads_send = search (sendable, crosses, name_send, name_lists_send) depth 60 fits 20000
+reads_send = search (sendable, crosses, name_send, name_keys_send) depth 60 fits 20000
 
 pub table_send : IsSend table.the_row
 table_send = search (sendable, crosses, sessions_send, channels_send, subs_send, demand_send, reads_send) depth 60 fits 20000

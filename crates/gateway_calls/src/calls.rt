@@ -17,7 +17,9 @@ ghost use Rattle.gateway_calls.specs.Searching.{IsSearched};
 use crate::NoMemory;
 use crate::fault::{AskFault, Failed, StepFault};
 use fanout::Out;
-use gateway_state::{Config, Dest, Event, Fullest, LimitsMet, Policy, Reading, RowCounts, Sub};
+use gateway_state::{
+    Config, Dest, Event, Fullest, Limits, LimitsMet, Policy, Reading, RowCounts, Sub,
+};
 use pv_name::{Host, Name};
 use pv_search::SearchAnswer;
 use std::alloc::Global;
@@ -85,6 +87,12 @@ pub trait GatewayCalls {
     /// How many rows of each kind there are.
     fn row_counts(&mut self) -> Result<RowCounts, Failed>
         ensures found { IfOk result (λ counts. Some counts ≡ option_map row_counts (state self.old)) }
+        ensures failed { IsOk result ↔ IsSome (state self.old) }
+        ensures same { state self.new ≡ state self.old };
+
+    /// The limits that hold.
+    fn limits(&mut self) -> Result<Limits, Failed>
+        ensures found { IfOk result (λ answer. Some answer ≡ option_map (λ w. w.limits) (state self.old)) }
         ensures failed { IsOk result ↔ IsSome (state self.old) }
         ensures same { state self.new ≡ state self.old };
 

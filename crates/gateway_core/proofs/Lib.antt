@@ -1,4 +1,6 @@
+pub mod Aging
 pub mod BeforeReads
+pub mod Begun
 pub mod Looked
 pub mod Named
 pub mod ReadyStates

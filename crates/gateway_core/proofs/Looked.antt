@@ -1,6 +1,6 @@
 -- An event looks at as many rows of clients as it does by itself and what follows from it does.
-use Rattle.std.proofs.Common.{◌≡◌, ◌≤◌, ℕ, ◌+◌, ◌*◌, List, Bool, true, false, cond, eqb, Option, Some, None, arith}
-use Rattle.std.specs.Prelude.{Ok, Err, Result}
+use Rattle.std.proofs.Common.{◌≡◌, ◌≤◌, ℕ, ◌+◌, ◌*◌, List, Bool, true, false, cond, eqb, leb, Option, Some, None, arith}
+use Rattle.std.specs.Prelude.{Ok, Err, Result, is_some}
 use Rattle.std.specs.List.{find}
 use Rattle.ca_message.specs.declared.codes.TheConstants.{ECA_NORMAL}
 use Rattle.ca_message.specs.declared.reply.ReplyFault.{ReplyFault}
@@ -13,14 +13,18 @@ use Rattle.ca_message.specs.ClientRequest.{request_of}
 use Rattle.ca_message.specs.ServerReply.{reply_of}
 use Rattle.channel_table.specs.declared.channels.Channel.{Channel}
 use Rattle.channel_table.specs.declared.reads.WaitingRead.{WaitingRead}
+use Rattle.channel_table.specs.declared.sessions.Session.{Session as SessionRow}
 use Rattle.channel_table.specs.declared.subs.ClientSub.{ClientSub}
+use Rattle.channel_table.specs.ClientRows.{channel_count}
+use Rattle.channel_table.specs.Sessions.{is_numbered}
 use Rattle.gateway_state.specs.declared.notice.ReadVerdict.{ReadVerdict}
 use Rattle.gateway_state.specs.declared.notice.ReadVerdict.TheVariants as reads
 use Rattle.gateway_state.specs.declared.notice.SubVerdict.{SubVerdict}
 use Rattle.gateway_state.specs.declared.notice.SubVerdict.TheVariants as subs
-use Rattle.gateway_state.specs.Clients.{read_verdict}
+use Rattle.gateway_state.specs.declared.search.Search.{Search as SearchRow}
+use Rattle.gateway_state.specs.Clients.{read_verdict, search_left_by}
 use Rattle.gateway_state.specs.Requests.{client_said}
-use Rattle.gateway_state.specs.Rights.{channel_of}
+use Rattle.gateway_state.specs.Rights.{channel_of, lead_in}
 use Rattle.gateway_state.specs.Subscribing.{is_on_sid, new_sub, sub_of, sub_verdict}
 use Rattle.gateway_core.specs.Looks.{direct_looks, event_looks, request_looks, update_looks}
 use Rattle.gateway_notices.specs.Looks.{looks_after}
@@ -28,12 +32,14 @@ use Rattle.gateway_rows.specs.Own.{IsWithin, channels_on, own_over, reads_on, su
 use Rattle.gateway_rows.proofs.OwnStays.{reads_on_owed, subs_on_owed}
 use Rattle.gateway_state.specs.declared.event.Dest.TheVariants.{Session, Upstream}
 use Rattle.gateway_state.specs.declared.event.Event.{Event}
-use Rattle.gateway_state.specs.declared.event.Event.TheVariants.{Opened, Lost, Client, UpOpened, UpLost, Server, Found, Search, Sweep, Edit, Drain}
+use Rattle.gateway_state.specs.declared.event.Event.TheVariants.{Age, Opened, Limit, Lost, Client, Probe, UpOpened, UpLost, Server, Found, Search, Sweep, Edit, Drain}
 use Rattle.gateway_state.specs.Answer.{native_in}
 use Rattle.gateway_state.specs.Asked.{acts}
-use Rattle.gateway_state.specs.Direct.{direct_effect}
+use Rattle.gateway_state.specs.Direct.{direct_effect, searched}
 use Rattle.gateway_state.specs.Gateway.{Gateway}
-use Rattle.gateway_state.specs.Variables.{is_creating}
+use Rattle.gateway_state.specs.Resolution.{lead_of}
+use Rattle.gateway_state.specs.Searches.{left_by_search}
+use Rattle.gateway_state.specs.Variables.{ConnectedVariable, connected, is_creating}
 use Rattle.gateway_state.specs.Servers.{concerned_owed, concerns, fails_without, held_with, is_heard, reads_failed, replied, server_said, subject_of, updated_by, updated_link, updated_under, with_held}
 use Rattle.gateway_state.specs.Updates.{concerned}
 use Rattle.link_table.specs.declared.links.Link.{Link}
@@ -43,8 +49,10 @@ use Rattle.link_table.specs.declared.links.Subject.{Subject}
 use Rattle.link_table.specs.declared.links.Subscription.{Subscription}
 use Rattle.link_table.specs.Links.{has_subscription, is_link, sub_at}
 use Rattle.server_messages.specs.Looks.{reply_looks}
+use Rattle.rule_desk.specs.declared.policy.Policy.{Policy}
+use Rattle.touched_rows.specs.declared.touched.Touched.{Touched}
 use Rattle.touched_rows.specs.declared.touched.Touched.TheVariants.{Interest, Nothing, Value}
-use Rattle.touched_rows.specs.Touches.{cancel_touches_by, clear_touches_by, created_touches_over, event_touches, new_read, read_touches_by, reply_touches, request_touches, sub_touches_by, update_touches_over, update_touches_under, value_touches}
+use Rattle.touched_rows.specs.Touches.{cancel_touches_by, clear_touches_by, create_touches, create_touches_as, create_touches_over, created_touches_over, event_touches, left_touches, new_read, read_touches_by, reply_touches, request_touches, search_left_for, sub_touches_by, update_touches_over, update_touches_under, value_touches}
 
 -- nothing followed
 quiet : (before direct after own : ℕ) → direct ≤ before + 2 * own → after ≤ direct + 0 → after ≤ before + (4 + 8 * own)
@@ -84,6 +92,27 @@ module _ (then : Gateway) (direct after : ℕ) where
   clear_within None = few
   clear_within (Some c) = few
 
+  -- a search that goes
+  left_within : (policy : Policy) (left : Option SearchRow) → IsWithin (looks_after (left_touches policy left) then) direct after → after ≤ direct + 0
+  left_within policy None = λ rest. rest
+  left_within policy (Some row) = λ rest. rest
+
+  create_over_within : (w : Gateway) (session : Option SessionRow) (name : List ℕ) (over : Option ConnectedVariable)
+      → IsWithin (looks_after (create_touches_over w session name over) then) direct after → after ≤ direct + 0
+  create_over_within w session name None = left_within w.policy (search_left_for session name w)
+  create_over_within w session name (Some v) = left_within w.policy (search_left_by session name w)
+
+  create_within : (w : Gateway) (number : ℕ) (name : List ℕ) → IsWithin (looks_after (create_touches w number name) then) direct after → after ≤ direct + 0
+  create_within w number name =
+      elim (lead_in w number name) as (λ on. IsWithin (looks_after (create_touches_as w number name on) then) direct after → after ≤ direct + 0) [
+        | None ↦ λ rest. rest
+        | Some lead ↦
+            let session : Option SessionRow = find (is_numbered number) w.clients.sessions in
+            elim (leb w.limits.channels (channel_count number w.clients))
+            as (λ t. IsWithin (looks_after (cond t Nothing (create_touches_over w session name (connected w lead.real))) then) direct after → after ≤ direct + 0)
+            [ true ↦ λ rest. rest | false ↦ create_over_within w session name (connected w lead.real) ]
+      ]
+
   all_within : (before : ℕ) → direct ≤ before + 4 → after ≤ direct + 4 → after ≤ before + 8
   all_within before first rest = omega (arith, first, rest)
 
@@ -102,7 +131,8 @@ module _ (then : Gateway) (direct after : ℕ) where
   request_within w before number (Ok (requests.ReadNotify read)) first rest =
       all_within before first
       (read_within (new_read number read.sid read.ioid read.dtype read.count) (channel_of w number read.sid) (read_verdict w number read.sid read.dtype read.count) rest)
-  request_within w before number (Ok (requests.CreateChannel create)) first rest = all_within before first (few rest)
+  request_within w before number (Ok (requests.CreateChannel create)) first rest =
+      all_within before first (few (create_within w number create.name rest))
   request_within w before number (Ok (requests.WriteNotify write)) first rest = all_within before first (few rest)
   request_within w before number (Ok (requests.ClientName name)) first rest = all_within before first (few rest)
   request_within w before number (Ok (requests.HostName host)) first rest = all_within before first (few rest)
@@ -213,7 +243,14 @@ looked_in_all w (Server number message) before direct after first =
     → IsWithin (update_looks w number (reply_of message.head message.payload)) before after)
     [ true ↦ looked_for w before direct after number (reply_of message.head message.payload) first | false ↦ looked_quietly w before direct after number (reply_of message.head message.payload) first ]
 looked_in_all w (Found name number) before direct after first = none w before direct after first
-looked_in_all w (Search host name) before direct after first = none w before direct after first
+looked_in_all w (Search host name) before direct after first =
+    let left : Touched = left_touches w.policy (left_by_search w.limits host name w.searches) in
+    let then : Gateway = searched host name w in
+    elim (is_some (lead_of w.policy host name)) as (λ t. IsWithin (looks_after (cond t left Nothing) then) direct after → after ≤ before + 0)
+    [ true ↦ λ rest. none w before direct after first (left_within then direct after w.policy (left_by_search w.limits host name w.searches) rest) | false ↦ none w before direct after first ]
 looked_in_all w Sweep before direct after first = none w before direct after first
 looked_in_all w (Edit policy) before direct after first = λ rest. tt
 looked_in_all w (Drain dest count) before direct after first = λ rest. tt
+looked_in_all w (Limit limits) before direct after first = λ rest. tt
+looked_in_all w Age before direct after first = λ rest. omega (arith, first, rest)
+looked_in_all w (Probe number) before direct after first = none w before direct after first

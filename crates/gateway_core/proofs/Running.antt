@@ -2,9 +2,13 @@
 use Rattle.std.proofs.Common.{◌≡◌, Some, sym, subst, ◌∙◌}
 use Rattle.channel_table.specs.Looks.{Looks}
 use Rattle.gateway_core.specs.EngineState.{IsRunning}
+use Rattle.gateway_core.proofs.Begun.{limited_at_first}
 use Rattle.gateway_rows.specs.BrandedState.{BrandedState}
 use Rattle.gateway_state.specs.declared.config.Config.{Config}
 use Rattle.gateway_state.specs.declared.event.Event.{Event}
+use Rattle.gateway_state.specs.declared.event.Event.TheVariants.{Limit}
+use Rattle.gateway_state.specs.declared.limits.Limits.{Limits}
+use Rattle.gateway_state.specs.Direct.{limited}
 use Rattle.gateway_state.specs.Gateway.{initial}
 use Rattle.gateway_state.specs.Reached.{IsReached}
 use Rattle.gateway_state.specs.Step.{step}
@@ -34,3 +38,12 @@ running_looked before rows visits x running count is = running_along visits rows
 pub running_kept : (visits : Looks) (rows v x : BrandedState) → IsRunning visits rows → v.state ≡ rows.state → v.brand ≡ rows.brand → Some v ≡ Some x → IsRunning visits x
 running_kept visits rows v x running state brand is =
     running_along visits v x (record { reached = subst IsReached (sym state) running.reached; own = running.own ∙ sym brand }) is
+
+-- one that begins with other limits
+pub running_limited : (config : Config) (policy : Policy) (limits : Limits) (visits : Looks) (v x : BrandedState) → v.state ≡ limited limits (initial config policy) → visits.brand ≡ v.brand
+    → Some v ≡ Some x → IsRunning visits x
+running_limited config policy limits visits v x first own is =
+    running_along visits v x (record {
+      reached = subst IsReached (sym (first ∙ limited_at_first config policy limits)) (reached_step (initial config policy) (Limit limits) (reached_initial config policy));
+      own = own;
+    }) is

@@ -15,13 +15,14 @@ use Rattle.gateway_state.specs.declared.event.Event.{Event}
 use Rattle.gateway_state.specs.declared.event.Event.TheVariants as events
 use Rattle.gateway_state.specs.Gateway.{Gateway}
 use Rattle.link_table.specs.Links.{has_subscription}
-use Rattle.server_messages.specs.Looks.{reply_looks}
+use Rattle.server_messages.specs.Looks.{age_looks, reply_looks}
 
 -- by itself
 abbrev pub direct_looks : Gateway → Event → Option ℕ
 direct_looks w (events.Lost number) = Some (channel_count number w.clients)
 direct_looks w (events.Client number message) = Some 4
 direct_looks w (events.Server number message) = reply_looks w number (reply_of message.head message.payload)
+direct_looks w events.Age = Some (age_looks w)
 direct_looks w event = Some 0
 
 -- An update, of a value or of properties, may look eight times at each channel, subscription and waiting read of
@@ -40,13 +41,16 @@ abbrev pub request_looks : Result ClientRequest RequestFault → Option ℕ
 request_looks (Ok requests.EventsOn) = None
 request_looks request = Some 8
 
--- With all that follows from it. A lost client's channels are looked at once; a lost server, an edit, and
--- room in an outbox that was full, concern many rows
+-- With all that follows from it. A lost client's channels are looked at once, and so are the reads that wait for
+-- properties that are given up; a lost server, an edit, other limits, and room in an outbox that was full,
+-- concern many rows
 abbrev pub event_looks : Gateway → Event → Option ℕ
 event_looks w (events.Lost number) = Some (channel_count number w.clients)
 event_looks w (events.UpLost number) = None
 event_looks w (events.Edit policy) = None
 event_looks w (events.Drain dest count) = None
+event_looks w (events.Limit limits) = None
+event_looks w events.Age = Some (age_looks w)
 event_looks w (events.Client number message) = request_looks (request_of message.head message.payload)
 event_looks w (events.Server number message) = update_looks w number (reply_of message.head message.payload)
 event_looks w event = Some 0

@@ -9,7 +9,7 @@ ghost use Rattle.link_table.specs.Links.{is_of};
 ghost use Rattle.touched_rows.specs.Touches.{link_names, names_of, server_names};
 
 use ca_message::{NameText, ToClient, ToServer};
-use channel_table::{Session, Table, TableFault, Visits};
+use channel_table::{Session, Table, TableFault, User, Visits};
 use gateway_rows::Rows;
 use gateway_state::{Dest, Limit};
 use link_table::{Links, Server, TableFault as LinkFault};
@@ -29,11 +29,16 @@ pub(crate) fn open_session(rows: &mut Rows, number: u32, host: Host) -> Result<(
     }
     let session = Session {
         number,
+        peer: host.copy()?,
         host,
+        user: User::none(rows.alloc),
         host_fixed: false,
         paused: false,
     };
-    match rows.clients.add_session(session) {
+    match rows
+        .clients
+        .add_session_within(rows.limits.sessions, session)
+    {
         Ok(()) => {
             rows.connections.add(rows.alloc, Dest::Session(number))?;
             rows.tell(number, &ToClient::Version)
@@ -98,7 +103,8 @@ pub(crate) fn open_server(rows: &mut Rows, number: u32) -> Result<(), AllocError
     if rows.stands(Dest::Upstream(number)) {
         return Ok(());
     }
-    match rows.upstream.add_server(Server { number, minor: 0 }) {
+    let server = Server { number, minor: 0 };
+    match rows.upstream.add_server_within(rows.limits.servers, server) {
         Ok(()) => {
             rows.connections.add(rows.alloc, Dest::Upstream(number))?;
             introduce(rows, number)

@@ -22,7 +22,9 @@ use channel_table::Visits;
 use fanout::Out;
 use gateway_calls::{AskFault, Failed, NoMemory, StepFault};
 use gateway_rows::{Refusal, Rows};
-use gateway_state::{Config, Dest, Event, Fullest, LimitsMet, Policy, Reading, RowCounts, Sub};
+use gateway_state::{
+    Config, Dest, Event, Fullest, Limits, LimitsMet, Policy, Reading, RowCounts, Sub,
+};
 use pv_name::{Host, Name};
 use pv_search::SearchAnswer;
 use std::alloc::Global;
@@ -66,6 +68,26 @@ impl Engine {
         let (rows, visits) = Rows::new(alloc, config, policy);
         Ok(Engine {
             rows: Some(rows),
+            visits,
+        })
+    }
+
+    /// A gateway to which nothing happened yet but that these limits hold.
+    pub fn with_limits(
+        alloc: Global,
+        config: Config,
+        policy: Policy,
+        limits: Limits,
+    ) -> Result<Engine, NoMemory>
+        requires lowest { 0 < config.first }
+        requires highest { config.first ≤ LAST_FIRST }
+        ensures state { IfOk result (λ engine. engine.state ≡ Some (step (initial config policy) (Event.Limit limits))) }
+        ensures visits { IfOk result (λ engine. engine.visits ≡ 0) }
+    {
+        let (mut limited, visits) = Rows::new(alloc, config, policy);
+        limited.set_limits(limits);
+        Ok(Engine {
+            rows: Some(limited),
             visits,
         })
     }
@@ -197,6 +219,19 @@ impl Engine {
     {
         match &self.rows {
             Some(rows) => Ok(rows.row_counts()),
+            None => Err(Failed),
+        }
+    }
+
+    /// The limits that hold.
+    pub fn limits(&mut self) -> Result<Limits, Failed>
+        ensures found { IfOk result (λ limits. Some limits ≡ option_map (λ w. w.limits) self.old.state) }
+        ensures failed { IsOk result ↔ IsSome self.old.state }
+        ensures same { self.new.state ≡ self.old.state }
+        ensures looks { self.new.visits ≡ self.old.visits }
+    {
+        match &self.rows {
+            Some(rows) => Ok(rows.limits),
             None => Err(Failed),
         }
     }

@@ -3,7 +3,9 @@
 use crate::engine::Engine;
 use fanout::Out;
 use gateway_calls::{AskFault, Failed, GatewayCalls, NoMemory, StepFault};
-use gateway_state::{Config, Dest, Event, Fullest, LimitsMet, Policy, Reading, RowCounts, Sub};
+use gateway_state::{
+    Config, Dest, Event, Fullest, Limits, LimitsMet, Policy, Reading, RowCounts, Sub,
+};
 use pv_name::{Host, Name};
 use pv_search::SearchAnswer;
 use std::alloc::Global;
@@ -45,6 +47,10 @@ impl GatewayCalls for Engine {
 
     fn row_counts(&mut self) -> Result<RowCounts, Failed> {
         Engine::row_counts(self)
+    }
+
+    fn limits(&mut self) -> Result<Limits, Failed> {
+        Engine::limits(self)
     }
 
     fn subscription(&mut self, name: &Name) -> Result<Option<Sub>, Failed> {

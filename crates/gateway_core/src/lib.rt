@@ -12,15 +12,19 @@
 //! the notices (`gateway_notices`).
 #![tactic(auto)]
 
+mod age;
 mod connections;
 mod engine;
 mod gate;
 pub mod laws;
+mod orders;
 mod search;
 mod step;
 
 pub use engine::Engine;
 pub use fanout::Out;
 pub use gateway_calls::{AskFault, Failed, NoMemory, StepFault};
-pub use gateway_state::{Config, Dest, Event, Fullest, LimitsMet, Policy, Reading, RowCounts, Sub};
+pub use gateway_state::{
+    Config, Dest, Event, Fullest, Limits, LimitsMet, Policy, Reading, RowCounts, Sub,
+};
 pub use pv_search::SearchAnswer;

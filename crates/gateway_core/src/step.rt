@@ -8,11 +8,13 @@ ghost use Rattle.gateway_state.specs.Direct.{direct_effect, searched};
 ghost use Rattle.gateway_state.specs.Reached.{IsReached};
 ghost use Rattle.gateway_state.specs.Step.{step, taken};
 ghost use Rattle.gateway_state.specs.Variables.{search_names};
-ghost use Rattle.touched_rows.specs.Touches.{drain_touches, event_touches, with_touched, AreFound};
+ghost use Rattle.touched_rows.specs.Touches.{drain_touches, event_touches, searched_touches, with_touched, AreFound};
 
+use crate::age::age;
 use crate::connections::{lose_server, lose_session, open_server, open_session};
+use crate::orders::{limit, probe};
 use channel_table::Visits;
-use client_requests::hear_client;
+use client_requests::{hear_client, left_touches};
 use fanout::Out;
 use gateway_notices::follow;
 use gateway_rows::{Refusal, Rows};
@@ -77,7 +79,7 @@ fn drain_touches(rows: &Rows, dest: Dest) -> Touched
 }
 
 /// What the event does by itself. A read that was touched isn't kept yet.
-#[tactic(auto, using(gateway_rows::proofs::OwnStays::within_none, touched_rows::proofs::KeptLate::reply_keeps_none, touched_rows::proofs::KeptLate::drain_keeps_none, touched_rows::proofs::NoneFound::none_found_requested, touched_rows::proofs::NoneFound::none_found_drained))]
+#[tactic(auto, using(gateway_rows::proofs::OwnStays::within_none, touched_rows::proofs::KeptLate::reply_keeps_none, touched_rows::proofs::KeptLate::drain_keeps_none, touched_rows::proofs::KeptLate::search_keeps_none, touched_rows::proofs::NoneFound::none_found_requested, touched_rows::proofs::NoneFound::none_found_searched, touched_rows::proofs::NoneFound::none_found_drained))]
 fn perform(rows: &mut Rows, visits: &mut Visits, event: Event) -> Result<Effect, Refusal>
     requires ready { IsReadyForEvent rows.old.state }
     requires own { visits.old.brand ≡ rows.old.brand }
@@ -117,10 +119,7 @@ fn perform(rows: &mut Rows, visits: &mut Visits, event: Event) -> Result<Effect,
             find_at(rows, name, number)?;
             Touched::Nothing
         }
-        Event::Search(host, name) => {
-            search_for(rows, &host, &name)?;
-            Touched::Nothing
-        }
+        Event::Search(host, name) => search_for(rows, &host, &name)?,
         Event::Edit(policy) => {
             rows.set_policy(policy)?;
             Touched::All
@@ -135,6 +134,9 @@ fn perform(rows: &mut Rows, visits: &mut Visits, event: Event) -> Result<Effect,
             let _taken = rows.take(dest, count)?;
             touched
         }
+        Event::Limit(limits) => limit(rows, limits),
+        Event::Age => Touched::Links(age(rows, visits)?),
+        Event::Probe(number) => probe(rows, number)?,
     };
     Ok(Effect::alone(rows.alloc, touched))
 }
@@ -143,16 +145,22 @@ fn perform(rows: &mut Rows, visits: &mut Visits, event: Event) -> Result<Effect,
 fn searched_names(rows: &Rows) -> Result<Names, AllocError>
     ensures { IfOk result (λ names. names ≡ search_names rows.now.state.policy rows.now.state.searches) }
 {
-    Names::copied(rows.alloc, rows.searches.names())
+    let names = rows.searches.names(rows.alloc)?;
+    Names::copied(rows.alloc, &names)
 }
 
-/// Somebody at a host looks for a name, which is remembered where it leads somewhere.
-fn search_for(rows: &mut Rows, host: &Host, name: &Name) -> Result<(), AllocError>
+/// Somebody at a host looks for a name, which is remembered where it leads somewhere. Another search may go
+/// for it.
+fn search_for(rows: &mut Rows, host: &Host, name: &Name) -> Result<Touched, AllocError>
     ensures ok { OnOk result (rows.new.state ≡ searched host.now name.now rows.old.state) }
+    ensures touched { IfOk result (λ touched. touched ≡ searched_touches rows.old.state host.now name.now) }
     ensures brand { rows.new.brand ≡ rows.old.brand }
 {
     match rows.learn_lead(host, name)? {
-        Some(_) => rows.remember(host, name),
-        None => Ok(()),
+        Some(_) => {
+            let left = rows.remember(host, name)?;
+            left_touches(rows, left)
+        }
+        None => Ok(Touched::Nothing),
     }
 }

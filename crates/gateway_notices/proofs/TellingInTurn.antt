@@ -48,7 +48,7 @@ told_later w notice = by (is_taking w notice.session)
     by true = record {
       updates = λ sub. refl;
       paused = λ number. refl;
-      room = λ number taking. no_more_room_given (ToSession notice.session) (outgoing (replies.Update notice.id notice.dtype notice.count notice.payload)) w.connections number taking;
+      room = λ number taking. no_more_room_given (ToSession notice.session) (outgoing (replies.Update notice.id notice.dtype notice.count notice.payload)) w.connections w.limits number taking;
     }
     by false = same w
 

@@ -1,3 +1,4 @@
 pub mod BrandedState
+pub mod LinkIds
 pub mod Own
 pub mod ToldReaders

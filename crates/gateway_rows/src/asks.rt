@@ -18,9 +18,9 @@ impl Rows {
         ensures { IfOk result (λ names. names.items ≡ filter (is_unlinked self.now.state) (search_names self.now.state.policy self.now.state.searches)) }
     {
         let mut names = Vec::new(self.alloc);
-        for name in self.searches.names() {
-            if !self.is_linked(name) {
-                names.push(name.copy()?)?;
+        for name in self.searches.names(self.alloc)? {
+            if !self.is_linked(&name) {
+                names.push(name)?;
             }
         }
         Ok(names)

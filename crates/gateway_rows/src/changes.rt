@@ -1,7 +1,7 @@
 //! Small changes of rows.
 ghost use Rattle.std.specs.Prelude.{◌≡◌, ◌≤◌, ◌+◌, length, OnOk};
-ghost use Rattle.gateway_state.specs.Clients.{remembered, without_channel};
-ghost use Rattle.gateway_state.specs.Direct.{edited, swept};
+ghost use Rattle.gateway_state.specs.Clients.{without_channel};
+ghost use Rattle.gateway_state.specs.Direct.{edited, limited};
 ghost use Rattle.gateway_state.specs.Notices.{forgotten, without_read};
 ghost use Rattle.gateway_state.specs.Servers.{without_link};
 ghost use Rattle.gateway_state.specs.Updates.{owed_to, owed_to_all, with_owed_of};
@@ -9,9 +9,8 @@ ghost use Rattle.gateway_state.specs.Variables.{without_cached};
 
 use crate::state::Rows;
 use channel_table::{ClientSub, Visits, WaitingRead};
-use gateway_state::{Limit, Policy, SEARCH_LIMIT, Search};
+use gateway_state::{Limits, Policy};
 use link_table::Subject;
-use pv_name::{Host, Name};
 use std::alloc::AllocError;
 
 impl Rows {
@@ -97,23 +96,6 @@ impl Rows {
         self.upstream.remove_link(server, cid);
     }
 
-    /// Somebody at a host looks for a name: that is remembered, once, where there is room.
-    pub fn remember(&mut self, host: &Host, name: &Name) -> Result<(), AllocError>
-        ensures ok { OnOk result (self.new.state ≡ remembered host.now name.now self.old.state) }
-        ensures brand { self.new.brand ≡ self.old.brand }
-    {
-        if self.searches.contains(host, name) {
-            return Ok(());
-        }
-        if self.searches.len() >= SEARCH_LIMIT {
-            self.meet(Limit::Names);
-            return Ok(());
-        }
-        let host = host.copy()?;
-        let name = name.copy()?;
-        self.searches.add(self.alloc, Search { host, name })
-    }
-
     /// From now on another policy holds.
     pub fn set_policy(&mut self, policy: Policy) -> Result<(), AllocError>
         ensures ok { OnOk result (self.new.state ≡ edited policy self.old.state) }
@@ -122,11 +104,11 @@ impl Rows {
         self.searches.set_policy(self.alloc, policy)
     }
 
-    /// Forgets all searches.
-    pub fn sweep(&mut self)
-        ensures state { self.new.state ≡ swept self.old.state }
+    /// From now on these limits hold. Nothing that stands goes at that.
+    pub fn set_limits(&mut self, limits: Limits)
+        ensures state { self.new.state ≡ limited limits self.old.state }
         ensures brand { self.new.brand ≡ self.old.brand }
     {
-        self.searches.clear();
+        self.limits = limits;
     }
 }

@@ -51,7 +51,8 @@ impl Rows {
     pub fn is_taking(&self, number: u32) -> bool
         ensures { result ≡ is_taking self.now.state number }
     {
-        self.connections.takes_updates(Dest::Session(number))
+        self.connections
+            .takes_updates(&self.limits, Dest::Session(number))
     }
 
     /// Marks a connection to end.

@@ -5,7 +5,7 @@ ghost use Rattle.gateway_state.specs.Numbers.{is_past_numbers};
 ghost use Rattle.gateway_state.specs.RowCounts.{row_counts};
 
 use channel_table::{ClientSub, Table, Visits};
-use gateway_state::{Config, LimitsMet, Policy, RowCounts};
+use gateway_state::{Config, LastAge, Limits, LimitsMet, Policy, RowCounts};
 use link_table::Links;
 use state_tables::{Cache, Connections, Searches};
 use std::alloc::Global;
@@ -15,6 +15,8 @@ use std::marker::Model;
 pub struct Rows {
     pub alloc: Global,
     pub config: Config,
+    /// How much is taken on at most.
+    pub limits: Limits,
     /// The connections that stand, with their outboxes.
     pub connections: Connections,
     /// Clients' sessions, channels, reads that wait, and subscriptions.
@@ -25,6 +27,8 @@ pub struct Rows {
     pub cache: Cache,
     /// The policy that holds, and the searches that are remembered.
     pub searches: Searches,
+    /// What stood already when time was last told to pass.
+    pub last_age: LastAge,
     // The memory of a list that is done with. It is no part of what contracts see.
     pub(crate) spare: Vec<ClientSub>,
     // How often limits were met, without the outboxes that were full. It is no part of it either.
@@ -41,7 +45,17 @@ impl Model for Rows {
     ghost coded = { Prim.hlevel (codes, the_policy.the_row.coded) };
 
     ghost view = { λ r. record {
-      state = record { config = r.config; policy = r.searches.policy; connections = r.connections; clients = r.clients.rows; upstream = r.upstream; cache = r.cache; searches = r.searches.rows };
+      state = record {
+        config = r.config;
+        policy = r.searches.policy;
+        limits = r.limits;
+        connections = r.connections;
+        clients = r.clients.rows;
+        upstream = r.upstream;
+        cache = r.cache;
+        searches = r.searches.rows;
+        last_age = r.last_age;
+      };
       brand = r.clients.brand;
     } };
 }
@@ -58,6 +72,8 @@ impl Drop for Rows {
             searches,
             spare,
             alloc: _,
+            limits: _,
+            last_age: _,
             met: _,
         } = self;
         drop(config);
@@ -82,11 +98,16 @@ impl Rows {
         let rows = Rows {
             alloc,
             config,
+            limits: Limits::usual(),
             connections: Connections::new(alloc),
             clients,
             upstream: Links::new(alloc, first),
             cache: Cache::new(alloc),
             searches: Searches::new(alloc, policy),
+            last_age: LastAge {
+                cid: first,
+                subscription: first,
+            },
             spare: Vec::new(alloc),
             met: LimitsMet::NONE,
         };

@@ -73,6 +73,8 @@ cached_apart_kept = record {
         omega (arith, passing_changed (is_cached_of other) (is_cached_of cid) without_told w.cache (λ row. refl));
     searches = λ rows w apart. apart;
     policy = λ policy w apart. apart;
+    limits = λ limits w apart. apart;
+    last_age = λ last w apart. apart;
     channel_added = λ session cid name real rights w fixed apart. apart;
     channel_changed = λ session sid reach rights w apart. apart;
     channel_removed = λ session sid w apart. apart;

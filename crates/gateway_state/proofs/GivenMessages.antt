@@ -19,7 +19,7 @@ use Rattle.gateway_state.specs.declared.connections.Connection.{Connection}
 use Rattle.gateway_state.specs.declared.event.Dest.{Dest}
 use Rattle.gateway_state.specs.declared.event.Dest.TheVariants.{Session, Upstream}
 use Rattle.gateway_state.specs.declared.event.Event.{Event}
-use Rattle.gateway_state.specs.declared.event.Event.TheVariants.{Opened, Lost, Client, UpOpened, UpLost, Server, Found, Search, Sweep, Edit, Drain}
+use Rattle.gateway_state.specs.declared.event.Event.TheVariants.{Opened, Lost, Client, UpOpened, UpLost, Server, Found, Search, Sweep, Edit, Drain, Limit, Age, Probe}
 use Rattle.gateway_state.specs.Asked.{stands}
 use Rattle.gateway_state.specs.Connections.{fresh, given, is_not_to, is_to, marked_now, outbox_in, outbox_of, relieved, same_dest}
 use Rattle.gateway_state.specs.Delivered.{IsSaidBy, IsWireForm, before_said, given_by, is_loss_of, waiting_for}
@@ -141,6 +141,8 @@ module _ (x : Gateway) (event : Event) (dest : Dest) where
     bare = λ cid w grown. grown;
     searches = λ rows w grown. grown;
     policy = λ policy w grown. grown;
+    limits = λ limits w grown. grown;
+    last_age = λ last w grown. grown;
     channel_added = λ session cid name real rights w fixed grown. grown;
     channel_changed = λ session sid reach rights w grown. grown;
     channel_removed = λ session sid w grown. grown;
@@ -246,6 +248,9 @@ taken_first w (Search host name) dest other = refl
 taken_first w Sweep dest other = refl
 taken_first w (Edit policy) dest other = refl
 taken_first w (Drain to count) dest other = drained_parts dest to count w.connections
+taken_first w (Limit limits) dest other = refl
+taken_first w Age dest other = refl
+taken_first w (Probe number) dest other = refl
 
 -- RUNS
 

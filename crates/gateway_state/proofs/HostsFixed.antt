@@ -78,6 +78,8 @@ hosts_fixed_kept = record {
     bare = λ cid w fixed. fixed;
     searches = λ rows w fixed. fixed;
     policy = λ policy w fixed. fixed;
+    limits = λ limits w fixed. fixed;
+    last_age = λ last w fixed. fixed;
     channel_added = λ session cid name real rights w host fixed.
         list_all-append (has_host_fixed w) w.clients.channels (new_channel session cid name real rights w ∷ []) ∙ rw (fixed, host) refl;
     channel_changed = λ session sid reach rights w fixed.

@@ -26,6 +26,8 @@ in_order_kept = record {
     bare = λ cid w order. record { channels = order.channels; links = order.links; ids = order.ids };
     searches = λ rows w order. record { channels = order.channels; links = order.links; ids = order.ids };
     policy = λ policy w order. record { channels = order.channels; links = order.links; ids = order.ids };
+    limits = λ limits w order. record { channels = order.channels; links = order.links; ids = order.ids };
+    last_age = λ last w order. record { channels = order.channels; links = order.links; ids = order.ids };
     channel_added = λ session cid name real rights w fixed order. record {
       channels = rising_pushed sid_of 0 w.upstream.counters.sid w.clients.channels
           (record { session = session; sid = w.upstream.counters.sid; cid = cid; asked = name; real = real; reach = no_reach; rights_told = rights })

@@ -27,6 +27,8 @@ use Rattle.gateway_state.specs.declared.cached.LastMessage.{LastMessage}
 use Rattle.gateway_state.specs.declared.event.Dest.{Dest}
 use Rattle.gateway_state.specs.declared.event.Dest.TheVariants as dests
 use Rattle.gateway_state.specs.declared.event.Event.{Event}
+use Rattle.gateway_state.specs.declared.last_age.LastAge.{LastAge}
+use Rattle.gateway_state.specs.declared.limits.Limits.{Limits}
 use Rattle.rule_desk.specs.declared.policy.Policy.{Policy}
 use Rattle.gateway_state.specs.declared.connections.Connection.{Connection}
 use Rattle.fanout.specs.Outbox.{appended}
@@ -72,6 +74,12 @@ with_searches rows w = record w { searches = rows }
 
 abbrev pub with_policy : Policy → Gateway → Gateway
 with_policy policy w = record w { policy = policy }
+
+abbrev pub with_limits : Limits → Gateway → Gateway
+with_limits limits w = record w { limits = limits }
+
+abbrev pub with_last_age : LastAge → Gateway → Gateway
+with_last_age last w = record w { last_age = last }
 
 abbrev pub with_next_subscription : ℕ → Gateway → Gateway
 with_next_subscription next w = record w { upstream = record w.upstream { counters = record w.upstream.counters { subscription = next } } }
@@ -148,6 +156,8 @@ pub record KeepsRows (P : Gateway → Type 0) : Type 0 where
   pub bare : (cid : ℕ) (w : Gateway) → P w → P (forgotten Properties cid w)
   pub searches : (rows : List Search) (w : Gateway) → P w → P (with_searches rows w)
   pub policy : (policy : Policy) (w : Gateway) → P w → P (with_policy policy w)
+  pub limits : (limits : Limits) (w : Gateway) → P w → P (with_limits limits w)
+  pub last_age : (last : LastAge) (w : Gateway) → P w → P (with_last_age last w)
   pub channel_added : (session cid : ℕ) (name real : List ℕ) (rights : ℕ) (w : Gateway) → is_host_fixed (find (is_numbered session) w.clients.sessions) ≡ true → P w
       → P (with_channel session cid name real rights w)
   pub channel_changed : (session sid : ℕ) (reach : Reach) (rights : ℕ) (w : Gateway) → P w → P (with_reach session sid reach rights w)

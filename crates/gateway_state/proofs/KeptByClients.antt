@@ -21,20 +21,18 @@ use Rattle.channel_table.specs.declared.channels.Reach.{Reach}
 use Rattle.channel_table.specs.declared.reads.WaitingRead.{WaitingRead}
 use Rattle.channel_table.specs.declared.sessions.Session.{Session}
 use Rattle.channel_table.specs.declared.subs.ClientSub.{ClientSub}
-use Rattle.channel_table.specs.declared.table.TheConstants.{CHANNEL_LIMIT, SESSION_LIMIT}
 use Rattle.channel_table.specs.Channels.{is_channel}
 use Rattle.channel_table.specs.ClientRows.{channel_count}
 use Rattle.channel_table.specs.Sessions.{is_numbered}
 use Rattle.link_table.specs.declared.links.Link.{Link}
 use Rattle.link_table.specs.declared.links.LinkState.{LinkState}
 use Rattle.link_table.specs.declared.links.LinkState.TheVariants.{Creating, Connected, Unusable}
-use Rattle.link_table.specs.declared.table.TheConstants.{WRITE_LIMIT}
 use Rattle.link_table.specs.declared.writes.WaitingWrite.{WaitingWrite}
 use Rattle.link_table.specs.LinkRows.{write_count}
 use Rattle.gateway_state.specs.declared.event.Dest.TheVariants.{Session as ToSession}
 use Rattle.channel_table.specs.ClientRows.{has_sub}
 use Rattle.channel_table.specs.Subs.{is_sub}
-use Rattle.gateway_state.specs.declared.limits.TheConstants.{LOWEST_MINOR, SEARCH_LIMIT}
+use Rattle.gateway_state.specs.declared.limits.TheConstants.{LOWEST_MINOR}
 use Rattle.gateway_state.specs.declared.notice.ReadVerdict.{ReadVerdict}
 use Rattle.gateway_state.specs.declared.notice.ReadVerdict.TheVariants.{NoChannel, Ignored, Refused, Accepted}
 use Rattle.gateway_state.specs.declared.notice.SubVerdict.{SubVerdict}
@@ -47,13 +45,12 @@ use Rattle.pv_alias.specs.declared.lead.Lead.{Lead}
 use Rattle.rule_desk.specs.declared.policy.Policy.{Policy}
 use Rattle.gateway_state.specs.declared.connections.Connection.{Connection}
 use Rattle.gateway_state.specs.Asked.{stands}
-use Rattle.gateway_state.specs.Clients.{channel_asked, cleared, created, created_as, created_over, creation_failed, judged, not_connected, read_verdict, remembered, remembered_by, rights_on, versioned, with_channel, with_host_fixed, without_channel, verdict_on, fixed, renamed}
+use Rattle.gateway_state.specs.Clients.{channel_asked, cleared, created, created_as, created_over, creation_failed, judged, not_connected, read_verdict, remembered, remembered_by, rights_on, versioned, with_channel, with_host_fixed, without_channel, verdict_on, called, fixed, renamed, search_left_by}
 use Rattle.gateway_state.specs.Connections.{fresh, is_to}
-use Rattle.gateway_state.specs.declared.search.Search.{Search}
 use Rattle.gateway_state.specs.Gateway.{Gateway}
 use Rattle.gateway_state.specs.Requests.{client_said, requested, unreadable}
 use Rattle.gateway_state.specs.Rights.{channel_of, lead_for, lead_in, rights_of}
-use Rattle.gateway_state.specs.Searches.{same_search}
+use Rattle.gateway_state.specs.Searches.{with_search, without_search}
 use Rattle.gateway_state.specs.Sessions.{opened, with_session}
 use Rattle.gateway_state.specs.Settled.{is_host_fixed, is_of_server, is_write_on_link, link_under}
 use Rattle.gateway_state.specs.Subscribing.{cancelled_on, cid_in, is_on_sid, limit_unless, new_sub, paused_to, sub_judged, sub_of, sub_verdict, sub_verdict_on, sub_verdict_over, sub_verdict_unless, subscription_limit, subscription_refusal, with_pause, without_sub}
@@ -61,7 +58,7 @@ use Rattle.gateway_state.specs.Telling.{marked, told}
 use Rattle.gateway_state.specs.Variables.{ConnectedVariable, connected, connected_in, connected_over, link_of}
 use Rattle.gateway_state.specs.Writing.{may_write, new_write, notified_by, with_write, write_answered, write_handed_on, write_judged, write_verdict, write_verdict_on, write_verdict_over, write_waits, written_by}
 use Rattle.gateway_state.proofs.RowTests.{none_found}
-use Rattle.gateway_state.proofs.Kept.{KeepsErrors, KeepsQuotes, KeepsRows, KeepsSession, by_any, kept_either, with_connections, with_read, with_searches}
+use Rattle.gateway_state.proofs.Kept.{KeepsErrors, KeepsQuotes, KeepsRows, KeepsSession, by_any, kept_either, with_connections, with_read}
 
 -- there is a row where the first that passes is found
 found_there : {A : Type 0} (test : A → Bool) (rows : List A) (row : A) → find test rows ≡ Some row → list_any test rows ≡ true
@@ -148,6 +145,12 @@ renamed_keeps host = record {
   stays_fixed = λ row is. elim row.host_fixed as (λ t. (cond t row (record row { host = host })).host_fixed ≡ true) [ true ↦ is | false ↦ is ];
 }
 
+called_keeps : (user : List ℕ) → KeepsSession (called user)
+called_keeps user = record {
+  same_number = λ row. elim row.host_fixed as (λ t. (cond t row (record row { user = user })).number ≡ row.number) [ true ↦ refl | false ↦ refl ];
+  stays_fixed = λ row is. elim row.host_fixed as (λ t. (cond t row (record row { user = user })).host_fixed ≡ true) [ true ↦ is | false ↦ is ];
+}
+
 paused_keeps : (paused : Bool) → KeepsSession (with_pause paused)
 paused_keeps paused = record { same_number = λ row. refl; stays_fixed = λ row is. is }
 
@@ -175,10 +178,10 @@ module _ (P : Gateway → Type 0) (kept : KeepsRows P) where
 
   pub kept_opened : (w : Gateway) (number : ℕ) (host : List ℕ) → P w → P (opened w number host)
   kept_opened w number host holds =
-      let new : Session = record { number = number; host = host; host_fixed = false; paused = false } in
+      let new : Session = record { number = number; peer = host; host = host; user = []; host_fixed = false; paused = false } in
       let first : Gateway = with_connections (w.connections ++ fresh (ToSession number) ∷ []) w in
       let second = kept.session_added new first (added_stands number w.connections) (kept.connection_added (ToSession number) w holds) in
-      kept_either P (stands w (ToSession number) || leb SESSION_LIMIT (length w.clients.sessions)) w (told number replies.Version (with_session w number host))
+      kept_either P (stands w (ToSession number) || leb w.limits.sessions (length w.clients.sessions)) w (told number replies.Version (with_session w number host))
       (λ _. holds) (kept.messages.telling number replies.Version by_any (with_session w number host) second)
 
   -- new channels
@@ -195,10 +198,7 @@ module _ (P : Gateway → Type 0) (kept : KeepsRows P) where
       (kept.messages.telling number (replies.AccessRights cid rights) by_any first (kept.channel_added number cid name lead.real rights w fixed holds))
 
   pub kept_remembered : (host name : List ℕ) (w : Gateway) → P w → P (remembered host name w)
-  kept_remembered host name w holds =
-      let rows : List Search = w.searches ++ record { host = host; name = name } ∷ [] in
-      kept_either P (list_any (same_search host name) w.searches || leb SEARCH_LIMIT (length w.searches)) w (with_searches rows w)
-      (λ _. holds) (kept.searches rows w holds)
+  kept_remembered host name w holds = kept.searches (with_search w.limits host name w.searches) w holds
 
   kept_remembered_by : (row : Option Session) (name : List ℕ) (w : Gateway) → P w → P (remembered_by row name w)
   kept_remembered_by None name w holds = holds
@@ -211,13 +211,16 @@ module _ (P : Gateway → Type 0) (kept : KeepsRows P) where
 
   kept_created_over : (number cid : ℕ) (name : List ℕ) (lead : Lead) (over : Option ConnectedVariable) (w : Gateway) → HasHost number w → P w → P (created_over number cid name lead over w)
   kept_created_over number cid name lead None w fixed holds = kept_not_connected number cid name w holds
-  kept_created_over number cid name lead (Some v) w fixed holds = kept_created number cid name lead v.link v.native w fixed holds
+  kept_created_over number cid name lead (Some v) w fixed holds =
+      let made : Gateway = created number cid name lead v.link v.native w in
+      kept.searches (without_search (search_left_by (find (is_numbered number) made.clients.sessions) name made) made.searches) made
+      (kept_created number cid name lead v.link v.native w fixed holds)
 
   kept_created_as : (number cid : ℕ) (name : List ℕ) (lead : Option Lead) (w : Gateway) → ((to : Lead) → lead ≡ Some to → HasHost number w) → P w
       → P (created_as number cid name lead w)
   kept_created_as number cid name None w fixed holds = kept.messages.telling number (replies.CreateChannelFail cid) by_any w holds
   kept_created_as number cid name (Some lead) w fixed holds =
-      kept_either P (leb CHANNEL_LIMIT (channel_count number w.clients)) (creation_failed number cid w) (created_over number cid name lead (connected w lead.real) w)
+      kept_either P (leb w.limits.channels (channel_count number w.clients)) (creation_failed number cid w) (created_over number cid name lead (connected w lead.real) w)
       (λ _. kept.messages.telling number (replies.CreateChannelFail cid) by_any w holds) (kept_created_over number cid name lead (connected w lead.real) w (fixed lead refl) holds)
 
   kept_with_host_fixed : (number : ℕ) (w : Gateway) → P w → P (with_host_fixed number w)
@@ -277,7 +280,7 @@ module _ (P : Gateway → Type 0) (kept : KeepsRows P) where
       → is_write_on_link w (new_write w server number sid dtype count ioid) ≡ true → P w → P (write_handed_on number sid ioid dtype count server upstream_sid value w)
   kept_handed_on number sid ioid dtype count server upstream_sid value w on holds =
       let write : WaitingWrite = new_write w server number sid dtype count ioid in
-      kept_either P (leb WRITE_LIMIT (write_count number w.upstream)) (write_answered number ioid dtype count ECA_PUTFAIL w) (write_waits write upstream_sid value w)
+      kept_either P (leb w.limits.writes (write_count number w.upstream)) (write_answered number ioid dtype count ECA_PUTFAIL w) (write_waits write upstream_sid value w)
       (λ _. kept.messages.telling number (replies.WriteNotify ioid dtype count ECA_PUTFAIL) by_any w holds)
       (kept.messages.asking server (to_servers.WriteNotify upstream_sid write.id value) (with_write write w) (kept.write_added write w on refl holds))
 
@@ -332,7 +335,7 @@ module _ (P : Gateway → Type 0) (kept : KeepsRows P) where
   kept_requested w number message (Ok (requests.WriteNotify write)) quoted is holds =
       kept_notified_by number write.sid write.ioid write.dtype write.count message.head quoted.errors (write_verdict w number write.sid write.dtype write.count write.value) w
       (λ server upstream_sid written accepted. write_on_link w number write.sid write.dtype write.count write.ioid write.value server upstream_sid written accepted) holds
-  kept_requested w number message (Ok (requests.ClientName name)) quoted is holds = holds
+  kept_requested w number message (Ok (requests.ClientName name)) quoted is holds = kept.session_changed number (called name) w (called_keeps name) holds
   kept_requested w number message (Ok (requests.HostName host)) quoted is holds = kept.session_changed number (renamed host) w (renamed_keeps host) holds
   kept_requested w number message (Ok requests.Echo) quoted is holds = quoted.echo is w holds
   kept_requested w number message (Err fault) quoted is holds = kept_unreadable w number message.head quoted.errors holds

@@ -18,7 +18,6 @@ use Rattle.link_table.specs.declared.links.LinkState.{LinkState}
 use Rattle.link_table.specs.declared.links.LinkState.TheVariants.{Creating, Connected, Unusable}
 use Rattle.link_table.specs.declared.links.Subject.{Subject}
 use Rattle.link_table.specs.declared.links.Subscription.{Subscription}
-use Rattle.link_table.specs.declared.table.TheConstants.{LINK_LIMIT, SERVER_LIMIT}
 use Rattle.link_table.specs.Links.{has_subscription, is_link, sub_at}
 use Rattle.value_cache.specs.Held.{Held}
 use Rattle.gateway_state.specs.declared.event.Dest.TheVariants.{Upstream}
@@ -55,7 +54,7 @@ module _ (P : Gateway → Type 0) (kept : KeepsRows P) where
       let new : Server = record { number = number; minor = 0 } in
       let first : Gateway = with_connections (w.connections ++ fresh (Upstream number) ∷ []) w in
       let second = kept.servers (w.upstream.servers ++ new ∷ []) first (kept.connection_added (Upstream number) w holds) in
-      kept_either P (stands w (Upstream number) || leb SERVER_LIMIT (length w.upstream.servers)) w (introduced number (with_server w number))
+      kept_either P (stands w (Upstream number) || leb w.limits.servers (length w.upstream.servers)) w (introduced number (with_server w number))
       (λ _. holds) (kept_introduced number (with_server w number) second)
 
 -- a new link, where it keeps it
@@ -66,9 +65,9 @@ module _ (P : Gateway → Type 0) (messages : KeepsMessages P) where
   pub kept_found : (w : Gateway) (name : List ℕ) (server : ℕ) → (is_linked w name ≡ false → stands w (Upstream server) ≡ true → P (with_link server name w))
       → P w → P (found w name server)
   kept_found w name server with_it holds =
-      kept_either P (is_missing w name && acts w (Upstream server) && ltb (length w.upstream.links) LINK_LIMIT) (linked w server name) w
+      kept_either P (is_missing w name && acts w (Upstream server) && ltb (length w.upstream.links) w.limits.links) (linked w server name) w
       (λ e.
-      let tests = and_parts (is_missing w name && acts w (Upstream server)) (ltb (length w.upstream.links) LINK_LIMIT) e in
+      let tests = and_parts (is_missing w name && acts w (Upstream server)) (ltb (length w.upstream.links) w.limits.links) e in
       let parts = and_parts (is_missing w name) (acts w (Upstream server)) tests.0 in
       let standing = and_parts (stands w (Upstream server)) (not (ends w (Upstream server))) parts.1 in
       kept_linked w server name (with_it (not-true (is_linked w name) (and_parts (is_wanted w name) (not (is_linked w name)) parts.0).1) standing.0))
@@ -107,7 +106,7 @@ module _ (P : Gateway → Type 0) (kept : KeepsRows P) where
   kept_read_failed w read holds =
       kept.messages.telling read.session (replies.ReadNotifyRefused read.ioid read.dtype read.count ECA_GETFAIL) by_any (without_read read w) (kept.read_removed read w holds)
 
-  kept_all_failed : (reads : List WaitingRead) (w : Gateway) → P w → P (fold read_failed w reads)
+  pub kept_all_failed : (reads : List WaitingRead) (w : Gateway) → P w → P (fold read_failed w reads)
   kept_all_failed [] w holds = holds
   kept_all_failed (read ∷ reads) w holds = kept_all_failed reads (read_failed w read) (kept_read_failed w read holds)
 

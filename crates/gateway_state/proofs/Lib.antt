@@ -4,10 +4,12 @@ pub mod GivenMessages
 pub mod HostsFixed
 pub mod InOrder
 pub mod Kept
+pub mod KeptByAge
 pub mod KeptByClients
 pub mod KeptByRuns
 pub mod KeptByServers
 pub mod LaidOutValues
+pub mod LeftSearches
 pub mod LinkNotices
 pub mod LinksApart
 pub mod LinksOnServers

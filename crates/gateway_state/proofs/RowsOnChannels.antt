@@ -46,6 +46,8 @@ rows_on_channels_kept = record {
     bare = λ cid w on. record { reads = on.reads; subs = on.subs };
     searches = λ rows w on. record { reads = on.reads; subs = on.subs };
     policy = λ policy w on. record { reads = on.reads; subs = on.subs };
+    limits = λ limits w on. record { reads = on.reads; subs = on.subs };
+    last_age = λ last w on. record { reads = on.reads; subs = on.subs };
     channel_added = λ session cid name real rights w fixed on. record {
       reads = on_more read_session read_sid w.clients.channels (new_channel session cid name real rights w) w.clients.reads on.reads;
       subs = on_more sub_session sub_sid w.clients.channels (new_channel session cid name real rights w) w.clients.subs on.subs;

@@ -224,6 +224,8 @@ writes_fit_kept = record {
     bare = λ cid w on. record { apart = on.apart; fit = on.fit };
     searches = λ rows w on. record { apart = on.apart; fit = on.fit };
     policy = λ policy w on. record { apart = on.apart; fit = on.fit };
+    limits = λ limits w on. record { apart = on.apart; fit = on.fit };
+    last_age = λ last w on. record { apart = on.apart; fit = on.fit };
     channel_added = λ session cid name real rights w fixed on. record { apart = on.apart; fit = fit_more w (new_channel session cid name real rights w) on.fit };
     channel_changed = λ session sid reach rights w on. record { apart = on.apart; fit = fit_changed w session sid reach rights on.fit };
     channel_removed = λ session sid w on. record {

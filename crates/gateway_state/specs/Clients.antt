@@ -1,6 +1,6 @@
 -- What clients' messages do.
-use Rattle.std.specs.Prelude.{ℕ, ◌+◌, List, [], ◌∷◌, ◌++◌, length, filter, max, bit_and, Bool, true, false, not, ◌||◌, ◌&&◌, nat_lt, nat_le, is_some, if◌then◌else◌, Option, Some, None}
-use Rattle.std.specs.List.{find, list_any}
+use Rattle.std.specs.Prelude.{ℕ, ◌+◌, List, [], ◌∷◌, ◌++◌, filter, max, bit_and, Bool, true, false, not, ◌||◌, ◌&&◌, nat_lt, nat_le, is_some, if◌then◌else◌, Option, Some, None}
+use Rattle.std.specs.List.{find}
 use Rattle.rows.specs.Rows.{change_first}
 use Rattle.ca_header.specs.declared.header.Header.{Header}
 use Rattle.ca_message.specs.declared.codes.TheConstants.{ECA_INTERNAL, ECA_BADCHID, ECA_GETFAIL}
@@ -9,7 +9,6 @@ use Rattle.ca_message.specs.declared.to_client.ToClient.TheVariants as replies
 use Rattle.channel_table.specs.declared.channels.Channel.{Channel}
 use Rattle.channel_table.specs.declared.channels.Reach.{Reach}
 use Rattle.channel_table.specs.declared.sessions.Session.{Session}
-use Rattle.channel_table.specs.declared.table.TheConstants.{CHANNEL_LIMIT, READ_LIMIT}
 use Rattle.channel_table.specs.Channels.{is_channel, is_not_channel, with_reach_and_rights}
 use Rattle.channel_table.specs.ClientRows.{channel_count, read_count}
 use Rattle.channel_table.specs.Reads.{is_not_read_on}
@@ -20,7 +19,7 @@ use Rattle.link_table.specs.Writes.{is_not_write_on}
 use Rattle.pv_alias.specs.declared.lead.Lead.{Lead}
 use Rattle.pv_alias.specs.Rights.{group_rights}
 use Rattle.gateway_state.specs.declared.event.Dest.TheVariants as dests
-use Rattle.gateway_state.specs.declared.limits.TheConstants.{LOWEST_MINOR, SEARCH_LIMIT}
+use Rattle.gateway_state.specs.declared.limits.TheConstants.{LOWEST_MINOR}
 use Rattle.gateway_state.specs.Answer.{needs_by_number, refusal, meant_count, cached_value}
 use Rattle.gateway_state.specs.declared.notice.ReadVerdict.{ReadVerdict}
 use Rattle.gateway_state.specs.declared.notice.ReadVerdict.TheVariants.{NoChannel, Ignored, Refused, Accepted}
@@ -28,7 +27,8 @@ use Rattle.gateway_state.specs.declared.reading.Given.{Given}
 use Rattle.gateway_state.specs.declared.reading.Native.{Native}
 use Rattle.gateway_state.specs.Gateway.{Gateway}
 use Rattle.gateway_state.specs.Quantities.{Code, Count, Dtype, Ioid, SessionNumber, Sid}
-use Rattle.gateway_state.specs.Searches.{same_search}
+use Rattle.gateway_state.specs.declared.search.Search.{Search}
+use Rattle.gateway_state.specs.Searches.{left_by_channel, with_search, without_search}
 use Rattle.gateway_state.specs.Rights.{channel_of, lead_in, rights_of}
 use Rattle.gateway_state.specs.Telling.{told, marked}
 use Rattle.gateway_state.specs.Variables.{ConnectedVariable, connected}
@@ -55,11 +55,9 @@ abbrev pub with_host_fixed : ℕ → Gateway → Gateway
 with_host_fixed number w =
     record w { clients = record w.clients { sessions = change_first (is_numbered number) fixed w.clients.sessions } }
 
--- somebody at a host looks for the name: that is remembered, once, where there is room
+-- somebody at a host looks for the name: that is remembered, once
 abbrev pub remembered : List ℕ → List ℕ → Gateway → Gateway
-remembered host name w =
-    if list_any (same_search host name) w.searches || nat_le SEARCH_LIMIT (length w.searches) then w
-    else record w { searches = w.searches ++ record { host = host; name = name } ∷ [] }
+remembered host name w = record w { searches = with_search w.limits host name w.searches }
 
 -- nothing was read on a channel yet
 abbrev pub no_reach : Reach
@@ -96,6 +94,17 @@ created_with number cid name real rights native w =
 abbrev pub created : ℕ → ℕ → List ℕ → Lead → Link → Native → Gateway → Gateway
 created number cid name lead link native w = created_with number cid name lead.real (rights_on w lead link) native w
 
+-- the search for a name that goes once a client opens a channel on it: that of its connection's address
+abbrev pub search_left_by : Option Session → List ℕ → Gateway → Option Search
+search_left_by None name w = None
+search_left_by (Some row) name w = left_by_channel w.limits row.peer name w.searches
+
+-- what is open is wanted by its channel, and needs no search
+abbrev pub without_search_for : ℕ → List ℕ → Gateway → Gateway
+without_search_for number name w = record w {
+  searches = without_search (search_left_by (find (is_numbered number) w.clients.sessions) name w) w.searches;
+}
+
 abbrev pub creation_failed : ℕ → ℕ → Gateway → Gateway
 creation_failed number cid w = told number (replies.CreateChannelFail cid) w
 
@@ -111,13 +120,14 @@ not_connected number cid name w =
 -- the client's channel, where the variable that its name leads to is connected
 abbrev pub created_over : ℕ → ℕ → List ℕ → Lead → Option ConnectedVariable → Gateway → Gateway
 created_over number cid name lead None w = not_connected number cid name w
-created_over number cid name lead (Some v) w = created number cid name lead v.link v.native w
+created_over number cid name lead (Some v) w =
+    without_search_for number name (created number cid name lead v.link v.native w)
 
 -- the client's channel, where its name leads somewhere and one more may be open
 abbrev pub created_as : ℕ → ℕ → List ℕ → Option Lead → Gateway → Gateway
 created_as number cid name None w = creation_failed number cid w
 created_as number cid name (Some lead) w =
-    if nat_le CHANNEL_LIMIT (channel_count number w.clients) then creation_failed number cid w
+    if nat_le w.limits.channels (channel_count number w.clients) then creation_failed number cid w
     else created_over number cid name lead (connected w lead.real) w
 
 -- the client wants a channel on the name
@@ -168,7 +178,7 @@ accepted number sid ioid dtype count reach rights w = record w {
 
 -- it isn't covered, and as many reads of the session wait as may
 abbrev pub is_one_too_many : Gateway → ℕ → Option Given → Bool
-is_one_too_many w number given = nat_le READ_LIMIT (read_count number w.clients) && not (is_some given)
+is_one_too_many w number given = nat_le w.limits.reads (read_count number w.clients) && not (is_some given)
 
 -- what becomes of a read on a channel of a variable, unless it is refused for this reason
 abbrev pub verdict_unless : Gateway → Channel → ConnectedVariable → Dtype → Count → Option Code → ReadVerdict
@@ -202,6 +212,16 @@ judged number sid ioid dtype count head (Accepted reach rights) w = accepted num
 abbrev pub read_asked : SessionNumber → Sid → Ioid → Dtype → Count → Header → Gateway → Gateway
 read_asked number sid ioid dtype count head w =
     judged number sid ioid dtype count head (read_verdict w number sid dtype count) w
+
+-- CLIENT_NAME
+
+-- with another user, unless its host is fixed
+abbrev pub called : List ℕ → Session → Session
+called user row = if row.host_fixed then row else record row { user = user }
+
+abbrev pub client_named : ℕ → List ℕ → Gateway → Gateway
+client_named number user w =
+    record w { clients = record w.clients { sessions = change_first (is_numbered number) (called user) w.clients.sessions } }
 
 -- HOST_NAME
 

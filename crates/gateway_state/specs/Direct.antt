@@ -1,11 +1,14 @@
 -- What an event does by itself, and the direct reply to it.
 use Rattle.std.specs.Prelude.{ℕ, List, [], is_some, if◌then◌else◌}
 use Rattle.rows.specs.Rows.{change_first}
+use Rattle.ca_message.specs.declared.to_server.ToServer.TheVariants as requests
 use Rattle.rule_desk.specs.declared.policy.Policy.{Policy}
 use Rattle.gateway_state.specs.declared.event.Dest.{Dest}
 use Rattle.gateway_state.specs.declared.event.Dest.TheVariants as dests
 use Rattle.gateway_state.specs.declared.event.Event.{Event}
-use Rattle.gateway_state.specs.declared.event.Event.TheVariants.{Opened, Lost, Client, UpOpened, UpLost, Server, Found, Search, Sweep, Edit, Drain}
+use Rattle.gateway_state.specs.declared.event.Event.TheVariants.{Opened, Lost, Client, UpOpened, UpLost, Server, Found, Search, Sweep, Edit, Drain, Limit, Age, Probe}
+use Rattle.gateway_state.specs.declared.limits.Limits.{Limits}
+use Rattle.gateway_state.specs.Aged.{aged}
 use Rattle.gateway_state.specs.Asked.{acts}
 use Rattle.gateway_state.specs.Clients.{remembered}
 use Rattle.gateway_state.specs.Connections.{is_to, relieved}
@@ -14,6 +17,7 @@ use Rattle.gateway_state.specs.Requests.{client_said}
 use Rattle.gateway_state.specs.Resolution.{lead_of}
 use Rattle.gateway_state.specs.Servers.{server_said, found}
 use Rattle.gateway_state.specs.Sessions.{opened, lost, up_opened, up_lost}
+use Rattle.gateway_state.specs.Telling.{asked}
 
 -- all searches are forgotten
 abbrev pub swept : Gateway → Gateway
@@ -31,6 +35,10 @@ searched host name w = if is_some (lead_of w.policy host name) then remembered h
 abbrev pub drained : Gateway → Dest → ℕ → Gateway
 drained w dest count = record w { connections = change_first (is_to dest) (relieved count) w.connections }
 
+-- other limits hold from now on
+abbrev pub limited : Limits → Gateway → Gateway
+limited limits w = record w { limits = limits }
+
 -- what an event does to the rows that it names, and the direct reply. A message of a connection that
 -- doesn't stand or is marked has no effect
 abbrev pub direct_effect : Gateway → Event → Gateway
@@ -45,3 +53,6 @@ direct_effect w (Search host name) = searched host name w
 direct_effect w Sweep = swept w
 direct_effect w (Edit policy) = edited policy w
 direct_effect w (Drain dest count) = drained w dest count
+direct_effect w (Limit limits) = limited limits w
+direct_effect w Age = aged w
+direct_effect w (Probe number) = asked number requests.Echo w

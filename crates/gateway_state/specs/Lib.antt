@@ -1,3 +1,4 @@
+pub mod Aged
 pub mod Answer
 pub mod Asked
 pub mod CachedRows

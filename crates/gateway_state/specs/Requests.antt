@@ -8,7 +8,7 @@ use Rattle.ca_message.specs.declared.request.ClientRequest.TheVariants as reques
 use Rattle.ca_message.specs.declared.request.RequestFault.{RequestFault}
 use Rattle.ca_message.specs.declared.to_client.ToClient.TheVariants as replies
 use Rattle.ca_message.specs.ClientRequest.{request_of}
-use Rattle.gateway_state.specs.Clients.{channel_asked, channel_cleared, creation_failed, host_named, not_understood, read_asked, versioned, with_host_fixed}
+use Rattle.gateway_state.specs.Clients.{channel_asked, channel_cleared, creation_failed, client_named, host_named, not_understood, read_asked, versioned, with_host_fixed}
 use Rattle.gateway_state.specs.Gateway.{Gateway}
 use Rattle.gateway_state.specs.Subscribing.{new_sub, paused_to, short_subscription, subscription_asked, subscription_cancelled}
 use Rattle.gateway_state.specs.Telling.{told}
@@ -40,7 +40,7 @@ requested w number message (Ok (requests.ReadNotify read)) =
 requested w number message (Ok (requests.CreateChannel create)) = channel_asked number create.cid create.name w
 requested w number message (Ok (requests.WriteNotify write)) =
     write_notify_asked number write.sid write.ioid write.dtype write.count write.value message.head w
-requested w number message (Ok (requests.ClientName name)) = w
+requested w number message (Ok (requests.ClientName name)) = client_named number name w
 requested w number message (Ok (requests.HostName host)) = host_named number host w
 requested w number message (Ok requests.Echo) = told number (replies.Echo message) w
 requested w number message (Err fault) = unreadable w number message.head

@@ -23,7 +23,6 @@ use Rattle.link_table.specs.declared.links.LinkState.TheVariants.{Creating, Conn
 use Rattle.link_table.specs.declared.links.Subject.{Subject}
 use Rattle.link_table.specs.declared.links.Subject.TheVariants.{Values, Properties}
 use Rattle.link_table.specs.declared.links.Subscription.{Subscription}
-use Rattle.link_table.specs.declared.table.TheConstants.{LINK_LIMIT}
 use Rattle.mask_merge.specs.declared.want.TheConstants.{PROPERTY_EVENT}
 use Rattle.link_table.specs.Links.{is_link, is_not_link, has_id, has_subscription, new_link, sub_at, with_state}
 use Rattle.link_table.specs.Servers.{is_server, with_minor}
@@ -58,7 +57,7 @@ linked w server name =
 -- told, and a link has room
 abbrev pub found : Gateway → List ℕ → ℕ → Gateway
 found w name server =
-    if is_missing w name && acts w (dests.Upstream server) && nat_lt (length w.upstream.links) LINK_LIMIT
+    if is_missing w name && acts w (dests.Upstream server) && nat_lt (length w.upstream.links) w.limits.links
     then linked w server name else w
 
 -- VERSION

@@ -9,7 +9,6 @@ use Rattle.ca_message.specs.declared.to_client.ToClient.TheVariants as replies
 use Rattle.channel_table.specs.declared.channels.Channel.{Channel}
 use Rattle.channel_table.specs.declared.sessions.Session.{Session}
 use Rattle.channel_table.specs.declared.subs.ClientSub.{ClientSub}
-use Rattle.channel_table.specs.declared.table.TheConstants.{SUB_LIMIT}
 use Rattle.channel_table.specs.ClientRows.{sub_count}
 use Rattle.channel_table.specs.Sessions.{is_numbered}
 use Rattle.channel_table.specs.Subs.{is_sub, is_not_sub}
@@ -47,7 +46,7 @@ short_subscription w number head = request_refused number (cid_in (channel_of w 
 abbrev pub subscription_limit : Gateway → ℕ → ℕ → Option ℕ
 subscription_limit w number mask =
     if bit_and mask SERVED_EVENTS == 0 then Some ECA_BADMASK
-    else if nat_le SUB_LIMIT (sub_count number w.clients) then Some ECA_ALLOCMEM
+    else if nat_le w.limits.subs (sub_count number w.clients) then Some ECA_ALLOCMEM
     else None
 
 abbrev pub limit_unless : Option ℕ → Option ℕ → Option ℕ

@@ -14,6 +14,7 @@ use Rattle.value_cache.specs.Held.{Held, alarm_differs, nothing}
 use Rattle.gateway_state.specs.declared.cached.LastMessage.{LastMessage}
 use Rattle.gateway_state.specs.declared.event.Dest.TheVariants.{Session as ToSession}
 use Rattle.gateway_state.specs.declared.interest.TheConstants.{ALARM_EVENTS, VALUE_EVENTS}
+use Rattle.gateway_state.specs.declared.limits.Limits.{Limits}
 use Rattle.gateway_state.specs.declared.limits.TheConstants.{UPDATE_LIMIT}
 use Rattle.gateway_state.specs.declared.notice.UpdateNotice.{UpdateNotice}
 use Rattle.gateway_state.specs.declared.reading.Given.{Given}
@@ -25,7 +26,7 @@ use Rattle.gateway_state.specs.Rights.{channel_of, may_read, rights_of}
 use Rattle.gateway_state.specs.Telling.{told}
 use Rattle.channel_table.specs.ClientRows as client_rows
 use Rattle.gateway_state.specs.Variables.{ConnectedVariable, connected}
-use Rattle.fanout.specs.Waiting.{Waiting}
+use Rattle.fanout.specs.Waiting.{Waiting, waiting_bytes}
 
 -- a subscription is owed an update, or no longer
 abbrev pub with_owed_of : ℕ → ℕ → Bool → Gateway → Gateway
@@ -87,12 +88,13 @@ updates_withheld w = owed_to_all w (withheld w)
 
 -- UPDATES THAT ARE DUE
 
--- an outbox takes updates: it isn't marked, and few enough messages wait in it
-abbrev pub takes_updates : Waiting → Bool
-takes_updates box = not box.marked && nat_lt (length box.messages) UPDATE_LIMIT
+-- an outbox takes updates: it isn't marked, and few enough messages and bytes wait in it
+abbrev pub takes_updates : Limits → Waiting → Bool
+takes_updates limits box =
+    not box.marked && nat_lt (length box.messages) UPDATE_LIMIT && nat_lt (waiting_bytes box) limits.update_bytes
 
 abbrev pub is_taking : Gateway → ℕ → Bool
-is_taking w number = takes_updates (outbox_of (ToSession number) w.connections)
+is_taking w number = takes_updates w.limits (outbox_of (ToSession number) w.connections)
 
 abbrev pub paused_in : Option Session → Bool
 paused_in None = false

@@ -9,7 +9,6 @@ use Rattle.ca_message.specs.declared.to_server.ToServer.TheVariants as requests
 use Rattle.ca_message.specs.declared.written.WriteFault.{WriteFault}
 use Rattle.ca_message.specs.Written.{Written, refusal_code, written}
 use Rattle.channel_table.specs.declared.channels.Channel.{Channel}
-use Rattle.link_table.specs.declared.table.TheConstants.{WRITE_LIMIT}
 use Rattle.link_table.specs.declared.writes.WaitingWrite.{WaitingWrite}
 use Rattle.link_table.specs.LinkRows.{write_count}
 use Rattle.link_table.specs.Writes.{is_write, is_not_write}
@@ -97,7 +96,7 @@ write_waits write upstream_sid value w =
 -- unless as many writes of the session wait as may
 abbrev pub write_handed_on : SessionNumber → Sid → Ioid → Dtype → Count → ServerNumber → Sid → Written → Gateway → Gateway
 write_handed_on number sid ioid dtype count server upstream_sid value w =
-    if nat_le WRITE_LIMIT (write_count number w.upstream) then write_answered number ioid dtype count ECA_PUTFAIL w
+    if nat_le w.limits.writes (write_count number w.upstream) then write_answered number ioid dtype count ECA_PUTFAIL w
     else write_waits (new_write w server number sid dtype count ioid) upstream_sid value w
 
 abbrev pub notified_by : SessionNumber → Sid → Ioid → Dtype → Count → Header → WriteVerdict → Gateway → Gateway

@@ -1,4 +1,5 @@
 //! What can happen to the gateway.
+use crate::limits::Limits;
 use ca_header::Message;
 use pv_name::{Host, Name};
 use rule_desk::Policy;
@@ -38,6 +39,13 @@ pub enum Event {
     Edit(Policy),
     /// The oldest messages of an outbox are taken: so many, or all where there are fewer.
     Drain(Dest, usize),
+    /// From now on these limits hold.
+    Limit(Limits),
+    /// Time passed: what wasn't searched for since the last time is forgotten, and what servers owe since
+    /// before the last time is given up.
+    Age,
+    /// A server is asked whether it is there.
+    Probe(u32),
 }
 
 /// Prints the variant's name alone.
@@ -55,6 +63,9 @@ impl fmt::Debug for Event {
             Event::Sweep => "Sweep",
             Event::Edit(..) => "Edit",
             Event::Drain(..) => "Drain",
+            Event::Limit(..) => "Limit",
+            Event::Age => "Age",
+            Event::Probe(..) => "Probe",
         })
     }
 }

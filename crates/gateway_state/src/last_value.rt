@@ -1,5 +1,5 @@
 //! What a variable told last.
-ghost use Rattle.std.specs.Prelude.{◌≡◌, IsOk, IfOk, IsSome, OnErr};
+ghost use Rattle.std.specs.Prelude.{◌≡◌, is_some, IsOk, IfOk, IsSome, OnErr};
 
 use bytes::Bytes;
 use dbr_layout::View;
@@ -70,6 +70,13 @@ impl LastValue {
             self.cached.keep(alloc, dtype, count)?;
         }
         Ok(())
+    }
+
+    /// Whether properties are held (`Cached::has_properties`).
+    pub fn has_properties(&self) -> bool
+        ensures { result ≡ is_some self.now.properties }
+    {
+        self.cached.has_properties()
     }
 
     /// Whether it can answer a read of so many elements of a type (`Cached::covers`).

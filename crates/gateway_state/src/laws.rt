@@ -2,7 +2,7 @@
 ghost use Rattle.std.specs.Prelude.{◌≡◌, ◌+◌, ℕ, List};
 ghost use Rattle.gateway_state.specs.declared.config.TheConstants.{LAST_FIRST};
 ghost use Rattle.gateway_state.specs.declared.interest.TheConstants.{ALARM_EVENTS, CTRL_FORM, PLAIN_TYPES, SERVED_EVENTS, TIME_FORM, VALUE_EVENTS};
-ghost use Rattle.gateway_state.specs.declared.limits.TheConstants.{LOWEST_MINOR, SEARCH_LIMIT, UPDATE_LIMIT, UPDATE_MINOR};
+ghost use Rattle.gateway_state.specs.declared.limits.TheConstants.{LOWEST_MINOR, SEARCH_LIMIT, UPDATE_BYTES, UPDATE_LIMIT, UPDATE_MINOR};
 ghost use Rattle.gateway_state.specs.Gateway.{Gateway};
 ghost use Rattle.gateway_state.specs.Variables.{asks, is_among, is_missing};
 
@@ -21,6 +21,7 @@ pub fn numbers_are_as_documented()
     ensures update_minor { UPDATE_MINOR ≡ 13 }
     ensures searches { SEARCH_LIMIT ≡ 4096 }
     ensures updates { UPDATE_LIMIT ≡ 4096 }
+    ensures update_bytes { UPDATE_BYTES ≡ 0xFFFF_FFFF_FFFF_FFFF }
     ensures last_first { LAST_FIRST ≡ 0xFFFF_FFFE }
 {}
 

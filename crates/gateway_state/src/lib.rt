@@ -10,6 +10,7 @@ mod config;
 mod connections;
 mod event;
 mod interest;
+mod last_age;
 mod last_value;
 pub mod laws;
 mod limits;
@@ -27,8 +28,9 @@ pub use event::{Dest, Event};
 pub use interest::{
     ALARM_EVENTS, CTRL_FORM, PLAIN_TYPES, SERVED_EVENTS, Sub, TIME_FORM, VALUE_EVENTS,
 };
+pub use last_age::LastAge;
 pub use last_value::LastValue;
-pub use limits::{LOWEST_MINOR, SEARCH_LIMIT, UPDATE_LIMIT, UPDATE_MINOR};
+pub use limits::{LOWEST_MINOR, Limits, SEARCH_LIMIT, UPDATE_BYTES, UPDATE_LIMIT, UPDATE_MINOR};
 pub use limits_met::{Fullest, Limit, LimitsMet};
 pub use notice::{
     ChannelNotice, LinkNotice, ReadNotice, ReadVerdict, SubVerdict, UpdateNotice, WriteVerdict,

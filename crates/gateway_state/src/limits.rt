@@ -1,4 +1,9 @@
-//! Numbers that the gateway sets for its peers.
+//! Numbers that the gateway sets for its peers, and how much it takes on.
+ghost use Rattle.std.specs.Prelude.{◌≡◌};
+ghost use Rattle.gateway_state.specs.Gateway.{usual_limits};
+
+use channel_table::{CHANNEL_LIMIT, READ_LIMIT, SESSION_LIMIT, SUB_LIMIT};
+use link_table::{LINK_LIMIT, SERVER_LIMIT, WRITE_LIMIT};
 
 /// The lowest minor version that a client may speak.
 pub const LOWEST_MINOR: u32 = 9;
@@ -6,8 +11,73 @@ pub const LOWEST_MINOR: u32 = 9;
 /// The lowest minor version of a server that is asked for its native count by the count 0.
 pub const UPDATE_MINOR: u32 = 13;
 
-/// How many searches are remembered at most.
+/// How many searches are remembered at most, unless it is said otherwise.
 pub const SEARCH_LIMIT: usize = 4_096;
 
 /// How many messages an outbox holds at most that takes updates.
 pub const UPDATE_LIMIT: usize = 4_096;
+
+/// How many bytes an outbox holds at most that takes updates, unless it is said otherwise: any number.
+pub const UPDATE_BYTES: u64 = 0xFFFF_FFFF_FFFF_FFFF;
+
+/// How much the gateway takes on at most, and what it does where it is full. It can be told anew at any
+/// time: nothing that stands goes at that.
+#[derive(Clone, Copy, Debug, PartialEq, Eq)]
+pub struct Limits {
+    /// Sessions of clients.
+    pub sessions: usize,
+    /// Servers.
+    pub servers: usize,
+    /// Links: variables that a server was asked for a channel to.
+    pub links: usize,
+    /// Searches that are remembered.
+    pub searches: usize,
+    /// Of these, how many of one host, where room is made.
+    pub share: usize,
+    /// Channels of a session.
+    pub channels: usize,
+    /// Subscriptions of a session.
+    pub subs: usize,
+    /// Reads of a session that wait for a value.
+    pub reads: usize,
+    /// Writes of a session that wait for what their server says.
+    pub writes: usize,
+    /// Bytes that wait for a session: it is given updates while fewer wait.
+    pub update_bytes: u64,
+    /// Whether an old search goes where one more is remembered: the oldest of its own host where that has
+    /// its share, else the oldest of all where there are as many as may be. So does a search whose host
+    /// opens a channel on its name. Otherwise no search is remembered that has no room, and none goes.
+    pub makes_room: bool,
+    /// Whether a number that was given out comes again once nothing has it. Kept, and not heeded yet.
+    pub reuses_numbers: bool,
+    /// Whether a request on a number that was given out and stands no more is passed over. Kept, and not
+    /// heeded yet.
+    pub passes_over_gone: bool,
+    /// Whether a subscription whose channel may not be read is told so by an update without a value. Kept,
+    /// and not heeded yet.
+    pub tells_unreadable: bool,
+}
+
+impl Limits {
+    /// What holds where nothing else is said.
+    pub fn usual() -> Limits
+        ensures { result ≡ usual_limits }
+    {
+        Limits {
+            sessions: SESSION_LIMIT,
+            servers: SERVER_LIMIT,
+            links: LINK_LIMIT,
+            searches: SEARCH_LIMIT,
+            share: SEARCH_LIMIT,
+            channels: CHANNEL_LIMIT,
+            subs: SUB_LIMIT,
+            reads: READ_LIMIT,
+            writes: WRITE_LIMIT,
+            update_bytes: UPDATE_BYTES,
+            makes_room: false,
+            reuses_numbers: false,
+            passes_over_gone: false,
+            tells_unreadable: false,
+        }
+    }
+}

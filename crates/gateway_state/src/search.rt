@@ -6,4 +6,6 @@ use pv_name::{Host, Name};
 pub struct Search {
     pub host: Host,
     pub name: Name,
+    /// Whether it was made since the last `Event::Age`.
+    pub fresh: bool,
 }

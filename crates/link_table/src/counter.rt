@@ -60,6 +60,17 @@ impl NextNumbers {
         let _ = &self.sid;
     }
 
+    pub(crate) fn next(&self, counter: Counter) -> u32
+        ensures { result ≡ counter_of counter self.now }
+    {
+        match counter {
+            Counter::Sid => self.sid,
+            Counter::Cid => self.cid,
+            Counter::Subscription => self.subscription,
+            Counter::Write => self.write,
+        }
+    }
+
     pub(crate) fn give_out(&mut self, counter: Counter) -> Option<u32>
         ensures found { IfSome result (λ number. number ≡ counter_of counter self.old) }
         ensures raised { OnSome result (self.new ≡ raised counter self.old) }

@@ -129,6 +129,13 @@ impl Links {
         self.links.len()
     }
 
+    /// The number that is given out next.
+    pub fn next(&self, counter: Counter) -> u32
+        ensures { result ≡ counter_of counter self.now.counters }
+    {
+        self.next.next(counter)
+    }
+
     /// How many servers stand.
     pub fn server_count(&self) -> usize
         ensures { result ≡ length self.now.servers }
@@ -180,7 +187,18 @@ impl Links {
         ensures missing { result ≢ Err TableFault.Missing }
         ensures err { OnErr result (self.new ≡ self.old) }
     {
-        if self.servers.len() >= SERVER_LIMIT {
+        self.add_server_within(SERVER_LIMIT, server)
+    }
+
+    /// The same, where at most so many may stand.
+    pub fn add_server_within(&mut self, limit: usize, server: Server) -> Result<(), TableFault>
+        ensures ok { OnOk result (self.new ≡ record self.old { servers = self.old.servers ++ server ∷ [] }) }
+        ensures room { OnOk result (length self.old.servers < limit) }
+        ensures full { IsErrOf result TableFault.Full ↔ (limit ≤ length self.old.servers) }
+        ensures missing { result ≢ Err TableFault.Missing }
+        ensures err { OnErr result (self.new ≡ self.old) }
+    {
+        if self.servers.len() >= limit {
             return Err(TableFault::Full);
         }
         match self.servers.push(server) {
@@ -202,10 +220,31 @@ impl Links {
             ((has_server server self.old ≡ true) × (LINK_LIMIT ≤ length self.old.links)) }
         ensures err { OnErr result (self.new ≡ self.old) }
     {
+        self.add_link_within(LINK_LIMIT, server, cid, name)
+    }
+
+    /// The same, where at most so many may stand.
+    pub fn add_link_within(
+        &mut self,
+        limit: usize,
+        server: u32,
+        cid: u32,
+        name: Name,
+    ) -> Result<(), TableFault>
+        requires new_id { has_link server cid self.old ≡ false }
+        requires new_name { list_any (is_named name) self.old.links ≡ false }
+        ensures ok { OnOk result (self.new ≡ record self.old { links = self.old.links ++ new_link server cid name ∷ [] }) }
+        ensures there { OnOk result (has_server server self.old ≡ true) }
+        ensures room { OnOk result (length self.old.links < limit) }
+        ensures missing { IsErrOf result TableFault.Missing ↔ (has_server server self.old ≡ false) }
+        ensures full { IsErrOf result TableFault.Full ↔
+            ((has_server server self.old ≡ true) × (limit ≤ length self.old.links)) }
+        ensures err { OnErr result (self.new ≡ self.old) }
+    {
         if !servers::stands(&self.servers, server) {
             return Err(TableFault::Missing);
         }
-        if self.links.len() >= LINK_LIMIT {
+        if self.links.len() >= limit {
             return Err(TableFault::Full);
         }
         match self.links.add(server, cid, name) {
@@ -226,10 +265,25 @@ impl Links {
             × (WRITE_LIMIT ≤ write_count write.session self.old)) }
         ensures err { OnErr result (self.new ≡ self.old) }
     {
+        self.add_write_within(WRITE_LIMIT, write)
+    }
+
+    /// The same, where at most so many of a session may wait.
+    pub fn add_write_within(&mut self, limit: usize, write: WaitingWrite) -> Result<(), TableFault>
+        requires new { list_any (is_write write.server write.id) self.old.writes ≡ false }
+        ensures ok { OnOk result (self.new ≡ record self.old { writes = self.old.writes ++ write ∷ [] }) }
+        ensures there { OnOk result (has_server write.server self.old ≡ true) }
+        ensures room { OnOk result (write_count write.session self.old < limit) }
+        ensures missing { IsErrOf result TableFault.Missing ↔ (has_server write.server self.old ≡ false) }
+        ensures full { IsErrOf result TableFault.Full ↔
+            ((has_server write.server self.old ≡ true)
+            × (limit ≤ write_count write.session self.old)) }
+        ensures err { OnErr result (self.new ≡ self.old) }
+    {
         if !servers::stands(&self.servers, write.server) {
             return Err(TableFault::Missing);
         }
-        if self.writes.count(write.session) >= WRITE_LIMIT {
+        if self.writes.count(write.session) >= limit {
             return Err(TableFault::Full);
         }
         match self.writes.add(write) {

@@ -1,1 +1,2 @@
+pub mod LedTo
 pub mod PutRows

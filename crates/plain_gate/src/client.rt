@@ -1,11 +1,11 @@
 //! What a client's message does by itself.
 ghost use Rattle.std.specs.Prelude.{◌≡◌, true, Ok, IsErrOf, OnOk};
-ghost use Rattle.gateway_state.specs.Clients.{channel_cleared, host_named, versioned};
+ghost use Rattle.gateway_state.specs.Clients.{channel_cleared, client_named, host_named, versioned};
 ghost use Rattle.gateway_state.specs.Numbers.{is_past_numbers};
 ghost use Rattle.gateway_state.specs.Requests.{client_said, requested, unreadable};
 ghost use Rattle.gateway_state.specs.Telling.{told};
 
-use crate::clients::{fix_host, name_host, pause};
+use crate::clients::{fix_host, name_host, name_user, pause};
 use crate::connections::mark;
 use crate::create_channel::{create_channel, fail_creation};
 use crate::numbers::Refusal;
@@ -18,7 +18,8 @@ use ca_message::codes::{ECA_BADCHID, ECA_INTERNAL};
 use ca_message::commands::{
     CA_PROTO_CLIENT_NAME, CA_PROTO_CREATE_CHAN, CA_PROTO_EVENT_ADD, CA_PROTO_HOST_NAME, NO_CHANNEL,
 };
-use ca_message::{ClearChannel, ClientRequest, HostText, ToClient, read_request};
+use ca_message::{ClearChannel, ClientRequest, HostText, NameText, ToClient, read_request};
+use channel_table::User;
 use gateway_state::{Dest, LOWEST_MINOR};
 use std::alloc::AllocError;
 
@@ -55,7 +56,7 @@ fn hear_request(
         ClientRequest::ReadNotify(read) => hear_read(rows, number, read, head)?,
         ClientRequest::CreateChannel(create) => create_channel(rows, number, &create)?,
         ClientRequest::WriteNotify(write) => hear_write_notify(rows, number, &write, head)?,
-        ClientRequest::ClientName(_) => {}
+        ClientRequest::ClientName(name) => hear_client_name(rows, number, &name)?,
         ClientRequest::HostName(host) => hear_host_name(rows, number, &host)?,
         ClientRequest::Echo => echo(rows, number, message)?,
     }
@@ -81,6 +82,15 @@ fn hear_version(rows: &mut Rows, number: u32, minor: u32)
     if minor < LOWEST_MINOR {
         mark(&mut rows.connections, Dest::Session(number));
     }
+}
+
+/// A client said who uses it.
+fn hear_client_name(rows: &mut Rows, number: u32, name: &NameText<'_>) -> Result<(), AllocError>
+    ensures { OnOk result (rows.new ≡ client_named number name.now rows.old) }
+{
+    let user = User::new(rows.alloc, name.as_slice())?;
+    name_user(&mut rows.sessions, number, user);
+    Ok(())
 }
 
 /// A client said where it is.

@@ -5,14 +5,14 @@ ghost use Rattle.channel_table.specs.Channels.{is_channel, is_channel_of, with_r
 ghost use Rattle.channel_table.specs.Reads.{is_read_of, is_read_on, same_read};
 ghost use Rattle.channel_table.specs.Sessions.{is_numbered};
 ghost use Rattle.channel_table.specs.Subs.{is_sub, is_sub_of, is_sub_on, with_owed};
-ghost use Rattle.gateway_state.specs.Clients.{fixed, renamed, without_channel};
+ghost use Rattle.gateway_state.specs.Clients.{called, fixed, renamed, without_channel};
 ghost use Rattle.gateway_state.specs.Subscribing.{with_pause};
 ghost use Rattle.gateway_state.specs.Updates.{owed_to, owed_to_all};
 
 use crate::lists::{Key, place_of, remove};
 use crate::state::Rows;
 use crate::upstream::WritesOn;
-use channel_table::{Channel, ClientSub, Reach, Session, WaitingRead};
+use channel_table::{Channel, ClientSub, Reach, Session, User, WaitingRead};
 use pv_name::Host;
 
 // Sessions
@@ -51,6 +51,19 @@ pub(crate) fn name_host(rows: &mut Vec<Session>, number: u32, host: Host)
         let row = &mut rows[place];
         if !row.host_fixed {
             row.host = host;
+        }
+    }
+}
+
+/// The session has another user, unless its host is fixed.
+#[tactic(auto, using(rows::proofs::RowLemmas::set_is_change_first, rows::proofs::RowLemmas::change_first_none))]
+pub(crate) fn name_user(rows: &mut Vec<Session>, number: u32, user: User)
+    ensures { rows.new.items ≡ change_first (is_numbered number) (called user) rows.old.items }
+{
+    if let Some(place) = place_of(rows, SessionNumbered { number }) {
+        let row = &mut rows[place];
+        if !row.host_fixed {
+            row.user = user;
         }
     }
 }

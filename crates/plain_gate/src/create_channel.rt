@@ -1,6 +1,6 @@
 //! CREATE_CHAN.
 ghost use Rattle.std.specs.Prelude.{◌≡◌, true, IsErrOf, OnOk};
-ghost use Rattle.gateway_state.specs.Clients.{channel_asked, created_over, created_with, creation_failed, not_connected};
+ghost use Rattle.gateway_state.specs.Clients.{channel_asked, created_over, created_with, creation_failed, without_search_for};
 ghost use Rattle.gateway_state.specs.Numbers.{is_past_numbers};
 ghost use Rattle.gateway_state.specs.Variables.{connected};
 
@@ -9,7 +9,7 @@ use crate::lists::{count, find};
 use crate::numbers::Refusal;
 use crate::state::Rows;
 use ca_message::{CreateChannel, ToClient};
-use channel_table::{CHANNEL_LIMIT, Channel, Reach};
+use channel_table::{Channel, Reach};
 use gateway_state::Native;
 use link_table::Counter;
 use pv_alias::{Lead, group_rights};
@@ -66,8 +66,21 @@ fn create_on(
     Ok(rows.tell(number, said)?)
 }
 
+/// The search for a name goes that the address of a session's connection made, where room is made.
+fn end_search(rows: &mut Rows, number: u32, name: &Name)
+    ensures { rows.new ≡ without_search_for number name.now rows.old }
+{
+    if !rows.limits.makes_room {
+        return;
+    }
+    if let Some(session) = find(&rows.sessions, SessionNumbered { number }) {
+        rows.searches.end(&session.peer, name);
+    }
+}
+
 /// The channel is made where the variable that its name leads to is connected; else the session's host
 /// looks for the name.
+#[tactic(auto, unfolding(gateway_state::specs::Numbers::is_past_numbers))]
 fn create_as(
     rows: &mut Rows,
     number: u32,
@@ -82,7 +95,9 @@ fn create_as(
         let native = variable.native;
         let groups = &rows.searches.policy().groups;
         let rights = variable.link.rights & group_rights(groups, lead.group.as_ref());
-        return create_on(rows, number, cid, asked, &lead.real, rights, native);
+        create_on(rows, number, cid, asked, &lead.real, rights, native)?;
+        end_search(rows, number, asked);
+        return Ok(());
     }
     if let Some(session) = find(&rows.sessions, SessionNumbered { number }) {
         let host = session.host.copy()?;
@@ -113,7 +128,7 @@ fn create_named(rows: &mut Rows, number: u32, cid: u32, name: &Name) -> Result<(
     let Some(lead) = lead else {
         return Ok(fail_creation(rows, number, cid)?);
     };
-    if count(&rows.channels, ChannelsOf { session: number }) >= CHANNEL_LIMIT {
+    if count(&rows.channels, ChannelsOf { session: number }) >= rows.limits.channels {
         return Ok(fail_creation(rows, number, cid)?);
     }
     create_as(rows, number, cid, name, &lead)

@@ -17,7 +17,7 @@ use crate::state::Rows;
 use crate::step::{drain, step};
 use fanout::Out;
 use gateway_calls::{AskFault, Failed, GatewayCalls, NoMemory, StepFault};
-use gateway_state::{Config, Dest, Event, Policy, Reading, RowCounts, Sub};
+use gateway_state::{Config, Dest, Event, Limits, Policy, Reading, RowCounts, Sub};
 use link_table::Subject;
 use pv_name::{Host, Name};
 use pv_search::{SearchAnswer, answer};
@@ -60,6 +60,24 @@ impl PlainGate {
         Ok(PlainGate {
             rows: Some(Rows::new(alloc, config, policy)),
         })
+    }
+
+    /// The same, where these limits hold from the start.
+    pub fn with_limits(
+        alloc: Global,
+        config: Config,
+        policy: Policy,
+        limits: Limits,
+    ) -> Result<PlainGate, NoMemory>
+        requires lowest { 0 < config.first }
+        requires highest { config.first ≤ LAST_FIRST }
+        ensures { IfOk result (λ gate. gate ≡ Some (step (initial config policy) (Event.Limit limits))) }
+    {
+        let mut rows = Rows::new(alloc, config, policy);
+        match step(&mut rows, Event::Limit(limits)) {
+            Ok(()) => Ok(PlainGate { rows: Some(rows) }),
+            Err(_) => Err(AllocError),
+        }
     }
 }
 
@@ -133,6 +151,13 @@ impl GatewayCalls for PlainGate {
     fn row_counts(&mut self) -> Result<RowCounts, Failed> {
         match &self.rows {
             Some(rows) => Ok(rows.row_counts()),
+            None => Err(Failed),
+        }
+    }
+
+    fn limits(&mut self) -> Result<Limits, Failed> {
+        match &self.rows {
+            Some(rows) => Ok(rows.limits),
             None => Err(Failed),
         }
     }

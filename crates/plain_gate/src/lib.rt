@@ -12,10 +12,11 @@
 //!
 //! The layers: lists of any rows, looked through from the front by keys (`lists`); the rows and their
 //! keys (`state`, `searches`, `clients`, `upstream`, `connections`, `numbers`); what is asked of them (`names`,
-//! `values`, `interest`); what an event does by itself (`opening`, `client`, `server`); the passes;
+//! `values`, `interest`); what an event does by itself (`opening`, `client`, `server`, `ages`); the passes;
 //! `step`, and the gate itself.
 #![tactic(auto)]
 
+mod ages;
 mod channels_pass;
 mod client;
 mod clients;

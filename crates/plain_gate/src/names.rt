@@ -1,12 +1,11 @@
 //! Names: where they lead, their links, the rights of their channels, and which are wanted.
-ghost use Rattle.std.specs.Prelude.{◌≡◌, fold, IfOk, OnOk};
-ghost use Rattle.std.specs.List.{list_any};
+ghost use Rattle.std.specs.Prelude.{◌≡◌, [], fold, IfOk, OnOk};
+ghost use Rattle.std.specs.List.{cons_option, list_any};
 ghost use Rattle.std.specs.Option.{option_copied};
 ghost use Rattle.gateway_state.specs.Serving.{server_of};
 ghost use Rattle.gateway_state.specs.Clients.{remembered};
 ghost use Rattle.gateway_state.specs.Reached.{rights_told};
 ghost use Rattle.gateway_state.specs.Rights.{channel_of, is_found, is_served, lead_in, link_connected, link_rights, rights_of};
-ghost use Rattle.gateway_state.specs.Searches.{same_search};
 ghost use Rattle.channel_table.specs.Channels.{is_channel_on, is_on};
 ghost use Rattle.gateway_state.specs.Variables.{asks, channel_names, connected, is_linked, is_missing, is_wanted, link_of, search_names, with_name, with_unlinked};
 
@@ -14,11 +13,11 @@ use crate::clients::{ChannelAt, SessionNumbered};
 use crate::lists::find;
 use crate::state::Rows;
 use channel_table::Channel;
-use gateway_state::{SEARCH_LIMIT, Search, is_real, lead_of, rights_left};
+use gateway_state::{is_real, lead_of, rights_left};
 use gateway_values::{ConnectedVariable, connected, is_connected};
 use link_table::Link;
 use pv_alias::Lead;
-use pv_name::{Host, Name, same_host};
+use pv_name::{Host, Name};
 use std::alloc::AllocError;
 use std::cmp::Ordering;
 
@@ -170,11 +169,20 @@ impl Rows {
         Ok(())
     }
 
+    fn add_if_there(&self, names: &mut Vec<Name>, real: &Option<Name>) -> Result<(), AllocError>
+        ensures { OnOk result (names.new.items ≡ fold (with_unlinked self.now) names.old.items (cons_option real.now [])) }
+    {
+        match real {
+            Some(name) => self.add_unlinked(names, name),
+            None => Ok(()),
+        }
+    }
+
     fn add_search_names(&self, names: &mut Vec<Name>) -> Result<(), AllocError>
         ensures { OnOk result (names.new.items ≡ fold (with_unlinked self.now) names.old.items (search_names self.now.policy self.now.searches)) }
     {
-        for name in self.searches.names() {
-            self.add_unlinked(names, name)?;
+        for real in self.searches.reals() {
+            self.add_if_there(names, real)?;
         }
         Ok(())
     }
@@ -189,17 +197,12 @@ impl Rows {
         Ok(names)
     }
 
-    /// Somebody at a host looks for a name: that is remembered, once, where there is room.
+    /// Somebody at a host looks for a name: that is remembered, once. An old search may go for it, or it is
+    /// remembered only where there is room.
     pub(crate) fn remember(&mut self, host: &Host, name: &Name) -> Result<(), AllocError>
         ensures { OnOk result (self.new ≡ remembered host.now name.now self.old) }
     {
-        let rows = self.searches.rows();
-        if any_search(rows, host, name) || rows.len() >= SEARCH_LIMIT {
-            return Ok(());
-        }
-        let host = host.copy()?;
-        let name = name.copy()?;
-        self.searches.add(self.alloc, Search { host, name })
+        self.searches.remember(self.alloc, self.limits, host, name)
     }
 }
 
@@ -207,13 +210,6 @@ fn any_on(channels: &[Channel], name: &Name) -> bool
     ensures { result ≡ list_any (is_on name.now) channels.now }
 {
     channels.iter().any(|channel| channel.real == *name)
-}
-
-fn any_search(rows: &[Search], host: &Host, name: &Name) -> bool
-    ensures { result ≡ list_any (same_search host.now name.now) rows.now }
-{
-    rows.iter()
-        .any(|row| row.name == *name && same_host(&row.host, host))
 }
 
 /// Adds a name to names by rising bytes, where it isn't there yet.

@@ -65,6 +65,18 @@ impl Numbers {
         let _ = &self.sid;
     }
 
+    /// The next number of a counter.
+    pub(crate) fn next(&self, counter: Counter) -> u32
+        ensures { result ≡ counter_of counter self.now }
+    {
+        match counter {
+            Counter::Sid => self.sid,
+            Counter::Cid => self.cid,
+            Counter::Subscription => self.subscription,
+            Counter::Write => self.write,
+        }
+    }
+
     /// Gives out the next number of a counter. There is none past the last.
     pub(crate) fn give_out(&mut self, counter: Counter) -> Option<u32>
         ensures found { IfSome result (λ number. number ≡ counter_of counter self.old) }

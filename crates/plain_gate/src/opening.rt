@@ -10,10 +10,10 @@ use crate::lists::remove;
 use crate::state::Rows;
 use crate::upstream::{LinksOf, MessagesBy, ServerNumbered, WritesOf, WritesTo};
 use ca_message::{NameText, ToClient, ToServer};
-use channel_table::{SESSION_LIMIT, Session};
+use channel_table::{Session, User};
 use fanout::Outbox;
 use gateway_state::{Connection, Dest};
-use link_table::{SERVER_LIMIT, Server};
+use link_table::Server;
 use pv_name::{Host, Name};
 use std::alloc::AllocError;
 
@@ -21,7 +21,7 @@ use std::alloc::AllocError;
 pub(crate) fn open_session(rows: &mut Rows, number: u32, host: Host) -> Result<(), AllocError>
     ensures { OnOk result (rows.new ≡ opened rows.old number host) }
 {
-    if rows.stands(Dest::Session(number)) || rows.sessions.len() >= SESSION_LIMIT {
+    if rows.stands(Dest::Session(number)) || rows.sessions.len() >= rows.limits.sessions {
         return Ok(());
     }
     rows.connections.push(Connection {
@@ -30,7 +30,9 @@ pub(crate) fn open_session(rows: &mut Rows, number: u32, host: Host) -> Result<(
     })?;
     rows.sessions.push(Session {
         number,
+        peer: host.copy()?,
         host,
+        user: User::none(rows.alloc),
         host_fixed: false,
         paused: false,
     })?;
@@ -55,7 +57,7 @@ pub(crate) fn lose_session(rows: &mut Rows, number: u32)
 pub(crate) fn open_server(rows: &mut Rows, number: u32) -> Result<(), AllocError>
     ensures { OnOk result (rows.new ≡ up_opened rows.old number) }
 {
-    if rows.stands(Dest::Upstream(number)) || rows.servers.len() >= SERVER_LIMIT {
+    if rows.stands(Dest::Upstream(number)) || rows.servers.len() >= rows.limits.servers {
         return Ok(());
     }
     rows.connections.push(Connection {

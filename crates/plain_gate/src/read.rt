@@ -10,7 +10,7 @@ use ca_header::Header;
 use ca_message::ReadNotify;
 use ca_message::codes::{ECA_BADCHID, ECA_GETFAIL};
 use ca_message::commands::NO_CHANNEL;
-use channel_table::{Channel, READ_LIMIT, Reach, WaitingRead};
+use channel_table::{Channel, Reach, WaitingRead};
 use gateway_state::ReadVerdict;
 use gateway_values::{ConnectedVariable, reach_with, read_refusal};
 use std::alloc::AllocError;
@@ -27,7 +27,7 @@ fn is_one_too_many(
     let waiting = ReadsOf {
         session: channel.session,
     };
-    if count(&rows.reads, waiting) < READ_LIMIT {
+    if count(&rows.reads, waiting) < rows.limits.reads {
         return Ok(false);
     }
     let native = variable.native.count;

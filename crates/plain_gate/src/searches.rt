@@ -1,33 +1,65 @@
 //! The policy, and the searches that are remembered.
-ghost use Rattle.std.specs.Prelude.{◌≡◌, [], ◌∷◌, ◌++◌, IfOk, OnErr, OnOk};
-ghost use Rattle.std.specs.List.{cons_option, list_any};
-ghost use Rattle.gateway_state.specs.Resolution.{real_in};
-ghost use Rattle.gateway_state.specs.Searches.{leads_to};
-ghost use Rattle.gateway_state.specs.Variables.{is_among, search_names};
+ghost use Rattle.std.specs.Prelude.{◌≡◌, ◌<◌, [], ◌∷◌, ◌++◌, filter, filter_map, length, map, IfOk, OnOk};
+ghost use Rattle.std.specs.List.{find, list_any, position, remove};
+ghost use Rattle.std.specs.Option.{option_copied};
+ghost use Rattle.gateway_state.specs.Resolution.{lead_of, real_in};
+ghost use Rattle.gateway_state.specs.Searches.{grown_stale, is_fresh, is_from, leads_to, made_now, outworn, refreshed, same_search, searched_again, searched_first, with_search, without_search};
+ghost use Rattle.gateway_state.specs.Variables.{search_name, search_names};
+ghost use Rattle.plain_gate.specs.SearchRows.{is_the, itself};
 
-use gateway_state::{Search, lead_of};
+use crate::lists::{Key, any, count, find, place_of};
+use gateway_state::{Limits, Search, lead_of};
 use pv_alias::Lead;
-use pv_name::Name;
+use pv_name::{Host, Name, same_host};
 use rule_desk::Policy;
 use std::alloc::{AllocError, Global};
 use std::marker::Model;
 
-/// The policy that holds, and the searches that are remembered, in the order in which they came. The real
-/// names that they lead to under it stand beside them, so that whether one is searched for takes no memory.
+/// A host's search for a name.
+#[derive(Clone, Copy)]
+struct SearchFor<'a> {
+    host: &'a Host,
+    name: &'a Name,
+}
+
+impl<'a> Key<Search> for SearchFor<'a> {
+    ghost picks = { λ key. same_search key.host.now key.name.now };
+
+    fn picks(&self, row: &Search) -> bool {
+        row.name == *self.name && same_host(&row.host, self.host)
+    }
+}
+
+/// The searches of a host.
+#[derive(Clone, Copy)]
+struct SearchesFrom<'a> {
+    host: &'a Host,
+}
+
+impl<'a> Key<Search> for SearchesFrom<'a> {
+    ghost picks = { λ key. is_from key.host.now };
+
+    fn picks(&self, row: &Search) -> bool {
+        same_host(&row.host, self.host)
+    }
+}
+
+/// The policy that holds, and the searches that are remembered, the oldest first. What each leads to under
+/// it stands beside them, so that whether a name is searched for takes no memory.
 #[derive(Drop)]
 pub(crate) struct Searches {
     policy: Policy,
     rows: Vec<Search>,
-    /// What the rows lead to, in their order, without those that lead nowhere.
-    reals: Vec<Name>,
+    /// The real name that each row leads to, in their order.
+    reals: Vec<Option<Name>>,
 }
 
 impl Model for Searches {
     ghost use Rattle.plain_gate.specs.SearchRows.{SearchRows};
-    ghost use Rattle.gateway_state.specs.Variables.{search_names};
+    ghost use Rattle.gateway_state.specs.Variables.{search_name};
     ghost use Rattle.rule_desk.specs.contracts.policy.Policy as the_policy;
     ghost use Rattle.std.specs.Coded.{codes};
-    ghost use Rattle.std.specs.Prelude.{◌≡◌};
+    ghost use Rattle.std.specs.Prelude.{◌≡◌, map};
 
     ghost Value = { SearchRows };
 
@@ -35,7 +67,7 @@ impl Model for Searches {
 
     ghost view = { λ s. record { policy = s.policy; rows = s.rows.items } };
 
-    ghost invariant = { λ s. s.reals.items ≡ search_names s.policy s.rows.items };
+    ghost invariant = { λ s. s.reals.items ≡ map (search_name s.policy) s.rows.items };
 }
 
 impl Searches {
@@ -57,37 +89,68 @@ impl Searches {
         &self.policy
     }
 
-    /// The searches that are remembered.
-    pub(crate) fn rows(&self) -> &[Search]
-        ensures { result.now ≡ self.now.rows }
+    /// How many searches are remembered.
+    pub(crate) fn len(&self) -> usize
+        ensures { result ≡ length self.now.rows }
     {
-        self.rows.as_slice()
+        self.rows.len()
     }
 
-    /// The real names that they lead to, in order.
-    pub(crate) fn names(&self) -> &[Name]
-        ensures { result.now ≡ search_names self.now.policy self.now.rows }
+    /// The real name that each of them leads to, in order.
+    #[tactic(auto, using(crate::proofs::LedTo::names_of_reals))]
+    pub(crate) fn reals(&self) -> &[Option<Name>]
+        ensures { filter_map itself result.now ≡ search_names self.now.policy self.now.rows }
     {
         self.reals.as_slice()
     }
 
     /// Whether one of them leads to this real name.
-    #[tactic(auto, using(gateway_state::proofs::SearchedNames::searched_is_among))]
+    #[tactic(auto, using(crate::proofs::LedTo::any_real_is_any_lead))]
     pub(crate) fn leads_to(&self, name: &Name) -> bool
         ensures { result ≡ list_any (leads_to self.now.policy name.now) self.now.rows }
     {
-        is_among(self.names(), name)
+        is_among(&self.reals, name)
     }
 
-    /// Remembers one more.
-    #[tactic(auto, using(gateway_state::proofs::SearchedNames::names_with_one_more))]
-    pub(crate) fn add(&mut self, alloc: Global, search: Search) -> Result<(), AllocError>
-        ensures { OnOk result (self.new ≡ record self.old { rows = self.old.rows ++ search ∷ [] }) }
+    /// A host searches for a name: that is remembered, once. An old search may go for it, or it is
+    /// remembered only where there is room.
+    pub(crate) fn remember(
+        &mut self,
+        alloc: Global,
+        limits: Limits,
+        host: &Host,
+        name: &Name,
+    ) -> Result<(), AllocError>
+        ensures { OnOk result (self.new ≡ record self.old { rows = with_search limits host.now name.now self.old.rows }) }
     {
-        let lead = lead_of(alloc, &self.policy, &search.host, &search.name)?;
-        self.rows.reserve(1)?;
-        add_real(&mut self.reals, lead)?;
-        self.rows.push_reserved(search);
+        if any(&self.rows, SearchFor { host, name }) {
+            self.search_again(limits, host, name)
+        } else {
+            self.search_first(alloc, limits, host, name)
+        }
+    }
+
+    /// The search of a host for a name goes, where there is one.
+    #[tactic(auto, using(crate::proofs::LedTo::place_is_within, rows::proofs::RowLemmas::remove_is_remove_first, rows::proofs::RowLemmas::remove_first_none))]
+    pub(crate) fn end(&mut self, host: &Host, name: &Name)
+        ensures { self.new ≡ record self.old { rows = without_search (find (same_search host.now name.now) self.old.rows) self.old.rows } }
+    {
+        if let Some(row) = find(&self.rows, SearchFor { host, name }) {
+            if let Some(place) = place_of_same(&self.rows, row) {
+                self.remove_at(place);
+            }
+        }
+    }
+
+    /// The searches go that weren't made since this was called last; none of those that stay was made since.
+    #[tactic(auto, using(crate::proofs::LedTo::leads_of_grown))]
+    pub(crate) fn forget_stale(&mut self, alloc: Global) -> Result<(), AllocError>
+        ensures { OnOk result (self.new ≡ record self.old { rows = map grown_stale (filter is_fresh self.old.rows) }) }
+    {
+        let left = fresh_reals(&self.rows, alloc, &self.policy)?;
+        keep_fresh(&mut self.rows);
+        grow_stale(&mut self.rows);
+        self.reals = left;
         Ok(())
     }
 
@@ -95,7 +158,7 @@ impl Searches {
     pub(crate) fn set_policy(&mut self, alloc: Global, policy: Policy) -> Result<(), AllocError>
         ensures { OnOk result (self.new ≡ record self.old { policy = policy }) }
     {
-        let reals = names(&self.rows, alloc, &policy)?;
+        let reals = reals(&self.rows, alloc, &policy)?;
         self.policy = policy;
         self.reals = reals;
         Ok(())
@@ -108,36 +171,183 @@ impl Searches {
         self.rows.clear();
         self.reals.clear();
     }
+
+    /// A search that is remembered is made again: where old ones go, it is the latest from now on.
+    #[tactic(auto, using(crate::proofs::LedTo::leads_without_place, crate::proofs::LedTo::leads_of_refreshed, crate::proofs::LedTo::lead_at, crate::proofs::LedTo::place_is_within, crate::proofs::LedTo::searched_again_none, rows::proofs::RowLemmas::set_is_change_first, rows::proofs::RowLemmas::remove_is_remove_first, rows::proofs::RowLemmas::find_is_there))]
+    fn search_again(&mut self, limits: Limits, host: &Host, name: &Name) -> Result<(), AllocError>
+        ensures { OnOk result (self.new ≡ record self.old { rows = searched_again limits host.now name.now self.old.rows }) }
+    {
+        let Some(place) = place_of(&self.rows, SearchFor { host, name }) else {
+            return Ok(());
+        };
+        if !limits.makes_room {
+            let row = &mut self.rows[place];
+            row.fresh = true;
+            return Ok(());
+        }
+        let mut row = self.rows.remove(place);
+        let real = self.reals.remove(place);
+        row.fresh = true;
+        self.push(row, real)
+    }
+
+    /// One is made that isn't remembered: an old one goes for it, or it is remembered where there is room.
+    fn search_first(
+        &mut self,
+        alloc: Global,
+        limits: Limits,
+        host: &Host,
+        name: &Name,
+    ) -> Result<(), AllocError>
+        ensures { OnOk result (self.new ≡ record self.old { rows = searched_first limits host.now name.now self.old.rows }) }
+    {
+        if limits.makes_room {
+            self.forget_outworn(limits, host);
+            return self.add(alloc, host, name);
+        }
+        if self.rows.len() >= limits.searches {
+            return Ok(());
+        }
+        self.add(alloc, host, name)
+    }
+
+    /// The search goes that does where one more of a host is remembered, if one does.
+    #[tactic(auto, using(crate::proofs::LedTo::place_is_within, rows::proofs::RowLemmas::remove_is_remove_first, rows::proofs::RowLemmas::remove_first_none))]
+    fn forget_outworn(&mut self, limits: Limits, host: &Host)
+        ensures { self.new ≡ record self.old { rows = without_search (outworn limits host.now self.old.rows) self.old.rows } }
+    {
+        if let Some(row) = outworn(&self.rows, limits, host) {
+            if let Some(place) = place_of_same(&self.rows, row) {
+                self.remove_at(place);
+            }
+        }
+    }
+
+    #[tactic(auto, using(crate::proofs::LedTo::leads_without_place))]
+    fn remove_at(&mut self, place: usize)
+        requires { place < length self.old.rows }
+        ensures { self.new ≡ record self.old { rows = remove self.old.rows place } }
+    {
+        self.rows.remove(place);
+        self.reals.remove(place);
+    }
+
+    /// Adds a search that is made now.
+    fn add(&mut self, alloc: Global, host: &Host, name: &Name) -> Result<(), AllocError>
+        ensures { OnOk result (self.new ≡ record self.old { rows = self.old.rows ++ made_now host.now name.now ∷ [] }) }
+    {
+        let real = real_in(lead_of(alloc, &self.policy, host, name)?);
+        let row = Search {
+            host: host.copy()?,
+            name: name.copy()?,
+            fresh: true,
+        };
+        self.push(row, real)
+    }
+
+    #[tactic(auto, using(crate::proofs::LedTo::leads_with_one_more))]
+    fn push(&mut self, row: Search, real: Option<Name>) -> Result<(), AllocError>
+        requires { real ≡ search_name self.old.policy row }
+        ensures { OnOk result (self.new ≡ record self.old { rows = self.old.rows ++ row ∷ [] }) }
+    {
+        self.rows.reserve(1)?;
+        self.reals.push(real)?;
+        self.rows.push_reserved(row);
+        Ok(())
+    }
 }
 
-fn is_among(names: &[Name], name: &Name) -> bool
-    ensures { result ≡ is_among names.now name.now }
+/// The search that goes where one more of a host is remembered and room is made: its own oldest where it
+/// has its share, else the oldest of all where there are as many as may be.
+#[tactic(auto, using(crate::proofs::LedTo::length_is_count))]
+fn outworn<'a>(rows: &'a [Search], limits: Limits, host: &Host) -> Option<&'a Search>
+    ensures { option_copied result ≡ outworn limits host.now rows.now }
 {
-    names.iter().any(|other| *other == *name)
+    let its = count(rows, SearchesFrom { host });
+    if its > 0 && its >= limits.share {
+        find(rows, SearchesFrom { host })
+    } else if rows.len() >= limits.searches {
+        rows.first()
+    } else {
+        None
+    }
 }
 
-/// Adds the name that a search leads to, if to any.
-fn add_real(reals: &mut Vec<Name>, lead: Option<Lead>) -> Result<(), AllocError>
-    ensures ok { OnOk result (reals.new.items ≡ reals.old.items ++ cons_option (real_in lead) []) }
-    ensures err { OnErr result (reals.new.items ≡ reals.old.items) }
+/// The place of the first search like this one.
+fn place_of_same(rows: &[Search], row: &Search) -> Option<usize>
+    ensures { result ≡ position (same_search row.now.host row.now.name) rows.now }
+{
+    let same = SearchFor {
+        host: &row.host,
+        name: &row.name,
+    };
+    place_of(rows, same)
+}
+
+/// The real name of a lead.
+fn real_in(lead: Option<Lead>) -> Option<Name>
+    ensures { result ≡ real_in lead }
 {
     match lead {
-        Some(lead) => {
-            reals.push(lead.real)?;
-            Ok(())
-        }
-        None => Ok(()),
+        Some(lead) => Some(lead.real),
+        None => None,
     }
 }
 
-fn names(rows: &[Search], alloc: Global, policy: &Policy) -> Result<Vec<Name>, AllocError>
-    ensures { IfOk result (λ names. names.items ≡ search_names policy.now rows.now) }
+fn is_among(reals: &[Option<Name>], name: &Name) -> bool
+    ensures { result ≡ list_any (is_the name.now) reals.now }
 {
-    let mut names = Vec::new(alloc);
+    reals.iter().any(|real| is_the(real, name))
+}
+
+/// Whether it is there and this name.
+fn is_the(real: &Option<Name>, name: &Name) -> bool
+    ensures { result ≡ is_the name.now real.now }
+{
+    match real {
+        Some(real) => *real == *name,
+        None => false,
+    }
+}
+
+/// What each of the searches leads to.
+fn reals(rows: &[Search], alloc: Global, policy: &Policy) -> Result<Vec<Option<Name>>, AllocError>
+    ensures { IfOk result (λ reals. reals.items ≡ map (search_name policy.now) rows.now) }
+{
+    let mut reals = Vec::new(alloc);
     for row in rows {
-        if let Some(lead) = lead_of(alloc, policy, &row.host, &row.name)? {
-            names.push(lead.real)?;
+        reals.push(real_in(lead_of(alloc, policy, &row.host, &row.name)?))?;
+    }
+    Ok(reals)
+}
+
+/// What each of the searches leads to that was made since the last age.
+fn fresh_reals(
+    rows: &[Search],
+    alloc: Global,
+    policy: &Policy,
+) -> Result<Vec<Option<Name>>, AllocError>
+    ensures { IfOk result (λ reals. reals.items ≡ map (search_name policy.now) (filter is_fresh rows.now)) }
+{
+    let mut reals = Vec::new(alloc);
+    for row in rows {
+        if row.fresh {
+            reals.push(real_in(lead_of(alloc, policy, &row.host, &row.name)?))?;
         }
     }
-    Ok(names)
+    Ok(reals)
+}
+
+fn keep_fresh(rows: &mut Vec<Search>)
+    ensures { rows.new.items ≡ filter is_fresh rows.old.items }
+{
+    rows.retain(|row| row.fresh);
+}
+
+fn grow_stale(rows: &mut Vec<Search>)
+    ensures { rows.new.items ≡ map grown_stale rows.old.items }
+{
+    for row in rows.iter_mut() {
+        row.fresh = false;
+    }
 }

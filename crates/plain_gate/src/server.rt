@@ -13,7 +13,7 @@ use ca_header::Message;
 use ca_message::{NameText, ServerReply, ToServer, read_reply};
 use gateway_state::Dest;
 use gateway_values::{is_creating, is_usable};
-use link_table::{Counter, LINK_LIMIT, Link, LinkState, Subscriptions};
+use link_table::{Counter, Link, LinkState, Subscriptions};
 use pv_name::Name;
 use std::alloc::AllocError;
 
@@ -129,7 +129,8 @@ pub(crate) fn find_at(rows: &mut Rows, name: &Name, server: u32) -> Result<(), R
     ensures ok { OnOk result (rows.new ≡ found rows.old name.now server) }
     ensures used_up { IsErrOf result Refusal.NumbersUsedUp → is_past_numbers (found rows.old name.now server) ≡ true }
 {
-    if rows.is_missing(name) && rows.acts(Dest::Upstream(server)) && rows.links.len() < LINK_LIMIT {
+    let limit = rows.limits.links;
+    if rows.is_missing(name) && rows.acts(Dest::Upstream(server)) && rows.links.len() < limit {
         make_link(rows, server, name)
     } else {
         Ok(())

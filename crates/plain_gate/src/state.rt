@@ -7,7 +7,7 @@ ghost use Rattle.gateway_state.specs.RowCounts.{row_counts};
 use crate::numbers::Numbers;
 use crate::searches::Searches;
 use channel_table::{Channel, ClientSub, Session, WaitingRead};
-use gateway_state::{Config, Connection, LastMessage, Policy, RowCounts};
+use gateway_state::{Config, Connection, LastAge, LastMessage, Limits, Policy, RowCounts};
 use link_table::{Link, Server, WaitingWrite};
 use std::alloc::Global;
 use std::marker::Model;
@@ -18,6 +18,8 @@ use std::marker::Model;
 pub(crate) struct Rows {
     pub alloc: Global,
     pub config: Config,
+    /// How much is taken on at most.
+    pub limits: Limits,
     /// The connections that stand, with their outboxes.
     pub connections: Vec<Connection>,
     pub sessions: Vec<Session>,
@@ -36,6 +38,8 @@ pub(crate) struct Rows {
     pub cache: Vec<LastMessage>,
     /// The policy that holds, and the searches that are remembered.
     pub searches: Searches,
+    /// What stood already when time was last told to pass.
+    pub last_age: LastAge,
 }
 
 impl Model for Rows {
@@ -50,6 +54,7 @@ impl Model for Rows {
     ghost view = { λ r. record {
       config = r.config;
       policy = r.searches.policy;
+      limits = r.limits;
       connections = r.connections.items;
       clients = record {
         sessions = r.sessions.items;
@@ -65,6 +70,7 @@ impl Model for Rows {
       };
       cache = r.cache.items;
       searches = r.searches.rows;
+      last_age = r.last_age;
     } };
 }
 
@@ -77,6 +83,7 @@ impl Rows {
         Rows {
             alloc,
             config,
+            limits: Limits::usual(),
             connections: Vec::new(alloc),
             sessions: Vec::new(alloc),
             channels: Vec::new(alloc),
@@ -88,6 +95,10 @@ impl Rows {
             numbers: Numbers::new(first),
             cache: Vec::new(alloc),
             searches: Searches::new(alloc, policy),
+            last_age: LastAge {
+                cid: first,
+                subscription: first,
+            },
         }
     }
 
@@ -103,7 +114,7 @@ impl Rows {
             servers: self.servers.len(),
             links: self.links.len(),
             writes: self.writes.len(),
-            searches: self.searches.rows().len(),
+            searches: self.searches.len(),
         }
     }
 

@@ -1,9 +1,10 @@
 //! One event: its direct effect, and all passes over all rows.
 ghost use Rattle.std.specs.Prelude.{◌≡◌, true, false, IfOk, IsErrOf, OnOk};
-ghost use Rattle.gateway_state.specs.Direct.{direct_effect, searched};
+ghost use Rattle.gateway_state.specs.Direct.{direct_effect, drained, searched};
 ghost use Rattle.gateway_state.specs.Numbers.{is_past_numbers};
 ghost use Rattle.gateway_state.specs.Step.{consequences, step, taken};
 
+use crate::ages::age;
 use crate::channels_pass::tell_channels;
 use crate::client::hear_client;
 use crate::connections::take;
@@ -14,6 +15,7 @@ use crate::reads_pass::tell_reads;
 use crate::server::{find_at, hear_server};
 use crate::state::Rows;
 use crate::updates_pass::{tell_updates, withhold_updates};
+use ca_message::ToServer;
 use fanout::Out;
 use gateway_state::{Dest, Event, lead_of};
 use pv_name::{Host, Name};
@@ -40,10 +42,18 @@ pub(crate) fn drain(rows: &mut Rows, dest: Dest, count: usize) -> Result<Vec<Out
     ensures used_up { IsErrOf result Refusal.NumbersUsedUp → is_past_numbers (step rows.old (Event.Drain dest count)) ≡ true }
     ensures in_range { OnOk result (is_past_numbers rows.new ≡ false) }
 {
-    let outs = take(&mut rows.connections, rows.alloc, dest, count)?;
+    let outs = take_out(rows, dest, count)?;
     follow(rows)?;
     rows.numbers_are_in_range();
     Ok(outs)
+}
+
+/// The oldest messages of an outbox go, and are handed out in order.
+fn take_out(rows: &mut Rows, dest: Dest, count: usize) -> Result<Vec<Out>, AllocError>
+    ensures ok { OnOk result (rows.new ≡ drained rows.old dest count) }
+    ensures found { IfOk result (λ outs. outs.items ≡ taken rows.old (Event.Drain dest count) dest) }
+{
+    take(&mut rows.connections, rows.alloc, dest, count)
 }
 
 /// What follows from an event: all passes, over all rows.
@@ -98,9 +108,15 @@ fn perform(rows: &mut Rows, event: Event) -> Result<(), Refusal>
             Ok(())
         }
         Event::Drain(dest, count) => {
-            let _taken = take(&mut rows.connections, rows.alloc, dest, count)?;
+            let _taken = take_out(rows, dest, count)?;
             Ok(())
         }
+        Event::Limit(limits) => {
+            rows.limits = limits;
+            Ok(())
+        }
+        Event::Age => Ok(age(rows)?),
+        Event::Probe(number) => Ok(rows.ask(number, ToServer::Echo)?),
     }
 }
 

@@ -9,7 +9,7 @@ use ca_header::Header;
 use ca_message::codes::{ECA_ALLOCMEM, ECA_BADCHID, ECA_BADMASK, ECA_INTERNAL};
 use ca_message::commands::NO_CHANNEL;
 use ca_message::{EventAdd, EventCancel, ToClient};
-use channel_table::{ClientSub, SUB_LIMIT};
+use channel_table::ClientSub;
 use gateway_state::{Native, SERVED_EVENTS, SubVerdict};
 use gateway_values::value_refusal;
 use std::alloc::AllocError;
@@ -48,7 +48,7 @@ fn subscription_refusal(rows: &Rows, sub: ClientSub, native: Native) -> Option<u
     }
     if sub.mask & SERVED_EVENTS == 0 {
         Some(ECA_BADMASK)
-    } else if count(&rows.subs, its) >= SUB_LIMIT {
+    } else if count(&rows.subs, its) >= rows.limits.subs {
         Some(ECA_ALLOCMEM)
     } else {
         None

@@ -47,7 +47,7 @@ fn fail_read(rows: &mut Rows, read: WaitingRead) -> Result<(), AllocError>
 }
 
 /// None of the reads that wait for a variable and fail without a subject can be had.
-fn fail_reads(
+pub(crate) fn fail_reads(
     rows: &mut Rows,
     subject: Subject,
     native: Option<Native>,

@@ -59,7 +59,9 @@ fn is_taking(rows: &Rows, number: u32) -> bool
     ensures { result ≡ is_taking rows.now number }
 {
     let dest = Dest::Session(number);
-    !rows.ends(dest) && rows.queued(dest) < UPDATE_LIMIT
+    !rows.ends(dest)
+        && rows.queued(dest) < UPDATE_LIMIT
+        && rows.queued_bytes(dest) < rows.limits.update_bytes
 }
 
 /// Whether a subscription's session takes updates now.

@@ -1,5 +1,5 @@
 //! Rows towards servers, and their keys: servers, links, waiting writes, and what variables told last.
-ghost use Rattle.std.specs.Prelude.{◌≡◌, ◌==◌, IsOk, OnOk};
+ghost use Rattle.std.specs.Prelude.{◌≡◌, ◌==◌, IfOk, IsOk, OnOk};
 ghost use Rattle.rows.specs.Rows.{change_first};
 ghost use Rattle.link_table.specs.Links.{has_id, has_subscription, is_link, is_of, with_state, with_subscription};
 ghost use Rattle.link_table.specs.Servers.{is_server, with_minor};
@@ -98,6 +98,20 @@ fn has_id(subscription: Option<Subscription>, id: u32) -> bool
         Some(subscription) => subscription.id == id,
         None => false,
     }
+}
+
+/// The same link once more.
+pub(crate) fn copy_link(link: &Link) -> Result<Link, AllocError>
+    ensures { IfOk result (λ copy. copy ≡ link.now) }
+{
+    Ok(Link {
+        cid: link.cid,
+        server: link.server,
+        name: link.name.copy()?,
+        state: link.state,
+        rights: link.rights,
+        subscriptions: link.subscriptions,
+    })
 }
 
 /// The link has come so far, and has these access rights.

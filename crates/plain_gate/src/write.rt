@@ -14,7 +14,7 @@ use ca_message::{ToClient, ToServer, Write, WriteFault, WriteNotify, WrittenValu
 use channel_table::Channel;
 use gateway_state::WriteVerdict;
 use gateway_values::may_write;
-use link_table::{Counter, WRITE_LIMIT, WaitingWrite};
+use link_table::{Counter, WaitingWrite};
 use std::alloc::AllocError;
 
 /// What a client writes: to which of its channels, and which type and how many elements it says.
@@ -155,7 +155,7 @@ fn hand_on(
     let waiting = WritesOf {
         session: write.session,
     };
-    if count(&rows.writes, waiting) >= WRITE_LIMIT {
+    if count(&rows.writes, waiting) >= rows.limits.writes {
         return Ok(answer_write(rows, write, ioid, ECA_PUTFAIL)?);
     }
     let id = add_write(rows, write, ioid, server)?;

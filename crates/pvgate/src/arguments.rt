@@ -40,6 +40,14 @@ Lines of a script (N is a number, D is sN, the connection of a client, or uN, th
   hold D          D's messages are kept back from now on
   flow D          they are no longer kept back
   drain D K       the first K messages that wait for D are printed
+  limit NAME K    from now on at most K stand of NAME: sessions, servers, links, searches; of one client
+                  channels, subscriptions, reads, writes. share K: searches of one host, where room is made.
+                  update-bytes K: a client gets updates while fewer than K bytes wait for it.
+                  makes-room 1: an old search goes for a new one; 0: a new one needs room.
+                  reuses-numbers, passes-over-gone and tells-unreadable (0 or 1) are kept, and not heeded yet
+  age             time passes: what wasn't searched for since the last age is forgotten, and what servers
+                  owe since before it is given up
+  probe N         the server uN is asked whether it is there
   # TEXT          nothing, as an empty line
 
 Lines that change nothing, and what they print:

@@ -46,16 +46,3 @@ no_word-none (word ∷ words) some = refl
 -- so it isn't at its end
 pub no_word-slice_split : (line : List ℕ) → None ≡ no_word (slice_split is_blank line)
 no_word-slice_split line = no_word-none _ (slice_split-some line)
-
--- a word whose bytes are known
-pub six_bytes : (w : List ℕ) (a b c d e f : ℕ) → 6 ≤ length w → length w < 7
-    → get_or w 0 0 ≡ a → get_or w 1 0 ≡ b → get_or w 2 0 ≡ c → get_or w 3 0 ≡ d → get_or w 4 0 ≡ e → get_or w 5 0 ≡ f
-    → w ≡ a ∷ b ∷ c ∷ d ∷ e ∷ f ∷ []
-six_bytes [] a b c d e f most least ha hb hc hd he hf = absurd (omega arith)
-six_bytes (a' ∷ []) a b c d e f most least ha hb hc hd he hf = absurd (omega arith)
-six_bytes (a' ∷ b' ∷ []) a b c d e f most least ha hb hc hd he hf = absurd (omega arith)
-six_bytes (a' ∷ b' ∷ c' ∷ []) a b c d e f most least ha hb hc hd he hf = absurd (omega arith)
-six_bytes (a' ∷ b' ∷ c' ∷ d' ∷ []) a b c d e f most least ha hb hc hd he hf = absurd (omega arith)
-six_bytes (a' ∷ b' ∷ c' ∷ d' ∷ e' ∷ []) a b c d e f most least ha hb hc hd he hf = absurd (omega arith)
-six_bytes (a' ∷ b' ∷ c' ∷ d' ∷ e' ∷ f' ∷ []) a b c d e f most least ha hb hc hd he hf = cc
-six_bytes (a' ∷ b' ∷ c' ∷ d' ∷ e' ∷ f' ∷ g ∷ w) a b c d e f most least ha hb hc hd he hf = absurd (omega arith)

@@ -1,4 +1,5 @@
 pub mod Words
 pub mod Values
+pub mod Limits
 pub mod Lines
 pub mod Output

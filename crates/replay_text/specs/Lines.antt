@@ -9,6 +9,7 @@ use Rattle.replay_text.specs.declared.line.Line.{Line}
 use Rattle.replay_text.specs.declared.line.Line.TheVariants as lines
 use Rattle.replay_text.specs.declared.values.LineFault.{LineFault}
 use Rattle.replay_text.specs.declared.values.LineFault.TheVariants.{Bad, OutOfMemory}
+use Rattle.replay_text.specs.Limits.{limit_named}
 use Rattle.replay_text.specs.Values.{number_of, dest_of, session_of, server_of, name_of, host_of, bytes_of}
 use Rattle.replay_text.specs.Words.{is_blank, first, after_first, no_word, one_word, two_words, four_words}
 
@@ -18,18 +19,18 @@ IsRead (Ok value) meaning = meaning ≡ Some value
 IsRead (Err Bad) meaning = meaning ≡ None
 IsRead (Err OutOfMemory) meaning = Unit {0}
 
--- what a line's first word says
-abbrev pub command_named : List ℕ → Option Command
-command_named word =
-    if bytes_eq word (codes "search") then Some commands.Search
-    else if bytes_eq word (codes "open") then Some commands.Open
-    else if bytes_eq word (codes "lost") then Some commands.Lost
-    else if bytes_eq word (codes "client") then Some commands.Client
-    else if bytes_eq word (codes "server") then Some commands.Server
-    else if bytes_eq word (codes "found") then Some commands.Found
-    else if bytes_eq word (codes "sweep") then Some commands.Sweep
-    else if bytes_eq word (codes "edit") then Some commands.Edit
-    else if bytes_eq word (codes "asks") then Some commands.Asks
+-- a line's first word by which somebody sees after the gateway
+abbrev pub upkeep_named : List ℕ → Option Command
+upkeep_named word =
+    if bytes_eq word (codes "limit") then Some commands.Limit
+    else if bytes_eq word (codes "age") then Some commands.Age
+    else if bytes_eq word (codes "probe") then Some commands.Probe
+    else None
+
+-- one that asks something, or says what is printed
+abbrev pub asking_named : List ℕ → Option Command
+asking_named word =
+    if bytes_eq word (codes "asks") then Some commands.Asks
     else if bytes_eq word (codes "read") then Some commands.Read
     else if bytes_eq word (codes "sub") then Some commands.Sub
     else if bytes_eq word (codes "props") then Some commands.Props
@@ -37,7 +38,20 @@ command_named word =
     else if bytes_eq word (codes "hold") then Some commands.Hold
     else if bytes_eq word (codes "flow") then Some commands.Flow
     else if bytes_eq word (codes "drain") then Some commands.Drain
-    else None
+    else upkeep_named word
+
+-- what a line's first word says
+abbrev pub command_named : List ℕ → Option Command
+command_named word =
+    if bytes_eq word (codes "open") then Some commands.Open
+    else if bytes_eq word (codes "lost") then Some commands.Lost
+    else if bytes_eq word (codes "client") then Some commands.Client
+    else if bytes_eq word (codes "server") then Some commands.Server
+    else if bytes_eq word (codes "found") then Some commands.Found
+    else if bytes_eq word (codes "search") then Some commands.Search
+    else if bytes_eq word (codes "sweep") then Some commands.Sweep
+    else if bytes_eq word (codes "edit") then Some commands.Edit
+    else asking_named word
 
 -- a value of two parts, where both are there
 abbrev pub both : {A B C : Type 0} → (A → B → C) → Option A → Option B → Option C
@@ -113,6 +127,17 @@ rights_line words = option_map (λ channel. lines.Rights channel.0 channel.1) (o
 abbrev pub drain_line : List (List ℕ) → Option Line
 drain_line words = option_and_then (λ two. both lines.Drain (dest_of two.0) (number_of 64 two.1)) (two_words words)
 
+-- another limit: its name, and a number, or 0 or 1 where it holds or doesn't
+abbrev pub limit_line : List (List ℕ) → Option Line
+limit_line words = option_map lines.Limit (option_and_then (λ two. limit_named two.0 two.1) (two_words words))
+
+abbrev pub age_line : List (List ℕ) → Option Line
+age_line words = option_map (λ _. lines.Age) (no_word words)
+
+-- a server's number, without the `u` of its connection
+abbrev pub probe_line : List (List ℕ) → Option Line
+probe_line words = option_map lines.Probe (option_and_then (number_of 32) (one_word words))
+
 -- what a command and the words after it ask for
 abbrev pub command_line : Command → List (List ℕ) → Option Line
 command_line commands.Open = open_line
@@ -131,6 +156,9 @@ command_line commands.Rights = rights_line
 command_line commands.Hold = hold_line
 command_line commands.Flow = flow_line
 command_line commands.Drain = drain_line
+command_line commands.Limit = limit_line
+command_line commands.Age = age_line
+command_line commands.Probe = probe_line
 
 -- what the words of a line ask for, where it is a line of a script
 abbrev pub words_line : List (List ℕ) → Option Line

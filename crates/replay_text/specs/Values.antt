@@ -1,5 +1,5 @@
 -- What the words of a line stand for.
-use Rattle.std.specs.Prelude.{ℕ, ◌^◌, ◌==◌, ◌&&◌, nat_lt, if◌then◌else◌, List, [], ◌∷◌, length, bytes_eq, Option, Some, None, option_map, option_and_then}
+use Rattle.std.specs.Prelude.{ℕ, Bool, true, false, ◌^◌, ◌==◌, ◌&&◌, nat_lt, if◌then◌else◌, List, [], ◌∷◌, length, bytes_eq, Option, Some, None, option_map, option_and_then}
 use Rattle.std.specs.Char.{is_digit}
 use Rattle.std.specs.List.{list_all}
 use Rattle.std.specs.Str.Parse.{digits_value}
@@ -28,6 +28,13 @@ fitting bits n = if nat_lt n (2 ^ bits) then Some n else None
 -- the number of so many bits that a word writes
 abbrev pub number_of : ℕ → List ℕ → Option ℕ
 number_of bits word = option_and_then (fitting bits) (numeral word)
+
+-- whether something holds: `1` (49) where it does, `0` (48) where it doesn't
+abbrev pub flag_of : List ℕ → Option Bool
+flag_of word =
+    if bytes_eq word (48 ∷ []) then Some false
+    else if bytes_eq word (49 ∷ []) then Some true
+    else None
 
 -- the connection that a word names: `s` or `u`, and its number
 abbrev pub dest_of : List ℕ → Option Dest

@@ -1,6 +1,6 @@
 //! The commands of scripts.
 ghost use Rattle.std.specs.Prelude.{◌≡◌};
-ghost use Rattle.replay_text.specs.Lines.{command_named};
+ghost use Rattle.replay_text.specs.Lines.{asking_named, command_named, upkeep_named};
 
 /// What the first word of a line says.
 #[derive(Clone, Copy, Debug, PartialEq, Eq)]
@@ -21,6 +21,9 @@ pub enum Command {
     Hold,
     Flow,
     Drain,
+    Limit,
+    Age,
+    Probe,
 }
 
 impl Command {
@@ -28,26 +31,64 @@ impl Command {
     pub fn named(word: &[u8]) -> Option<Command>
         ensures { result ≡ command_named word.now }
     {
-        if word == b"search".as_slice() {
-            return Some(Command::Search);
+        if word == b"open".as_slice() {
+            Some(Command::Open)
+        } else if word == b"lost".as_slice() {
+            Some(Command::Lost)
+        } else if word == b"client".as_slice() {
+            Some(Command::Client)
+        } else if word == b"server".as_slice() {
+            Some(Command::Server)
+        } else if word == b"found".as_slice() {
+            Some(Command::Found)
+        } else if word == b"search".as_slice() {
+            Some(Command::Search)
+        } else if word == b"sweep".as_slice() {
+            Some(Command::Sweep)
+        } else if word == b"edit".as_slice() {
+            Some(Command::Edit)
+        } else {
+            Command::asking_named(word)
         }
-        match word {
-            b"open" => Some(Command::Open),
-            b"lost" => Some(Command::Lost),
-            b"client" => Some(Command::Client),
-            b"server" => Some(Command::Server),
-            b"found" => Some(Command::Found),
-            b"sweep" => Some(Command::Sweep),
-            b"edit" => Some(Command::Edit),
-            b"asks" => Some(Command::Asks),
-            b"read" => Some(Command::Read),
-            b"sub" => Some(Command::Sub),
-            b"props" => Some(Command::Props),
-            b"rights" => Some(Command::Rights),
-            b"hold" => Some(Command::Hold),
-            b"flow" => Some(Command::Flow),
-            b"drain" => Some(Command::Drain),
-            _ => None,
+    }
+
+    /// The command of this name that asks something, or says what is printed.
+    fn asking_named(word: &[u8]) -> Option<Command>
+        ensures { result ≡ asking_named word.now }
+    {
+        if word == b"asks".as_slice() {
+            Some(Command::Asks)
+        } else if word == b"read".as_slice() {
+            Some(Command::Read)
+        } else if word == b"sub".as_slice() {
+            Some(Command::Sub)
+        } else if word == b"props".as_slice() {
+            Some(Command::Props)
+        } else if word == b"rights".as_slice() {
+            Some(Command::Rights)
+        } else if word == b"hold".as_slice() {
+            Some(Command::Hold)
+        } else if word == b"flow".as_slice() {
+            Some(Command::Flow)
+        } else if word == b"drain".as_slice() {
+            Some(Command::Drain)
+        } else {
+            Command::upkeep_named(word)
+        }
+    }
+
+    /// The command of this name by which somebody sees after the gateway.
+    fn upkeep_named(word: &[u8]) -> Option<Command>
+        ensures { result ≡ upkeep_named word.now }
+    {
+        if word == b"limit".as_slice() {
+            Some(Command::Limit)
+        } else if word == b"age".as_slice() {
+            Some(Command::Age)
+        } else if word == b"probe".as_slice() {
+            Some(Command::Probe)
+        } else {
+            None
         }
     }
 }

@@ -20,12 +20,14 @@
 #![tactic(auto)]
 
 mod command;
+mod limit;
 mod line;
 mod output;
 mod piece;
 mod values;
 mod words;
 
+pub use limit::NewLimit;
 pub use line::{Line, read_line};
 pub use output::{
     write_asks, write_end, write_message, write_props, write_reading, write_refused,

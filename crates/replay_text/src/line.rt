@@ -1,10 +1,11 @@
 //! What a line of a script asks for.
 ghost use Rattle.std.specs.Prelude.{◌≡◌, true, IsTrue, ◌↔◌};
 ghost use Rattle.std.specs.List.{slice_split};
-ghost use Rattle.replay_text.specs.Lines.{IsRead, line_of, words_line, command_line, is_skipped, open_line, opening, dest_line, lost_line, hold_line, flow_line, client_line, server_line, found_line, search_line, sweep_line, edit_line, asks_line, channel_of, read_line as reading_line, sub_line, props_line, rights_line, drain_line};
+ghost use Rattle.replay_text.specs.Lines.{IsRead, line_of, words_line, command_line, is_skipped, open_line, opening, dest_line, lost_line, hold_line, flow_line, client_line, server_line, found_line, search_line, sweep_line, edit_line, asks_line, channel_of, read_line as reading_line, sub_line, props_line, rights_line, drain_line, limit_line, age_line, probe_line};
 ghost use Rattle.replay_text.specs.Words.{is_blank};
 
 use crate::command::Command;
+use crate::limit::{NewLimit, new_limit};
 use crate::piece::Piece;
 use crate::values::{
     LineFault, bytes, count, dest, host, name, number, server, session, type_number,
@@ -65,6 +66,12 @@ pub enum Line {
     Flow(Dest),
     /// So many of the connection's messages are taken, whether they are kept back or not.
     Drain(Dest, usize),
+    /// From now on this limit is another one; the others hold on.
+    Limit(NewLimit),
+    /// Time passes.
+    Age,
+    /// The server of this number is asked whether it is there.
+    Probe(u32),
 }
 
 /// Reads a line of a script, without the LF that ends it.
@@ -117,6 +124,9 @@ fn read_command(alloc: Global, command: Command, words: Words) -> Result<Line, L
         Command::Hold => hold(words).ok_or(LineFault::Bad),
         Command::Flow => flow(words).ok_or(LineFault::Bad),
         Command::Drain => drain(words).ok_or(LineFault::Bad),
+        Command::Limit => limit(words).ok_or(LineFault::Bad),
+        Command::Age => age(words).ok_or(LineFault::Bad),
+        Command::Probe => probe(words).ok_or(LineFault::Bad),
     }
 }
 
@@ -272,4 +282,24 @@ fn drain(words: Words) -> Option<Line>
 {
     let (from, number) = words.two()?;
     Some(Line::Drain(dest(from)?, count(number)?))
+}
+
+fn limit(words: Words) -> Option<Line>
+    ensures { result ≡ limit_line words.entry }
+{
+    let (name, value) = words.two()?;
+    Some(Line::Limit(new_limit(name, value)?))
+}
+
+fn age(words: Words) -> Option<Line>
+    ensures { result ≡ age_line words.entry }
+{
+    words.none()?;
+    Some(Line::Age)
+}
+
+fn probe(words: Words) -> Option<Line>
+    ensures { result ≡ probe_line words.entry }
+{
+    Some(Line::Probe(number(words.one()?)?))
 }

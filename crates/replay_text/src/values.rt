@@ -1,7 +1,7 @@
 //! What the words of a line stand for.
 ghost use Rattle.std.specs.Prelude.{◌≡◌};
 ghost use Rattle.replay_text.specs.Lines.{IsRead};
-ghost use Rattle.replay_text.specs.Values.{number_of, dest_of, session_of, server_of, name_of, host_of, bytes_of};
+ghost use Rattle.replay_text.specs.Values.{number_of, flag_of, dest_of, session_of, server_of, name_of, host_of, bytes_of};
 
 use crate::piece::Piece;
 use gateway_state::Dest;
@@ -101,6 +101,17 @@ pub fn count(word: &[u8]) -> Option<usize>
     usize::try_from(long_number(word)?).ok()
 }
 
+/// Whether something holds: `1` where it does, `0` where it doesn't.
+pub fn flag(word: &[u8]) -> Option<bool>
+    ensures { result ≡ flag_of word.now }
+{
+    match word {
+        b"0" => Some(false),
+        b"1" => Some(true),
+        _ => None,
+    }
+}
+
 /// The name of a variable that a word is.
 pub fn name(alloc: Global, word: &[u8]) -> Result<Name, LineFault>
     ensures { IsRead result (name_of word.now) }
@@ -128,7 +139,7 @@ pub fn bytes(alloc: Global, word: &[u8]) -> Result<Piece, LineFault>
 }
 
 /// The number that decimal digits write, and nothing but digits: no sign.
-fn long_number(digits: &[u8]) -> Option<u64>
+pub fn long_number(digits: &[u8]) -> Option<u64>
     ensures { result ≡ number_of 64 digits.now }
 {
     if digits.starts_with(b"+") {

@@ -6,10 +6,11 @@
 //! - `session N`, `channel S SID`, `sub S SID ID`, `read S SID IOID`: a row is added, but no session,
 //!   channel or subscription that stands. The last number may be a range, as `0-1023`, which adds so
 //!   many. An answer is given where a row is refused;
+//! - `within LIMIT` before one of these, with one number at its end: the same where the limit is this;
 //! - `typed S SID ID TYPE MASK`: a subscription of this type and these events; those that `sub` adds
 //!   are of type 20, and ask for VALUE and ALARM;
-//! - `put session N HOST`, `put channel S SID REACH RIGHTS`, `put sub S ID`: the session counts as
-//!   one of that host, which is fixed, and is paused; behind the rights of a channel may stand
+//! - `put session N HOST`, `put user N NAME`, `put channel S SID REACH RIGHTS`, `put sub S ID`: the session counts as
+//!   one of that host, which is fixed, and is paused; what it said of its user is this; behind the rights of a channel may stand
 //!   `props`, where a read on it needs properties; the subscription is owed nothing;
 //! - `find session N`, `find channel S SID`, `find sub S ID`: the row, or `none`;
 //! - `remove` before what a row is named by;
@@ -32,8 +33,9 @@ use crate::seen;
 use crate::seen::Kept;
 use crate::shown::{show_channel, show_read, show_session, show_sub};
 use crate::visited::VisitedRows;
+use crate::within::add_within;
 use crate::words::Told;
-use channel_table::{Channel, ClientSub, Reach, Session, Table, TableFault, WaitingRead};
+use channel_table::{Channel, ClientSub, Reach, Session, Table, TableFault, User, WaitingRead};
 use pv_name::{Host, Name};
 use std::alloc::Global;
 use std::process::Abort;
@@ -135,16 +137,17 @@ fn call(alloc: Global, rows: &mut VisitedRows, line: &str, last: u32, told: &mut
         "show" => show(alloc, rows, told),
         "on" | "want" | "props" | "reads" => show_name(alloc, rows, line, told),
         "of" => show_of(rows, number(line, 1), told),
+        "within" => add_within(alloc, rows, line, told),
         "typed" => refused(add_sub(rows, typed_sub(line)), told),
         _ => add_one(alloc, rows, line, last, told),
     }
 }
 
-fn word(line: &str, place: usize) -> &str {
+pub(crate) fn word(line: &str, place: usize) -> &str {
     line.split(' ').nth(place).unwrap_or("")
 }
 
-fn number(line: &str, place: usize) -> u32 {
+pub(crate) fn number(line: &str, place: usize) -> u32 {
     word(line, place).parse().unwrap_or(0)
 }
 
@@ -178,7 +181,7 @@ fn add_one(alloc: Global, rows: &mut VisitedRows, line: &str, last: u32, told: &
     }
 }
 
-fn refused(done: Result<(), TableFault>, told: &mut Told) {
+pub(crate) fn refused(done: Result<(), TableFault>, told: &mut Told) {
     match done {
         Ok(()) => {}
         Err(TableFault::Missing) => told.line(&"missing"),
@@ -217,16 +220,18 @@ fn add_sub(rows: &mut VisitedRows, sub: ClientSub) -> Result<(), TableFault> {
     }
 }
 
-fn session(alloc: Global, number: u32) -> Option<Session> {
+pub(crate) fn session(alloc: Global, number: u32) -> Option<Session> {
     Some(Session {
         number,
+        peer: Host::read(alloc, b"10.0.0.5").ok()?,
         host: Host::read(alloc, b"10.0.0.5").ok()?,
+        user: User::none(alloc),
         host_fixed: false,
         paused: false,
     })
 }
 
-fn channel(alloc: Global, session: u32, sid: u32) -> Option<Channel> {
+pub(crate) fn channel(alloc: Global, session: u32, sid: u32) -> Option<Channel> {
     let asked = Name::read(alloc, b"A:SET").ok()?;
     let real = Name::read(alloc, real_name(sid).as_bytes()).ok()?;
     Some(Channel {
@@ -252,7 +257,7 @@ fn real_name(sid: u32) -> &'static str {
     }
 }
 
-fn sub(session: u32, sid: u32, id: u32) -> ClientSub {
+pub(crate) fn sub(session: u32, sid: u32, id: u32) -> ClientSub {
     ClientSub {
         session,
         id,
@@ -277,7 +282,7 @@ fn small(line: &str, place: usize) -> u16 {
     word(line, place).parse().unwrap_or(0)
 }
 
-fn read(session: u32, sid: u32, ioid: u32) -> WaitingRead {
+pub(crate) fn read(session: u32, sid: u32, ioid: u32) -> WaitingRead {
     WaitingRead {
         session,
         sid,
@@ -295,6 +300,10 @@ fn put(alloc: Global, rows: &mut VisitedRows, line: &str, told: &mut Told) {
                 .table
                 .put_session(&mut rows.visits, session, host, true, true),
             Err(fault) => told.line(&fault),
+        },
+        "user" => match User::new(alloc, word(line, 3).as_bytes()) {
+            Ok(user) => rows.table.put_user(&mut rows.visits, session, user),
+            Err(_) => told.line(&"out of memory"),
         },
         "channel" => {
             let reach = Reach {

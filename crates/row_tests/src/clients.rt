@@ -101,7 +101,7 @@ visits
 > 26
 show
 > session 1 10.0.0.5
-> session 2 10.0.0.6 fixed paused
+> session 2 10.0.0.6 from 10.0.0.5 fixed paused
 > channel 1 11 A:SP reach 0 rights 3
 > channel 1 12 A:SP reach 0 rights 3
 > channel 2 21 A:SP reach 3 rights 1
@@ -125,13 +125,17 @@ fn a_row_that_is_put_is_changed(rt: HostRuntime) {
         "\
 put session 2 desk1
 put session 3 desk2
+put user 1 anna
+put user 2 ben
+put user 2 carl
+put user 3 dora
 put channel 1 12 20 1
 put channel 2 12 30 1
 put sub 1 5
 put sub 2 6
 show
-> session 1 10.0.0.5
-> session 2 desk1 fixed paused
+> session 1 10.0.0.5 user anna
+> session 2 desk1 user carl from 10.0.0.5 fixed paused
 > channel 1 11 A:SP reach 0 rights 3
 > channel 1 12 A:SP reach 20 rights 1
 > channel 2 21 A:SP reach 0 rights 3
@@ -359,34 +363,6 @@ sub 2 11 1
 > missing
 read 2 11 1
 > missing
-",
-    );
-}
-
-#[test]
-fn the_row_past_each_limit_is_refused(rt: HostRuntime) {
-    tells(
-        &rt,
-        rt.alloc(),
-        "session 0-1023\nchannel 1 0-4095",
-        "\
-session 1024
-> full
-channel 1 4096
-> full
-channel 2 4096
-read 1 9 0-255
-read 1 9 256
-> full
-read 2 4096 0
-sub 1 11 0-8191
-sub 1 12 8192
-> full
-sub 2 4096 7
-count 1
-> 4096 8192 256
-count 2
-> 1 1 1
 ",
     );
 }

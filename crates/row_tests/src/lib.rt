@@ -7,6 +7,10 @@ mod client_rows;
 #[cfg(test)]
 mod clients;
 #[cfg(test)]
+mod crowds;
+#[cfg(test)]
+mod limits;
+#[cfg(test)]
 mod link_rows;
 #[cfg(test)]
 mod links;
@@ -22,5 +26,7 @@ mod shown;
 mod visited;
 #[cfg(test)]
 mod wants;
+#[cfg(test)]
+mod within;
 #[cfg(test)]
 mod words;

@@ -1,17 +1,30 @@
 //! How rows of clients are told.
 use crate::words::Told;
-use channel_table::{Channel, ClientSub, Session, WaitingRead};
+use channel_table::{Channel, ClientSub, Session, User, WaitingRead};
+use std::str;
 
 pub(crate) fn show_session(row: &Session, told: &mut Told) {
     told.word(&"session");
     told.word(&row.number);
     told.word(&row.host.text());
+    show_user(&row.user, told);
+    if row.host.text() != row.peer.text() {
+        told.word(&"from");
+        told.word(&row.peer.text());
+    }
     match (row.host_fixed, row.paused) {
         (false, false) => {}
         (true, true) => told.word(&"fixed paused"),
         _ => told.word(&"otherwise"),
     }
     told.end();
+}
+
+fn show_user(user: &User, told: &mut Told) {
+    if let (false, Ok(name)) = (user.as_slice().is_empty(), str::from_utf8(user.as_slice())) {
+        told.word(&"user");
+        told.word(&name);
+    }
 }
 
 pub(crate) fn show_channel(row: &Channel, told: &mut Told) {

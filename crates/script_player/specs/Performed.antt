@@ -23,7 +23,7 @@ use Rattle.rule_desk.specs.declared.policy.Policy.{Policy}
 use Rattle.script_player.specs.Editing.{refusal}
 use Rattle.script_player.specs.Ending.{AreEnded, IsShut, opened, without}
 use Rattle.script_player.specs.Performing.{Becomes, Performs, Rests, Then, silent}
-use Rattle.script_player.specs.Player.{OnGateway, Playing, beginning, dest_cmp, is_dest, stepped}
+use Rattle.script_player.specs.Player.{OnGateway, Playing, beginning, dest_cmp, is_dest, relimited, stepped}
 use Rattle.script_player.specs.Printing.{IsDrained, IsPrinted}
 use Rattle.script_player.specs.Receiving.{IsReceived}
 use Rattle.script_player.specs.Script.{entry_of, lines_of, own_lines_of}
@@ -82,6 +82,9 @@ IsDone (lines.Rights session sid) files None = IsAnswered (λ w. rights_line (ri
 IsDone (lines.Hold dest) files None = Becomes (λ p. record p { held = insert_key dest_cmp p.held dest }) silent
 IsDone (lines.Flow dest) files None = Becomes (λ p. record p { held = remove_key (is_dest dest) p.held }) silent
 IsDone (lines.Drain dest count) files None = OnGateway (IsDrained dest count)
+IsDone (lines.Limit limit) files None = Becomes (relimited limit) silent
+IsDone lines.Age files None = Becomes (stepped events.Age) silent
+IsDone (lines.Probe number) files None = Becomes (stepped (events.Probe number)) silent
 
 -- what follows from a line: what waits is printed, a connection whose bytes are no messages is cut off, and so are
 -- those that must end

@@ -10,6 +10,9 @@ use Rattle.gateway_state.specs.Step.{step}
 use Rattle.gateway_state.specs.declared.event.Dest.{Dest}
 use Rattle.gateway_state.specs.declared.event.Dest.TheVariants.{Session, Upstream}
 use Rattle.gateway_state.specs.declared.event.Event.{Event}
+use Rattle.gateway_state.specs.declared.event.Event.TheVariants.{Limit}
+use Rattle.replay_text.specs.Limits.{with_limit}
+use Rattle.replay_text.specs.declared.limit.NewLimit.{NewLimit}
 use Rattle.script_player.specs.declared.player.Player.{Player}
 
 -- the order of connections: clients before servers, each by their numbers
@@ -48,6 +51,10 @@ playing state player = playing_at (state player.gate) player.intakes.entries pla
 -- an event happens to its gateway
 abbrev pub stepped : Event → Playing → Playing
 stepped event p = record p { gateway = step p.gateway event }
+
+-- one of the limits that hold is another one
+abbrev pub relimited : NewLimit → Playing → Playing
+relimited limit p = stepped (Limit (with_limit limit p.gateway.limits)) p
 
 -- something happens to its gateway alone
 abbrev pub OnGateway : (Gateway → Gateway → List ℕ → Type 0) → Playing → Playing → List ℕ → Type 0

@@ -8,6 +8,7 @@ ghost use Rattle.ca_header.specs.Reading.{front_at};
 ghost use Rattle.ca_header.specs.declared.header.Message.{Message};
 ghost use Rattle.gateway_state.specs.Asked.{ends};
 ghost use Rattle.gateway_state.specs.Step.{run, step, taken};
+ghost use Rattle.replay_text.specs.Limits.{with_limit};
 ghost use Rattle.script_player.specs.Editing.{IfEdit, IsEdited, IsPrinted as IsLinePrinted, refusal};
 ghost use Rattle.script_player.specs.Ending.{AreEnded, IsEndedFirst, IsShut, opened, without};
 ghost use Rattle.script_player.specs.Performed.{IsDone, IsLine, IsSearchedFor};
@@ -25,8 +26,8 @@ use gateway_calls::GatewayCalls;
 use gateway_state::{Dest, Event};
 use pv_name::{Host, Name};
 use replay_text::{
-    Line, write_asks, write_end, write_message, write_props, write_reading, write_refused,
-    write_refused_groups, write_reply, write_rights, write_shut, write_subscription,
+    Line, NewLimit, write_asks, write_end, write_message, write_props, write_reading,
+    write_refused, write_refused_groups, write_reply, write_rights, write_shut, write_subscription,
 };
 use rule_desk::{Desk, DeskFault};
 use std::alloc::Global;
@@ -153,6 +154,9 @@ impl<G: GatewayCalls + Drop> Player<G> {
             Line::Drain(dest, count) => {
                 print_messages(&mut self.gate, dest, count, out)?;
             }
+            Line::Limit(limit) => change_limit(&mut self.gate, limit)?,
+            Line::Age => self.gate.step(Event::Age)?,
+            Line::Probe(number) => self.gate.step(Event::Probe(number))?,
         }
         Ok(None)
     }
@@ -261,6 +265,14 @@ fn first_marked<G: GatewayCalls>(
         }
     }
     Ok(None)
+}
+
+/// One of the limits that hold is another one from then on.
+fn change_limit<G: GatewayCalls>(gate: &mut G, limit: NewLimit) -> Result<(), Fault>
+    ensures { OnOk result (G.state gate.new ≡ option_map (λ w. step w (Event.Limit (with_limit limit w.limits))) (G.state gate.old)) }
+{
+    let limits = gate.limits()?;
+    Ok(gate.step(Event::Limit(limit.in_place_of(limits)))?)
 }
 
 /// Names are looked for from this host from then on.

@@ -1,4 +1,5 @@
 pub mod Concerned
 pub mod Described
+pub mod GivenUp
 pub mod Longer
 pub mod Owed

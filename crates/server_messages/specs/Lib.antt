@@ -1,3 +1,4 @@
 pub mod Concern
 pub mod Kept
 pub mod Looks
+pub mod Overdue

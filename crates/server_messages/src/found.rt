@@ -8,7 +8,7 @@ ghost use Rattle.gateway_state.specs.Variables.{is_linked};
 use ca_message::{NameText, ToServer};
 use gateway_rows::{Refusal, Rows};
 use gateway_state::{Dest, Limit};
-use link_table::{Counter, LINK_LIMIT};
+use link_table::Counter;
 use pv_name::Name;
 
 /// A server has a variable.
@@ -21,7 +21,7 @@ pub fn find_at(rows: &mut Rows, name: Name, server: u32) -> Result<(), Refusal>
     if !rows.is_missing(&name) || !rows.acts(Dest::Upstream(server)) {
         return Ok(());
     }
-    if rows.upstream.link_count() >= LINK_LIMIT {
+    if rows.upstream.link_count() >= rows.limits.links {
         rows.meet(Limit::Links);
         return Ok(());
     }
@@ -41,7 +41,9 @@ fn make_link(rows: &mut Rows, server: u32, name: Name) -> Result<(), Refusal>
         return Err(Refusal::NumbersUsedUp);
     };
     let asked = name.copy()?;
-    if rows.upstream.add_link(server, cid, name).is_err() {
+    let limit = rows.limits.links;
+    let added = rows.upstream.add_link_within(limit, server, cid, name);
+    if added.is_err() {
         return Err(Refusal::OutOfMemory);
     }
     rows.ask(

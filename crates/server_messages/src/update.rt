@@ -44,7 +44,7 @@ fn fail_read(rows: &mut Rows, read: WaitingRead) -> Result<(), AllocError>
 }
 
 /// None of these reads can be had that fail without the subject.
-fn fail_reads(
+pub(crate) fn fail_reads(
     rows: &mut Rows,
     reads: Vec<WaitingRead>,
     subject: Subject,

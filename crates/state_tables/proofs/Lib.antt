@@ -1,6 +1,10 @@
 pub mod ConnectionRows
+pub mod KeptLists
+pub mod KeptSearches
 pub mod LatestLemmas
 pub mod LeadRows
 pub mod ListedLemmas
-pub mod PlacesOf
+pub mod SearchAges
+pub mod SearchChanges
+pub mod SearchRows
 pub mod ServerLemmas

@@ -1,6 +1,5 @@
 pub mod ConnectionKeys
+pub mod Kept
 pub mod LatestRows
 pub mod Leads
-pub mod Places
-pub mod Reals
 pub mod Searches

@@ -11,7 +11,7 @@ ghost use Rattle.gateway_state.specs.Connections.{is_to, is_not_to, given, marke
 ghost use Rattle.gateway_state.specs.Updates.{takes_updates};
 
 use fanout::{AppendFault, Out, Outbox};
-use gateway_state::{Connection, Dest, UPDATE_LIMIT};
+use gateway_state::{Connection, Dest, Limits, UPDATE_LIMIT};
 use row_index::{Key, RowMap};
 use std::alloc::{AllocError, Global};
 use std::marker::Model;
@@ -102,16 +102,19 @@ impl Connections {
         }
     }
 
-    /// Whether the connection's outbox takes updates: it isn't marked, and not too many messages wait.
-    pub fn takes_updates(&self, dest: Dest) -> bool
-        ensures { result ≡ takes_updates (outbox_of dest self.now) }
+    /// Whether the connection's outbox takes updates: it isn't marked, and not too many messages or bytes
+    /// wait.
+    pub fn takes_updates(&self, limits: &Limits, dest: Dest) -> bool
+        ensures { result ≡ takes_updates limits.now (outbox_of dest self.now) }
     {
         match self.get(dest) {
             Some(connection) => {
                 let outbox = &connection.outbox;
-                !outbox.marked() && outbox.len() < UPDATE_LIMIT
+                !outbox.marked()
+                    && outbox.len() < UPDATE_LIMIT
+                    && outbox.bytes() < limits.update_bytes
             }
-            None => true,
+            None => limits.update_bytes > 0,
         }
     }
 

@@ -1,52 +1,51 @@
 //! Searches that are remembered.
-ghost use Rattle.std.specs.Prelude.{◌≡◌, [], ◌∷◌, ◌++◌, length, IfOk, OnOk, OnErr};
-ghost use Rattle.std.specs.List.{cons_option, list_any};
-ghost use Rattle.gateway_state.specs.Resolution.{lead_of, real_in};
-ghost use Rattle.gateway_state.specs.Searches.{leads_to, same_search};
+ghost use Rattle.std.specs.Prelude.{◌≡◌, [], ◌∷◌, ◌++◌, false, length, map, filter, option_map, IfOk, OnOk, OnErr};
+ghost use Rattle.std.specs.List.{find, list_any};
+ghost use Rattle.channel_table.specs.Indexes.{is_at, is_not_at};
+ghost use Rattle.gateway_state.specs.Resolution.{lead_of};
+ghost use Rattle.gateway_state.specs.Searches.{grown_stale, is_fresh, is_stale, leads_to, left_by_search, made_now, same_search, searched_first, with_search, without_search};
 ghost use Rattle.gateway_state.specs.Variables.{search_names};
+ghost use Rattle.state_tables.specs.Kept.{again_found, is_stale_row, kept_as, kept_key, key_in, made_again_under, outworn_row, reals_of, rows_again, rows_after, search_in, search_of, searches_of, serial_key, LedByOneMore, Stand};
 ghost use Rattle.state_tables.specs.Leads.{AreLeads};
+ghost use Rattle.rule_desk.specs.declared.policy.Policy.{Policy as PolicyValue};
 
+use crate::kept::{Kept, copied, kept_row, made_now};
 use crate::leads::{Asked, Leads};
-use crate::places::Places;
-use crate::reals::Reals;
-use gateway_state::{Search, lead_of};
+use crate::search_table::SearchTable;
+use gateway_state::{Limits, Search, lead_of};
 use pv_alias::{Lead, Resolver};
 use pv_name::{Host, Name};
+use row_index::Key;
 use rule_desk::Policy;
 use std::alloc::{AllocError, Global};
 use std::marker::Model;
 
-/// The policy that holds, and the searches that are remembered, in the order in which they came. The
-/// real names that they lead to under it are kept beside them, so that a look at them asks no policy, and
-/// their places by the names that they are for.
+/// The policy that holds, and the searches that are remembered, in the order in which they came, or were
+/// made again where old ones go. The real names that they lead to under it are kept beside them, so that a
+/// look at them asks no policy.
 #[derive(Drop)]
 pub struct Searches {
     policy: Policy,
-    rows: Vec<Search>,
-    /// Where the rows for each name stand.
-    places: Places,
-    /// What the rows lead to, in their order, without those that lead nowhere.
-    reals: Reals,
+    rows: SearchTable,
     /// What names were found to lead to under the policy.
     leads: Leads,
 }
 
 impl Model for Searches {
+    ghost use Rattle.state_tables.specs.Kept.{searches_of, AreRight};
     ghost use Rattle.state_tables.specs.Leads.{AreLeads};
-    ghost use Rattle.state_tables.specs.Places.{ArePlaces};
+    ghost use Rattle.rule_desk.specs.declared.policy.Policy.{Policy as PolicyValue};
     ghost use Rattle.state_tables.specs.Searches.{SearchRows};
-    ghost use Rattle.gateway_state.specs.Variables.{search_names};
     ghost use Rattle.rule_desk.specs.contracts.policy.Policy as the_policy;
     ghost use Rattle.std.specs.Coded.{codes};
-    ghost use Rattle.std.specs.Prelude.{◌≡◌};
 
     ghost Value = { SearchRows };
 
     ghost coded = { Prim.hlevel (codes, the_policy.the_row.coded) };
 
-    ghost view = { λ s. record { policy = s.policy; rows = s.rows.items } };
+    ghost view = { λ s. record { policy = s.policy; rows = searches_of s.rows } };
 
-    ghost invariant = { λ s. (s.reals ≡ search_names s.policy s.rows.items) × AreLeads s.policy s.leads × ArePlaces s.rows.items s.places };
+    ghost invariant = { λ s. AreRight s.policy s.rows × AreLeads s.policy s.leads };
 }
 
 impl Searches {
@@ -56,9 +55,7 @@ impl Searches {
     {
         Searches {
             policy,
-            rows: Vec::new(alloc),
-            places: Places::new(alloc),
-            reals: Reals::new(alloc),
+            rows: SearchTable::new(alloc),
             leads: Leads::new(alloc),
         }
     }
@@ -80,22 +77,22 @@ impl Searches {
     pub fn contains(&self, host: &Host, name: &Name) -> bool
         ensures { result ≡ list_any (same_search host.now name.now) self.now.rows }
     {
-        self.places.has(&self.rows, host, name)
+        self.rows.sought(host, name).is_some()
     }
 
     /// Whether one of them leads to this real name.
-    #[tactic(auto, using(gateway_state::proofs::SearchedNames::searched_is_among))]
     pub fn leads_to(&self, name: &Name) -> bool
         ensures { result ≡ list_any (leads_to self.now.policy name.now) self.now.rows }
     {
-        self.reals.has(name)
+        self.rows.leads_to(name)
     }
 
-    /// The real names that they lead to, in order.
-    pub fn names(&self) -> &[Name]
-        ensures { result.now ≡ search_names self.now.policy self.now.rows }
+    /// The real names that they lead to, in order, each as often as one leads to it.
+    pub fn names(&self, alloc: Global) -> Result<Vec<Name>, AllocError>
+        ensures { IfOk result (λ names. names.items ≡ search_names self.now.policy self.now.rows) }
     {
-        self.reals.as_slice()
+        let rows = self.rows.rows(alloc)?;
+        reals(&rows, alloc)
     }
 
     /// Where the name leads that a host asks for; nothing where it is refused. No rule is run where it is
@@ -160,25 +157,83 @@ impl Searches {
         Ok(true)
     }
 
-    /// Remembers one more. No rule is run where it is remembered what its name leads to.
-    #[tactic(auto, using(gateway_state::proofs::SearchedNames::names_with_one_more))]
-    pub fn add(&mut self, alloc: Global, search: Search) -> Result<(), AllocError>
-        ensures ok { OnOk result (self.new ≡ record self.old { rows = self.old.rows ++ search ∷ [] }) }
+    /// The host searches for the name: that is remembered, once, where there is room or an old search goes
+    /// for it. The one that goes is answered. No rule is run where it is remembered what the name leads to.
+    /// At an error nothing changes.
+    pub fn remember(
+        &mut self,
+        alloc: Global,
+        limits: &Limits,
+        host: &Host,
+        name: &Name,
+    ) -> Result<Option<Search>, AllocError>
+        ensures ok { OnOk result (self.new ≡ record self.old { rows = with_search limits.now host.now name.now self.old.rows }) }
+        ensures left { IfOk result (λ left. left ≡ left_by_search limits.now host.now name.now self.old.rows) }
         ensures err { OnErr result (self.new ≡ self.old) }
     {
-        let lead = self.lead_of(alloc, &search.host, &search.name)?;
-        self.rows.reserve(1)?;
-        let place = self.places.add(&self.rows, &search)?;
-        match add_real(&mut self.reals, lead) {
-            Ok(()) => {
-                self.rows.push_reserved(search);
-                Ok(())
+        self.rows.are_apart();
+        match self.rows.sought(host, name) {
+            Some(key) => {
+                again(&mut self.rows, limits, key)?;
+                Ok(None)
             }
-            Err(e) => {
-                self.places.remove(&search, place);
-                Err(e)
-            }
+            None => self.remember_first(alloc, limits, host, name),
         }
+    }
+
+    /// Remembers a search that isn't remembered yet, where there is room or an old one goes for it.
+    fn remember_first(
+        &mut self,
+        alloc: Global,
+        limits: &Limits,
+        host: &Host,
+        name: &Name,
+    ) -> Result<Option<Search>, AllocError>
+        requires new { list_any (same_search host.now name.now) self.old.rows ≡ false }
+        ensures ok { OnOk result (self.new ≡ record self.old { rows = searched_first limits.now host.now name.now self.old.rows }) }
+        ensures left { IfOk result (λ left. left ≡ left_by_search limits.now host.now name.now self.old.rows) }
+        ensures err { OnErr result (self.new ≡ self.old) }
+    {
+        if !limits.makes_room && self.rows.len() >= limits.searches {
+            return Ok(None);
+        }
+        self.rows.are_apart();
+        let lead = self.lead_of(alloc, host, name)?;
+        let kept = new_row(&self.rows, alloc, lead, host, name)?;
+        if limits.makes_room {
+            take_in(&mut self.rows, limits, kept)
+        } else {
+            self.rows.add(kept)?;
+            Ok(None)
+        }
+    }
+
+    /// The host's search for the name is remembered no longer, if it was. It is answered. This takes no
+    /// memory.
+    pub fn end(&mut self, host: &Host, name: &Name) -> Option<Search>
+        ensures ended { result ≡ find (same_search host.now name.now) self.old.rows }
+        ensures rows { self.new ≡ record self.old { rows = without_search (find (same_search host.now name.now) self.old.rows) self.old.rows } }
+    {
+        self.rows.are_apart();
+        match self.rows.sought(host, name) {
+            Some(key) => self.rows.take(key),
+            None => None,
+        }
+    }
+
+    /// Forgets the searches that weren't made again since the last time; the others are not made again yet.
+    /// The real names are answered that those led to which are forgotten, in order. At an error nothing
+    /// changes.
+    pub fn forget_stale(&mut self, alloc: Global) -> Result<Vec<Name>, AllocError>
+        ensures ok { OnOk result (self.new ≡ record self.old { rows = map grown_stale (filter is_fresh self.old.rows) }) }
+        ensures names { IfOk result (λ names. names.items ≡ search_names self.old.policy (filter is_stale self.old.rows)) }
+        ensures err { OnErr result (self.new ≡ self.old) }
+    {
+        self.rows.are_apart();
+        let names = stale_names(&self.rows, alloc)?;
+        let keys = self.rows.keys(alloc)?;
+        self.rows.age(&keys);
+        Ok(names)
     }
 
     /// From now on another policy holds.
@@ -186,9 +241,9 @@ impl Searches {
         ensures ok { OnOk result (self.new ≡ record self.old { policy = policy }) }
         ensures err { OnErr result (self.new ≡ self.old) }
     {
-        let reals = names(&self.rows, alloc, &policy)?;
+        let rows = led_by(&self.rows, alloc, &policy)?;
         self.policy = policy;
-        self.reals = reals;
+        self.rows = rows;
         self.leads = Leads::new(alloc);
         Ok(())
     }
@@ -198,19 +253,6 @@ impl Searches {
         ensures { self.new ≡ record self.old { rows = [] } }
     {
         self.rows.clear();
-        self.places.clear();
-        self.reals.clear();
-    }
-}
-
-/// Adds the name that a search leads to, if to any.
-fn add_real(reals: &mut Reals, lead: Option<Lead>) -> Result<(), AllocError>
-    ensures ok { OnOk result (reals.new ≡ reals.old ++ cons_option (real_in lead) []) }
-    ensures err { OnErr result (reals.new ≡ reals.old) }
-{
-    match lead {
-        Some(lead) => { reals.add(lead.real) }
-        None => Ok(()),
     }
 }
 
@@ -249,15 +291,165 @@ fn learn(
     leads.add(policy, asked.host, asked.name, &lead)
 }
 
-fn names(rows: &[Search], alloc: Global, policy: &Policy) -> Result<Reals, AllocError>
-    ensures { IfOk result (λ names. names ≡ search_names policy.now rows.now) }
+/// The row of a search that is made now and leads there, under a number that is free.
+fn new_row(
+    rows: &SearchTable,
+    alloc: Global,
+    lead: Option<Lead>,
+    host: &Host,
+    name: &Name,
+) -> Result<Kept, AllocError>
+    ensures row { IfOk result (λ kept. kept ≡ kept_as kept.serial lead (made_now host.now name.now)) }
+    ensures new { IfOk result (λ kept. list_any (is_at kept_key (kept_key kept)) rows.now ≡ false) }
 {
-    let mut resolver = Resolver::new(alloc, &policy.rules)?;
-    let mut names = Reals::new(alloc);
+    kept_row(alloc, rows.free()?, lead, made_now(host, name)?)
+}
+
+/// The search of a key is made again: it is the last from now on where old ones go. The number that it has
+/// then is answered. At an error nothing changes.
+fn again(rows: &mut SearchTable, limits: &Limits, key: Key) -> Result<u32, AllocError>
+    ensures ok { IfOk result (λ serial. rows.new ≡ rows_again limits.now serial key rows.old) }
+    ensures err { OnErr result (rows.new ≡ rows.old) }
+{
+    if !limits.makes_room {
+        rows.make_again(key);
+        return Ok(key.id);
+    }
+    let serial = rows.free()?;
+    move_last(rows, key, serial)?;
+    Ok(serial)
+}
+
+/// The search of a key is made again, as the last one, under a number that is free.
+#[tactic(auto, using(crate::proofs::SearchChanges::moved_last, crate::proofs::SearchChanges::moved_nowhere))]
+fn move_last(rows: &mut SearchTable, key: Key, serial: u32) -> Result<(), AllocError>
+    requires new { list_any (is_at kept_key (serial_key serial)) rows.old ≡ false }
+    ensures ok { OnOk result (rows.new ≡ filter (is_not_at kept_key key) rows.old ++ again_found serial (find (is_at kept_key key) rows.old)) }
+    ensures err { OnErr result (rows.new ≡ rows.old) }
+{
+    let Some(row) = row_again(rows, key, serial)? else {
+        return Ok(());
+    };
+    rows.add(row)?;
+    rows.take(key);
+    Ok(())
+}
+
+/// The row of a key under another number, with its search made again.
+fn row_again(rows: &SearchTable, key: Key, serial: u32) -> Result<Option<Kept>, AllocError>
+    ensures { IfOk result (λ row. row ≡ option_map (made_again_under serial) (find (is_at kept_key key) rows.now)) }
+{
+    match rows.get(key) {
+        Some(kept) => Ok(Some(kept.again(serial)?)),
+        None => Ok(None),
+    }
+}
+
+/// Adds a search, for which an old one goes: the oldest of its host where that has its share, or the oldest
+/// of all where there are as many as may be.
+fn take_in(
+    rows: &mut SearchTable,
+    limits: &Limits,
+    kept: Kept,
+) -> Result<Option<Search>, AllocError>
+    requires new { list_any (is_at kept_key (kept_key kept)) rows.old ≡ false }
+    ensures ok { OnOk result (rows.new ≡ rows_after (outworn_row limits.now kept.owner rows.old) rows.old ++ kept ∷ []) }
+    ensures left { IfOk result (λ left. left ≡ search_in (outworn_row limits.now kept.owner rows.old)) }
+    ensures err { OnErr result (rows.new ≡ rows.old) }
+{
+    rows.are_apart();
+    let outworn = outworn(rows, limits, &kept.owner);
+    rows.add(kept)?;
+    match outworn {
+        Some(key) => Ok(rows.take(key)),
+        None => Ok(None),
+    }
+}
+
+/// The key of the search that goes where one more of a host is remembered.
+fn outworn(rows: &SearchTable, limits: &Limits, owner: &Name) -> Option<Key>
+    ensures { result ≡ key_in (outworn_row limits.now owner.now rows.now) }
+{
+    let own = rows.count_of(owner);
+    if own > 0 && own >= limits.share {
+        rows.oldest_of(owner)
+    } else if rows.len() >= limits.searches {
+        rows.oldest()
+    } else {
+        None
+    }
+}
+
+/// The real names that these lead to.
+fn reals(rows: &[&Kept], alloc: Global) -> Result<Vec<Name>, AllocError>
+    ensures { IfOk result (λ names. names.items ≡ reals_of (map (λ row. row.now) rows.now)) }
+{
+    let mut names = Vec::new(alloc);
     for row in rows {
-        if let Some(lead) = resolver.resolve(&row.host, &row.name)? {
-            names.add(lead.real)?;
+        if let Some(real) = &row.real {
+            names.push(real.copy()?)?;
         }
     }
     Ok(names)
+}
+
+/// The real names that the stale ones lead to.
+fn stale_names(rows: &SearchTable, alloc: Global) -> Result<Vec<Name>, AllocError>
+    ensures { IfOk result (λ names. names.items ≡ reals_of (filter is_stale_row rows.now)) }
+{
+    let rows = rows.rows(alloc)?;
+    reals_of_stale(&rows, alloc)
+}
+
+fn reals_of_stale(rows: &[&Kept], alloc: Global) -> Result<Vec<Name>, AllocError>
+    ensures { IfOk result (λ names. names.items ≡ reals_of (filter is_stale_row (map (λ row. row.now) rows.now))) }
+{
+    let mut names = Vec::new(alloc);
+    for row in rows {
+        if row.is_fresh() {
+            continue;
+        }
+        if let Some(real) = &row.real {
+            names.push(real.copy()?)?;
+        }
+    }
+    Ok(names)
+}
+
+/// The same searches with what they lead to under a policy.
+fn led_by(rows: &SearchTable, alloc: Global, policy: &Policy) -> Result<SearchTable, AllocError>
+    ensures { IfOk result (λ new. Stand policy.now new (searches_of rows.now)) }
+{
+    let rows = rows.rows(alloc)?;
+    all_led_by(&rows, alloc, policy)
+}
+
+fn all_led_by(rows: &[&Kept], alloc: Global, policy: &Policy) -> Result<SearchTable, AllocError>
+    ensures { IfOk result (λ new. Stand policy.now new (map (λ row. search_of row.now) rows.now)) }
+{
+    let mut resolver = Resolver::new(alloc, &policy.rules)?;
+    let mut new = SearchTable::new(alloc);
+    for row in rows {
+        add_led(&mut new, alloc, &mut resolver, row)?;
+    }
+    Ok(new)
+}
+
+/// Adds a search with what it leads to. A row that stands has its search.
+fn add_led(
+    rows: &mut SearchTable,
+    alloc: Global,
+    resolver: &mut Resolver<'_>,
+    row: &Kept,
+) -> Result<(), AllocError>
+    ensures led { (policy : PolicyValue) → resolver.old ≡ policy.rules → OnOk result (LedByOneMore policy row.now rows.old rows.new) }
+    ensures rules { resolver.new ≡ resolver.old }
+{
+    let Some(search) = &row.search else {
+        return Err(AllocError);
+    };
+    let lead = resolver.resolve(&search.host, &search.name)?;
+    let search = copied(search, search.fresh)?;
+    let kept = kept_row(alloc, rows.free()?, lead, search)?;
+    rows.add(kept)
 }

@@ -101,7 +101,7 @@ module _ (w v : Gateway) (names : List (List ℕ)) (left : IsLeftOf w names v) (
     channels = All-filter (is_not_channel session sid) (λ (c : Channel). channel_of w c.session c.sid ≡ Some c) v.clients.channels left.channels;
     subs = All-filter (is_not_sub_on session sid) (IsQuiet w) v.clients.subs left.subs;
     reads = All-filter (is_not_read_on session sid) (λ (read : WaitingRead). read_notice w read ≡ None) v.clients.reads left.reads;
-    room = λ number taking. left.room number (room number taking);
+    room = λ limits number taking. left.room limits number (room limits number taking);
     wanted = λ other none. any_left (is_on other) (is_not_channel session sid) v.clients.channels (none_on other none) ∙ left.wanted other none;
     readers = λ other none.
         passing_left (is_reader w other) (is_not_channel session sid) v.clients.channels

@@ -7,47 +7,48 @@ use Rattle.fanout.specs.declared.outbox.Out.{Out}
 use Rattle.gateway_state.specs.declared.connections.Connection.{Connection}
 use Rattle.gateway_state.specs.declared.event.Dest.{Dest}
 use Rattle.gateway_state.specs.declared.event.Dest.TheVariants.{Session as ToSession}
+use Rattle.gateway_state.specs.declared.limits.Limits.{Limits}
 use Rattle.gateway_state.specs.Connections.{empty, fresh, given, is_to, marked_now, outbox_in, outbox_of}
 use Rattle.gateway_state.specs.Updates.{takes_updates}
 use Rattle.gateway_state.proofs.SettledUpdates.{box_taking}
 
 -- a session's outbox takes updates
-abbrev pub takes : List Connection → ℕ → Bool
-takes connections number = takes_updates (outbox_of (ToSession number) connections)
+abbrev pub takes : Limits → List Connection → ℕ → Bool
+takes limits connections number = takes_updates limits (outbox_of (ToSession number) connections)
 
--- no session takes updates after that didn't before
+-- no session takes updates after that didn't before, whatever the limits
 abbrev pub HasNoMoreRoom : List Connection → List Connection → Type 0
-HasNoMoreRoom before after = (number : ℕ) → takes after number ≡ true → takes before number ≡ true
+HasNoMoreRoom before after = (limits : Limits) (number : ℕ) → takes limits after number ≡ true → takes limits before number ≡ true
 
 -- a change after which an outbox takes updates only where it took them before
-module _ (number : ℕ) (dest : Dest) (change : Connection → Connection)
+module _ (limits : Limits) (number : ℕ) (dest : Dest) (change : Connection → Connection)
     (stays : (row : Connection) → is_to (ToSession number) (change row) ≡ is_to (ToSession number) row)
-    (less : (row : Connection) → is_to dest row ≡ true → is_to (ToSession number) row ≡ true → takes_updates (change row).outbox ≡ true → takes_updates row.outbox ≡ true) where
-  pub taking_before : (rows : List Connection) → takes (change_first (is_to dest) change rows) number ≡ true → takes rows number ≡ true
+    (less : (row : Connection) → is_to dest row ≡ true → is_to (ToSession number) row ≡ true → takes_updates limits (change row).outbox ≡ true → takes_updates limits row.outbox ≡ true) where
+  pub taking_before : (rows : List Connection) → takes limits (change_first (is_to dest) change rows) number ≡ true → takes limits rows number ≡ true
   taking_before [] e = e
   taking_before (row ∷ rows) e = by (is_to dest row) (is_to (ToSession number) row) refl refl e (λ rest. taking_before rows rest)
     where
       by : (here sought : Bool) → is_to dest row ≡ here → is_to (ToSession number) row ≡ sought
-          → takes (cond here (change row ∷ rows) (row ∷ change_first (is_to dest) change rows)) number ≡ true
-          → (takes (change_first (is_to dest) change rows) number ≡ true → takes rows number ≡ true)
-          → takes_updates (outbox_in (cond sought (Some row) (find (is_to (ToSession number)) rows))) ≡ true
+          → takes limits (cond here (change row ∷ rows) (row ∷ change_first (is_to dest) change rows)) number ≡ true
+          → (takes limits (change_first (is_to dest) change rows) number ≡ true → takes limits rows number ≡ true)
+          → takes_updates limits (outbox_in (cond sought (Some row) (find (is_to (ToSession number)) rows))) ≡ true
       by true true is is_sought e rest =
-          less row is is_sought (ap (λ (t : Bool). takes_updates (outbox_in (cond t (Some (change row)) (find (is_to (ToSession number)) rows)))) (sym (stays row ∙ is_sought)) ∙ e)
+          less row is is_sought (ap (λ (t : Bool). takes_updates limits (outbox_in (cond t (Some (change row)) (find (is_to (ToSession number)) rows)))) (sym (stays row ∙ is_sought)) ∙ e)
       by true false is is_sought e rest =
-          ap (λ (t : Bool). takes_updates (outbox_in (cond t (Some (change row)) (find (is_to (ToSession number)) rows)))) (sym (stays row ∙ is_sought)) ∙ e
+          ap (λ (t : Bool). takes_updates limits (outbox_in (cond t (Some (change row)) (find (is_to (ToSession number)) rows)))) (sym (stays row ∙ is_sought)) ∙ e
       by false true is is_sought e rest =
-          ap (λ (t : Bool). takes_updates (outbox_in (cond t (Some row) (find (is_to (ToSession number)) (change_first (is_to dest) change rows))))) (sym is_sought) ∙ e
+          ap (λ (t : Bool). takes_updates limits (outbox_in (cond t (Some row) (find (is_to (ToSession number)) (change_first (is_to dest) change rows))))) (sym is_sought) ∙ e
       by false false is is_sought e rest =
-          rest (ap (λ (t : Bool). takes_updates (outbox_in (cond t (Some row) (find (is_to (ToSession number)) (change_first (is_to dest) change rows))))) (sym is_sought) ∙ e)
+          rest (ap (λ (t : Bool). takes_updates limits (outbox_in (cond t (Some row) (find (is_to (ToSession number)) (change_first (is_to dest) change rows))))) (sym is_sought) ∙ e)
 
 -- a message that is put last
 pub no_more_room_given : (dest : Dest) (out : Out) (rows : List Connection) → HasNoMoreRoom rows (change_first (is_to dest) (given out) rows)
-no_more_room_given dest out rows number e =
-    taking_before number dest (given out) (λ row. refl) (λ row here sought taking. box_taking row.outbox out taking) rows e
+no_more_room_given dest out rows limits number e =
+    taking_before limits number dest (given out) (λ row. refl) (λ row here sought taking. box_taking limits row.outbox out taking) rows e
 
 -- a mark
 pub no_more_room_marked : (dest : Dest) (rows : List Connection) → HasNoMoreRoom rows (change_first (is_to dest) marked_now rows)
-no_more_room_marked dest rows number e = taking_before number dest marked_now (λ row. refl) (λ row here sought taking. absurd (true≢false (sym taking))) rows e
+no_more_room_marked dest rows limits number e = taking_before limits number dest marked_now (λ row. refl) (λ row here sought taking. absurd (true≢false (sym taking))) rows e
 
 -- a connection that is added, for which nothing waits
 waiting_as_before : (dest new : Dest) (rows : List Connection) → outbox_of dest (rows ++ fresh new ∷ []) ≡ outbox_of dest rows
@@ -58,4 +59,4 @@ waiting_as_before dest new (row ∷ rows) =
     [ true ↦ refl | false ↦ rest ]
 
 pub no_more_room_added : (dest : Dest) (rows : List Connection) → HasNoMoreRoom rows (rows ++ fresh dest ∷ [])
-no_more_room_added dest rows number e = ap takes_updates (sym (waiting_as_before (ToSession number) dest rows)) ∙ e
+no_more_room_added dest rows limits number e = ap (takes_updates limits) (sym (waiting_as_before (ToSession number) dest rows)) ∙ e

@@ -1,18 +1,18 @@
--- A channel that is asked for concerns nobody else, whether it is made or not.
-use Rattle.std.proofs.Common.{◌≡◌, ℕ, ◌+◌, List, [], ◌∷◌, ◌++◌, Bool, true, false, cond, ltb, not, ◌&&◌, ◌||◌, Option, Some, None, refl, sym, ap, ◌∙◌}
-use Rattle.std.specs.Prelude.{bit_and, filter, map, nat_le}
+-- A channel that is asked for concerns nobody else, whether it is made or not, but that a search may go.
+use Rattle.std.proofs.Common.{◌≡◌, ℕ, ◌+◌, List, [], ◌∷◌, ◌++◌, Bool, true, false, cond, leb, ltb, not, ◌&&◌, ◌||◌, Option, Some, None, refl, sym, ap, subst, ◌∙◌}
+use Rattle.std.specs.Prelude.{bit_and, filter, map, option_map}
 use Rattle.std.specs.List.{All, cons_option, find, list_all, list_any}
 use Rattle.std.proofs.lemmas.Bool.{and_parts, eq-eqb, true≢false}
 use Rattle.std.proofs.lemmas.List.Elements.{All-cons, All-nil, All-weaker}
 use Rattle.std.proofs.lemmas.List.Folds.{list_any-append}
 use Rattle.std.proofs.lemmas.Slice.Eq.{bytes_eq-Decides}
+use Rattle.rows.specs.Rows.{change_first}
 use Rattle.ca_message.specs.declared.to_client.ToClient.TheVariants as replies
 use Rattle.channel_table.specs.declared.channels.Reach.{Reach}
 use Rattle.channel_table.specs.declared.channels.Channel.{Channel}
 use Rattle.channel_table.specs.declared.reads.WaitingRead.{WaitingRead}
 use Rattle.channel_table.specs.declared.sessions.Session.{Session}
 use Rattle.channel_table.specs.declared.subs.ClientSub.{ClientSub}
-use Rattle.channel_table.specs.declared.table.TheConstants.{CHANNEL_LIMIT}
 use Rattle.channel_table.specs.Channels.{is_channel, is_on}
 use Rattle.channel_table.specs.ClientRows.{channel_count}
 use Rattle.channel_table.specs.Sessions.{is_numbered}
@@ -25,24 +25,28 @@ use Rattle.pv_alias.specs.declared.lead.Lead.{Lead}
 use Rattle.gateway_state.specs.declared.event.Dest.TheVariants.{Session as ToSession}
 use Rattle.gateway_state.specs.declared.notice.ChannelNotice.{ChannelNotice}
 use Rattle.gateway_state.specs.declared.reading.Native.{Native}
-use Rattle.gateway_state.specs.Clients.{channel_asked, created, created_as, created_over, creation_failed, no_reach, not_connected, remembered_by, rights_on, with_channel, with_host_fixed}
+use Rattle.gateway_state.specs.declared.search.Search.{Search}
+use Rattle.gateway_state.specs.Clients.{channel_asked, created, created_as, created_over, creation_failed, fixed, no_reach, remembered_by, rights_on, search_left_by, with_channel, with_host_fixed, without_search_for}
 use Rattle.gateway_state.specs.Gateway.{Gateway}
 use Rattle.gateway_state.specs.Interest.{is_read_through, is_reader, is_subscriber, reader_ask, readers}
 use Rattle.gateway_state.specs.Notices.{channel_notice, channel_notices, notice_on, read_notice, read_notices}
 use Rattle.gateway_state.specs.Resolution.{is_real, rights_left}
 use Rattle.gateway_state.specs.Rights.{channel_of, is_served, lead_in, link_connected, link_rights, may_read, rights_of}
 use Rattle.gateway_state.specs.Searches.{leads_to}
-use Rattle.gateway_state.specs.Settled.{HasReadsOnChannels, HasSubsOnChannels, IsSettled, is_on_channel, is_sub_on_channel}
+use Rattle.gateway_state.specs.Settled.{HasCidsInOrder, HasReadsOnChannels, HasSubsOnChannels, IsSettled, is_on_channel, is_sub_on_channel}
 use Rattle.gateway_state.specs.Step.{consequences}
 use Rattle.gateway_state.specs.Telling.{outgoing, sent}
 use Rattle.gateway_state.specs.Updates.{is_open_to, is_unreadable, is_withheld, update_notice, update_notices, update_on, withheld}
-use Rattle.gateway_state.specs.Variables.{connected, connected_in, connected_over, is_connected, is_wanted, link_of}
+use Rattle.gateway_state.specs.Variables.{ConnectedVariable, connected, connected_in, connected_over, is_connected, is_wanted, link_of}
 use Rattle.gateway_state.proofs.SettledMeaning.{none_told}
 use Rattle.gateway_state.proofs.SettledSteps.{settled_stays}
+use Rattle.touched_rows.specs.declared.touched.Touched.TheVariants.{Nothing}
+use Rattle.touched_rows.specs.Touches.{create_touches, create_touches_as, create_touches_over, follows, left_touches, search_left_for}
 use Rattle.touched_rows.proofs.LinksQuiet.{links_quiet}
 use Rattle.touched_rows.proofs.Nothing.{settled_sent}
 use Rattle.touched_rows.proofs.ReadersOf.{filtered_alike, passing_pushed, planned_alike}
-use Rattle.touched_rows.proofs.Searched.{settled_remembered}
+use Rattle.touched_rows.proofs.SearchLeft.{IsOneOf, left_by_channel_is_one, told_after_leaving}
+use Rattle.touched_rows.proofs.Searched.{told_after_remembering}
 use Rattle.touched_rows.proofs.Sessions.{lead_after_fixing, settled_host_fixed}
 use Rattle.touched_rows.proofs.TouchedAlone.{one_planned}
 
@@ -149,70 +153,122 @@ module _ (w : Gateway) (settled : IsSettled w) (subs_on : HasSubsOnChannels w) (
 
 -- ---- CREATE_CHAN
 
-settled_remembered_by : (found : Option Session) (name : List ℕ) (w : Gateway) → IsSettled w → IsSettled (remembered_by found name w)
-settled_remembered_by None name w settled = settled
-settled_remembered_by (Some row) name w settled = settled_remembered row.host name w settled
-
 pub settled_creation_failed : (number cid : ℕ) (w : Gateway) → IsSettled w → IsSettled (creation_failed number cid w)
 settled_creation_failed number cid w settled = settled_sent (ToSession number) (outgoing (replies.CreateChannelFail cid)) w settled
 
-settled_not_connected : (number cid : ℕ) (name : List ℕ) (w : Gateway) → IsSettled w → IsSettled (not_connected number cid name w)
-settled_not_connected number cid name w settled =
-    let found : Option Session = find (is_numbered number) w.clients.sessions in
-    settled_creation_failed number cid (remembered_by found name w) (settled_remembered_by found name w settled)
-
-module _ (w : Gateway) (settled : IsSettled w) (subs_on : HasSubsOnChannels w) (reads_on : HasReadsOnChannels w) (number cid : ℕ) (name : List ℕ) (lead : Lead)
-    (leads : lead_in w number name ≡ Some lead) where
-  settled_created : (link : Link) (native : Native) → link_of w lead.real ≡ Some link → is_connected link.state ≡ true
-      → IsSettled (created number cid name lead link native w)
-  settled_created link native over known =
-      let made : Gateway = with_channel number cid name lead.real (rights_on w lead link) w in
-      let first : Gateway = sent (ToSession number) (outgoing (replies.AccessRights cid (rights_on w lead link))) made in
-      settled_sent (ToSession number) (outgoing (replies.CreateChannel cid w.upstream.counters.sid native.dtype native.count)) first
-      (settled_sent (ToSession number) (outgoing (replies.AccessRights cid (rights_on w lead link))) made
-      (settled_channel_added w settled subs_on reads_on new (record w.upstream.counters { sid = w.upstream.counters.sid + 1 }) refl quiet))
-    where
-      new : Channel
-      new = record { session = number; sid = w.upstream.counters.sid; cid = cid; asked = name; real = lead.real; reach = no_reach; rights_told = rights_on w lead link }
-
-      served : is_served w new ≡ true
-      served =
-          (λ i. is_real (leads i) lead.real && link_connected (over i))
-          ∙ rw ((bytes_eq-Decides lead.real lead.real).1 refl) known
-
-      rights : rights_of w new ≡ rights_on w lead link
-      rights = λ i. bit_and (link_rights (over i)) (rights_left w.policy (leads i))
-
-      quiet : channel_notice w new ≡ None
-      quiet = rw (served, eq-eqb (rights_on w lead link) (rights_of w new) (sym rights)) refl
-
-  settled_created_over : (link : Option Link) → link_of w lead.real ≡ link → IsSettled (created_over number cid name lead (connected_over link) w)
-  settled_created_over None is = settled_not_connected number cid name w settled
-  settled_created_over (Some link) is = by link.state refl
-    where
-      by : (state : LinkState) → link.state ≡ state → IsSettled (created_over number cid name lead (connected_in link state) w)
-      by Creating state = settled_not_connected number cid name w settled
-      by Unusable state = settled_not_connected number cid name w settled
-      by (Connected sid dtype count) state = settled_created link (record { dtype = dtype; count = count }) is (ap is_connected state)
-
-  settled_created_as : IsSettled (created_as number cid name (Some lead) w)
-  settled_created_as =
-      elim (nat_le CHANNEL_LIMIT (channel_count number w.clients))
-      as (λ t. IsSettled (cond t (creation_failed number cid w) (created_over number cid name lead (connected w lead.real) w)))
-      [ true ↦ settled_creation_failed number cid w settled | false ↦ settled_created_over (link_of w lead.real) refl ]
-
-pub settled_channel_asked : (number cid : ℕ) (name : List ℕ) (w : Gateway) → IsSettled w → HasSubsOnChannels w → HasReadsOnChannels w → IsSettled (channel_asked number cid name w)
-settled_channel_asked number cid name w settled subs_on reads_on = by (lead_in w number name) refl
+-- a session is found with its host fixed
+found_fixed : (number : ℕ) (sessions : List Session) → find (is_numbered number) (change_first (is_numbered number) fixed sessions) ≡ option_map fixed (find (is_numbered number) sessions)
+found_fixed number [] = refl
+found_fixed number (row ∷ rows) = by (is_numbered number row) refl (found_fixed number rows)
   where
-    v : Gateway
-    v = with_host_fixed number w
+    by : (is : Bool) → is_numbered number row ≡ is → find (is_numbered number) (change_first (is_numbered number) fixed rows) ≡ option_map fixed (find (is_numbered number) rows)
+        → find (is_numbered number) (cond is (fixed row ∷ rows) (row ∷ change_first (is_numbered number) fixed rows)) ≡ option_map fixed (cond is (Some row) (find (is_numbered number) rows))
+    by true is rest = ap (λ (t : Bool). cond t (Some (fixed row)) (find (is_numbered number) rows)) is
+    by false is rest = ap (λ (t : Bool). cond t (Some row) (find (is_numbered number) (change_first (is_numbered number) fixed rows))) is ∙ rest
 
-    by : (found : Option Lead) → lead_in w number name ≡ found → IsSettled (created_as number cid name found v)
-    by None is = settled_creation_failed number cid v (settled_host_fixed number w settled)
-    by (Some lead) is =
-        settled_created_as v (settled_host_fixed number w settled) subs_on reads_on number cid name lead (lead_after_fixing w number number name ∙ is)
+-- no connected variable was found: what is told rests on the search alone, which may be one more
+module _ (v : Gateway) (settled : IsSettled v) (order : HasCidsInOrder v) (number cid : ℕ) (name : List ℕ) where
+  abbrev unmade : Option Session → Gateway
+  unmade session = creation_failed number cid (remembered_by session name v)
 
-pub nothing_after_channel_asked : (number cid : ℕ) (name : List ℕ) (w : Gateway) → IsSettled w → HasSubsOnChannels w → HasReadsOnChannels w
-    → consequences (channel_asked number cid name w) ≡ channel_asked number cid name w
-nothing_after_channel_asked number cid name w settled subs_on reads_on =
-    settled_stays (channel_asked number cid name w) (settled_channel_asked number cid name w settled subs_on reads_on)
+  told_unmade : (session : Option Session) → consequences (unmade (option_map fixed session)) ≡ follows (left_touches v.policy (search_left_for session name v)) (unmade (option_map fixed session))
+  unfolding sent
+  told_unmade None = settled_stays (creation_failed number cid v) (settled_creation_failed number cid v settled)
+  told_unmade (Some row) = told_after_remembering (creation_failed number cid v) (settled_creation_failed number cid v settled) order row.host name
+
+-- a channel is open: the search of its connection's address goes
+left_is_one : (session : Option Session) (name : List ℕ) (w : Gateway) (row : Search) → search_left_by session name w ≡ Some row → IsOneOf w.searches row
+left_is_one None name w row is = absurd cc
+left_is_one (Some session) name w row is = left_by_channel_is_one w.limits session.peer name w.searches row is
+
+module _ (w : Gateway) (settled : IsSettled w) (order : HasCidsInOrder w) (subs_on : HasSubsOnChannels w) (reads_on : HasReadsOnChannels w) (number cid : ℕ) (name : List ℕ) where
+  abbrev session : Option Session
+  session = find (is_numbered number) w.clients.sessions
+
+  -- its session's host is fixed first
+  abbrev v : Gateway
+  v = with_host_fixed number w
+
+  settled_v : IsSettled v
+  settled_v = settled_host_fixed number w settled
+
+  session_is : find (is_numbered number) v.clients.sessions ≡ option_map fixed session
+  session_is = found_fixed number w.clients.sessions
+
+  -- the same search goes as went before
+  looked_for_same : (of : Option Session) → search_left_for of name v ≡ search_left_for of name w
+  looked_for_same None = refl
+  looked_for_same (Some row) = refl
+
+  module _ (lead : Lead) (leads : lead_in v number name ≡ Some lead) where
+    settled_created : (link : Link) (native : Native) → link_of v lead.real ≡ Some link → is_connected link.state ≡ true → IsSettled (created number cid name lead link native v)
+    settled_created link native over known =
+        let made : Gateway = with_channel number cid name lead.real (rights_on v lead link) v in
+        let first : Gateway = sent (ToSession number) (outgoing (replies.AccessRights cid (rights_on v lead link))) made in
+        settled_sent (ToSession number) (outgoing (replies.CreateChannel cid v.upstream.counters.sid native.dtype native.count)) first
+        (settled_sent (ToSession number) (outgoing (replies.AccessRights cid (rights_on v lead link))) made
+        (settled_channel_added v settled_v subs_on reads_on new (record v.upstream.counters { sid = v.upstream.counters.sid + 1 }) refl quiet))
+      where
+        new : Channel
+        new = record { session = number; sid = v.upstream.counters.sid; cid = cid; asked = name; real = lead.real; reach = no_reach; rights_told = rights_on v lead link }
+
+        served : is_served v new ≡ true
+        served =
+            (λ i. is_real (leads i) lead.real && link_connected (over i))
+            ∙ rw ((bytes_eq-Decides lead.real lead.real).1 refl) known
+
+        rights : rights_of v new ≡ rights_on v lead link
+        rights = λ i. bit_and (link_rights (over i)) (rights_left v.policy (leads i))
+
+        quiet : channel_notice v new ≡ None
+        quiet = rw (served, eq-eqb (rights_on v lead link) (rights_of v new) (sym rights)) refl
+
+    opened_same : (link : Link) (native : Native) (of : Option Session) → search_left_by (option_map fixed of) name (created number cid name lead link native v) ≡ search_left_by of name w
+    unfolding sent
+    opened_same link native None = refl
+    opened_same link native (Some row) = refl
+
+    told_created : (link : Link) (native : Native) → link_of v lead.real ≡ Some link → is_connected link.state ≡ true
+        → consequences (without_search_for number name (created number cid name lead link native v))
+        ≡ follows (left_touches w.policy (search_left_by session name w)) (without_search_for number name (created number cid name lead link native v))
+    unfolding sent
+    told_created link native over known =
+        let x : Gateway = created number cid name lead link native v in
+        let end : Gateway = without_search_for number name x in
+        let found : Option Session = find (is_numbered number) x.clients.sessions in
+        subst (λ (gone : Option Search). consequences end ≡ follows (left_touches w.policy gone) end)
+        (ap (λ (of : Option Session). search_left_by of name x) session_is ∙ opened_same link native session)
+        (told_after_leaving x (settled_created link native over known) order (search_left_by found name x) (left_is_one found name x))
+
+    told_not_connected : consequences (created_over number cid name lead None v) ≡ follows (create_touches_over w session name None) (created_over number cid name lead None v)
+    told_not_connected =
+        let x : Option Session → Gateway = λ found. creation_failed number cid (remembered_by found name v) in
+        subst (λ (found : Option Session). consequences (x found) ≡ follows (left_touches w.policy (search_left_for session name w)) (x found)) (sym session_is)
+        (told_unmade v settled_v order number cid name session
+        ∙ ap (λ (gone : Option Search). follows (left_touches w.policy gone) (x (option_map fixed session))) (looked_for_same session))
+
+    told_over : (link : Option Link) → link_of v lead.real ≡ link
+        → consequences (created_over number cid name lead (connected_over link) v) ≡ follows (create_touches_over w session name (connected_over link)) (created_over number cid name lead (connected_over link) v)
+    told_over None is = told_not_connected
+    told_over (Some link) is = by link.state refl
+      where
+        by : (state : LinkState) → link.state ≡ state
+            → consequences (created_over number cid name lead (connected_in link state) v) ≡ follows (create_touches_over w session name (connected_in link state)) (created_over number cid name lead (connected_in link state) v)
+        by Creating state = told_not_connected
+        by Unusable state = told_not_connected
+        by (Connected sid dtype count) state = told_created link (record { dtype = dtype; count = count }) is (ap is_connected state)
+
+    told_as : consequences (created_as number cid name (Some lead) v) ≡ follows (create_touches_as w number name (Some lead)) (created_as number cid name (Some lead) v)
+    told_as =
+        let over : Option ConnectedVariable = connected v lead.real in
+        elim (leb w.limits.channels (channel_count number w.clients))
+        as (λ t. consequences (cond t (creation_failed number cid v) (created_over number cid name lead over v))
+        ≡ follows (cond t Nothing (create_touches_over w session name over)) (cond t (creation_failed number cid v) (created_over number cid name lead over v)))
+        [ true ↦ settled_stays (creation_failed number cid v) (settled_creation_failed number cid v settled_v) | false ↦ told_over (link_of v lead.real) refl ]
+
+  pub told_after_channel_asked : consequences (channel_asked number cid name w) ≡ follows (create_touches w number name) (channel_asked number cid name w)
+  told_after_channel_asked = by (lead_in w number name) refl
+    where
+      by : (found : Option Lead) → lead_in w number name ≡ found → consequences (created_as number cid name found v) ≡ follows (create_touches_as w number name found) (created_as number cid name found v)
+      by None is = settled_stays (creation_failed number cid v) (settled_creation_failed number cid v settled_v)
+      by (Some lead) is = told_as lead (lead_after_fixing w number number name ∙ is)

@@ -9,6 +9,7 @@ use Rattle.channel_table.specs.Subs.{is_sub_of}
 use Rattle.gateway_state.specs.declared.connections.Connection.{Connection}
 use Rattle.gateway_state.specs.declared.event.Dest.{Dest}
 use Rattle.gateway_state.specs.declared.event.Dest.TheVariants.{Session as ToSession, Upstream}
+use Rattle.gateway_state.specs.declared.limits.Limits.{Limits}
 use Rattle.gateway_state.specs.declared.notice.UpdateNotice.{UpdateNotice}
 use Rattle.gateway_state.specs.Connections.{is_to, outbox_in, relieved, same_dest}
 use Rattle.gateway_state.specs.Direct.{drained}
@@ -24,7 +25,7 @@ use Rattle.touched_rows.specs.Touched.{updates_told_to}
 use Rattle.touched_rows.specs.Touches.{drain_touches, follows}
 use Rattle.touched_rows.proofs.Blanked.{found_other}
 use Rattle.touched_rows.proofs.Connections.{takes}
-use Rattle.touched_rows.proofs.Nothing.{settled_connections}
+use Rattle.touched_rows.proofs.Nothing.{settled_connections, settled_taking}
 use Rattle.touched_rows.proofs.Passes.{from_updates}
 use Rattle.touched_rows.proofs.TouchedAlone.{touched_alone}
 
@@ -41,16 +42,17 @@ no_session (ToSession a) number other same = absurd (true≢false (sym same))
 no_session (Upstream a) number other same = refl
 
 -- other sessions take updates as before
-takes_as_before : (number other count : ℕ) (rows : List Connection) → eqb other number ≡ false
-    → takes (change_first (is_to (ToSession number)) (relieved count) rows) other ≡ takes rows other
-takes_as_before number other count rows differ =
-    ap (λ (found : Option Connection). takes_updates (outbox_in found))
+takes_as_before : (limits : Limits) (number other count : ℕ) (rows : List Connection) → eqb other number ≡ false
+    → takes limits (change_first (is_to (ToSession number)) (relieved count) rows) other ≡ takes limits rows other
+takes_as_before limits number other count rows differ =
+    ap (λ (found : Option Connection). takes_updates limits (outbox_in found))
     (found_other (is_to (ToSession other)) (is_to (ToSession number)) (relieved count) rows
     (λ row is. (other_session row.dest number other differ is, other_session row.dest number other differ is)))
 
-takes_beside_server : (number other count : ℕ) (rows : List Connection) → takes (change_first (is_to (Upstream number)) (relieved count) rows) other ≡ takes rows other
-takes_beside_server number other count rows =
-    ap (λ (found : Option Connection). takes_updates (outbox_in found))
+takes_beside_server : (limits : Limits) (number other count : ℕ) (rows : List Connection)
+    → takes limits (change_first (is_to (Upstream number)) (relieved count) rows) other ≡ takes limits rows other
+takes_beside_server limits number other count rows =
+    ap (λ (found : Option Connection). takes_updates limits (outbox_in found))
     (found_other (is_to (ToSession other)) (is_to (Upstream number)) (relieved count) rows
     (λ row is. (no_session row.dest number other is, no_session row.dest number other is)))
 
@@ -59,7 +61,7 @@ due_as_before : (w : Gateway) (number count : ℕ) (sub : ClientSub) → eqb sub
 unfolding update_notice
 due_as_before w number count sub differ =
     ap (λ (room : Bool). cond (sub.owed && (not (is_paused w sub.session) && room)) (update_on w sub (channel_of w sub.session sub.sid)) None)
-    (takes_as_before number sub.session count w.connections differ)
+    (takes_as_before w.limits number sub.session count w.connections differ)
 
 told_after_drain : (w : Gateway) (number count : ℕ) → IsSettled w
     → consequences (drained w (ToSession number) count) ≡ updates_told_to number (drained w (ToSession number) count)
@@ -76,20 +78,20 @@ told_after_drain w number count settled =
         (λ sub none differ. due_as_before w number count sub differ ∙ none) w.clients.subs (none_told (update_notice w) w.clients.subs settled.updates)
 
 -- no session takes updates that didn't before, where the drained one did
-room_before : (number other count : ℕ) (rows : List Connection) → takes rows number ≡ true
-    → takes (change_first (is_to (ToSession number)) (relieved count) rows) other ≡ true → takes rows other ≡ true
-room_before number other count rows room taking =
-    elim (eqb other number) as (λ t. eqb other number ≡ t → takes rows other ≡ true) [
-      | true ↦ λ is. ap (takes rows) (eqb-true other number is) ∙ room
-      | false ↦ λ is. sym (takes_as_before number other count rows is) ∙ taking
+room_before : (limits : Limits) (number other count : ℕ) (rows : List Connection) → takes limits rows number ≡ true
+    → takes limits (change_first (is_to (ToSession number)) (relieved count) rows) other ≡ true → takes limits rows other ≡ true
+room_before limits number other count rows room taking =
+    elim (eqb other number) as (λ t. eqb other number ≡ t → takes limits rows other ≡ true) [
+      | true ↦ λ is. ap (takes limits rows) (eqb-true other number is) ∙ room
+      | false ↦ λ is. sym (takes_as_before limits number other count rows is) ∙ taking
     ] refl
 
 nothing_after_room : (w : Gateway) (number count : ℕ) → IsSettled w → is_taking w number ≡ true
     → consequences (drained w (ToSession number) count) ≡ drained w (ToSession number) count
 nothing_after_room w number count settled room =
     settled_stays (drained w (ToSession number) count)
-    (settled_connections w (change_first (is_to (ToSession number)) (relieved count) w.connections) settled
-    (λ other taking. room_before number other count w.connections room taking))
+    (settled_taking w (change_first (is_to (ToSession number)) (relieved count) w.connections) settled
+    (λ other taking. room_before w.limits number other count w.connections room taking))
 
 -- what was drained tells its session's updates where it took none before
 pub told_drain : (w : Gateway) (number count : ℕ) → IsSettled w
@@ -106,4 +108,4 @@ pub nothing_after_server_drain : (w : Gateway) (number count : ℕ) → IsSettle
 nothing_after_server_drain w number count settled =
     settled_stays (drained w (Upstream number) count)
     (settled_connections w (change_first (is_to (Upstream number)) (relieved count) w.connections) settled
-    (λ other taking. sym (takes_beside_server number other count w.connections) ∙ taking))
+    (λ limits other taking. sym (takes_beside_server limits number other count w.connections) ∙ taking))

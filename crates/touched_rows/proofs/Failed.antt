@@ -24,7 +24,7 @@ use Rattle.touched_rows.proofs.Unconnected.{no_channel, the_link}
 use Rattle.touched_rows.proofs.UnseenRows.{IsUnseen, changed, asks_unseen, settled_unseen}
 
 -- without a link's last message nothing more is owed
-settled_uncached : (cid : ℕ) (w : Gateway) → IsSettled w → IsSettled (without_cached cid w)
+pub settled_uncached : (cid : ℕ) (w : Gateway) → IsSettled w → IsSettled (without_cached cid w)
 settled_uncached cid w settled = record {
   channels = settled.channels;
   held_back = settled.held_back;

@@ -11,7 +11,6 @@ use Rattle.rows.specs.Rows.{change_first}
 use Rattle.ca_message.specs.declared.to_server.ToServer.TheVariants as requests
 use Rattle.link_table.specs.declared.links.Link.{Link}
 use Rattle.link_table.specs.declared.links.LinkState.TheVariants.{Creating}
-use Rattle.link_table.specs.declared.table.TheConstants.{LINK_LIMIT}
 use Rattle.link_table.specs.LinkRows.{Counters}
 use Rattle.link_table.specs.Links.{is_named, new_link}
 use Rattle.gateway_state.specs.declared.connections.Connection.{Connection}
@@ -74,11 +73,11 @@ settled_linked w settled server name wanted =
     (record w.upstream.counters { cid = w.upstream.counters.cid + 1 })
 
 pub nothing_after_found : (w : Gateway) (name : List ℕ) (server : ℕ) → IsSettled w → consequences (found w name server) ≡ found w name server
-nothing_after_found w name server settled = settled_stays (found w name server) (by (is_missing w name && acts w (Upstream server) && ltb (length w.upstream.links) LINK_LIMIT) refl)
+nothing_after_found w name server settled = settled_stays (found w name server) (by (is_missing w name && acts w (Upstream server) && ltb (length w.upstream.links) w.limits.links) refl)
   where
-    by : (is : Bool) → (is_missing w name && acts w (Upstream server) && ltb (length w.upstream.links) LINK_LIMIT) ≡ is → IsSettled (cond is (linked w server name) w)
+    by : (is : Bool) → (is_missing w name && acts w (Upstream server) && ltb (length w.upstream.links) w.limits.links) ≡ is → IsSettled (cond is (linked w server name) w)
     by true e =
-        let some = and_parts (is_missing w name && acts w (Upstream server)) (ltb (length w.upstream.links) LINK_LIMIT) e in
+        let some = and_parts (is_missing w name && acts w (Upstream server)) (ltb (length w.upstream.links) w.limits.links) e in
         let missing = and_parts (is_missing w name) (acts w (Upstream server)) some.0 in
         settled_linked w settled server name (and_parts (is_wanted w name) (not (is_linked w name)) missing.0).0
     by false e = settled

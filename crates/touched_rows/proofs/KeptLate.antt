@@ -1,31 +1,40 @@
 -- Whatever touches no read leaves no read to be kept.
 use Rattle.std.proofs.Common.{◌≡◌, ℕ, List, true, false, cond, Option, Some, None, refl}
-use Rattle.std.specs.Prelude.{Result, Ok, Err, eqb}
+use Rattle.std.specs.Prelude.{Result, Ok, Err, eqb, is_some, nat_le}
 use Rattle.std.specs.List.{find}
 use Rattle.ca_message.specs.declared.codes.TheConstants.{ECA_NORMAL}
 use Rattle.ca_message.specs.declared.reply.ReplyFault.{ReplyFault}
 use Rattle.ca_message.specs.declared.reply.ServerReply.{ServerReply}
 use Rattle.ca_message.specs.declared.reply.ServerReply.TheVariants as says
 use Rattle.channel_table.specs.declared.channels.Channel.{Channel}
+use Rattle.channel_table.specs.declared.sessions.Session.{Session as SessionRow}
 use Rattle.channel_table.specs.declared.subs.ClientSub.{ClientSub}
+use Rattle.channel_table.specs.ClientRows.{channel_count}
+use Rattle.channel_table.specs.Sessions.{is_numbered}
 use Rattle.link_table.specs.declared.links.Link.{Link}
 use Rattle.link_table.specs.declared.links.LinkState.{LinkState}
 use Rattle.link_table.specs.declared.links.LinkState.TheVariants.{Creating, Connected, Unusable}
 use Rattle.link_table.specs.declared.links.Subject.{Subject}
 use Rattle.link_table.specs.declared.links.Subscription.{Subscription}
 use Rattle.link_table.specs.Links.{has_subscription, is_link, sub_at}
+use Rattle.pv_alias.specs.declared.lead.Lead.{Lead}
+use Rattle.rule_desk.specs.declared.policy.Policy.{Policy}
 use Rattle.gateway_state.specs.declared.event.Dest.{Dest}
 use Rattle.gateway_state.specs.declared.event.Dest.TheVariants as dests
 use Rattle.gateway_state.specs.declared.notice.SubVerdict.{SubVerdict}
 use Rattle.gateway_state.specs.declared.notice.SubVerdict.TheVariants as subs
+use Rattle.gateway_state.specs.declared.search.Search.{Search}
+use Rattle.gateway_state.specs.Clients.{search_left_by}
 use Rattle.gateway_state.specs.Gateway.{Gateway}
-use Rattle.gateway_state.specs.Rights.{channel_of}
+use Rattle.gateway_state.specs.Resolution.{lead_of}
+use Rattle.gateway_state.specs.Rights.{channel_of, lead_in}
+use Rattle.gateway_state.specs.Searches.{left_by_search}
 use Rattle.gateway_state.specs.Servers.{is_heard, subject_of}
 use Rattle.gateway_state.specs.Subscribing.{is_on_sid, sub_of, sub_verdict}
 use Rattle.gateway_state.specs.Updates.{is_taking}
-use Rattle.gateway_state.specs.Variables.{is_connected, is_creating}
+use Rattle.gateway_state.specs.Variables.{ConnectedVariable, connected, is_connected, is_creating}
 use Rattle.touched_rows.specs.declared.touched.Touched.TheVariants.{Nothing, Session, Variable, Value, Interest}
-use Rattle.touched_rows.specs.Touches.{cancel_touches, cancel_touches_by, clear_touches, clear_touches_by, created_touches_over, drain_touches, gone_touches_over, made_touches, reply_touches, rights_touches_over, sub_touches, sub_touches_by, update_touches_over, update_touches_under, value_touches, with_touched}
+use Rattle.touched_rows.specs.Touches.{cancel_touches, cancel_touches_by, clear_touches, clear_touches_by, create_touches, create_touches_as, create_touches_over, created_touches_over, drain_touches, gone_touches_over, left_touches, made_touches, reply_touches, rights_touches_over, search_left_for, searched_touches, sub_touches, sub_touches_by, update_touches_over, update_touches_under, value_touches, with_touched}
 
 module _ (x : Gateway) where
   made : (sub : ClientSub) (on : Option Channel) → with_touched (made_touches sub on) x ≡ x
@@ -47,6 +56,31 @@ module _ (x : Gateway) where
 
   pub cancel_keeps_none : (w : Gateway) (number sid id : ℕ) → with_touched (cancel_touches w number sid id) x ≡ x
   cancel_keeps_none w number sid id = cancelled sid (sub_of w number id) (channel_of w number sid)
+
+  -- by the search that goes
+  left : (policy : Policy) (gone : Option Search) → with_touched (left_touches policy gone) x ≡ x
+  left policy None = refl
+  left policy (Some row) = refl
+
+  asked_over : (w : Gateway) (session : Option SessionRow) (name : List ℕ) (over : Option ConnectedVariable) → with_touched (create_touches_over w session name over) x ≡ x
+  asked_over w session name None = left w.policy (search_left_for session name w)
+  asked_over w session name (Some v) = left w.policy (search_left_by session name w)
+
+  asked_for : (w : Gateway) (number : ℕ) (name : List ℕ) (lead : Option Lead) → with_touched (create_touches_as w number name lead) x ≡ x
+  asked_for w number name None = refl
+  asked_for w number name (Some lead) =
+      let session : Option SessionRow = find (is_numbered number) w.clients.sessions in
+      let over : Option ConnectedVariable = connected w lead.real in
+      elim (nat_le w.limits.channels (channel_count number w.clients)) as (λ t. with_touched (cond t Nothing (create_touches_over w session name over)) x ≡ x)
+      [ true ↦ refl | false ↦ asked_over w session name over ]
+
+  pub create_keeps_none : (w : Gateway) (number : ℕ) (name : List ℕ) → with_touched (create_touches w number name) x ≡ x
+  create_keeps_none w number name = asked_for w number name (lead_in w number name)
+
+  pub search_keeps_none : (w : Gateway) (host name : List ℕ) → with_touched (searched_touches w host name) x ≡ x
+  search_keeps_none w host name =
+      let gone : Option Search = left_by_search w.limits host name w.searches in
+      elim (is_some (lead_of w.policy host name)) as (λ t. with_touched (cond t (left_touches w.policy gone) Nothing) x ≡ x) [ true ↦ left w.policy gone | false ↦ refl ]
 
   cleared : (on : Option Channel) → with_touched (clear_touches_by on) x ≡ x
   cleared None = refl

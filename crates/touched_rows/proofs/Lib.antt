@@ -1,3 +1,4 @@
+pub mod Aged
 pub mod Beside
 pub mod Blanked
 pub mod ChannelsGone
@@ -27,6 +28,7 @@ pub mod ReadAsked
 pub mod ReadersOf
 pub mod Ready
 pub mod Renamed
+pub mod SearchLeft
 pub mod Searched
 pub mod ServerLost
 pub mod Sessions

@@ -239,7 +239,7 @@ module _ (w : Gateway) (settled : IsSettled w) (order : AreInOrder w) (number : 
       let boxes = found_left (is_to (ToSession session)) (is_not_to (ToSession number)) w.connections
       (all_of (λ (row : Connection). is_not_to (ToSession number) row ≡ false → is_to (ToSession session) row ≡ false) w.connections
       (λ row gone. other_session row.dest number session differ (not_not (is_to (ToSession number) row) gone))) in
-      λ i. not (paused_in (rows i)) && takes_updates (outbox_in (boxes i))
+      λ i. not (paused_in (rows i)) && takes_updates w.limits (outbox_in (boxes i))
 
   said_same : (sub : ClientSub) → eqb sub.session number ≡ false → update_on x sub (channel_of x sub.session sub.sid) ≡ update_on w sub (channel_of w sub.session sub.sid)
   said_same sub differ = ap (update_on x sub) (channel_same sub.session sub.sid differ) ∙ by (channel_of w sub.session sub.sid) refl

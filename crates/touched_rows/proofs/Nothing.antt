@@ -1,5 +1,5 @@
 -- Events that nothing follows from: they leave a settled state settled.
-use Rattle.std.proofs.Common.{◌≡◌, ℕ, List, [], ◌∷◌, Bool, ◌&&◌, None}
+use Rattle.std.proofs.Common.{◌≡◌, ℕ, List, [], ◌∷◌, Bool, true, ◌&&◌, None}
 use Rattle.std.specs.Prelude.{filter}
 use Rattle.std.specs.List.{fold}
 use Rattle.ca_message.specs.declared.codes.TheConstants.{ECA_GETFAIL}
@@ -21,22 +21,27 @@ use Rattle.gateway_state.specs.Updates.{update_notice}
 use Rattle.gateway_state.specs.Telling.{marked, outgoing, sent}
 use Rattle.gateway_state.proofs.SettledMeaning.{none_told}
 use Rattle.gateway_state.proofs.SettledSteps.{settled_stays}
-use Rattle.touched_rows.proofs.Connections.{HasNoMoreRoom, no_more_room_given, no_more_room_marked}
+use Rattle.touched_rows.proofs.Connections.{HasNoMoreRoom, no_more_room_given, no_more_room_marked, takes}
 use Rattle.touched_rows.proofs.Passes.{no_updates}
-use Rattle.touched_rows.proofs.Tellings.{less_connections}
+use Rattle.touched_rows.proofs.Tellings.{less_taking}
 use Rattle.touched_rows.proofs.TouchedAlone.{all_without, none_planned}
 
 -- ---- messages and marks
 
 -- outboxes that take no more updates than before
-pub settled_connections : (w : Gateway) (connections : List Connection) → IsSettled w → HasNoMoreRoom w.connections connections → IsSettled (record w { connections = connections })
-settled_connections w connections settled room = record {
+pub settled_taking : (w : Gateway) (connections : List Connection) → IsSettled w
+    → ((number : ℕ) → takes w.limits connections number ≡ true → takes w.limits w.connections number ≡ true) → IsSettled (record w { connections = connections })
+settled_taking w connections settled room = record {
   channels = settled.channels;
   held_back = settled.held_back;
   links = settled.links;
   reads = settled.reads;
-  updates = no_updates w (record w { connections = connections }) (less_connections w connections room) w.clients.subs settled.updates;
+  updates = no_updates w (record w { connections = connections }) (less_taking w connections room) w.clients.subs settled.updates;
 }
+
+-- the same whatever the limits
+pub settled_connections : (w : Gateway) (connections : List Connection) → IsSettled w → HasNoMoreRoom w.connections connections → IsSettled (record w { connections = connections })
+settled_connections w connections settled room = settled_taking w connections settled (room w.limits)
 
 pub settled_sent : (dest : Dest) (out : Out) (w : Gateway) → IsSettled w → IsSettled (sent dest out w)
 unfolding sent
@@ -70,7 +75,7 @@ settled_read_failed : (read : WaitingRead) (w : Gateway) → IsSettled w → IsS
 settled_read_failed read w settled =
     settled_sent (ToSession read.session) (outgoing (replies.ReadNotifyRefused read.ioid read.dtype read.count ECA_GETFAIL)) (without_read read w) (settled_read_removed read w settled)
 
-settled_all_failed : (reads : List WaitingRead) (w : Gateway) → IsSettled w → IsSettled (fold read_failed w reads)
+pub settled_all_failed : (reads : List WaitingRead) (w : Gateway) → IsSettled w → IsSettled (fold read_failed w reads)
 settled_all_failed [] w settled = settled
 settled_all_failed (read ∷ reads) w settled = settled_all_failed reads (read_failed w read) (settled_read_failed read w settled)
 

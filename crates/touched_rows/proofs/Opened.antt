@@ -10,9 +10,7 @@ use Rattle.ca_message.specs.declared.to_client.ToClient.TheVariants as replies
 use Rattle.ca_message.specs.declared.to_server.ToServer.TheVariants as requests
 use Rattle.channel_table.specs.declared.channels.Channel.{Channel}
 use Rattle.channel_table.specs.declared.sessions.Session.{Session}
-use Rattle.channel_table.specs.declared.table.TheConstants.{SESSION_LIMIT}
 use Rattle.channel_table.specs.Sessions.{is_numbered}
-use Rattle.link_table.specs.declared.table.TheConstants.{SERVER_LIMIT}
 use Rattle.rule_desk.specs.declared.policy.Policy.{Policy}
 use Rattle.gateway_state.specs.declared.connections.Connection.{Connection}
 use Rattle.gateway_state.specs.declared.event.Dest.TheVariants.{Session as ToSession, Upstream}
@@ -76,14 +74,14 @@ settled_with_session : (w : Gateway) (number : ℕ) (host : List ℕ) → IsSett
 settled_with_session w number host settled =
     let connections : List Connection = w.connections ++ fresh (ToSession number) ∷ [] in
     settled_session_added (record w { connections = connections }) (settled_connections w connections settled (no_more_room_added (ToSession number) w.connections))
-    (record { number = number; host = host; host_fixed = false; paused = false })
+    (record { number = number; peer = host; host = host; user = []; host_fixed = false; paused = false })
 
 pub nothing_after_opening : (w : Gateway) (number : ℕ) (host : List ℕ) → IsSettled w → consequences (opened w number host) ≡ opened w number host
 nothing_after_opening w number host settled = settled_stays (opened w number host) greeted
   where
     greeted : IsSettled (opened w number host)
     greeted =
-        elim (stands w (ToSession number) || nat_le SESSION_LIMIT (length w.clients.sessions))
+        elim (stands w (ToSession number) || nat_le w.limits.sessions (length w.clients.sessions))
         as (λ t. IsSettled (cond t w (told number replies.Version (with_session w number host))))
         [ true ↦ settled | false ↦ settled_sent (ToSession number) (outgoing replies.Version) (with_session w number host) (settled_with_session w number host settled) ]
 
@@ -108,6 +106,6 @@ nothing_after_server_opening w number settled = settled_stays (up_opened w numbe
   where
     made : IsSettled (up_opened w number)
     made =
-        elim (stands w (Upstream number) || nat_le SERVER_LIMIT (length w.upstream.servers))
+        elim (stands w (Upstream number) || nat_le w.limits.servers (length w.upstream.servers))
         as (λ t. IsSettled (cond t w (introduced number (with_server w number))))
         [ true ↦ settled | false ↦ settled_introduced number (with_server w number) (settled_with_server w number settled) ]

@@ -1,5 +1,5 @@
--- A session that says where it is: names lead where they led for all other sessions, and for this one too,
--- since its host is fixed where it has a channel.
+-- A session that says where it is, or who its user is: names lead where they led for all other sessions, and for
+-- this one too, since what it said is fixed where it has a channel.
 use Rattle.std.proofs.Common.{◌≡◌, ℕ, List, [], ◌∷◌, length, Bool, true, false, cond, eqb, not, ◌&&◌, Option, Some, None, refl, sym, ap, subst, ◌∙◌, arith}
 use Rattle.std.specs.Prelude.{filter}
 use Rattle.std.specs.List.{All, find}
@@ -13,7 +13,7 @@ use Rattle.channel_table.specs.declared.sessions.Session.{Session}
 use Rattle.channel_table.specs.Channels.{is_channel_of}
 use Rattle.channel_table.specs.ClientRows.{channel_count}
 use Rattle.channel_table.specs.Sessions.{is_numbered}
-use Rattle.gateway_state.specs.Clients.{host_named, renamed}
+use Rattle.gateway_state.specs.Clients.{called, client_named, host_named, renamed}
 use Rattle.gateway_state.specs.Gateway.{Gateway}
 use Rattle.gateway_state.specs.Rights.{lead_for, lead_in}
 use Rattle.gateway_state.specs.Settled.{HasHostsFixed, IsSettled}
@@ -34,18 +34,18 @@ none_passing {A = A} test (row ∷ rows) none = by (test row) refl none (λ late
     by true is none rest = absurd (omega (arith, none))
     by false is none rest = All-cons (λ (x : A). test x ≡ false) row rows is (rest none)
 
-renamed_number : (host : List ℕ) (number : ℕ) (row : Session) → is_numbered number (renamed host row) ≡ is_numbered number row
-renamed_number host number row = elim row.host_fixed as (λ t. is_numbered number (cond t row (record row { host = host })) ≡ is_numbered number row) [ true ↦ refl | false ↦ refl ]
+-- ---- any change that a fixed session doesn't see, and that leaves a session's number and pause
 
-renamed_unhosted : (host : List ℕ) (row : Session) → unhosted (renamed host row) ≡ unhosted row
-renamed_unhosted host row = elim row.host_fixed as (λ t. unhosted (cond t row (record row { host = host })) ≡ unhosted row) [ true ↦ refl | false ↦ refl ]
-
-module _ (w : Gateway) (settled : IsSettled w) (fixed : HasHostsFixed w) (number : ℕ) (host : List ℕ) where
-  abbrev named : Gateway
-  named = host_named number host w
-
+module _ (w : Gateway) (settled : IsSettled w) (fixed : HasHostsFixed w) (number : ℕ) (change : Session → Session)
+    (unseen : (row : Session) → unhosted (change row) ≡ unhosted row) (stays : (row : Session) → row.host_fixed ≡ true → change row ≡ row) where
   abbrev rows : List Session
-  rows = change_first (is_numbered number) (renamed host) w.clients.sessions
+  rows = change_first (is_numbered number) change w.clients.sessions
+
+  abbrev named : Gateway
+  named = record w { clients = record w.clients { sessions = rows } }
+
+  numbered : (of : ℕ) (row : Session) → is_numbered of (change row) ≡ is_numbered of row
+  numbered of row = ap (λ (s : Session). is_numbered of s) (unseen row)
 
   -- where the session's row stays as it is
   unchanged : rows ≡ w.clients.sessions → IsSettled named
@@ -54,8 +54,8 @@ module _ (w : Gateway) (settled : IsSettled w) (fixed : HasHostsFixed w) (number
   -- where the session has no channel
   found_same : (of : ℕ) → eqb of number ≡ false → find (is_numbered of) rows ≡ find (is_numbered of) w.clients.sessions
   found_same of differ =
-      found_other (is_numbered of) (is_numbered number) (renamed host) w.clients.sessions
-      (λ row is. let other = other_number number of differ row is in (other, renamed_number host of row ∙ other))
+      found_other (is_numbered of) (is_numbered number) change w.clients.sessions
+      (λ row is. let other = other_number number of differ row is in (other, numbered of row ∙ other))
 
   without_channels : channel_count number w.clients ≡ 0 → IsSettled named
   without_channels none =
@@ -64,16 +64,40 @@ module _ (w : Gateway) (settled : IsSettled w) (fixed : HasHostsFixed w) (number
       (λ c differ. ap (lead_for w.policy c.asked) (found_same c.session differ)) w.clients.channels (none_passing (is_channel_of number) w.clients.channels (length-filter (is_channel_of number) w.clients.channels ∙ none)))
       (λ other open_to.
       ap (λ (paused : Bool). not paused && is_taking w other)
-      (sym (paused_kept (renamed host) (renamed_unhosted host) (is_numbered number) other (renamed_number host other) w.clients.sessions))
+      (sym (paused_kept change unseen (is_numbered number) other (numbered other) w.clients.sessions))
       ∙ open_to)
 
-  pub nothing_after_renaming : consequences named ≡ named
-  nothing_after_renaming = settled_stays named (by (find (is_numbered number) w.clients.sessions) refl)
+  nothing_after_change : consequences named ≡ named
+  nothing_after_change = settled_stays named (by (find (is_numbered number) w.clients.sessions) refl)
     where
       over : (row : Session) → find (is_numbered number) w.clients.sessions ≡ Some row → (is_none : Bool) → eqb (channel_count number w.clients) 0 ≡ is_none → IsSettled named
       over row is true none = without_channels (eqb-true (channel_count number w.clients) 0 none)
-      over row is false some = unchanged (change_first_kept (is_numbered number) (renamed host) w.clients.sessions row is (rw (host_is_fixed w number row fixed is some) refl))
+      over row is false some = unchanged (change_first_kept (is_numbered number) change w.clients.sessions row is (stays row (host_is_fixed w number row fixed is some)))
 
       by : (found : Option Session) → find (is_numbered number) w.clients.sessions ≡ found → IsSettled named
-      by None is = unchanged (change_first_unfound (is_numbered number) (renamed host) w.clients.sessions is)
+      by None is = unchanged (change_first_unfound (is_numbered number) change w.clients.sessions is)
       by (Some row) is = over row is (eqb (channel_count number w.clients) 0) refl
+
+-- ---- its host
+
+renamed_unhosted : (host : List ℕ) (row : Session) → unhosted (renamed host row) ≡ unhosted row
+renamed_unhosted host row = elim row.host_fixed as (λ t. unhosted (cond t row (record row { host = host })) ≡ unhosted row) [ true ↦ refl | false ↦ refl ]
+
+renamed_fixed : (host : List ℕ) (row : Session) → row.host_fixed ≡ true → renamed host row ≡ row
+renamed_fixed host row is = rw is refl
+
+pub nothing_after_renaming : (w : Gateway) → IsSettled w → HasHostsFixed w → (number : ℕ) (host : List ℕ) → consequences (host_named number host w) ≡ host_named number host w
+nothing_after_renaming w settled fixed number host =
+    nothing_after_change w settled fixed number (renamed host) (renamed_unhosted host) (renamed_fixed host)
+
+-- ---- its user
+
+called_unhosted : (user : List ℕ) (row : Session) → unhosted (called user row) ≡ unhosted row
+called_unhosted user row = elim row.host_fixed as (λ t. unhosted (cond t row (record row { user = user })) ≡ unhosted row) [ true ↦ refl | false ↦ refl ]
+
+called_fixed : (user : List ℕ) (row : Session) → row.host_fixed ≡ true → called user row ≡ row
+called_fixed user row is = rw is refl
+
+pub nothing_after_calling : (w : Gateway) → IsSettled w → HasHostsFixed w → (number : ℕ) (user : List ℕ) → consequences (client_named number user w) ≡ client_named number user w
+nothing_after_calling w settled fixed number user =
+    nothing_after_change w settled fixed number (called user) (called_unhosted user) (called_fixed user)

@@ -168,11 +168,11 @@ other_dest (ToSession number) server session is = absurd (true≢false (sym is))
 other_dest (Upstream number) server session is = refl
 
 sessions_left : (connections : List Connection) (number : ℕ) → HasNoMoreRoom connections (filter (is_not_to (Upstream number)) connections)
-sessions_left connections number session taking =
+sessions_left connections number limits session taking =
     let same = found_left (is_to (ToSession session)) (is_not_to (Upstream number)) connections
     (all_of (λ (row : Connection). is_not_to (Upstream number) row ≡ false → is_to (ToSession session) row ≡ false) connections
     (λ row gone. other_dest row.dest number session (not_not (is_to (Upstream number) row) gone))) in
-    sym (ap (λ (row : Option Connection). takes_updates (outbox_in row)) same) ∙ taking
+    sym (ap (λ (row : Option Connection). takes_updates limits (outbox_in row)) same) ∙ taking
 
 module _ (w : Gateway) (tidy : IsTidy w) (number : ℕ) where
   abbrev names : List (List ℕ)

@@ -75,9 +75,9 @@ each_lead w settled sessions leads =
 
 -- ---- a session's host can no longer change
 
--- whether a session is paused doesn't depend on its host
+-- whether a session is paused doesn't depend on its host and user
 abbrev pub unhosted : Session → Session
-unhosted row = record row { host = []; host_fixed = false }
+unhosted row = record row { host = []; user = []; host_fixed = false }
 
 paused-unhosted : (found : Option Session) → paused_in found ≡ paused_in (option_map unhosted found)
 paused-unhosted None = refl

@@ -9,11 +9,13 @@ use Rattle.channel_table.specs.declared.reads.WaitingRead.{WaitingRead}
 use Rattle.channel_table.specs.declared.subs.ClientSub.{ClientSub}
 use Rattle.channel_table.specs.Channels.{is_channel, is_on}
 use Rattle.gateway_state.specs.declared.notice.LinkNotice.{LinkNotice}
+use Rattle.gateway_state.specs.declared.search.Search.{Search}
 use Rattle.gateway_state.specs.Direct.{swept}
 use Rattle.gateway_state.specs.Gateway.{Gateway}
 use Rattle.gateway_state.specs.Notices.{link_told, notice_on, read_notice, read_notices, reads_told}
 use Rattle.gateway_state.specs.Rights.{channel_of}
-use Rattle.gateway_state.specs.Settled.{AreInOrder, IsSettled}
+use Rattle.gateway_state.specs.Searches.{leads_to}
+use Rattle.gateway_state.specs.Settled.{HasCidsInOrder, IsSettled}
 use Rattle.gateway_state.specs.Step.{consequences}
 use Rattle.gateway_state.specs.Updates.{update_notice, update_notices, update_on, updates_told}
 use Rattle.gateway_state.specs.Variables.{is_among, is_wanted, search_names}
@@ -28,20 +30,19 @@ use Rattle.touched_rows.proofs.Shapes.{links_told_shape}
 use Rattle.touched_rows.proofs.TouchedAlone.{none_planned}
 use Rattle.touched_rows.proofs.WantedLinks.{SparesWanted, open_no_more, some_spare, values_no_more, wanted_link_kept, wanted_rights_kept}
 
-module _ (w : Gateway) (settled : IsSettled w) (order : AreInOrder w) where
+-- only these rows of searches are left, and other variables are led to as before
+module _ (w : Gateway) (settled : IsSettled w) (order : HasCidsInOrder w) (left : List Search) (names : List (List ℕ))
+    (less : (name : List ℕ) → is_among names name ≡ false → list_any (leads_to w.policy name) left ≡ list_any (leads_to w.policy name) w.searches) where
   abbrev x : Gateway
-  x = swept w
+  x = record w { searches = left }
 
-  abbrev names : List (List ℕ)
-  names = search_names w.policy w.searches
-
-  -- other variables are wanted as before: no search led to them
+  -- other variables are wanted as before
   beside : IsBesideOthers w x (is_among names)
   beside = record {
     links = refl;
     minors = λ server. refl;
     asks = λ name none. refl;
-    wanted = λ name none. ap (λ (t : Bool). list_any (is_on name) w.clients.channels || t) (sym (searched_is_among w.policy name w.searches ∙ none));
+    wanted = λ name none. ap (λ (t : Bool). list_any (is_on name) w.clients.channels || t) (less name none);
   }
 
   abbrev notices : List LinkNotice
@@ -51,14 +52,14 @@ module _ (w : Gateway) (settled : IsSettled w) (order : AreInOrder w) where
   after = links_told_among names x
 
   spares : SparesWanted x notices
-  spares = some_spare x w.upstream.counters.cid order.links (is_link_among names)
+  spares = some_spare x w.upstream.counters.cid order (is_link_among names)
 
   clients_same : after.clients ≡ w.clients
   clients_same = ap (λ (v : Gateway). v.clients) (links_told_shape notices x)
 
   -- the variable of a channel is wanted
   wanted_there : (session sid : ℕ) (c : Channel) → channel_of w session sid ≡ Some c → is_wanted x c.real ≡ true
-  wanted_there session sid c is = ap (λ (t : Bool). t || false) (found_is_on (is_channel session sid) w.clients.channels c is)
+  wanted_there session sid c is = ap (λ (t : Bool). t || list_any (leads_to w.policy c.real) left) (found_is_on (is_channel session sid) w.clients.channels c is)
 
   read_left : (read : WaitingRead) → read_notice x read ≡ None → read_notice after read ≡ None
   read_left read none =
@@ -99,9 +100,14 @@ module _ (w : Gateway) (settled : IsSettled w) (order : AreInOrder w) where
       (All-weaker (λ (sub : ClientSub). update_notice x sub ≡ None) (λ (sub : ClientSub). update_notice after sub ≡ None) update_left w.clients.subs
       (none_told (update_notice w) w.clients.subs settled.updates))
 
-  pub told_after_sweep : consequences (swept w) ≡ links_told_among (search_names w.policy w.searches) (swept w)
-  told_after_sweep =
+  pub told_after_forgetting : consequences x ≡ links_told_among names x
+  told_after_forgetting =
       from_links x settled.channels settled.held_back
       ∙ ap (λ (plan : List LinkNotice). updates_told (reads_told (fold link_told x plan))) (links_touched w x (is_among names) beside settled)
       ∙ ap updates_told (reads_stay after reads_quiet)
       ∙ updates_stay after updates_quiet
+
+-- all are forgotten
+pub told_after_sweep : (w : Gateway) → IsSettled w → HasCidsInOrder w → consequences (swept w) ≡ links_told_among (search_names w.policy w.searches) (swept w)
+told_after_sweep w settled order =
+    told_after_forgetting w settled order [] (search_names w.policy w.searches) (λ name none. sym (searched_is_among w.policy name w.searches ∙ none))

@@ -48,16 +48,20 @@ use Rattle.touched_rows.proofs.LessGiven.{GivesNoMore, bare, gives_no_more, give
 
 -- ---- messages
 
-pub less_connections : (w : Gateway) (connections : List Connection) → HasNoMoreRoom w.connections connections → GivesNoMore w (record w { connections = connections })
-less_connections w connections room = record {
+pub less_taking : (w : Gateway) (connections : List Connection) → ((number : ℕ) → takes w.limits connections number ≡ true → takes w.limits w.connections number ≡ true)
+    → GivesNoMore w (record w { connections = connections })
+less_taking w connections room = record {
   channels = λ session sid. refl;
   rights = λ c. refl;
   links = λ name. refl;
   values = λ cid native dtype count none. none;
   sessions = λ number open_to.
-      let parts = and_parts (not (is_paused w number)) (takes connections number) open_to in
-      and_from (not (is_paused w number)) (takes w.connections number) parts.0 (room number parts.1);
+      let parts = and_parts (not (is_paused w number)) (takes w.limits connections number) open_to in
+      and_from (not (is_paused w number)) (takes w.limits w.connections number) parts.0 (room number parts.1);
 }
+
+pub less_connections : (w : Gateway) (connections : List Connection) → HasNoMoreRoom w.connections connections → GivesNoMore w (record w { connections = connections })
+less_connections w connections room = less_taking w connections (room w.limits)
 
 pub less_sent : (dest : Dest) (out : Out) (w : Gateway) → GivesNoMore w (sent dest out w)
 unfolding sent

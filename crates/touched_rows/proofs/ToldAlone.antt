@@ -1,10 +1,11 @@
 -- In every state that a run reaches, what follows from an event is what it touches.
 use Rattle.std.proofs.Common.{◌≡◌, true, false, cond, refl}
+use Rattle.ca_message.specs.declared.to_server.ToServer.TheVariants as requests
 use Rattle.ca_message.specs.ClientRequest.{request_of}
 use Rattle.ca_message.specs.ServerReply.{reply_of}
 use Rattle.gateway_state.specs.declared.event.Dest.TheVariants.{Session as ToSession, Upstream}
 use Rattle.gateway_state.specs.declared.event.Event.{Event}
-use Rattle.gateway_state.specs.declared.event.Event.TheVariants.{Opened, Lost, Client, UpOpened, UpLost, Server, Found, Search, Sweep, Edit, Drain}
+use Rattle.gateway_state.specs.declared.event.Event.TheVariants.{Opened, Lost, Client, UpOpened, UpLost, Server, Found, Search, Sweep, Edit, Drain, Limit, Age, Probe}
 use Rattle.gateway_state.specs.Asked.{acts}
 use Rattle.gateway_state.specs.Direct.{direct_effect}
 use Rattle.gateway_state.specs.Gateway.{Gateway}
@@ -12,14 +13,17 @@ use Rattle.gateway_state.specs.Reached.{IsReached}
 use Rattle.gateway_state.specs.Requests.{client_said}
 use Rattle.gateway_state.specs.Servers.{server_said}
 use Rattle.gateway_state.specs.Step.{consequences, step}
+use Rattle.gateway_state.specs.Telling.{outgoing_upstream}
 use Rattle.gateway_state.proofs.SettledSteps.{settled_stays}
 use Rattle.touched_rows.specs.declared.touched.Touched.TheVariants.{Nothing}
 use Rattle.touched_rows.specs.Touches.{event_touches, follows, reply_touches, request_touches}
+use Rattle.touched_rows.proofs.Aged.{told_after_age}
 use Rattle.touched_rows.proofs.Drained.{nothing_after_server_drain, told_drain}
 use Rattle.touched_rows.proofs.Found.{nothing_after_found}
 use Rattle.touched_rows.proofs.Lost.{told_after_losing}
+use Rattle.touched_rows.proofs.Nothing.{nothing_after_reply}
 use Rattle.touched_rows.proofs.Opened.{nothing_after_opening, nothing_after_server_opening}
-use Rattle.touched_rows.proofs.Searched.{nothing_after_search}
+use Rattle.touched_rows.proofs.Searched.{told_after_search}
 use Rattle.touched_rows.proofs.Swept.{told_after_sweep}
 use Rattle.touched_rows.proofs.ServerLost.{told_after_losing_server}
 use Rattle.touched_rows.proofs.Tidy.{IsTidy, reached_tidy}
@@ -42,11 +46,14 @@ told_event w (Server number message) tidy =
     ≡ follows (cond t (reply_touches w number (reply_of message.head message.payload)) Nothing) (cond t (server_said w number message) w))
     [ true ↦ told_reply w tidy number (reply_of message.head message.payload) | false ↦ settled_stays w tidy.settled ]
 told_event w (Found name number) tidy = nothing_after_found w name number tidy.settled
-told_event w (Search host name) tidy = nothing_after_search host name w tidy.settled
-told_event w Sweep tidy = told_after_sweep w tidy.settled tidy.order
+told_event w (Search host name) tidy = told_after_search host name w tidy.settled tidy.order.links
+told_event w Sweep tidy = told_after_sweep w tidy.settled tidy.order.links
 told_event w (Edit policy) tidy = refl
 told_event w (Drain (ToSession number) count) tidy = told_drain w number count tidy.settled
 told_event w (Drain (Upstream number) count) tidy = nothing_after_server_drain w number count tidy.settled
+told_event w (Limit limits) tidy = refl
+told_event w Age tidy = told_after_age w tidy.settled tidy.order tidy.links_apart
+told_event w (Probe number) tidy = nothing_after_reply (Upstream number) (outgoing_upstream requests.Echo) w tidy.settled
 
 pub told_alone : (w : Gateway) (event : Event) → IsReached w → consequences (direct_effect w event) ≡ follows (event_touches w event) (direct_effect w event)
 told_alone w event reached = told_event w event (reached_tidy w reached)

@@ -38,10 +38,10 @@ use Rattle.touched_rows.specs.declared.touched.Touched.TheVariants.{Nothing, Int
 use Rattle.touched_rows.specs.Touched.{interest_told, one_read_told}
 use Rattle.touched_rows.specs.Touches.{cancel_touches, cancel_touches_by, clear_touches, clear_touches_by, follows, new_read, read_touches, read_touches_by, request_touches, sub_touches, sub_touches_by}
 use Rattle.touched_rows.proofs.Cleared.{told_after_clearing}
-use Rattle.touched_rows.proofs.Created.{nothing_after_channel_asked, settled_creation_failed}
+use Rattle.touched_rows.proofs.Created.{settled_creation_failed, told_after_channel_asked}
 use Rattle.touched_rows.proofs.Nothing.{nothing_after_mark, nothing_after_reply, settled_sent}
 use Rattle.touched_rows.proofs.ReadAsked.{told_after_read}
-use Rattle.touched_rows.proofs.Renamed.{nothing_after_renaming}
+use Rattle.touched_rows.proofs.Renamed.{nothing_after_calling, nothing_after_renaming}
 use Rattle.touched_rows.proofs.Sessions.{nothing_after_pausing, settled_host_fixed, told_after_resuming}
 use Rattle.touched_rows.proofs.Subscribed.{told_after_subscribing}
 use Rattle.touched_rows.proofs.Tidy.{IsTidy}
@@ -183,11 +183,12 @@ module _ (w : Gateway) (tidy : IsTidy w) where
   told_request number message (Ok requests.EventsOn) = told_after_resuming w number tidy.settled
   told_request number message (Ok (requests.ClearChannel clear)) = told_clear number clear.sid clear.cid message.head
   told_request number message (Ok (requests.ReadNotify read)) = told_read number read.sid read.ioid read.dtype read.count message.head
-  told_request number message (Ok (requests.CreateChannel create)) = nothing_after_channel_asked number create.cid create.name w tidy.settled tidy.subs_on tidy.reads_on
+  told_request number message (Ok (requests.CreateChannel create)) =
+      told_after_channel_asked w tidy.settled tidy.order.links tidy.subs_on tidy.reads_on number create.cid create.name
   told_request number message (Ok (requests.WriteNotify write)) =
       settled_stays _
       (settled_notified w tidy.settled number write.sid write.ioid write.dtype write.count message.head (write_verdict w number write.sid write.dtype write.count write.value))
-  told_request number message (Ok (requests.ClientName name)) = nothing_at_all
+  told_request number message (Ok (requests.ClientName name)) = nothing_after_calling w tidy.settled tidy.hosts_fixed number name
   told_request number message (Ok (requests.HostName host)) = nothing_after_renaming w tidy.settled tidy.hosts_fixed number host
   told_request number message (Ok requests.Echo) = replied_all number (replies.Echo message)
   told_request number message (Err fault) = settled_stays (unreadable w number message.head) (settled_unreadable number message.head)

@@ -86,7 +86,7 @@ module _ (w : Gateway) (tidy : IsTidy w) where
   told_changed : (server cid : ℕ) (link : Link) → find (is_link server cid) w.upstream.links ≡ Some link → is_creating link.state ≡ true → (state : LinkState) (rights : ℕ)
       → consequences (with_link_state server cid state rights w) ≡ interest_told link.name (with_link_state server cid state rights w)
   told_changed server cid link found creating state rights =
-      told_after_connecting w tidy.settled tidy.order tidy.links_apart server cid link found creating state rights w.connections (λ number taking. taking)
+      told_after_connecting w tidy.settled tidy.order tidy.links_apart server cid link found creating state rights w.connections (λ limits number taking. taking)
 
   told_returned : (server cid sid : ℕ) (link : Link) → find (is_link server cid) w.upstream.links ≡ Some link → is_creating link.state ≡ true
       → consequences (channel_returned server sid cid (with_link_state server cid Unusable link.rights w))

@@ -222,7 +222,7 @@ one_spares x high order name other wanted = by (link_of x name) refl
 
 -- ---- links of rising numbers
 
-each_alone : (low high : ℕ) (rows : List Link) → AreRising cid_of low rows high → All (λ (link : Link). All (λ (row : Link). row.cid ≡ link.cid → row ≡ link) rows) rows
+pub each_alone : (low high : ℕ) (rows : List Link) → AreRising cid_of low rows high → All (λ (link : Link). All (λ (row : Link). row.cid ≡ link.cid → row ≡ link) rows) rows
 each_alone low high [] rising = All-nil (λ (link : Link). All (λ (row : Link). row.cid ≡ link.cid → row ≡ link) [])
 each_alone low high (first ∷ rows) rising =
     All-cons (λ (link : Link). All (λ (row : Link). row.cid ≡ link.cid → row ≡ link) (first ∷ rows)) first rows

@@ -6,7 +6,6 @@ use Rattle.ca_message.specs.declared.commands.TheConstants.{NO_CHANNEL}
 use Rattle.ca_message.specs.declared.to_client.ToClient.TheVariants as replies
 use Rattle.ca_message.specs.declared.to_server.ToServer.TheVariants as requests
 use Rattle.ca_message.specs.Written.{Written}
-use Rattle.link_table.specs.declared.table.TheConstants.{WRITE_LIMIT}
 use Rattle.link_table.specs.declared.writes.WaitingWrite.{WaitingWrite}
 use Rattle.link_table.specs.LinkRows.{write_count}
 use Rattle.gateway_state.specs.declared.event.Dest.TheVariants.{Session as ToSession, Upstream}
@@ -44,7 +43,7 @@ module _ (w : Gateway) (settled : IsSettled w) where
   settled_handed_on number sid ioid dtype count server upstream_sid value =
       let write : WaitingWrite = new_write w server number sid dtype count ioid in
       let handed : Gateway = write_waits write upstream_sid value w in
-      elim (leb WRITE_LIMIT (write_count number w.upstream)) as (λ t. IsSettled (cond t (write_answered number ioid dtype count ECA_PUTFAIL w) handed)) [
+      elim (leb w.limits.writes (write_count number w.upstream)) as (λ t. IsSettled (cond t (write_answered number ioid dtype count ECA_PUTFAIL w) handed)) [
         | true ↦ settled_sent (ToSession number) (outgoing (replies.WriteNotify ioid dtype count ECA_PUTFAIL)) w settled
         | false ↦
             settled_sent (Upstream server) (outgoing_upstream (requests.WriteNotify upstream_sid write.id value)) (with_write write w)

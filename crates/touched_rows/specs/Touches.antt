@@ -1,5 +1,5 @@
 -- What each event touches.
-use Rattle.std.specs.Prelude.{◌≡◌, ℕ, List, [], ◌∷◌, ◌++◌, filter, map, ◌==◌, if◌then◌else◌, Option, Some, None, Result, Ok, Err}
+use Rattle.std.specs.Prelude.{◌≡◌, ℕ, List, [], ◌∷◌, ◌++◌, filter, map, ◌==◌, nat_le, is_some, if◌then◌else◌, Option, Some, None, Result, Ok, Err}
 use Rattle.std.specs.List.{find}
 use Rattle.ca_message.specs.declared.codes.TheConstants.{ECA_NORMAL}
 use Rattle.ca_message.specs.declared.reply.ReplyFault.{ReplyFault}
@@ -12,8 +12,13 @@ use Rattle.ca_message.specs.ClientRequest.{request_of}
 use Rattle.ca_message.specs.ServerReply.{reply_of}
 use Rattle.channel_table.specs.declared.channels.Channel.{Channel}
 use Rattle.channel_table.specs.declared.reads.WaitingRead.{WaitingRead}
+use Rattle.channel_table.specs.declared.sessions.Session.{Session as SessionRow}
 use Rattle.channel_table.specs.declared.subs.ClientSub.{ClientSub}
 use Rattle.channel_table.specs.Channels.{is_channel_of}
+use Rattle.channel_table.specs.ClientRows.{channel_count}
+use Rattle.channel_table.specs.Sessions.{is_numbered}
+use Rattle.pv_alias.specs.declared.lead.Lead.{Lead}
+use Rattle.rule_desk.specs.declared.policy.Policy.{Policy}
 use Rattle.link_table.specs.declared.links.Link.{Link}
 use Rattle.link_table.specs.declared.links.LinkState.{LinkState}
 use Rattle.link_table.specs.declared.links.LinkState.TheVariants.{Creating, Connected, Unusable}
@@ -24,22 +29,25 @@ use Rattle.gateway_state.specs.declared.event.Dest.{Dest}
 use Rattle.gateway_state.specs.declared.event.Dest.TheVariants as dests
 use Rattle.gateway_state.specs.declared.event.Event.{Event}
 use Rattle.gateway_state.specs.declared.event.Event.TheVariants as events
+use Rattle.gateway_state.specs.declared.search.Search.{Search}
 use Rattle.gateway_state.specs.declared.notice.ReadVerdict.{ReadVerdict}
 use Rattle.gateway_state.specs.declared.notice.ReadVerdict.TheVariants as reads
 use Rattle.gateway_state.specs.declared.notice.SubVerdict.{SubVerdict}
 use Rattle.gateway_state.specs.declared.notice.SubVerdict.TheVariants as subs
 use Rattle.gateway_state.specs.Asked.{acts}
-use Rattle.gateway_state.specs.Clients.{read_verdict}
+use Rattle.gateway_state.specs.Clients.{read_verdict, search_left_by}
 use Rattle.gateway_state.specs.Gateway.{Gateway}
 use Rattle.gateway_state.specs.Quantities.{Code, Count, Dtype, Ioid, ServerNumber, SessionNumber, Sid, SubId}
-use Rattle.gateway_state.specs.Rights.{channel_of}
+use Rattle.gateway_state.specs.Resolution.{lead_of}
+use Rattle.gateway_state.specs.Rights.{channel_of, lead_in}
+use Rattle.gateway_state.specs.Searches.{is_stale, left_by_search}
 use Rattle.gateway_state.specs.Servers.{is_heard, subject_of}
 use Rattle.gateway_state.specs.Settled.{HasLinksApart}
 use Rattle.gateway_state.specs.Step.{consequences}
 use Rattle.gateway_state.specs.Subscribing.{is_on_sid, new_sub, sub_of, sub_verdict}
 use Rattle.gateway_state.specs.Told.{KnowRights}
 use Rattle.gateway_state.specs.Updates.{is_sub_to, is_taking}
-use Rattle.gateway_state.specs.Variables.{channel_names, is_connected, is_creating, search_names}
+use Rattle.gateway_state.specs.Variables.{ConnectedVariable, channel_names, connected, is_connected, is_creating, search_names}
 use Rattle.touched_rows.specs.declared.touched.Touched.{Touched}
 use Rattle.touched_rows.specs.declared.touched.Touched.TheVariants.{All, Gone, Nothing, Session, Variable, Value, Interest, Link as LinkOf, Links, Read, Subscription as SubscriptionTo}
 use Rattle.touched_rows.specs.Touched.{channels_gone_on, channels_told_on, interest_told, link_told_on, links_told_among, one_read_told, one_update_told, reads_told_on, updates_told_on, updates_told_to, variable_told}
@@ -142,6 +150,30 @@ clear_touches_by (Some c) = LinkOf c.real
 abbrev pub clear_touches : Gateway → ℕ → ℕ → Touched
 clear_touches w number sid = clear_touches_by (channel_of w number sid)
 
+-- a search that goes: its name may have been wanted by it alone
+abbrev pub left_touches : Policy → Option Search → Touched
+left_touches policy None = Nothing
+left_touches policy (Some row) = Links (search_names policy (row ∷ []))
+
+-- the search that goes for one that a session's host makes
+abbrev pub search_left_for : Option SessionRow → List ℕ → Gateway → Option Search
+search_left_for None name w = None
+search_left_for (Some row) name w = left_by_search w.limits row.host name w.searches
+
+abbrev pub create_touches_over : Gateway → Option SessionRow → List ℕ → Option ConnectedVariable → Touched
+create_touches_over w session name None = left_touches w.policy (search_left_for session name w)
+create_touches_over w session name (Some v) = left_touches w.policy (search_left_by session name w)
+
+abbrev pub create_touches_as : Gateway → ℕ → List ℕ → Option Lead → Touched
+create_touches_as w number name None = Nothing
+create_touches_as w number name (Some lead) =
+    if nat_le w.limits.channels (channel_count number w.clients) then Nothing
+    else create_touches_over w (find (is_numbered number) w.clients.sessions) name (connected w lead.real)
+
+-- a channel that a client asks for concerns nobody else, but that a search may go
+abbrev pub create_touches : Gateway → ℕ → List ℕ → Touched
+create_touches w number name = create_touches_as w number name (lead_in w number name)
+
 -- a host is fixed once a session has a channel, so another one leads no channel's name elsewhere
 abbrev pub request_touches : Gateway → ℕ → Result ClientRequest RequestFault → Touched
 request_touches w number (Ok (requests.Version minor)) = Nothing
@@ -154,7 +186,7 @@ request_touches w number (Ok requests.EventsOn) = Session number
 request_touches w number (Ok (requests.ClearChannel clear)) = clear_touches w number clear.sid
 request_touches w number (Ok (requests.ReadNotify read)) =
     read_touches w (new_read number read.sid read.ioid read.dtype read.count)
-request_touches w number (Ok (requests.CreateChannel create)) = Nothing
+request_touches w number (Ok (requests.CreateChannel create)) = create_touches w number create.name
 request_touches w number (Ok (requests.WriteNotify write)) = Nothing
 request_touches w number (Ok (requests.ClientName name)) = Nothing
 request_touches w number (Ok (requests.HostName host)) = Nothing
@@ -228,6 +260,12 @@ abbrev pub drain_touches : Gateway → Dest → Touched
 drain_touches w (dests.Session number) = if is_taking w number then Nothing else Session number
 drain_touches w (dests.Upstream number) = Nothing
 
+-- a search that is remembered, for which another may go
+abbrev pub searched_touches : Gateway → List ℕ → List ℕ → Touched
+searched_touches w host name =
+    if is_some (lead_of w.policy host name) then left_touches w.policy (left_by_search w.limits host name w.searches)
+    else Nothing
+
 -- the variables of a session's channels, in the order of adding
 abbrev pub names_of : Gateway → ℕ → List (List ℕ)
 names_of w number = channel_names (filter (is_channel_of number) w.clients.channels)
@@ -249,7 +287,10 @@ event_touches w (events.UpLost number) = Gone (server_names w number)
 event_touches w (events.Server number message) =
     if acts w (dests.Upstream number) then reply_touches w number (reply_of message.head message.payload) else Nothing
 event_touches w (events.Found name number) = Nothing
-event_touches w (events.Search host name) = Nothing
+event_touches w (events.Search host name) = searched_touches w host name
 event_touches w events.Sweep = Links (search_names w.policy w.searches)
 event_touches w (events.Edit policy) = All
 event_touches w (events.Drain dest count) = drain_touches w dest
+event_touches w (events.Limit limits) = All
+event_touches w events.Age = Links (search_names w.policy (filter is_stale w.searches))
+event_touches w (events.Probe number) = Nothing

@@ -1,5 +1,5 @@
 //! What is kept of what a variable told last.
-ghost use Rattle.std.specs.Prelude.{◌≡◌, ◌≤◌, ◌||◌, not, length, slice_range, IsOk, IfOk, IsSome, OnOk, OnErr, Option, Some};
+ghost use Rattle.std.specs.Prelude.{◌≡◌, ◌≤◌, ◌||◌, not, is_some, length, slice_range, IsOk, IfOk, IsSome, OnOk, OnErr, Option, Some};
 ghost use Rattle.std.specs.Option.{option_copied, option_map};
 ghost use Rattle.std.specs.Ordering.{int_eq};
 ghost use Rattle.value_cache.specs.Held.{answer, are_there, covers_by, given, needs_by};
@@ -143,6 +143,16 @@ impl Cached {
         ensures most { result ≤ 8 }
     {
         self.kept.len()
+    }
+
+    /// Whether properties are held.
+    pub fn has_properties(&self) -> bool
+        ensures { result ≡ is_some self.now.held.properties }
+    {
+        match &self.described {
+            Some(_) => true,
+            None => false,
+        }
     }
 
     /// Whether what is held can answer a read of so many elements of the type with the number `dtype`:

@@ -124,10 +124,27 @@ impl Table {
         ensures err { OnErr result (self.new ≡ self.old) }
         ensures brand { self.new.brand ≡ self.old.brand }
     {
+        self.add_channel_within(CHANNEL_LIMIT, channel)
+    }
+
+    /// The same where as many channels of a session may stand as the caller says.
+    pub fn add_channel_within(&mut self, limit: usize, channel: Channel) -> Result<(), TableFault>
+        requires new { has_channel channel.session channel.sid self.old.rows ≡ false }
+        ensures ok { OnOk result (self.new.rows ≡ record self.old.rows { channels = self.old.rows.channels ++ channel ∷ [] }) }
+        ensures there { OnOk result (has_session channel.session self.old.rows ≡ true) }
+        ensures room { OnOk result (channel_count channel.session self.old.rows < limit) }
+        ensures missing { IsErrOf result TableFault.Missing ↔
+            (has_session channel.session self.old.rows ≡ false) }
+        ensures full { IsErrOf result TableFault.Full ↔
+            ((has_session channel.session self.old.rows ≡ true)
+            × (limit ≤ channel_count channel.session self.old.rows)) }
+        ensures err { OnErr result (self.new ≡ self.old) }
+        ensures brand { self.new.brand ≡ self.old.brand }
+    {
         if !self.sessions.contains(channel.session) {
             return Err(TableFault::Missing);
         }
-        if self.channels.count_of(channel.session) >= CHANNEL_LIMIT {
+        if self.channels.count_of(channel.session) >= limit {
             return Err(TableFault::Full);
         }
         match counted_rows::add_channel(&mut self.channels, &mut self.demand, channel) {

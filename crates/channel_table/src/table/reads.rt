@@ -108,10 +108,26 @@ impl Table {
         ensures err { OnErr result (self.new ≡ self.old) }
         ensures brand { self.new.brand ≡ self.old.brand }
     {
+        self.add_read_within(READ_LIMIT, read)
+    }
+
+    /// The same where as many reads of a session may wait as the caller says.
+    pub fn add_read_within(&mut self, limit: usize, read: WaitingRead) -> Result<(), TableFault>
+        ensures ok { OnOk result (self.new.rows ≡ record self.old.rows { reads = self.old.rows.reads ++ read ∷ [] }) }
+        ensures there { OnOk result (has_channel read.session read.sid self.old.rows ≡ true) }
+        ensures room { OnOk result (read_count read.session self.old.rows < limit) }
+        ensures missing { IsErrOf result TableFault.Missing ↔
+            (has_channel read.session read.sid self.old.rows ≡ false) }
+        ensures full { IsErrOf result TableFault.Full ↔
+            ((has_channel read.session read.sid self.old.rows ≡ true)
+            × (limit ≤ read_count read.session self.old.rows)) }
+        ensures err { OnErr result (self.new ≡ self.old) }
+        ensures brand { self.new.brand ≡ self.old.brand }
+    {
         if !self.channels.contains(read.session, read.sid) {
             return Err(TableFault::Missing);
         }
-        if self.reads.count_of(read.session) >= READ_LIMIT {
+        if self.reads.count_of(read.session) >= limit {
             return Err(TableFault::Full);
         }
         match self.keep_read(read) {

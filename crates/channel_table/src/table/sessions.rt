@@ -5,10 +5,11 @@ ghost use Rattle.std.specs.List.{find};
 ghost use Rattle.std.specs.Option.{option_copied};
 ghost use Rattle.rows.specs.Rows.{change_first};
 ghost use Rattle.channel_table.specs.ClientRows.{has_session};
-ghost use Rattle.channel_table.specs.Sessions.{is_numbered, nth_by_number, with_host_and_pause};
+ghost use Rattle.channel_table.specs.Sessions.{is_numbered, nth_by_number, with_host_and_pause, with_user};
 
 use super::{SESSION_LIMIT, Table, TableFault};
 use crate::sessions::Session;
+use crate::user::User;
 use crate::visits::Visits;
 use pv_name::Host;
 
@@ -56,7 +57,20 @@ impl Table {
         ensures err { OnErr result (self.new ≡ self.old) }
         ensures brand { self.new.brand ≡ self.old.brand }
     {
-        if self.sessions.len() >= SESSION_LIMIT {
+        self.add_session_within(SESSION_LIMIT, session)
+    }
+
+    /// The same where as many sessions may stand as the caller says.
+    pub fn add_session_within(&mut self, limit: usize, session: Session) -> Result<(), TableFault>
+        requires new { has_session session.number self.old.rows ≡ false }
+        ensures ok { OnOk result (self.new.rows ≡ record self.old.rows { sessions = self.old.rows.sessions ++ session ∷ [] }) }
+        ensures room { OnOk result (length self.old.rows.sessions < limit) }
+        ensures missing { result ≢ Err TableFault.Missing }
+        ensures full { IsErrOf result TableFault.Full ↔ (limit ≤ length self.old.rows.sessions) }
+        ensures err { OnErr result (self.new ≡ self.old) }
+        ensures brand { self.new.brand ≡ self.old.brand }
+    {
+        if self.sessions.len() >= limit {
             return Err(TableFault::Full);
         }
         match self.sessions.add(session) {
@@ -87,5 +101,21 @@ impl Table {
     {
         visits.count(1);
         self.sessions.put(number, host, host_fixed, paused);
+    }
+
+    /// Changes what is said of the user of a session that stands.
+    pub fn put_user(&mut self, visits: &mut Visits, number: u32, user: User)
+        requires own { visits.old.brand ≡ self.old.brand }
+        ensures put { self.new.rows ≡ record self.old.rows {
+          sessions = change_first (is_numbered number) (with_user user) self.old.rows.sessions;
+        } }
+        ensures visits { visits.new.looks ≡ u64_saturate (visits.old.looks + 1) }
+        ensures bound { visits.new.looks ≤ visits.old.looks + 1 }
+        ensures no_less { visits.old.looks ≤ visits.new.looks }
+        ensures brand { self.new.brand ≡ self.old.brand }
+        ensures own { visits.new.brand ≡ visits.old.brand }
+    {
+        visits.count(1);
+        self.sessions.put_user(number, user);
     }
 }

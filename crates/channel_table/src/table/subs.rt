@@ -121,10 +121,27 @@ impl Table {
         ensures err { OnErr result (self.new ≡ self.old) }
         ensures brand { self.new.brand ≡ self.old.brand }
     {
+        self.add_sub_within(SUB_LIMIT, sub)
+    }
+
+    /// The same where as many subscriptions of a session may stand as the caller says.
+    pub fn add_sub_within(&mut self, limit: usize, sub: ClientSub) -> Result<(), TableFault>
+        requires new { has_sub sub.session sub.id self.old.rows ≡ false }
+        ensures ok { OnOk result (self.new.rows ≡ record self.old.rows { subs = self.old.rows.subs ++ sub ∷ [] }) }
+        ensures there { OnOk result (has_channel sub.session sub.sid self.old.rows ≡ true) }
+        ensures room { OnOk result (sub_count sub.session self.old.rows < limit) }
+        ensures missing { IsErrOf result TableFault.Missing ↔
+            (has_channel sub.session sub.sid self.old.rows ≡ false) }
+        ensures full { IsErrOf result TableFault.Full ↔
+            ((has_channel sub.session sub.sid self.old.rows ≡ true)
+            × (limit ≤ sub_count sub.session self.old.rows)) }
+        ensures err { OnErr result (self.new ≡ self.old) }
+        ensures brand { self.new.brand ≡ self.old.brand }
+    {
         let Some(channel) = self.channels.get(sub.session, sub.sid) else {
             return Err(TableFault::Missing);
         };
-        if self.subs.count_of(sub.session) >= SUB_LIMIT {
+        if self.subs.count_of(sub.session) >= limit {
             return Err(TableFault::Full);
         }
         match counted_rows::add_sub(&mut self.subs, &mut self.demand, channel, sub) {

@@ -2,7 +2,7 @@
 ghost use Rattle.std.specs.Prelude.{◌<◌};
 
 use crate::same_answers::events::{
-    BEGINNING, CHANGES, EDITS, ODDITIES, QUESTIONS, REPLIES, REQUESTS, words,
+    BEGINNING, CHANGES, EDITS, ODDITIES, QUESTIONS, REPLIES, REQUESTS, UPKEEP, words,
 };
 use replay::replay;
 use std::alloc::{AllocError, Global};
@@ -15,8 +15,11 @@ const PARTS: usize = 25;
 
 const EVENTS: usize = 8;
 
-/// One list of so many may have edits of the policy.
+/// One list of so many may have edits of the policy, and one of so many limits that are told, ages and
+/// probes.
 const EDITED: u64 = 20;
+
+const KEPT_UP: u64 = 4;
 
 /// The beginning of a line of a message: its connection, and sixteen bytes as digits.
 type Source = [u8; 35];
@@ -110,6 +113,13 @@ fn drawn_source(chance: &mut Chance, text: &[u8], pattern: &[u8]) -> Source {
     nth_source(text, pattern, first.saturating_add(place))
 }
 
+/// Which tables a list is drawn from beside the usual ones.
+#[derive(Clone, Copy)]
+struct Beside {
+    edits: bool,
+    upkeep: bool,
+}
+
 /// Draws a list, and gives it to the engine. Says with which status that ends.
 pub(crate) fn draw(
     alloc: Global,
@@ -118,12 +128,16 @@ pub(crate) fn draw(
     printed: &mut Vec<u8>,
 ) -> Result<u8, AllocError> {
     let mut chance = Chance::new(seed);
+    let beside = Beside {
+        edits: seed % EDITED == 0,
+        upkeep: seed % KEPT_UP == 1,
+    };
     fill(&mut chance, BEGINNING, &NOWHERE, script)?;
     for _ in 0..PARTS {
         printed.clear();
         replay(alloc, script.as_slice(), printed);
         for _ in 0..EVENTS {
-            add_event(&mut chance, seed % EDITED == 0, script, printed)?;
+            add_event(&mut chance, beside, script, printed)?;
         }
     }
     printed.clear();
@@ -133,11 +147,11 @@ pub(crate) fn draw(
 /// Adds an event to a list, of which this was printed.
 fn add_event(
     chance: &mut Chance,
-    is_edited: bool,
+    beside: Beside,
     script: &mut Vec<u8>,
     printed: &[u8],
 ) -> Result<(), AllocError> {
-    let rows = table(chance, is_edited);
+    let rows = table(chance, beside);
     let mut halves = chance.part(rows, b'\n').splitn(2, |b| *b == b'|');
     let pattern = halves.next().unwrap_or(b"");
     let text = if pattern.starts_with(b"client") {
@@ -150,9 +164,12 @@ fn add_event(
     script.extend_from_slice(b"\n")
 }
 
-fn table(chance: &mut Chance, is_edited: bool) -> &'static [u8] {
-    if is_edited && chance.below(12) == 0 {
+fn table(chance: &mut Chance, beside: Beside) -> &'static [u8] {
+    if beside.edits && chance.below(12) == 0 {
         return EDITS;
+    }
+    if beside.upkeep && chance.below(12) == 0 {
+        return UPKEEP;
     }
     match TABLES.get(chance.below(TABLES.len())) {
         Some(b'r') => REQUESTS,

@@ -83,6 +83,24 @@ client s? 0001|client s$d 00090000000000000000000000000000
 |drain s$3 $4
 |sweep";
 
+/// Somebody sees after the gateway.
+pub(crate) const UPKEEP: &[u8] = b"|limit $Z $z
+|limit $Z $z
+|limit $Z 100
+|limit $Z 100
+|limit searches $4
+|limit share $3
+|limit makes-room 1
+|limit makes-room $y
+|limit $O $y
+|limit update-bytes $w
+|limit update-bytes 18446744073709551615
+|age
+|age
+|age$/age
+|search lab$3 000600080005000d0000000$90000000$9543$5000000000000$/age
+|probe $3";
+
 /// What is refused, ignored or cut, and what says nothing.
 pub(crate) const ODDITIES: &[u8] = b"|client s$4 000000000000000$X0000000000000000
 |client s$4 00000000000000080000000000000000
@@ -212,6 +230,12 @@ pub(crate) fn words(letter: u8) -> &'static [u8] {
         b'X' => b"d d d d b 9",
         b'G' => b"NONE READ WRITE",
         b'H' => b"31 32 33 37",
+        // Limits, those that hold or don't, and what they may be.
+        b'Z' => b"sessions servers links searches share channels subscriptions reads writes",
+        b'O' => b"makes-room reuses-numbers passes-over-gone tells-unreadable",
+        b'z' => b"0 1 2 3 3 4 5 6",
+        b'y' => b"0 1",
+        b'w' => b"0 1 24 40 100 1000",
         // Four bytes of a value.
         b'V' =>
             b"00000000 00000001 00000007 31320000 ffffffff ff00fe01 30783134 00002a00 80000000 41424344 7fffffff",

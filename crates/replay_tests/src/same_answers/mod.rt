@@ -9,6 +9,9 @@
 //! list of which it differs is shown with its seed. Lines of some kinds are counted too, so that lists
 //! that come to nothing don't pass.
 //!
+//! One list of four is drawn from the table of limits, ages and probes too: so both are compared while
+//! little may stand, and while old searches go.
+//!
 //! An event is added as a row of a table of `events`, whose head says what may stand in it; a table is
 //! drawn as often as `author::TABLES` has its letter. A row more changes what is drawn from each seed.
 //! Tests that run before they are proved (`rt try`) are slow, and need `lists::LISTS` smaller.

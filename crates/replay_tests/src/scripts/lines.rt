@@ -115,6 +115,87 @@ rights s0 04294967295
 }
 
 #[test]
+fn each_command_of_upkeep_is_read(rt: HostRuntime) {
+    reads(
+        &rt,
+        rt.alloc(),
+        b"age
+> Ok(Age)
+probe 1
+> Ok(Probe(1))
+probe 04294967295
+> Ok(Probe(4294967295))
+limit sessions 0
+> Ok(Limit(Sessions(0)))
+limit servers 1024
+> Ok(Limit(Servers(1024)))
+limit links 007
+> Ok(Limit(Links(7)))
+limit searches 65536
+> Ok(Limit(Searches(65536)))
+limit share 4096
+> Ok(Limit(Share(4096)))
+limit channels 3
+> Ok(Limit(Channels(3)))
+limit subscriptions 2
+> Ok(Limit(Subscriptions(2)))
+limit reads 1
+> Ok(Limit(Reads(1)))
+limit writes 18446744073709551615
+> Ok(Limit(Writes(18446744073709551615)))
+limit update-bytes 18446744073709551615
+> Ok(Limit(UpdateBytes(18446744073709551615)))
+limit makes-room 1
+> Ok(Limit(MakesRoom(true)))
+limit makes-room 0
+> Ok(Limit(MakesRoom(false)))
+limit reuses-numbers 1
+> Ok(Limit(ReusesNumbers(true)))
+limit passes-over-gone 0
+> Ok(Limit(PassesOverGone(false)))
+limit tells-unreadable 1
+> Ok(Limit(TellsUnreadable(true)))",
+    );
+}
+
+#[test]
+fn upkeep_that_stands_for_nothing_is_bad(rt: HostRuntime) {
+    reads(
+        &rt,
+        rt.alloc(),
+        b"age\x20
+age 1
+Age
+probe
+probe\x20
+probe u1
+probe 1 2
+probe +1
+probe 4294967296
+limit
+limit sessions
+limit sessions\x20
+limit  sessions 1
+limit sessions 1\x20
+limit sessions 1 2
+limit Sessions 1
+limit session 1
+limit subs 1
+limit update_bytes 1
+limit sessions -1
+limit sessions +1
+limit sessions 18446744073709551616
+limit update-bytes 18446744073709551616
+limit makes-room
+limit makes-room 2
+limit makes-room 01
+limit makes-room true
+limit tells-unreadable -
+limits sessions 1",
+    );
+}
+
+#[test]
 fn lines_of_no_command_are_bad(rt: HostRuntime) {
     reads(
         &rt,

@@ -11,6 +11,7 @@
 //! - `! uncut`: without it the script is performed on the plain gateway too, and again with the
 //!   bytes of each line cut after 1 to 47 of them.
 
+mod ages;
 mod beginnings;
 mod channels;
 mod clients;
@@ -27,5 +28,6 @@ mod servers;
 mod subscriptions;
 mod tell;
 mod text;
+mod told_limits;
 mod types;
 mod writes;

@@ -15,7 +15,7 @@ invariant_of-self c =
     let changed = rows_changed session_key c.self.inside.rows under _ (with_host_and_pause c.args.host c.args.host_fixed c.args.paused) _ (λ row. refl) c.put.ensures in
     record {
       under_keys = keyed_again session_key _ _ (under_change session_key c.self.inside.rows under _ (with_host_and_pause c.args.host c.args.host_fixed c.args.paused) _ (λ row. refl) c.put.ensures);
-      numbered = subst (λ (rows : List Session). AreNumbersOf c.self.inside.numbers rows) (sym changed) (numbers_kept (λ row. same_key (session_key row) (number_key c.args.number)) c.args.host c.args.host_fixed c.args.paused c.self.inside.numbers (map row_of c.self.inside.rows) c.self.invariant.numbered);
+      numbered = subst (λ (rows : List Session). AreNumbersOf c.self.inside.numbers rows) (sym changed) (numbers_kept (λ row. same_key (session_key row) (number_key c.args.number)) (with_host_and_pause c.args.host c.args.host_fixed c.args.paused) (λ row. refl) c.self.inside.numbers (map row_of c.self.inside.rows) c.self.invariant.numbered);
     }
 
 pub returns : goal.returns

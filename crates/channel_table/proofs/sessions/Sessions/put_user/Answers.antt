@@ -1,0 +1,25 @@
+use Rattle.std.proofs.Common.{List, map, refl, sym, ap, subst, ◌∙◌}
+use Rattle.rows.specs.Rows.{change_first}
+use Rattle.row_index.specs.Rows.{row_of, same_key}
+use Rattle.channel_table.specs.declared.sessions.Session.{Session}
+use Rattle.channel_table.specs.Sessions.{is_numbered, with_user}
+use Rattle.channel_table.specs.Indexes.{AreNumbersOf, session_key}
+use Rattle.channel_table.proofs.ByNumber.{numbers_kept}
+use Rattle.channel_table.proofs.Keyed.{keyed_again, rows_changed, under_change}
+use Rattle.channel_table.proofs.Numbered.{by_number, number_key}
+use Rattle.channel_table.proofs.sessions.Sessions.put_user.Goals as goal
+
+pub invariant_of-self : goal.invariant_of-self
+invariant_of-self c =
+    let under = c.self.invariant.under_keys in
+    let changed = rows_changed session_key c.self.inside.rows under _ (with_user c.args.user) _ (λ row. refl) c.put_user.ensures in
+    record {
+      under_keys = keyed_again session_key _ _ (under_change session_key c.self.inside.rows under _ (with_user c.args.user) _ (λ row. refl) c.put_user.ensures);
+      numbered = subst (λ (rows : List Session). AreNumbersOf c.self.inside.numbers rows) (sym changed) (numbers_kept (λ row. same_key (session_key row) (number_key c.args.number)) (with_user c.args.user) (λ row. refl) c.self.inside.numbers (map row_of c.self.inside.rows) c.self.invariant.numbered);
+    }
+
+pub returns : goal.returns
+returns c =
+    rows_changed session_key c.self.inside.rows c.self.invariant.under_keys _ (with_user c.args.user) _ (λ row. refl) c.put_user.ensures
+    ∙ ap (λ p. change_first p (with_user c.args.user) (map row_of c.self.inside.rows)) (by_number c.args.number)
+    ∙ ap (change_first (is_numbered c.args.number) (with_user c.args.user)) c.self.view_is

@@ -1,0 +1,12 @@
+use Rattle.std.proofs.Common.{◌≡◌, ◌≤◌, ◌+◌, fold, drop}
+use Rattle.server_messages.specs.Overdue.{given_up_on, looks_at}
+use Rattle.server_messages.proofs.age.give_up_on_all.Given as goal
+
+-- giving up on those that are left leads from here to where giving up on all leads, and looks at no more
+abbrev pub invariant-loop-one : goal.invariant-loop-one
+invariant-loop-one l =
+    (fold given_up_on l.rows.state (drop l.one-index l.overdue) ≡ fold given_up_on l.fn.rows.state l.overdue)
+    × (l.visits.looks + looks_at l.rows.state (drop l.one-index l.overdue) ≤ l.fn.visits.looks + looks_at l.fn.rows.state l.overdue)
+    × (l.fn.visits.looks ≤ l.visits.looks)
+    × (l.rows.brand ≡ l.fn.rows.brand)
+    × (l.visits.brand ≡ l.fn.visits.brand)
