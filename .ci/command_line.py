@@ -104,9 +104,14 @@ SERVE_REFUSALS = [
     *((f"127.0.0.1:0 127.0.0.1:1 --status{value}", b"", 2) for value in ("", " 127.0.0.1", " localhost:0", " 127.0.0.1:0 --status 127.0.0.1:0")),
     *((f"127.0.0.1:0 127.0.0.1:1 --clients-of-host{value}", b"", 2)
       for value in ("", " 0", " 1025", " 4294967297", " 1.5", " +1", " ten", " 10 --clients-of-host 10")),
+    *((f"127.0.0.1:0 127.0.0.1:1 {option}{value}", b"", 2) for option, more in (("--clients", 4097), ("--servers", 1025), ("--names", 1048577), ("--alive", 3601), ("--forget", 86401))
+      for value in ("", " 0", f" {more}", " 4294967297", " 1.5", " +1", " -1", " ten", " 10s", f" 10 {option} 10")),
+    ("127.0.0.1:0 127.0.0.1:1 127.0.0.1:2 --servers 1", b"", 2),
+    ("127.0.0.1:0" + " 127.0.0.1:1" * 17 + " --site --servers 16", b"", 2),
+    ("127.0.0.1:0" + " 127.0.0.1:1" * 1025 + " --site", b"", 2),
     ("127.0.0.1:0 127.0.0.1:1 --rules .", b"", 3),
     ("127.0.0.1:0 127.0.0.1:1 --rules /dev/zero", b"", 3),
-    *((f"127.0.0.1:0 127.0.0.1:1 {option}{value}", b"", 2) for option in ("--back-off", "--site")
+    *((f"127.0.0.1:0 127.0.0.1:1 {option}{value}", b"", 2) for option in ("--back-off", "--late", "--site")
       for value in ("=", "=1", "=true", " yes", " 1", f" {option}")),
     ("127.0.0.1:0 127.0.0.1:1 --status 192.0.2.1:0", b"", 3),
     ("127.0.0.1:0 127.0.0.1:1 --status 192.0.2.1:0 --rules no-verb", b"line 3: NoVerb\n", 1),
@@ -147,6 +152,9 @@ SERVE_OPTIONS = [
     "--log error", "--log warn", "--log info", "--log debug", "--log debug --reconnect 1 --sweep 1 --rules rules",
     "--status 127.0.0.1:0", "--status [::1]:0 --log error", "--clients-of-host 1", "--clients-of-host 1024",
     "--back-off", "--site", "--site --back-off", "--reconnect 1 --back-off --sweep 1",
+    "--clients 1", "--clients 4096", "--servers 1", "--servers 1024", "--names 1", "--names 1048576", "--alive 1", "--alive 3600", "--forget 1", "--forget 86400",
+    "--late", "--site --late --clients 10 --servers 20 --names 30 --alive 40 --forget 50 --clients-of-host 60",
+    "--servers 17" + " 127.0.0.1:1" * 16, "--site" + " 127.0.0.1:1" * 40,
 ]
 
 # Arguments of `check-rules`, and all that it writes to standard error.

@@ -8,6 +8,11 @@ _pvgate() {
     check-rules:--host) : ;;
     serve:--rules) files=yes ;;
     serve:--groups) files=yes ;;
+    serve:--clients) : ;;
+    serve:--servers) : ;;
+    serve:--names) : ;;
+    serve:--alive) : ;;
+    serve:--forget) : ;;
     serve:--most-waiting) : ;;
     serve:--reconnect) : ;;
     serve:--sweep) : ;;
@@ -19,7 +24,7 @@ _pvgate() {
         0:*) words="replay check-rules serve help -h --help -V --version" ;;
         1:replay) words="--plain -h --help" ;;
         1:check-rules) words="--groups --name --host --plain-groups -h --help" files=yes ;;
-        1:serve) words="--rules --groups --plain-groups --most-waiting --reconnect --sweep --log --status --clients-of-host --back-off --site -h --help" ;;
+        1:serve) words="--rules --groups --plain-groups --clients --servers --names --alive --forget --late --most-waiting --reconnect --sweep --log --status --clients-of-host --back-off --site -h --help" ;;
         1:help) words="replay check-rules serve" ;;
         esac
         ;;

@@ -27,7 +27,7 @@ NOT_RUN = {
     "examples/ioc.py": "it runs until it is ended; .ci/serve.py runs it, in its story `examples`",
     "./pvgate serve 127.0.0.1:5064 127.0.0.1:5070 --rules examples/site.pvlist --groups examples/site.groups": SERVES,
     "examples/ca.py monitor BEAM:CURRENT": "it needs the gateway; .ci/serve.py runs it, in its story `examples`",
-    "./pvgate serve LISTEN UPSTREAM.. [--rules FILE] [--groups FILE] [--plain-groups] [--most-waiting MIB] [--reconnect SECONDS] [--sweep SECONDS] [--log LEVEL] [--status ADDRESS] [--clients-of-host N] [--back-off] [--site]": "it is the form of a command",
+    "./pvgate serve LISTEN UPSTREAM.. [--rules FILE] [--groups FILE] [--plain-groups] [--most-waiting MIB] [--reconnect SECONDS] [--sweep SECONDS] [--log LEVEL] [--status ADDRESS] [--clients-of-host N] [--clients N] [--servers N] [--names N] [--alive SECONDS] [--forget SECONDS] [--back-off] [--late] [--site]": "it is the form of a command",
     "./pvgate serve 0.0.0.0:5064 10.0.1.20:5064 10.0.1.21:5066 --rules gateway.pvlist --groups gateway.groups": SERVES,
     "mkfifo orders": INSTALLED,
     "./pvgate serve 127.0.0.1:5064 127.0.0.1:5070 <> orders 2>> pvgate.log &": INSTALLED,

@@ -74,7 +74,8 @@ def unrepeated(room):
     room.eventually("but by a line", lambda: up.count_clients() == 1)
     room.equal("quit", server.quit(), 0)
     server = room.server(Deaf(room), up, options=("--reconnect", "1"))
-    room.eventually("the other server is there", lambda: up.count_clients() == 1)
+    room.eventually("the other server is there", lambda: count(server, "INFO", "upstream 2", "connected") == 1)
+    time.sleep(1)
     running = threads(server)
     time.sleep(3)
     room.equal("one thread waits for the one that never answers", threads(server), running)
@@ -111,7 +112,8 @@ def levels(room):
     up = room.upstream(variable("V", values=[1]))
     told = {level: events(room, up, ("--log", level)) for level in ("error", "warn", "info", "debug")}
     warned = ["[WARN  pvgate] rules refused: line 1: NoVerb"]
-    informed = ["[INFO  pvgate] rules read: 1 rows", f"[INFO  pvgate] upstream 1 ({text_of(up.address)}) connected", "[INFO  pvgate] client 1 (HERE) connected",
+    informed = ["[INFO  pvgate] connections are not watched: one that is gone without a word stays until the system notices",
+                "[INFO  pvgate] rules read: 1 rows", f"[INFO  pvgate] upstream 1 ({text_of(up.address)}) connected", "[INFO  pvgate] client 1 (HERE) connected",
                 "[INFO  pvgate] client 1 (HERE) gone", "[INFO  pvgate] closing"]
     sought = ["[DEBUG pvgate] a line that is no order", "[DEBUG pvgate] swept: searched names are forgotten"]
     room.equal("error", told["error"], [])

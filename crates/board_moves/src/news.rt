@@ -3,14 +3,14 @@ use board_rings::RING_SIZE;
 use gateway_state::Dest;
 
 /// How many seats there are. Each connection has one, that it shares with few others.
-pub const SEATS: usize = 1040;
+pub const SEATS: usize = 2_048;
 
-const CLIENT_SEATS: u32 = 1024;
+const CLIENT_SEATS: u32 = 1_024;
 
-const SERVER_SEATS: u32 = 16;
+const SERVER_SEATS: u32 = 1_024;
 
 /// How many words of 64 seats there are.
-pub const SEAT_WORDS: usize = 17;
+pub const SEAT_WORDS: usize = 32;
 
 /// The seat of a connection.
 pub fn seat_of(dest: Dest) -> usize {

@@ -40,14 +40,6 @@ Lines of a script (N is a number, D is sN, the connection of a client, or uN, th
   hold D          D's messages are kept back from now on
   flow D          they are no longer kept back
   drain D K       the first K messages that wait for D are printed
-  limit NAME K    from now on at most K stand of NAME: sessions, servers, links, searches; of one client
-                  channels, subscriptions, reads, writes. share K: searches of one host, where room is made.
-                  update-bytes K: a client gets updates while fewer than K bytes wait for it.
-                  makes-room 1: an old search goes for a new one; 0: a new one needs room.
-                  reuses-numbers, passes-over-gone and tells-unreadable (0 or 1) are kept, and not heeded yet
-  age             time passes: what wasn't searched for since the last age is forgotten, and what servers
-                  owe since before it is given up
-  probe N         the server uN is asked whether it is there
   # TEXT          nothing, as an empty line
 
 Lines that change nothing, and what they print:
@@ -153,8 +145,24 @@ whole number from 1 to 86400; neither is done without its option, and no time is
 
 With --back-off a name that no server has is asked for when it is first looked for, and then after gaps
 that double up to 4.4 minutes, and each UPSTREAM gets at most 4 datagrams in 32 ms. Without it each
-search has all names asked for that no server has, at most ten times a second. --site is what a site
-wants together: --back-off, --clients-of-host 256, and that a reload of an empty rule file is refused.
+search has all names asked for that no server has, at most ten times a second.
+
+With --alive an UPSTREAM that says nothing for so many seconds is asked whether it is there, and is lost
+where it says nothing for 5 seconds more. A client is cut off where for four times the seconds nothing
+came from it and nothing could be written to it. `connect N` then also connects again to an UPSTREAM that
+was asked and said nothing yet. Without it nothing is watched. SECONDS is from 1 to 3600.
+
+With --names so many searched names are remembered, by host and name, and a new one takes the place of an
+old one: of the oldest of its host, where that has a sixteenth of them (256 at least), else of the oldest
+of all. Without it 4096 are remembered, and then no new one. With --forget those that nobody looked for
+since the last time are forgotten every so many seconds; so are reads and names for which an UPSTREAM owes
+an answer for so long.
+
+With --late a search for a name that isn't connected yet is answered once it is, within 5 seconds.
+
+--site is what a site wants together: --back-off, --late, --alive 15, --forget 300, --names 65536,
+--servers 1024, --clients-of-host 256, and that a reload of an empty rule file is refused. Each that has a
+value may be said otherwise beside it.
 
 With --status each who connects to ADDRESS is told of the gateway in one line of JSON, and is hung up on:
 clients, upstreams, rows of each kind, edits of the rules, messages in and out, and the largest outbox.
@@ -196,8 +204,10 @@ pub struct CheckRules<'a> {
 
 /// What `serve` is to serve: the texts of its addresses, the paths of the rule files, the syntax of patterns,
 /// and the texts of how many MiB may wait for a client, after how many seconds lost servers are connected to
-/// again and names are forgotten, what is logged, who is told of it, how many clients a host may have, and whether
-/// names are asked for more and more seldom and it has what a site wants.
+/// again and names are forgotten, what is logged, who is told of it, how many clients a host may have and how many
+/// clients, servers and names there may be, after how many seconds of silence servers are asked whether they are there
+/// and old names are forgotten; and whether names are asked for more and more seldom, searches are answered late, and it
+/// has what a site wants.
 #[derive(Drop)]
 pub struct Serve<'a> {
     pub listen: &'a str,
@@ -211,7 +221,13 @@ pub struct Serve<'a> {
     pub log: &'a str,
     pub status: Option<&'a str>,
     pub clients_of_host: Option<&'a str>,
+    pub clients: Option<&'a str>,
+    pub servers: Option<&'a str>,
+    pub names: Option<&'a str>,
+    pub alive: Option<&'a str>,
+    pub forget: Option<&'a str>,
     pub back_off: bool,
+    pub late: bool,
     pub site: bool,
 }
 
@@ -280,7 +296,7 @@ fn serve_command<'a>(alloc: Global) -> Result<Command<'a>, Error> {
         .required(true);
     let upstreams = Arg::new(alloc, "upstream")
         .value_name("UPSTREAM")
-        .help("The address of a server, as 127.0.0.1:5070; at most 16")
+        .help("The address of a server, as 127.0.0.1:5070; at most 16, or what --servers says")
         .required(true)
         .num_args(1..)
         .action(ArgAction::Append);
@@ -307,7 +323,8 @@ fn operating_options<'a>(alloc: Global, command: Command<'a>) -> Result<Command<
     let clients_of_host = "So many clients of one host may be connected at once; 1 to 1024";
     let back_off = "Names that no server has are asked for more and more seldom";
     let site =
-        "What a site wants: --back-off, --clients-of-host 256, and that no empty rule file is taken at reload";
+        "What a site wants: --back-off, --late, --alive 15, --forget 300, --names 65536 and more, as is told below";
+    let command = scale_options(alloc, command)?;
     Ok(
         command
             .arg(option(alloc, "most-waiting", "MIB", most_waiting).default_value(MOST_WAITING))?
@@ -318,6 +335,27 @@ fn operating_options<'a>(alloc: Global, command: Command<'a>) -> Result<Command<
             .arg(option(alloc, "clients-of-host", "N", clients_of_host))?
             .arg(flag(alloc, "back-off", back_off))?
             .arg(flag(alloc, "site", site))?,
+    )
+}
+
+// How much it takes on, and what it doesn't wait for.
+fn scale_options<'a>(alloc: Global, command: Command<'a>) -> Result<Command<'a>, Error> {
+    let clients =
+        "So many clients may be connected at once; 1 to 4096, and 1024 where it isn't said";
+    let servers = "There may be so many UPSTREAMs; 1 to 1024, and 16 where it isn't said";
+    let names = "So many searched names are remembered, and old ones go for new ones; 1 to 1048576";
+    let alive = "An UPSTREAM that says nothing for so long is asked whether it is there; 1 to 3600";
+    let forget =
+        "So often names are forgotten that nobody looked for since the last time; 1 to 86400";
+    let late = "A search for a name that isn't connected yet is answered once it is";
+    Ok(
+        command
+            .arg(option(alloc, "clients", "N", clients))?
+            .arg(option(alloc, "servers", "N", servers))?
+            .arg(option(alloc, "names", "N", names))?
+            .arg(option(alloc, "alive", "SECONDS", alive))?
+            .arg(option(alloc, "forget", "SECONDS", forget))?
+            .arg(flag(alloc, "late", late))?,
     )
 }
 
@@ -376,7 +414,13 @@ fn serve_arguments<'a>(alloc: Global, found: &ArgMatches<'a>) -> Result<Serve<'a
         log: found.get_str("log").unwrap_or(LOG),
         status: found.get_str("status"),
         clients_of_host: found.get_str("clients-of-host"),
+        clients: found.get_str("clients"),
+        servers: found.get_str("servers"),
+        names: found.get_str("names"),
+        alive: found.get_str("alive"),
+        forget: found.get_str("forget"),
         back_off: found.get_flag("back-off"),
+        late: found.get_flag("late"),
         site: found.get_flag("site"),
     })
 }

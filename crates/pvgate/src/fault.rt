@@ -28,11 +28,14 @@ pub enum Fault {
     /// A number of clients that is none.
     #[error("the number of clients is bad, as 64 is good: {0}")]
     BadSeats(String),
+    /// A number of clients, servers or names that is none, and the highest one.
+    #[error("the number is bad, as 1 to {1} are good: {0}")]
+    BadNumber(String, u32),
     /// A level that is none.
     #[error("the level is bad, as info is good: {0}")]
     BadLevel(String),
-    #[error("there are more than 16 upstreams")]
-    TooManyUpstreams,
+    #[error("there are more than {0} upstreams")]
+    TooManyUpstreams(u32),
     /// LISTEN can't be opened.
     #[error("the address can't be listened on: {0}")]
     Listen(io::Error),
@@ -56,7 +59,8 @@ impl Fault {
             | Fault::BadSeconds(_)
             | Fault::BadLevel(_)
             | Fault::BadSeats(_)
-            | Fault::TooManyUpstreams => status::BAD_INPUT,
+            | Fault::BadNumber(_, _)
+            | Fault::TooManyUpstreams(_) => status::BAD_INPUT,
             Fault::File(_, _) | Fault::Listen(_) | Fault::Reports(_) | Fault::Output =>
                 status::STREAM_FAILED,
             Fault::OutOfMemory => status::FAILED,

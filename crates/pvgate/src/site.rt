@@ -2,13 +2,26 @@
 use crate::arguments::Serve;
 use crate::fault::Fault;
 use serve::{
-    Files, HostSeats, Level, MostWaiting, Options, SERVER_LIMIT, Seconds, ServeFault, read_level,
+    CLIENTS, Files, HostSeats, Level, MOST_CLIENTS, MOST_NAMES, MOST_SERVERS, MostWaiting, Options,
+    Patience, SERVERS, Scale, Seconds, ServeFault, read_level, read_up_to,
 };
 use std::alloc::{AllocError, Global};
 use std::net::SocketAddr;
 
 /// How many clients a host may have at a site, where nothing else is said.
 const SITE_SEATS: &str = "256";
+
+/// How many servers there may be at a site.
+const SITE_SERVERS: &str = "1024";
+
+/// How many names are remembered at a site.
+const SITE_NAMES: &str = "65536";
+
+/// After how many seconds of silence a site's servers are asked whether they are there: libca asks after as many.
+const SITE_ALIVE: &str = "15";
+
+/// After how many seconds a site's names are forgotten: libca looks for a name at least as often.
+const SITE_FORGET: &str = "300";
 
 /// What the command line says of a gateway: its own address, those of servers, the rule files, and how it serves.
 #[derive(Drop)]
@@ -22,8 +35,9 @@ pub struct Site {
 /// Reads the addresses, the numbers and the level of the command line.
 pub fn read_site(alloc: Global, arguments: &Serve<'_>) -> Result<Site, Fault> {
     let listen = read_address(alloc, arguments.listen)?;
-    if arguments.upstreams.len() > SERVER_LIMIT as usize {
-        return Err(Fault::TooManyUpstreams);
+    let scale = read_scale(alloc, arguments)?;
+    if arguments.upstreams.len() > scale.servers as usize {
+        return Err(Fault::TooManyUpstreams(scale.servers));
     }
     let mut servers = Vec::new(alloc);
     for text in arguments.upstreams.as_slice() {
@@ -36,9 +50,16 @@ pub fn read_site(alloc: Global, arguments: &Serve<'_>) -> Result<Site, Fault> {
         sweep: read_seconds(alloc, arguments.sweep)?,
         status: read_status(alloc, arguments.status)?,
         log: read_log(alloc, arguments.log)?,
-        clients_of_host: read_seats(alloc, seats_of(arguments))?,
+        clients_of_host: read_seats(
+            alloc,
+            at_site(arguments, arguments.clients_of_host, SITE_SEATS),
+        )?,
         refuse_empty: arguments.site,
         back_off: arguments.back_off || arguments.site,
+        scale,
+        alive: read_alive(alloc, at_site(arguments, arguments.alive, SITE_ALIVE))?,
+        forget: read_seconds(alloc, at_site(arguments, arguments.forget, SITE_FORGET))?,
+        late: arguments.late || arguments.site,
     };
     let files = Files {
         rules: copy(alloc, arguments.rules)?,
@@ -84,11 +105,42 @@ fn read_seconds(alloc: Global, text: Option<&str>) -> Result<Option<Seconds>, Fa
     }
 }
 
-// A site has at least four hosts before its seats are taken.
-fn seats_of<'a>(arguments: &Serve<'a>) -> Option<&'a str> {
-    match arguments.clients_of_host {
-        None if arguments.site => Some(SITE_SEATS),
+// What is given, or what a site has where nothing is.
+fn at_site<'a>(arguments: &Serve<'a>, given: Option<&'a str>, at_site: &'a str) -> Option<&'a str> {
+    match given {
+        None if arguments.site => Some(at_site),
         given => given,
+    }
+}
+
+fn read_scale(alloc: Global, arguments: &Serve<'_>) -> Result<Scale, Fault> {
+    let servers = at_site(arguments, arguments.servers, SITE_SERVERS);
+    let names = at_site(arguments, arguments.names, SITE_NAMES);
+    Ok(Scale {
+        clients: read_number(alloc, arguments.clients, MOST_CLIENTS)?.unwrap_or(CLIENTS),
+        servers: read_number(alloc, servers, MOST_SERVERS)?.unwrap_or(SERVERS),
+        names: read_number(alloc, names, MOST_NAMES)?,
+        site: arguments.site,
+    })
+}
+
+fn read_number(alloc: Global, text: Option<&str>, most: u32) -> Result<Option<u32>, Fault> {
+    let Some(text) = text else {
+        return Ok(None);
+    };
+    match read_up_to(most, text.as_bytes()) {
+        Some(number) => Ok(Some(number)),
+        None => Err(Fault::BadNumber(String::from_str(alloc, text)?, most)),
+    }
+}
+
+fn read_alive(alloc: Global, text: Option<&str>) -> Result<Option<Patience>, Fault> {
+    let Some(text) = text else {
+        return Ok(None);
+    };
+    match Patience::read(text.as_bytes()) {
+        Some(patience) => Ok(Some(patience)),
+        None => Err(Fault::BadSeconds(String::from_str(alloc, text)?)),
     }
 }
 

@@ -9,8 +9,8 @@ use serve_state::{AskBudget, AskRhythm, Notice};
 use std::sync::CondvarTimeouts;
 use std::time::Duration;
 
-/// So many wanted names that no server has are worth a notice.
-const MANY_NAMES: usize = 3_500;
+/// So many of 1,024 names that may be remembered are many, where no server has them: they are worth a notice.
+const MANY: usize = 875;
 
 /// How many milliseconds a look has, in which so many datagrams may be sent.
 const LOOK: u64 = 32;
@@ -129,9 +129,11 @@ fn wanted_names<R: System, H: AsHub>(rt: R, hub: &H, asker: &mut Asker) -> Optio
     }
     match hub.gate().asks(&rt) {
         Ok(names) => {
-            let has_many = names.len() >= MANY_NAMES;
+            let most = hub.hub().limits().searches;
+            let has_many = names.len() >= many_of(most);
             if has_many && !asker.had_many {
-                hub.hub().tell(&rt, Notice::NamesNearLimit(names.len()));
+                hub.hub()
+                    .tell(&rt, Notice::NamesNearLimit(names.len(), most));
             }
             asker.had_many = has_many;
             Some(names)
@@ -142,6 +144,11 @@ fn wanted_names<R: System, H: AsHub>(rt: R, hub: &H, asker: &mut Asker) -> Optio
         }
         Err(AskFault::Failed) => None,
     }
+}
+
+// So many of so many names are many.
+fn many_of(most: usize) -> usize {
+    (most.saturating_mul(MANY) / 1_024).max(1)
 }
 
 fn tell_asked<R: System>(rt: R, hub: &Hub, names: usize) {

@@ -1,7 +1,7 @@
 //! Clients that connect.
-use crate::hub::{Arrival, AsHub, Hub, Stream};
+use crate::hub::{Arrival, AsHub, Hub};
+use crate::line::Line;
 use crate::machine::System;
-use crate::opening::SERVER_LIMIT;
 use crate::workers::start_workers;
 use gateway_core::{Dest, Event};
 use pv_name::Host;
@@ -9,7 +9,6 @@ use serve_state::{Notice, Refusal, is_kept_back};
 use std::fmt::Write;
 use std::net::{IpAddr, Shutdown, SocketAddr, TcpStream};
 use std::os::fd::AsRawFd;
-use std::sync::Arc;
 use std::thread;
 use std::thread::Scope;
 use std::time::Duration;
@@ -46,7 +45,7 @@ fn arrive<R: System>(rt: R, hub: &Hub, stream: TcpStream, peer: SocketAddr) {
 
 // Whether its descriptor is one of those that are kept for servers.
 fn is_spare(hub: &Hub, stream: &TcpStream) -> bool {
-    let servers = u32::try_from(hub.servers.len()).unwrap_or(SERVER_LIMIT);
+    let servers = hub.server_count();
     match u64::try_from(stream.as_raw_fd()) {
         Ok(descriptor) => is_kept_back(descriptor, hub.most_files, servers),
         Err(_) => false,
@@ -95,41 +94,43 @@ fn greet<'x, 's: 'x, E: 's, R: System + 's, H: AsHub + Sync + 's>(
     peer: SocketAddr,
 ) {
     let _ = stream.set_nodelay(true);
-    let (Ok(host), Ok(stream)) = (host_of(hub.hub(), &peer), Arc::new(hub.hub().alloc, stream))
-    else {
+    let (Ok(host), Ok(line)) = (
+        host_of(hub.hub(), &peer),
+        Line::new(hub.hub().alloc, stream),
+    ) else {
         hub.hub().tell(&rt, Notice::OutOfMemory);
         return;
     };
-    let Ok(link) = Arc::try_clone(&stream) else {
+    let Ok(own) = line.share() else {
         hub.hub().tell(&rt, Notice::OutOfMemory);
         return;
     };
-    let admitted = admit(rt, hub.hub(), link, peer);
+    let admitted = admit(rt, hub.hub(), own, peer);
     let number = match admitted {
         Ok(number) => number,
         Err(refusal) => {
-            let _ = stream.shutdown(Shutdown::Both);
+            let _ = line.stream.shutdown(Shutdown::Both);
             tell_of(rt, hub.hub(), peer, refusal);
             return;
         }
     };
     hub.hub().tell(&rt, Notice::ClientConnected(number, peer));
     let _ = hub.gate().desk(&rt, Event::Opened(number, host));
-    start_workers(rt, &*scope, &*hub, Dest::Session(number), stream);
+    start_workers(rt, &*scope, &*hub, Dest::Session(number), &line);
 }
 
-fn admit<R: System>(rt: R, hub: &Hub, link: Stream, peer: SocketAddr) -> Result<u32, Refusal> {
+fn admit<R: System>(rt: R, hub: &Hub, line: Line, peer: SocketAddr) -> Result<u32, Refusal> {
     let mut roster = hub.roster.lock(&rt);
     match hub.options.clients_of_host {
         Some(seats) => {
-            roster.admit_client_of_host(link, peer, host_number(&peer), seats.number as usize)
+            roster.admit_client_of_host(line, peer, host_number(&peer), seats.number as usize)
         }
-        None => roster.admit_client(link, peer),
+        None => roster.admit_client(line, peer),
     }
 }
 
-// An IPv4 address is that of IPv6 that stands for it.
-fn host_number(peer: &SocketAddr) -> u128 {
+/// The number of the host: an IPv4 address is that of IPv6 that stands for it.
+pub fn host_number(peer: &SocketAddr) -> u128 {
     match peer.ip() {
         IpAddr::V4(ip) => ip.to_ipv6_mapped().to_bits(),
         IpAddr::V6(ip) => ip.to_bits(),
@@ -140,10 +141,7 @@ fn tell_of<R: System>(rt: R, hub: &Hub, peer: SocketAddr, refusal: Refusal) {
     match refusal {
         Refusal::Full => {
             count_refused(rt, hub);
-            hub.tell(
-                &rt,
-                Notice::ClientRefused(peer, "1024 clients are connected"),
-            );
+            tell_full(rt, hub, peer);
         }
         Refusal::HostFull => hub.tell(
             &rt,
@@ -151,6 +149,15 @@ fn tell_of<R: System>(rt: R, hub: &Hub, peer: SocketAddr, refusal: Refusal) {
         ),
         Refusal::OutOfMemory => hub.tell(&rt, Notice::ClientRefused(peer, "out of memory")),
         Refusal::Closing | Refusal::Held => (),
+    }
+}
+
+// As many clients as may be are connected.
+fn tell_full<R: System>(rt: R, hub: &Hub, peer: SocketAddr) {
+    let mut why = String::new(hub.alloc);
+    let clients = hub.options.scale.clients;
+    if write!(why, "{clients} clients are connected").is_ok() {
+        hub.tell(&rt, Notice::ClientRefused(peer, why.as_str()));
     }
 }
 

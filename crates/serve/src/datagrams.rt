@@ -2,6 +2,7 @@
 use crate::asker::milliseconds;
 use crate::clients::host_of;
 use crate::hub::{AsHub, Hub};
+use crate::late::{keep_late, note_found};
 use crate::machine::System;
 use gateway_core::{AskFault, Event};
 use pv_name::{Host, Name, NoMemory};
@@ -75,6 +76,7 @@ fn hear_server<R: System, H: AsHub>(
             let _ = hub.gate().desk(&rt, Event::Found(name, server));
         }
     }
+    note_found(rt, hub.hub());
 }
 
 // The name that was asked for under the CID, and the other server that answered that ask before this one.
@@ -164,6 +166,7 @@ fn hear_parts<R: System, H: AsHub>(
             return Err(AskFault::OutOfMemory);
         }
         remember(rt, hub, host, &answer, sought);
+        keep_late(rt, hub.hub(), &rest[..len], &answer, sought.from);
         rest = &rest[len..];
         if !rest.is_empty() {
             thread::sleep(&rt, Duration::from_micros(REST));

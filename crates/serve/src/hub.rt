@@ -1,11 +1,17 @@
 //! What all threads share.
+use crate::late::LateInbox;
+use crate::line::Line;
 use crate::logging::LogBook;
 use crate::machine::System;
 use gate_board::Gate;
 use gateway_core::Dest;
+use gateway_state::Limits;
 use log::Level;
 use pv_name::Name;
-use serve_state::{Asked, Cut, HostSeats, MostWaiting, Notice, Outages, Roster, Seconds};
+use serve_state::{
+    Asked, Cut, HostSeats, MOST_SERVERS, MostWaiting, Notice, Outages, Patience, Roster, Scale,
+    Seconds,
+};
 use std::alloc::Global;
 use std::collections::VecDeque;
 use std::mem::replace;
@@ -15,8 +21,8 @@ use std::sync::{Arc, Condvar, Mutex, Wait};
 /// A connection's socket.
 pub type Stream = Arc<TcpStream, Global>;
 
-/// The rows of connections, by socket and peer.
-pub type Rows = Roster<Stream, SocketAddr>;
+/// The rows of connections, each with its peer.
+pub type Rows = Roster<Line, SocketAddr>;
 
 /// The sockets on LISTEN, each with a second handle, by which it is shut.
 #[derive(Drop)]
@@ -46,6 +52,14 @@ pub struct Options {
     pub refuse_empty: bool,
     /// Names are asked for at looks that get rarer.
     pub back_off: bool,
+    /// So many clients, servers and remembered names there may be.
+    pub scale: Scale,
+    /// A server that says nothing for so long is asked whether it is there, and a silent connection ends.
+    pub alive: Option<Patience>,
+    /// So often what nobody searched for meanwhile is forgotten.
+    pub forget: Option<Seconds>,
+    /// Searches that can't be answered at once are answered once they can be.
+    pub late: bool,
 }
 
 /// So many names that clients sought wait for the asker. Where there are more, it looks for all.
@@ -128,6 +142,9 @@ pub struct Hub {
     pub asker: Condvar,
     pub asked: Mutex<Asked>,
     pub outages: Mutex<Outages>,
+    /// Searches that may be answered later.
+    pub late: Mutex<LateInbox>,
+    pub late_came: Condvar,
     /// How many edits of the rules were taken.
     pub edits: Mutex<u64>,
     /// How many clients were refused, since as many as can be were connected.
@@ -150,7 +167,7 @@ impl Hub {
             options,
             most_files,
             book,
-            roster: Mutex::new(Roster::new(alloc)),
+            roster: Mutex::new(Roster::new(alloc, options.scale.clients)),
             changed: Condvar::new(),
             arrivals: Mutex::new(Arrivals {
                 waiting: VecDeque::new(alloc),
@@ -161,9 +178,21 @@ impl Hub {
             asker: Condvar::new(),
             asked: Mutex::new(Asked::new(alloc)),
             outages: Mutex::new(Outages::new()),
+            late: Mutex::new(LateInbox::new(alloc)),
+            late_came: Condvar::new(),
             edits: Mutex::new(0),
             refused: Mutex::new(0),
         }
+    }
+
+    /// How many servers there are.
+    pub fn server_count(&self) -> u32 {
+        u32::try_from(self.servers.len()).unwrap_or(MOST_SERVERS)
+    }
+
+    /// The limits that hold.
+    pub fn limits(&self) -> Limits {
+        self.options.scale.limits()
     }
 
     /// Has the servers asked for all names that are wanted.
@@ -204,8 +233,8 @@ impl Hub {
         {
             let roster = self.roster.lock(rt);
             for row in roster.rows() {
-                if let Some(link) = row.link() {
-                    let _ = link.shutdown(Shutdown::Both);
+                if let Some(line) = row.link() {
+                    let _ = line.stream.shutdown(Shutdown::Both);
                 }
             }
         }
@@ -215,6 +244,8 @@ impl Hub {
         self.arrived.notify_all();
         self.wanted.lock(rt).end = true;
         self.asker.notify_all();
+        self.late.lock(rt).end = true;
+        self.late_came.notify_all();
         self.changed.notify_all();
     }
 

@@ -1,11 +1,11 @@
 //! What keeps the connections' rows.
-use crate::hub::{AsHub, Hub, Rows, Stream};
+use crate::hub::{AsHub, Hub, Rows};
+use crate::line::Line;
 use crate::machine::System;
 use crate::workers::start_workers;
 use gateway_core::{Dest, Event};
 use serve_state::{Cut, Notice};
 use std::net::SocketAddr;
-use std::sync::Arc;
 use std::thread;
 use std::thread::Scope;
 use std::time::Duration;
@@ -24,8 +24,8 @@ pub fn keep_rows<'x, 's: 'x, E: 's, R: System + 's, H: AsHub + Sync + 's>(
         if !is_needed(rt, hub.hub()) {
             return;
         }
-        if let Some((number, peer, stream)) = take_reached(rt, hub.hub()) {
-            serve_server(rt, &*scope, &*hub, number, peer, stream);
+        if let Some((number, peer, line)) = take_reached(rt, hub.hub()) {
+            serve_server(rt, &*scope, &*hub, number, peer, line);
         }
         if !retire_ended(rt, hub) {
             thread::sleep(&rt, Duration::from_millis(PAUSE));
@@ -46,8 +46,8 @@ fn is_idle(roster: &Rows) -> bool {
     !roster.is_closing() && !roster.has_reached() && roster.ended_from(0).is_none()
 }
 
-// The number, the address and the socket of a server that was reached.
-fn take_reached<R: System>(rt: R, hub: &Hub) -> Option<(u32, SocketAddr, Stream)> {
+// The number, the address and the connection of a server that was reached.
+fn take_reached<R: System>(rt: R, hub: &Hub) -> Option<(u32, SocketAddr, Line)> {
     let mut roster = hub.roster.lock(&rt);
     let place = roster.take_reached()?;
     let row = roster.rows().get(place)?;
@@ -56,9 +56,8 @@ fn take_reached<R: System>(rt: R, hub: &Hub) -> Option<(u32, SocketAddr, Stream)
         return None;
     };
     let peer = *row.peer();
-    let again: Result<Stream, _> = Arc::try_clone(link);
-    match again {
-        Ok(stream) => Some((number, peer, stream)),
+    match link.share() {
+        Ok(line) => Some((number, peer, line)),
         Err(_) => {
             // It never comes to stand, and can be connected to again.
             roster.remove(Dest::Upstream(number));
@@ -73,12 +72,12 @@ fn serve_server<'x, 's: 'x, E: 's, R: System + 's, H: AsHub + Sync + 's>(
     hub: &'s H,
     number: u32,
     peer: SocketAddr,
-    stream: Stream,
+    line: Line,
 ) {
     hub.hub().outages.lock(&rt).end(number);
     hub.hub().tell(&rt, Notice::ServerConnected(number, peer));
     let _ = hub.gate().desk(&rt, Event::UpOpened(number));
-    start_workers(rt, &*scope, &*hub, Dest::Upstream(number), stream);
+    start_workers(rt, &*scope, &*hub, Dest::Upstream(number), &line);
     // Who connects to it again and again isn't there to write `ask`.
     if hub.hub().options.reconnect.is_some() || hub.hub().options.back_off {
         hub.hub().ask(&rt);

@@ -10,7 +10,8 @@
 //! - one keeps the connections: it starts the workers of a server that was reached, and takes the rows away of
 //!   those that are lost;
 //! - one looks now and then whether a connection must end whose writer waits for its peer, or too much waits
-//!   for a client;
+//!   for a client, and, where it is to, whether whoever is connected is still there;
+//! - one answers searches that couldn't be answered when they came, where it is to;
 //! - two for each connection, which read and write;
 //! - one reads the orders of standard input, one performs those that are to be repeated, where any is, one tells of
 //!   the gateway, where it is to, one writes the log, and one for each connection to a server that is being made: these
@@ -24,6 +25,8 @@ mod datagrams;
 mod fault;
 mod hub;
 mod keeper;
+mod late;
+mod line;
 mod link;
 mod logging;
 mod machine;
@@ -40,9 +43,12 @@ pub use fault::ServeFault;
 pub use hub::Options;
 pub use log::Level;
 pub use machine::{Machine, System};
-pub use opening::{SERVER_LIMIT, open};
+pub use opening::open;
 pub use rules::Files;
-pub use serve_state::{HostSeats, MostWaiting, Seconds, read_level};
+pub use serve_state::{
+    CLIENTS, HostSeats, MOST_CLIENTS, MOST_NAMES, MOST_SERVERS, MostWaiting, Patience, SERVERS,
+    Scale, Seconds, read_level, read_up_to,
+};
 
 /// What the exit statuses of the program mean.
 pub mod status {

@@ -1,6 +1,7 @@
 //! A socket as a worker sees it.
 ghost use Rattle.std.specs.Prelude.{◌≡◌, ◌≤◌, IfOk, length};
 
+use crate::line::{Line, Watched};
 use serve_state::Versions;
 use session_worker::{Link, LinkFault};
 use std::alloc::Global;
@@ -13,14 +14,16 @@ use std::sync::Arc;
 #[derive(Drop)]
 pub struct SocketLink {
     stream: Arc<TcpStream, Global>,
+    watched: Arc<Watched, Global>,
     faults: u64,
     versions: Versions,
 }
 
 impl SocketLink {
-    pub fn new(stream: Arc<TcpStream, Global>) -> SocketLink {
+    pub fn new(line: Line) -> SocketLink {
         SocketLink {
-            stream,
+            stream: line.stream,
+            watched: line.watched,
             faults: 0,
             versions: Versions::new(),
         }
@@ -71,6 +74,7 @@ impl Link for SocketLink {
     fn read_piece(&mut self, buffer: &mut [u8]) -> Result<usize, LinkFault> {
         match read_once(&self.stream, buffer) {
             Ok(count) => {
+                self.watched.count_read(count);
                 self.versions.hear(&buffer[..count]);
                 Ok(count)
             }
@@ -83,7 +87,10 @@ impl Link for SocketLink {
 
     fn write_piece(&mut self, bytes: &[u8]) -> Result<usize, LinkFault> {
         match write_once(&self.stream, bytes) {
-            Ok(count) if count > 0 || bytes.is_empty() => Ok(count),
+            Ok(count) if count > 0 || bytes.is_empty() => {
+                self.watched.count_written(count);
+                Ok(count)
+            }
             _ => {
                 self.faults = self.faults.saturating_add(1);
                 Err(LinkFault)

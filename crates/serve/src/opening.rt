@@ -5,6 +5,7 @@ use crate::datagrams::{DATAGRAM_SIZE, receive};
 use crate::fault::ServeFault;
 use crate::hub::{AsGate, AsHub, AsRest, Hub, Options, Served, Sockets};
 use crate::keeper::keep_rows;
+use crate::late::answer_late;
 use crate::logging::{LogBook, Teller, write_lines};
 use crate::machine::{Machine, System};
 use crate::orders::{Orders, read_orders};
@@ -16,7 +17,7 @@ use crate::status;
 use crate::watcher::watch;
 use crate::workers::{RULES_STACK_SIZE, STACK_SIZE};
 use gate_board::{Board, Gate};
-use gateway_core::{Config, Engine, Policy};
+use gateway_core::{Config, Engine, Event, Policy};
 use pv_name::Name;
 use rule_desk::Desk;
 use serve_state::{Notice, Try};
@@ -30,11 +31,8 @@ use std::sync::Arc;
 use std::thread::{Builder, Scope, Threads, scope_env};
 use std::{io, thread};
 
-/// The most servers that there can be.
-pub const SERVER_LIMIT: u32 = 16;
-
-/// Serves clients on an address, from servers, of which the first `SERVER_LIMIT` count, until it is told to end on standard input. Returns the status
-/// that the program ends with.
+/// Serves clients on an address, from servers, until it is told to end on standard input. Returns the status that the
+/// program ends with.
 ///
 /// The rule files are read first and then tested, and the address is opened last; then `listening ADDR` is
 /// printed. Where the files are refused the line that says so is printed.
@@ -92,7 +90,9 @@ fn serve<
     let Ok(hub) = Arc::new(alloc, Served { gate, rest }) else {
         return Err(ServeFault::OutOfMemory);
     };
-    for number in 1..=SERVER_LIMIT {
+    let _ = hub.gate().desk(&rt, Event::Limit(hub.hub().limits()));
+    tell_watching(rt, hub.hub());
+    for number in 1..=hub.hub().server_count() {
         connect(rt, &hub, number, Try::Ordered);
     }
     start_orders(rt, &hub, orders)?;
@@ -105,6 +105,14 @@ fn serve<
     // The process ends now, with whatever waits for clients.
     forget(hub);
     Ok(ended)
+}
+
+// Whether it is watched that connections stand.
+fn tell_watching<R: System>(rt: R, hub: &Hub) {
+    match hub.options.alive {
+        Some(patience) => hub.tell(&rt, Notice::Watching(patience.seconds)),
+        None => hub.tell(&rt, Notice::NotWatching),
+    }
 }
 
 // The thread that writes the log. Nobody waits for it but for a moment at the end.
@@ -211,7 +219,12 @@ fn start_others<'x, 's: 'x, E: 's, R: System + 's, H: AsHub + Sync + 's>(
     let watcher = Builder::new()
         .stack_size(STACK_SIZE)
         .spawn_scoped(&*scope, move || watch(rt, hub));
-    acceptor.is_ok() && receiver.is_ok() && asker.is_ok() && watcher.is_ok()
+    let is_late = !hub.hub().options.late
+        || Builder::new()
+            .stack_size(RULES_STACK_SIZE)
+            .spawn_scoped(&*scope, move || answer_late(rt, hub))
+            .is_ok();
+    acceptor.is_ok() && receiver.is_ok() && asker.is_ok() && watcher.is_ok() && is_late
 }
 
 // Moves the board until the gate is closed or fails, and then has all threads end.

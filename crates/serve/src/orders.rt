@@ -128,6 +128,13 @@ pub fn sweep<R: System, H: AsHub>(rt: R, hub: &H) {
     hub.hub().tell(&rt, Notice::Swept);
 }
 
+/// Has it forget what nobody searched for since the last time, and give up what servers owe since before that.
+pub fn age<R: System, H: AsHub>(rt: R, hub: &H) {
+    let _ = hub.gate().desk(&rt, Event::Age);
+    hub.hub().seek(&rt, Vec::new(hub.hub().alloc), true);
+    hub.hub().tell(&rt, Notice::Aged);
+}
+
 fn reload<R: Machine + System, H: AsHub>(
     rt: R,
     hub: &H,

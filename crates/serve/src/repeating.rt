@@ -1,8 +1,7 @@
 //! Orders that are performed again and again, without anybody writing them.
 use crate::hub::{AsHub, Hub};
 use crate::machine::System;
-use crate::opening::SERVER_LIMIT;
-use crate::orders::sweep;
+use crate::orders::{age, sweep};
 use crate::servers::connect;
 use crate::watcher::rests;
 use serve_state::{Rhythm, Try};
@@ -16,11 +15,12 @@ use std::thread::Threads;
 struct Rhythms {
     reconnect: Option<Rhythm>,
     sweep: Option<Rhythm>,
+    forget: Option<Rhythm>,
 }
 
 /// Whether any order is to be repeated.
 pub fn repeats(hub: &Hub) -> bool {
-    hub.options.reconnect.is_some() || hub.options.sweep.is_some()
+    hub.options.reconnect.is_some() || hub.options.sweep.is_some() || hub.options.forget.is_some()
 }
 
 /// Performs the orders that are to be repeated, each as often as it is to be, until the gateway closes.
@@ -32,6 +32,7 @@ pub fn repeat_orders<
     let mut rhythms = Rhythms {
         reconnect: options.reconnect.map(Rhythm::every),
         sweep: options.sweep.map(Rhythm::every),
+        forget: options.forget.map(Rhythm::every),
     };
     perform_due(rt, &hub, &mut rhythms);
 }
@@ -51,6 +52,9 @@ fn perform_due<
         if is_due(&mut rhythms.sweep) {
             sweep(rt, shared);
         }
+        if is_due(&mut rhythms.forget) {
+            age(rt, shared);
+        }
     }
 }
 
@@ -65,7 +69,7 @@ fn connect_all<
     R: System + Threads + Net<Listener = TcpListener, Stream = TcpStream> + 'static,
     H: AsHub + Send + Sync + Drop + 'static,
 >(rt: R, hub: &Arc<H, Global>) {
-    for number in 1..=SERVER_LIMIT {
+    for number in 1..=hub.hub().server_count() {
         connect(rt, hub, number, Try::Repeated);
     }
 }

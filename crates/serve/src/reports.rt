@@ -48,6 +48,7 @@ fn report_line<R: System, H: AsHub>(rt: R, hub: &H) -> Option<String> {
         sent: traffic.sent,
         largest_outbox: largest_outbox(rt, hub),
         fullest: hub.gate().fullest(&rt),
+        limits: hub.hub().limits(),
         met: hub.gate().limits_met(&rt),
         refused: *hub.hub().refused.lock(&rt),
     };

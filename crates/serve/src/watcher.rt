@@ -1,9 +1,10 @@
 //! What cuts off connections that must end while their writers wait for the peer.
 use crate::hub::{AsHub, Hub};
+use crate::line::{Line, Watched};
 use crate::machine::System;
-use gateway_core::Dest;
-use serve_state::{Cut, LIMITS, Limit, LimitWatch, Notice, Rhythm};
-use std::net::Shutdown;
+use gateway_core::{Dest, Event};
+use serve_state::{Bound, Cut, LIMITS, Limit, LimitWatch, Notice, Patience, Rhythm, Verdict};
+use std::net::{Shutdown, SocketAddr};
 use std::sync::CondvarTimeouts;
 use std::time::Duration;
 
@@ -31,6 +32,9 @@ pub fn watch<R: System, H: AsHub>(rt: R, hub: &H) {
             return;
         }
         look_at_all(rt, hub);
+        if let Some(patience) = hub.hub().options.alive {
+            watch_all(rt, hub, patience);
+        }
         tell_limits(rt, hub, &mut watches);
         if seconds.look() {
             hub.hub().book.end_second(&rt);
@@ -42,10 +46,13 @@ pub fn watch<R: System, H: AsHub>(rt: R, hub: &H) {
 fn tell_limits<R: System, H: AsHub>(rt: R, hub: &H, watches: &mut [LimitWatch; LIMITS]) {
     let met = hub.gate().limits_met(&rt);
     let refused = *hub.hub().refused.lock(&rt);
+    let limits = hub.hub().limits();
     for place in 0..LIMITS {
         let limit = Limit::ALL[place];
         if let Some(times) = watches[place].look(limit.met(&met, refused)) {
-            hub.hub().tell(&rt, Notice::LimitMet(limit, times));
+            let most = limit.most(&limits);
+            hub.hub()
+                .tell(&rt, Notice::LimitMet(Bound { limit, most }, times));
         }
     }
 }
@@ -94,9 +101,59 @@ fn shut<R: System>(rt: R, hub: &Hub, dest: Dest) {
     let roster = hub.roster.lock(&rt);
     for row in roster.rows() {
         if row.dest() == dest {
-            if let Some(link) = row.link() {
-                let _ = link.shutdown(Shutdown::Both);
+            if let Some(line) = row.link() {
+                let _ = line.stream.shutdown(Shutdown::Both);
             }
         }
+    }
+}
+
+// Takes a look at each connection, whether whoever it leads to is still there.
+fn watch_all<R: System, H: AsHub>(rt: R, hub: &H, patience: Patience) {
+    let mut place = 0usize;
+    for _ in rt.forever() {
+        let Some((dest, peer, line)) = next_line(rt, hub.hub(), &mut place) else {
+            return;
+        };
+        let watched: &Watched = &line.watched;
+        match watched.look(rt, dest, patience) {
+            Verdict::Nothing => (),
+            Verdict::Probe => probe(rt, hub, dest, peer),
+            Verdict::Cut => {
+                hub.hub().cut(&rt, dest, why_silent(dest, patience));
+                let _ = line.stream.shutdown(Shutdown::Both);
+            }
+        }
+    }
+}
+
+// The first connection from this place on that is made; the place is behind it then.
+fn next_line<R: System>(rt: R, hub: &Hub, place: &mut usize) -> Option<(Dest, SocketAddr, Line)> {
+    let roster = hub.roster.lock(&rt);
+    let rows = roster.rows();
+    for _ in 0..rows.len() {
+        let row = rows.get(*place)?;
+        *place = place.saturating_add(1);
+        if let Some(line) = row.link() {
+            if let Ok(line) = line.share() {
+                return Some((row.dest(), *row.peer(), line));
+            }
+        }
+    }
+    None
+}
+
+// Asks a server whether it is there.
+fn probe<R: System, H: AsHub>(rt: R, hub: &H, dest: Dest, peer: SocketAddr) {
+    if let Dest::Upstream(number) = dest {
+        let _ = hub.gate().desk(&rt, Event::Probe(number));
+        hub.hub().tell(&rt, Notice::ServerProbed(number, peer));
+    }
+}
+
+fn why_silent(dest: Dest, patience: Patience) -> Cut {
+    match dest {
+        Dest::Session(_) => Cut::Silent(patience.seconds.saturating_mul(4)),
+        Dest::Upstream(_) => Cut::Unanswering(patience.seconds),
     }
 }

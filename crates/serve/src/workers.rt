@@ -1,5 +1,6 @@
 //! The two workers of a connection.
-use crate::hub::{AsHub, Stream};
+use crate::hub::AsHub;
+use crate::line::Line;
 use crate::link::SocketLink;
 use crate::machine::System;
 use ca_header::FrameFault;
@@ -7,8 +8,7 @@ use gate_board::{Inlet, Outlet};
 use gateway_core::{Dest, Event};
 use serve_state::Cut;
 use session_worker::{InEnd, serve_in, serve_out};
-use std::net::Shutdown;
-use std::sync::Arc;
+use std::net::{Shutdown, TcpStream};
 use std::thread::{Builder, Scope};
 
 /// How many bytes of stack a worker has, and each other thread that runs no rules.
@@ -25,16 +25,16 @@ pub fn start_workers<'x, 's: 'x, E: 's, R: System + 's, H: AsHub + Sync + 's>(
     scope: &'x Scope<'s, E>,
     hub: &'s H,
     dest: Dest,
-    stream: Stream,
+    line: &Line,
 ) -> bool {
     if let Ok((inlet, outlet)) = hub.gate().attach(&rt, dest) {
         let mut started = 0;
-        if let Ok(reading) = Arc::try_clone(&stream) {
+        if let Ok(reading) = line.share() {
             if start_reader(rt, &*scope, &*hub, dest, SocketLink::new(reading), inlet) {
                 started += 1;
             }
         }
-        if let Ok(writing) = Arc::try_clone(&stream) {
+        if let Ok(writing) = line.share() {
             if start_writer(rt, &*scope, &*hub, dest, SocketLink::new(writing), outlet) {
                 started += 1;
             }
@@ -42,10 +42,10 @@ pub fn start_workers<'x, 's: 'x, E: 's, R: System + 's, H: AsHub + Sync + 's>(
         if started == 2 {
             return true;
         }
-        give_up(rt, hub, dest, &stream, 2 - started);
+        give_up(rt, hub, dest, &line.stream, 2 - started);
         return false;
     }
-    give_up(rt, hub, dest, &stream, 2);
+    give_up(rt, hub, dest, &line.stream, 2);
     false
 }
 
@@ -78,7 +78,7 @@ fn start_writer<'x, 's: 'x, E: 's, R: System + 's, H: AsHub + Sync + 's>(
 }
 
 // So many workers were not started.
-fn give_up<R: System, H: AsHub>(rt: R, hub: &H, dest: Dest, stream: &Stream, missing: u8) {
+fn give_up<R: System, H: AsHub>(rt: R, hub: &H, dest: Dest, stream: &TcpStream, missing: u8) {
     hub.hub().cut(&rt, dest, Cut::OutOfMemory);
     let _ = stream.shutdown(Shutdown::Both);
     let _ = hub.gate().desk(&rt, lost(dest));

@@ -3,3 +3,4 @@ mod LimitLemmas
 mod LogQueueLemmas
 mod NumberLemmas
 mod RhythmLemmas
+mod VigilLemmas

@@ -3,6 +3,7 @@ pub mod Asks
 pub mod Clashes
 pub mod FileText
 pub mod Hosts
+pub mod Late
 pub mod Levels
 pub mod Limits
 pub mod LogQueue
@@ -12,5 +13,7 @@ pub mod Orders
 pub mod Outages
 pub mod Rhythm
 pub mod Roster
+pub mod Scale
 pub mod Spare
 pub mod Steady
+pub mod Vigil

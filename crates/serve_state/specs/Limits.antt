@@ -1,22 +1,23 @@
 -- When it is told how often a limit was met. Time is counted in looks, of which there are four a second.
 use Rattle.std.specs.Prelude.{◌≡◌, ℕ, zero, suc, ◌+◌, ◌-◌, ◌≤◌, ◌^◌, min, nat_lt, if◌then◌else◌, List, [], ◌∷◌, length, Option, Some, None, Bool}
+use Rattle.gateway_state.specs.declared.limits.Limits.{Limits}
 use Rattle.gateway_state.specs.declared.limits_met.Fullest.{Fullest}
 use Rattle.gateway_state.specs.declared.limits_met.LimitsMet.{LimitsMet}
 use Rattle.gateway_state.specs.declared.row_counts.RowCounts.{RowCounts}
 use Rattle.serve_state.specs.declared.limits.Limit.{Limit}
 use Rattle.serve_state.specs.declared.limits.Limit.TheVariants.{Names, Channels, Subscriptions, Reads, Writes, Links, Clients, Held, Full}
 
--- how much there may be
-abbrev pub most_under : Limit → ℕ
-most_under Names = 4096
-most_under Channels = 4096
-most_under Subscriptions = 8192
-most_under Reads = 256
-most_under Writes = 256
-most_under Links = 65536
-most_under Clients = 1024
-most_under Held = 4096
-most_under Full = 16384
+-- how much there may be, where these limits hold
+abbrev pub most_under : Limit → Limits → ℕ
+most_under Names limits = limits.searches
+most_under Channels limits = limits.channels
+most_under Subscriptions limits = limits.subs
+most_under Reads limits = limits.reads
+most_under Writes limits = limits.writes
+most_under Links limits = limits.links
+most_under Clients limits = limits.sessions
+most_under Held limits = 4096
+most_under Full limits = 16384
 
 -- how often it was met; the server itself refuses clients too
 abbrev pub met_of : Limit → LimitsMet → ℕ → ℕ

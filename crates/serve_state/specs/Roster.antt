@@ -18,8 +18,10 @@ pub record RowState : Type 0 where
   pub cut : Option Cut
   pub host : Option ℕ
 
--- the rows in the order in which connections began, and the status that a closing program ends with
+-- how many clients may be connected at once, the rows in the order in which connections began, and the status that a closing program ends
+-- with
 pub record RosterState : Type 0 where
+  pub clients : ℕ
   pub rows : List RowState
   pub closing : Option ℕ
 
@@ -55,15 +57,15 @@ is_of_host host row = has_host host row.host
 abbrev pub clients_of : ℕ → List RowState → ℕ
 clients_of host rows = length (filter (is_of_host host) rows)
 
--- the least number of clients, which are 1 to 1024, that no connection holds
-pub record IsLeastFree (n : ℕ) (rows : List RowState) : Type 0 where
+-- the least number of a client, from 1 to as many as may be connected, that no connection holds
+pub record IsLeastFree (most : ℕ) (n : ℕ) (rows : List RowState) : Type 0 where
   pub low : 1 ≤ n
-  pub high : n ≤ 1024
+  pub high : n ≤ most
   pub free : holds (Session n) rows ≡ false
   pub least : (m : ℕ) → 1 ≤ m → m < n → holds (Session m) rows ≡ true
 
-abbrev pub IsFull : List RowState → Type 0
-IsFull rows = (m : ℕ) → 1 ≤ m → m ≤ 1024 → holds (Session m) rows ≡ true
+abbrev pub IsFull : ℕ → List RowState → Type 0
+IsFull most rows = (m : ℕ) → 1 ≤ m → m ≤ most → holds (Session m) rows ≡ true
 
 -- the first status stands
 abbrev pub closed_with : ℕ → RosterState → RosterState

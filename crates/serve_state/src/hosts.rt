@@ -3,7 +3,7 @@ ghost use Rattle.std.specs.Prelude.{◌≡◌};
 ghost use Rattle.serve_state.specs.Hosts.{seats_of};
 
 use crate::order::read_number;
-use crate::roster::SESSION_LIMIT;
+use crate::scale::CLIENTS;
 
 /// How many clients of one host may be connected at once.
 #[derive(Clone, Copy, Debug, PartialEq, Eq)]
@@ -17,7 +17,7 @@ impl HostSeats {
         ensures { result ≡ seats_of digits.now }
     {
         match read_number(digits) {
-            Some(number) if number >= 1 && number <= SESSION_LIMIT => Some(HostSeats { number }),
+            Some(number) if number >= 1 && number <= CLIENTS => Some(HostSeats { number }),
             _ => None,
         }
     }

@@ -8,6 +8,9 @@
 //! - [`Roster`] keeps the connections: which numbers are held, and how many workers each still has;
 //! - [`HostSeats`] is how many clients a host may have;
 //! - [`MostWaiting`] is how many bytes may wait for a client;
+//! - [`Scale`] is how many clients, servers and names there may be;
+//! - [`Vigil`] says whether who is connected is still there;
+//! - [`Late`] keeps searches that couldn't be answered when they were made;
 //! - [`Rhythm`] says at which looks an order is due that is performed every so many [`Seconds`];
 //! - [`Outages`] keeps of which servers it was told that they can't be reached;
 //! - [`LogQueue`] keeps the lines of the log that wait to be written;
@@ -26,6 +29,7 @@ mod asked;
 mod clashes;
 mod file_text;
 mod hosts;
+mod late;
 mod level;
 mod limits;
 mod log_queue;
@@ -38,17 +42,20 @@ mod peers;
 mod report;
 mod rhythm;
 mod roster;
+mod scale;
 mod spare;
 mod steady;
 mod versions;
+mod vigil;
 
 pub use ask_rhythm::{AskBudget, AskRhythm, askings_are_apart, looks_have_four_datagrams};
 pub use asked::{ASKED_LIMIT, Asked};
 pub use clashes::Clashes;
 pub use file_text::FileText;
 pub use hosts::HostSeats;
+pub use late::{LATE_LIMIT, LATE_OF_HOST, Late, LateSearch};
 pub use level::read_level;
-pub use limits::{LIMITS, Limit, LimitWatch, limits_are_told_once, told_limits_rest};
+pub use limits::{Bound, LIMITS, Limit, LimitWatch, limits_are_told_once, told_limits_rest};
 pub use log_queue::{BYTES_LIMIT, Dropped, KIND_LIMIT, LINES_LIMIT, LogLine, LogQueue, ToLog};
 pub use most::MostWaiting;
 pub use notice::{Cut, FileCause, Notice};
@@ -58,7 +65,12 @@ pub use outages::{Outages, Try};
 pub use peers::server_of;
 pub use report::{Report, ServerReport};
 pub use rhythm::{Rhythm, Seconds, rhythms_are_due_each_period};
-pub use roster::{Refusal, Roster, Row, SESSION_LIMIT};
+pub use roster::{Refusal, Roster, Row};
+pub use scale::{CLIENTS, MOST_CLIENTS, MOST_NAMES, MOST_SERVERS, SERVERS, Scale, read_up_to};
 pub use spare::{OTHERS, is_kept_back};
 pub use steady::{READINGS, Reading, Steady};
 pub use versions::Versions;
+pub use vigil::{
+    Counts, Patience, Verdict, Vigil, vigils_ask_before_they_cut, vigils_go_by_silence,
+    vigils_spare_who_speaks,
+};

@@ -2,7 +2,7 @@
 ghost use Rattle.std.specs.Prelude.{◌≡◌, ◌+◌, ◌≤◌, ℕ, List, length};
 ghost use Rattle.serve_state.specs.Limits.{WatchState, told_now, after_look, after_looks, told_in, IsSilentFor, IsToldOnce, met_of, most_under, unwatched, used_of};
 
-use gateway_state::{Fullest, LimitsMet, RowCounts};
+use gateway_state::{Fullest, Limits, LimitsMet, RowCounts};
 use std::fmt;
 use std::marker::Model;
 
@@ -49,16 +49,19 @@ impl Limit {
         Limit::Full,
     ];
 
-    /// How much there may be.
-    pub fn most(self) -> u64
-        ensures { result ≡ most_under self }
+    /// How much there may be, where these limits hold.
+    pub fn most(self, limits: &Limits) -> u64
+        ensures { result ≡ most_under self limits.now }
     {
         match self {
-            Limit::Names | Limit::Channels | Limit::Held => 4_096,
-            Limit::Subscriptions => 8_192,
-            Limit::Reads | Limit::Writes => 256,
-            Limit::Links => 65_536,
-            Limit::Clients => 1_024,
+            Limit::Names => limits.searches as u64,
+            Limit::Channels => limits.channels as u64,
+            Limit::Subscriptions => limits.subs as u64,
+            Limit::Reads => limits.reads as u64,
+            Limit::Writes => limits.writes as u64,
+            Limit::Links => limits.links as u64,
+            Limit::Clients => limits.sessions as u64,
+            Limit::Held => 4_096,
             Limit::Full => 16_384,
         }
     }
@@ -112,19 +115,39 @@ impl Limit {
     }
 }
 
-impl fmt::Display for Limit {
+/// A limit, and how much there may be.
+#[derive(Clone, Copy, Debug, PartialEq, Eq)]
+pub struct Bound {
+    pub limit: Limit,
+    pub most: u64,
+}
+
+impl fmt::Display for Bound {
     fn fmt<W: fmt::Write>(&self, f: &mut fmt::Formatter<W>) -> fmt::Result {
-        f.write_str(match self {
-            Limit::Names => "4096 searched names are remembered: others aren't looked for",
-            Limit::Channels => "a client has 4096 channels: others aren't made",
-            Limit::Subscriptions => "a client has 8192 subscriptions: others are refused",
-            Limit::Reads => "256 reads of a client wait: others are refused",
-            Limit::Writes => "256 writes of a client wait: others are refused",
-            Limit::Links => "65536 variables are open upstream: others aren't opened",
-            Limit::Clients => "1024 clients are connected: others are refused",
-            Limit::Held => "4096 messages wait for a client: its updates are held back",
-            Limit::Full => "16384 messages wait for a connection: it is cut off",
-        })
+        let most = self.most;
+        match self.limit {
+            Limit::Names => write!(
+                f,
+                "{most} searched names are remembered: others aren't looked for"
+            ),
+            Limit::Channels => write!(f, "a client has {most} channels: others aren't made"),
+            Limit::Subscriptions => write!(
+                f,
+                "a client has {most} subscriptions: others are refused"
+            ),
+            Limit::Reads => write!(f, "{most} reads of a client wait: others are refused"),
+            Limit::Writes => write!(f, "{most} writes of a client wait: others are refused"),
+            Limit::Links => write!(
+                f,
+                "{most} variables are open upstream: others aren't opened"
+            ),
+            Limit::Clients => write!(f, "{most} clients are connected: others are refused"),
+            Limit::Held => write!(
+                f,
+                "{most} messages wait for a client: its updates are held back"
+            ),
+            Limit::Full => write!(f, "{most} messages wait for a connection: it is cut off"),
+        }
     }
 }
 

@@ -2,7 +2,7 @@
 ghost use Rattle.std.specs.Prelude.{◌≡◌};
 ghost use Rattle.serve_state.specs.Levels.{kind_of, level_of};
 
-use crate::limits::Limit;
+use crate::limits::Bound;
 use log::Level;
 use pvlist::RuleCause;
 use std::fmt;
@@ -21,6 +21,12 @@ pub enum Cut {
     TooSlow,
     /// More bytes wait for it than so many MiB.
     TooMuch(u32),
+    /// It is a server that said nothing for so many seconds, and nothing when it was asked.
+    Unanswering(u32),
+    /// It is a client from which nothing came, and to which nothing could be written, for so many seconds.
+    Silent(u32),
+    /// It is a server that was asked and said nothing, and was to be connected to again.
+    Replaced,
     OutOfMemory,
 }
 
@@ -33,6 +39,16 @@ impl fmt::Display for Cut {
             Cut::TooOld => "its protocol version is below 9",
             Cut::TooSlow => "16384 messages waited for it",
             Cut::TooMuch(mib) => return write!(f, "more than {mib} MiB waited for it"),
+            Cut::Unanswering(seconds) => {
+                return write!(
+                    f,
+                    "it said nothing for {seconds} s, and nothing when it was asked"
+                );
+            }
+            Cut::Silent(seconds) => {
+                return write!(f, "nothing came from it or went to it for {seconds} s");
+            }
+            Cut::Replaced => "it said nothing when it was asked, and is connected to again",
             Cut::OutOfMemory => "out of memory",
         };
         f.write_str(why)
@@ -92,16 +108,25 @@ pub enum Notice<'a> {
     ClientCut(u32, SocketAddr, Cut),
     ClientRefused(SocketAddr, &'a str),
     /// A limit was met so often since that was last told.
-    LimitMet(Limit, u64),
+    LimitMet(Bound, u64),
     /// So many lines of the log were dropped.
     LinesDropped(u64),
-    NamesNearLimit(usize),
+    /// So many names are remembered and not found, of as many as may be.
+    NamesNearLimit(usize, usize),
     /// So many names were asked for.
     NamesAsked(usize),
     /// Two servers answered for this name, the first of which answered first.
     NameOfTwo(&'a str, u32, u32),
     /// It was forgotten which names clients looked for.
     Swept,
+    /// What wasn't searched for since the last time is forgotten.
+    Aged,
+    /// Connections are watched: a server that says nothing for so many seconds is asked whether it is there.
+    Watching(u32),
+    /// They aren't.
+    NotWatching,
+    /// A server said nothing for a while, and is asked whether it is there.
+    ServerProbed(u32, SocketAddr),
     /// A line of standard input is none of the orders.
     NoOrder,
     OutOfMemory,
@@ -127,7 +152,7 @@ impl<'a> Notice<'a> {
             | Notice::ServerCut(_, _, _)
             | Notice::ClientCut(_, _, _)
             | Notice::ClientRefused(_, _)
-            | Notice::NamesNearLimit(_)
+            | Notice::NamesNearLimit(_, _)
             | Notice::NameOfTwo(_, _, _) => Level::Warn,
             Notice::RulesRead(_)
             | Notice::OpenToAll
@@ -136,10 +161,14 @@ impl<'a> Notice<'a> {
             | Notice::ServerConnected(_, _)
             | Notice::ClientConnected(_, _)
             | Notice::ClientGone(_, _)
+            | Notice::Watching(_)
+            | Notice::NotWatching
             | Notice::Closing => Level::Info,
             Notice::ServerStillUnreached(_, _)
             | Notice::NamesAsked(_)
             | Notice::Swept
+            | Notice::Aged
+            | Notice::ServerProbed(_, _)
             | Notice::NoOrder => Level::Debug,
         }
     }
@@ -168,7 +197,7 @@ impl<'a> Notice<'a> {
             Notice::ClientGone(_, _) => 14,
             Notice::ClientCut(_, _, _) => 15,
             Notice::ClientRefused(_, _) => 16,
-            Notice::NamesNearLimit(_) => 17,
+            Notice::NamesNearLimit(_, _) => 17,
             Notice::NamesAsked(_) => 18,
             Notice::Swept => 19,
             Notice::NoOrder => 20,
@@ -178,6 +207,10 @@ impl<'a> Notice<'a> {
             Notice::LimitMet(_, _) => 24,
             Notice::LinesDropped(_) => 25,
             Notice::NameOfTwo(_, _, _) => 26,
+            Notice::Aged => 27,
+            Notice::Watching(_) => 28,
+            Notice::NotWatching => 29,
+            Notice::ServerProbed(_, _) => 30,
         }
     }
 }
@@ -235,10 +268,10 @@ impl<'a> fmt::Display for Notice<'a> {
                 "client {number} ({peer}) cut off: {why}"
             ),
             Notice::ClientRefused(peer, why) => write!(f, "a client ({peer}) refused: {why}"),
-            Notice::NamesNearLimit(names) => {
+            Notice::NamesNearLimit(names, most) => {
                 write!(
                     f,
-                    "{names} of 4096 searched names are remembered and not found: write `sweep` to forget them"
+                    "{names} of {most} searched names are remembered and not found: write `sweep` to forget them"
                 )
             }
             Notice::NamesAsked(names) => write!(f, "names asked for: {names}"),
@@ -247,6 +280,21 @@ impl<'a> fmt::Display for Notice<'a> {
                 "upstreams {first} and {other} both have {name}: the first that answers serves it"
             ),
             Notice::Swept => f.write_str("swept: searched names are forgotten"),
+            Notice::Aged => {
+                f.write_str("aged: names that nobody looked for since the last time are forgotten")
+            }
+            Notice::Watching(seconds) => {
+                write!(
+                    f,
+                    "connections are watched: an upstream that says nothing for {seconds} s is asked whether it is there"
+                )
+            }
+            Notice::NotWatching => f.write_str(
+                "connections are not watched: one that is gone without a word stays until the system notices",
+            ),
+            Notice::ServerProbed(number, peer) => {
+                write!(f, "upstream {number} ({peer}) is asked whether it is there")
+            }
             Notice::NoOrder => f.write_str("a line that is no order"),
             Notice::OutOfMemory => f.write_str("out of memory"),
             Notice::Failed => f.write_str("the gateway ran out of memory or numbers, and ends"),

@@ -4,8 +4,8 @@ ghost use Rattle.serve_state.specs.Outages.{is_news, is_told, marked};
 
 use std::marker::Model;
 
-/// A place for each number of a server, which are 1 to 16; the first is nobody's.
-const PLACES: usize = 17;
+/// A place for each number of a server, which are 1 to 1,024 at most; the first is nobody's.
+const PLACES: usize = 1_025;
 
 /// Who has a server connected to.
 #[derive(Clone, Copy, Debug, PartialEq, Eq)]
@@ -33,7 +33,7 @@ impl Model for Outages {
 impl Outages {
     /// Nothing was told.
     pub fn new() -> Outages
-        ensures { result ≡ replicate 17 false }
+        ensures { result ≡ replicate 1025 false }
     {
         Outages {
             told: [false; PLACES],

@@ -1,6 +1,6 @@
 //! What the gateway tells of itself.
 use crate::limits::Limit;
-use gateway_state::{Fullest, LimitsMet, RowCounts};
+use gateway_state::{Fullest, Limits, LimitsMet, RowCounts};
 use std::alloc::Global;
 use std::fmt;
 use std::fmt::Write;
@@ -43,6 +43,8 @@ pub struct Report<'a> {
     pub largest_outbox: u64,
     /// What those have who have most.
     pub fullest: Fullest,
+    /// The limits that hold.
+    pub limits: Limits,
     /// How often limits were met.
     pub met: LimitsMet,
     /// How many clients were refused since as many as can be were connected.
@@ -97,7 +99,7 @@ impl<'a> fmt::Display for Report<'a> {
         for limit in &Limit::ALL {
             let used = limit.used(&self.rows, &self.fullest);
             let met = limit.met(&self.met, self.refused);
-            let (key, most) = (limit.key(), limit.most());
+            let (key, most) = (limit.key(), limit.most(&self.limits));
             write!(
                 f,
                 "{comma}\"{key}\":{{\"used\":{used},\"most\":{most},\"met\":{met}}}"

@@ -10,9 +10,6 @@ use gateway_state::Dest;
 use std::alloc::{AllocError, Global};
 use std::marker::Model;
 
-/// The highest number that a client's connection gets.
-pub const SESSION_LIMIT: u32 = 1_024;
-
 /// How many workers a connection has: one reads, one writes.
 const WORKERS: u8 = 2;
 
@@ -156,6 +153,8 @@ impl<L: Drop, P: Drop> Row<L, P> {
 /// The rows of all connections, and whether the gateway is closing.
 #[derive(Drop)]
 pub struct Roster<L, P> {
+    // The highest number that a client's connection gets.
+    clients: u32,
     rows: Vec<Row<L, P>>,
     closing: Option<u8>,
 }
@@ -166,17 +165,19 @@ impl<L, P> Model for Roster<L, P> {
     ghost Value = { RosterState };
 
     ghost view = { λ r. record {
+      clients = r.clients;
       rows = r.rows.items;
       closing = r.closing;
     } };
 }
 
 impl<L: Drop, P: Drop> Roster<L, P> {
-    /// No connections. It takes no memory.
-    pub fn new(alloc: Global) -> Roster<L, P>
-        ensures { result ≡ record { rows = []; closing = None } }
+    /// No connections; as many clients as this may be connected at once. It takes no memory.
+    pub fn new(alloc: Global, clients: u32) -> Roster<L, P>
+        ensures { result ≡ record { clients = clients; rows = []; closing = None } }
     {
         Roster {
+            clients,
             rows: Vec::new(alloc),
             closing: None,
         }
@@ -211,15 +212,15 @@ impl<L: Drop, P: Drop> Roster<L, P> {
 
     /// Gives a client's connection the least number that none holds.
     pub fn admit_client(&mut self, link: L, peer: P) -> Result<u32, Refusal>
-        ensures number { IfOk result (λ n. IsLeastFree n self.old.rows) }
+        ensures number { IfOk result (λ n. IsLeastFree self.old.clients n self.old.rows) }
         ensures ok { IfOk result (λ n. self.new ≡ with_row (Session n) self.old) }
         ensures open { IfOk result (λ _. self.old.closing ≡ None) }
         ensures err { OnErr result (self.new ≡ self.old) }
-        ensures full { IsErrOf result Refusal.Full → IsFull self.old.rows }
+        ensures full { IsErrOf result Refusal.Full → IsFull self.old.clients self.old.rows }
         ensures closing { IsErrOf result Refusal.Closing → IsSome self.old.closing }
         ensures held { IsErrOf result Refusal.Held → ⊥ }
     {
-        let Some(number) = least_free(&self.rows) else {
+        let Some(number) = least_free(&self.rows, self.clients) else {
             return Err(Refusal::Full);
         };
         self.add(Dest::Session(number), Some(link), peer, None)?;
@@ -234,20 +235,20 @@ impl<L: Drop, P: Drop> Roster<L, P> {
         host: u128,
         most: usize,
     ) -> Result<u32, Refusal>
-        ensures number { IfOk result (λ n. IsLeastFree n self.old.rows) }
+        ensures number { IfOk result (λ n. IsLeastFree self.old.clients n self.old.rows) }
         ensures ok { IfOk result (λ n. self.new ≡ with_row_of (Some host) (Session n) self.old) }
         ensures open { IfOk result (λ _. self.old.closing ≡ None) }
         ensures seats { IfOk result (λ n. clients_of host self.old.rows < most) }
         ensures err { OnErr result (self.new ≡ self.old) }
         ensures of_host { IsErrOf result Refusal.HostFull ↔ (most ≤ clients_of host self.old.rows) }
-        ensures full { IsErrOf result Refusal.Full → IsFull self.old.rows }
+        ensures full { IsErrOf result Refusal.Full → IsFull self.old.clients self.old.rows }
         ensures closing { IsErrOf result Refusal.Closing → IsSome self.old.closing }
         ensures held { IsErrOf result Refusal.Held → ⊥ }
     {
         if clients_of(&self.rows, host) >= most {
             return Err(Refusal::HostFull);
         }
-        let Some(number) = least_free(&self.rows) else {
+        let Some(number) = least_free(&self.rows, self.clients) else {
             return Err(Refusal::Full);
         };
         self.add(Dest::Session(number), Some(link), peer, Some(host))?;
@@ -369,11 +370,11 @@ fn clients_of<L: Drop, P: Drop>(rows: &[Row<L, P>], host: u128) -> usize
     rows.iter().filter(|row| row.is_of_host(host)).count()
 }
 
-fn least_free<L: Drop, P: Drop>(rows: &[Row<L, P>]) -> Option<u32>
-    ensures some { IfSome result (λ n. IsLeastFree n rows.now) }
-    ensures none { IfNone result (IsFull rows.now) }
+fn least_free<L: Drop, P: Drop>(rows: &[Row<L, P>], clients: u32) -> Option<u32>
+    ensures some { IfSome result (λ n. IsLeastFree clients n rows.now) }
+    ensures none { IfNone result (IsFull clients rows.now) }
 {
-    for number in 1..=SESSION_LIMIT {
+    for number in 1..=clients {
         if !holds(rows, Dest::Session(number)) {
             return Some(number);
         }

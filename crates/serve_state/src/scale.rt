@@ -1,0 +1,97 @@
+//! How many clients, servers and remembered names there may be.
+ghost use Rattle.std.specs.Prelude.{◌≡◌};
+ghost use Rattle.serve_state.specs.Scale.{limits_for, limits_of, share_of, up_to};
+
+use crate::order::read_number;
+use gateway_state::Limits;
+
+/// How many clients may be connected at once, where nothing else is said.
+pub const CLIENTS: u32 = 1_024;
+
+/// How many may be said at most.
+pub const MOST_CLIENTS: u32 = 4_096;
+
+/// How many servers there may be, where nothing else is said.
+pub const SERVERS: u32 = 16;
+
+/// How many may be said at most.
+pub const MOST_SERVERS: u32 = 1_024;
+
+/// How many names may be said at most that are remembered.
+pub const MOST_NAMES: u32 = 1_048_576;
+
+/// How many variables may be open upstream on a site.
+const SITE_LINKS: usize = 262_144;
+
+/// How many reads of a client may wait on a site, and how many writes.
+const SITE_WAITING: usize = 8_192;
+
+/// While fewer bytes wait for a client it is given updates on a site: so what a slow one is given is no older
+/// than so many bytes, and what its socket holds.
+const SITE_BYTES: u64 = 0x10_0000;
+
+/// The share of one host in the names that are remembered: one of so many parts.
+const SHARES: usize = 16;
+
+/// But so many at least.
+const LEAST_SHARE: usize = 256;
+
+/// The number that decimal digits write; `None` where it isn't from 1 to `most`, or they are none.
+pub fn read_up_to(most: u32, digits: &[u8]) -> Option<u32>
+    ensures { result ≡ up_to most digits.now }
+{
+    match read_number(digits) {
+        Some(number) if number >= 1 && number <= most => Some(number),
+        _ => None,
+    }
+}
+
+/// How many clients, servers and remembered names there may be.
+#[derive(Clone, Copy, Debug, PartialEq, Eq)]
+pub struct Scale {
+    pub clients: u32,
+    pub servers: u32,
+    /// So many searched names are remembered, and old ones go for new ones. `None`: as many as is usual, and none goes.
+    pub names: Option<u32>,
+    /// Whether all else is as a site wants it: more variables upstream, more reads and writes that wait, and updates
+    /// held back by bytes.
+    pub site: bool,
+}
+
+impl Scale {
+    /// The limits that the gateway is told.
+    pub fn limits(self) -> Limits
+        ensures { result ≡ limits_of self }
+    {
+        let mut limits = limits_for(self.site);
+        limits.sessions = self.clients as usize;
+        limits.servers = self.servers as usize;
+        if let Some(names) = self.names {
+            limits.searches = names as usize;
+            limits.share = share_of(names as usize);
+            limits.makes_room = true;
+        }
+        limits
+    }
+}
+
+// The limits of which no number is said, on a site or elsewhere.
+fn limits_for(site: bool) -> Limits
+    ensures { result ≡ limits_for site }
+{
+    let mut limits = Limits::usual();
+    if site {
+        limits.links = SITE_LINKS;
+        limits.reads = SITE_WAITING;
+        limits.writes = SITE_WAITING;
+        limits.update_bytes = SITE_BYTES;
+    }
+    limits
+}
+
+// How many of so many names may be of one host.
+fn share_of(names: usize) -> usize
+    ensures { result ≡ share_of names }
+{
+    (names / SHARES).max(LEAST_SHARE)
+}
