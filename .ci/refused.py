@@ -44,6 +44,8 @@ SCRIPTS = [
     "servers.keeps_messages_back_while_a_server_is_held", "servers.tells_clients_that_a_server_is_gone",
     "writes.writes_while_events_are_off_and_values_are_read",
     "limits.holds_updates_back_while_4096_messages_wait", "limits.ends_a_client_that_never_reads",
+    "told_limits.an_old_search_goes_for_a_new_one", "ages.a_server_is_asked_whether_it_is_there",
+    "ages.a_channel_that_a_server_owes_since_before_the_last_age_is_given_up",
 ]
 FROM_CLIENTS = {0, 1, 2, 4, 8, 9, 12, 15, 18, 19, 20, 21, 23, 99}
 FROM_SERVERS = {0, 1, 18, 19, 22, 26, 27, 99}
