@@ -162,7 +162,9 @@ With --late a search for a name that isn't connected yet is answered once it is,
 
 --site is what a site wants together: --back-off, --late, --alive 15, --forget 300, --names 65536,
 --servers 1024, --clients-of-host 256, and that a reload of an empty rule file is refused. Each that has a
-value may be said otherwise beside it.
+value may be said otherwise beside it. It also has 262144 variables upstream at most in place of 65536,
+8192 reads and as many writes of a client that wait in place of 256, and updates held back while 1 MiB
+waits for a client.
 
 With --status each who connects to ADDRESS is told of the gateway in one line of JSON, and is hung up on:
 clients, upstreams, rows of each kind, edits of the rules, messages in and out, and the largest outbox.
