@@ -1,16 +1,20 @@
-//! Laws of schedules. Each is a call that does nothing, and its contract is the law.
-ghost use Rattle.std.specs.Prelude.{◌≡◌, ℕ, ◌+◌, ◌^◌, ◌<◌, ◌≤◌, List, ◌∷◌, ◌++◌, length, min};
+//! Laws of schedules and of newcomers. Each is a call that does nothing, and its contract is the law.
+ghost use Rattle.std.specs.Prelude.{◌≡◌, ℕ, ◌+◌, ◌^◌, ◌<◌, ◌≤◌, List, ◌∷◌, ◌++◌, length, min, None};
 ghost use Rattle.std.specs.List.{count_by};
+ghost use Rattle.ask_schedule.specs.declared.row.Newcomer.{Newcomer};
 ghost use Rattle.ask_schedule.specs.declared.row.Row.{Row};
-ghost use Rattle.ask_schedule.specs.declared.row.TheConstants.{LAST_LOOK, MOST_TRIES};
-ghost use Rattle.ask_schedule.specs.Laws.{IsAskedFor};
+ghost use Rattle.ask_schedule.specs.declared.row.TheConstants.{LAST_LAP, LAST_LOOK, MOST_TRIES};
+ghost use Rattle.ask_schedule.specs.Laws.{IsAskedFor, ahead_of, behind};
 ghost use Rattle.ask_schedule.specs.Places.{AreApart, InOrder};
 ghost use Rattle.ask_schedule.specs.Plan.{asked, is_due, left};
+ghost use Rattle.ask_schedule.specs.Queue.{Queue, is_of, last_lap, lined_up, newcomer, with_newcomer};
+ghost use Rattle.ask_schedule.specs.Turns.{AreNewcomers};
 
 /// The numbers of schedules.
 pub fn numbers_are_these()
     ensures most_tries { MOST_TRIES ≡ 9 }
     ensures last_look { LAST_LOOK + 1 ≡ 2 ^ 64 }
+    ensures last_lap { LAST_LAP + 1 ≡ 2 ^ 64 }
 {}
 
 /// No more names are asked for at a look than may be.
@@ -31,4 +35,19 @@ pub fn no_name_is_asked_for_within_its_gap()
         → IsAskedFor row.name (asked now most (before ++ row ∷ after))
         → later < now + 2 ^ min row.tries MOST_TRIES → later < LAST_LOOK
         → IsAskedFor row.name (asked later more (left now most (before ++ row ∷ after))) → ⊥ }
+{}
+
+/// A name of a host of which none waits is put behind those of the lap that is taken and of the next one, and of each other
+/// host at most two of these wait.
+pub fn a_first_name_waits_for_two_of_each_host()
+    ensures place { (host : ℕ) (name : List ℕ) (queue : Queue) → AreNewcomers queue.limit queue.lap queue.rows → last_lap host queue.rows ≡ None
+        → lined_up (newcomer host name queue) queue.rows
+        ≡ ahead_of (queue.lap + 1) queue.rows ++ newcomer host name queue ∷ behind (queue.lap + 1) queue.rows }
+    ensures two { (other : ℕ) (queue : Queue) → AreNewcomers queue.limit queue.lap queue.rows
+        → count_by (is_of other) (ahead_of (queue.lap + 1) queue.rows) ≤ 2 }
+{}
+
+/// There are never more newcomers than may be, where there were not before.
+pub fn newcomers_have_a_limit()
+    ensures { (host : ℕ) (name : List ℕ) (queue : Queue) → length queue.rows ≤ queue.limit → length (with_newcomer host name queue).rows ≤ queue.limit }
 {}

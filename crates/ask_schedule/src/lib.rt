@@ -6,6 +6,9 @@
 //! - [`Schedule::remove`] lets a name go. [`Schedule::soon`] has all names asked for sooner, where a server
 //!   came.
 //!
+//! [`Newcomers`] has names that were never asked for, each under the host that looks for it, and gives them by hosts in turn.
+//! [`AtOnce`] says how much of what a host sends is heard at once, before the others' turn.
+//!
 //! Each name has one row, and there are no more than the limit. A call that is refused memory changes nothing.
 //! What a schedule does is said over the whole list of its rows, in the order in which they are due
 //! (`specs/Plan.antt`). At a look at most so many names are asked for, a name that is due is asked for
@@ -23,10 +26,14 @@
 //! ```
 #![tactic(auto)]
 
-pub use row::{LAST_LOOK, MOST_TRIES};
+pub use at_once::AtOnce;
+pub use newcomers::Newcomers;
+pub use row::{LAST_LAP, LAST_LOOK, MOST_TRIES};
 pub use schedule::{Added, Schedule};
 
+mod at_once;
 pub mod laws;
+mod newcomers;
 mod row;
 mod schedule;
 

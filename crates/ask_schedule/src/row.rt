@@ -8,6 +8,9 @@ pub const MOST_TRIES: u32 = 9;
 /// What comes after the last look that can be counted is due at that look.
 pub const LAST_LOOK: u64 = 0xFFFF_FFFF_FFFF_FFFF;
 
+/// What comes after the last lap that can be counted is no lap.
+pub const LAST_LAP: u64 = 0xFFFF_FFFF_FFFF_FFFF;
+
 /// A name that is asked for.
 #[derive(Drop)]
 pub struct Row {
@@ -16,4 +19,13 @@ pub struct Row {
     pub(crate) tries: u32,
     /// The look from which on it is to be asked for.
     pub(crate) due: u64,
+}
+
+/// A name that was never asked for, and the host that looks for it.
+#[derive(Drop)]
+pub struct Newcomer {
+    pub(crate) host: u128,
+    pub(crate) name: Name,
+    /// When its turn comes: of a host there is one name in a lap.
+    pub(crate) lap: u64,
 }

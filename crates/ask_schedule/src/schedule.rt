@@ -1,10 +1,10 @@
 //! The schedule: rows in the order in which they are due, and when each name is due.
 ghost use Rattle.std.specs.Prelude.{◌≡◌, ℕ, ◌<◌, ◌≤◌, List, [], bytes_eq, length, map, min, take, slice_index_or, if◌then◌else◌, Some, IfOk, OnOk, OnErr};
-ghost use Rattle.std.specs.List.{count_by, filter};
+ghost use Rattle.std.specs.List.{count_by, filter, list_any};
 ghost use Rattle.std.specs.HashMap.{get};
 ghost use Rattle.std.specs.Option.{option_map};
 ghost use Rattle.ask_schedule.specs.declared.row.Row.{Row as RowValue};
-ghost use Rattle.ask_schedule.specs.Plan.{answer_to, asked, due_after, is_due, left, lacks_name, name_of, rows_after, sooner};
+ghost use Rattle.ask_schedule.specs.Plan.{answer_to, asked, due_after, has_name, is_due, left, lacks_name, name_of, rows_after, sooner};
 ghost use Rattle.ask_schedule.specs.Places.{AreApart, AreRows, IfSomeThere, InOrder, due_of, first_asked};
 
 use crate::NoMemory;
@@ -66,6 +66,13 @@ impl Schedule {
         ensures { result ≡ length self.now.rows }
     {
         self.rows.len()
+    }
+
+    /// Whether the name is there.
+    pub fn has(&self, name: &Name) -> bool
+        ensures { result ≡ list_any (has_name name.now) self.now.rows }
+    {
+        self.dues.contains_key(name)
     }
 
     /// Does nothing. Its contract is a law: the rows stand in the order in which they are due, no two are of
