@@ -8,8 +8,8 @@ from codes import (
     ECA_NORDACCESS, ECA_NOWTACCESS, ECA_PUTFAIL, ECA_TOLARGE, TEXTS,
 )
 from rows import (
-    ALARM, LOWEST_MINOR, MESSAGES_WAIT, MINOR, PROPERTIES, PROPERTY, SERVED_EVENTS, UPDATES_WAIT,
-    VALUE, VALUES,
+    ALARM, FIRST, LOWEST_MINOR, MESSAGES_WAIT, MINOR, PROPERTIES, PROPERTY, SERVED_EVENTS,
+    UPDATES_WAIT, VALUE, VALUES,
     Channel, Limits, Link, Outbox, Search, Session, Subscription, Upstream, Waiting,
 )
 from rules import resolved
@@ -25,7 +25,7 @@ class Gateway(Servers):
         self.channels, self.subs, self.reads, self.writes = [], [], [], []
         self.links, self.searches = [], []
         self.rules, self.groups = None, {}
-        self.next = dict.fromkeys(("sid", "cid", "sub", "ioid"), 1)
+        self.next = dict.fromkeys(("sid", "cid", "sub", "ioid"), FIRST)
         self.limits, self.last_age = Limits(), dict(self.next)
 
     def number(self, counter):
@@ -258,8 +258,18 @@ class Gateway(Servers):
                 self.remove(channel)
                 self.tell(channel.session, wire.SERVER_DISCONN, 0, 0, channel.cid, 0)
             elif rights != channel.rights:
-                channel.rights = rights
+                before, channel.rights = channel.rights, rights
                 self.tell(channel.session, wire.ACCESS_RIGHTS, 0, 0, channel.cid, rights)
+                if before & 1 and not rights & 1:
+                    for sub in self.subs:
+                        if (sub.session, sub.sid) == (channel.session, channel.sid):
+                            self.tell_unreadable(sub)
+
+    def tell_unreadable(self, sub):
+        """A subscription is told that its channel may not be read, where that is wanted."""
+        if self.limits.tells_unreadable:
+            size = max(values.offset(sub.dtype), 1)
+            self.tell(sub.session, wire.EVENT_ADD, sub.dtype, 0, ECA_NORDACCESS, sub.id, bytes(size))
 
     def owe_withheld(self):
         for sub in self.subs:
@@ -340,11 +350,16 @@ class Gateway(Servers):
                 cid = channel.cid if channel else wire.NO_CHANNEL
                 self.error(session, request, ECA_INTERNAL, cid)
             elif channel is None:
-                self.error(session, request, ECA_BADCHID)
+                self.on_no_channel(session, request)
             else:
                 over_channel[request.command](session, request, channel)
         else:
             self.session_said(session, request)
+
+    def on_no_channel(self, session, request):
+        was_given_out = FIRST <= request.p1 < self.next["sid"]
+        if not (self.limits.passes_over_gone and was_given_out):
+            self.error(session, request, ECA_BADCHID)
 
     def session_said(self, session, request):
         row = self.sessions[session]
@@ -406,8 +421,10 @@ class Gateway(Servers):
         if code:
             self.error(session, request, code, channel.cid)
         else:
-            self.subs.append(Subscription(session, request.p2, channel.sid, request.dtype,
-                                          request.count, mask))
+            sub = Subscription(session, request.p2, channel.sid, request.dtype, request.count, mask)
+            self.subs.append(sub)
+            if not self.may_read(channel):
+                self.tell_unreadable(sub)
 
     def event_cancel(self, session, request, channel):
         named = (session, request.p2, channel.sid)

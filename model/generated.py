@@ -25,7 +25,7 @@ LIMITS = [
     "sessions", "servers", "links", "searches", "share", "channels", "subscriptions", "reads",
     "writes", "searches", "share",
 ]
-FLAGS = ["makes-room"] * 4 + ["reuses-numbers", "passes-over-gone", "tells-unreadable"]
+FLAGS = ["makes-room", "passes-over-gone"] * 3 + ["reuses-numbers", "tells-unreadable"]
 
 
 def text(word):
@@ -75,7 +75,8 @@ class Scripts:
     def begin(self):
         for _ in range(self.pick(0, 0, 0, 1, 2, 4)):
             self.limit()
-        for chance, line in [(0.9, "open s1 10.0.0.5"), (0.7, f"open s2 {self.pick(HOSTS)}"),
+        for chance, line in [(0.2, "limit passes-over-gone 1"),
+                             (0.9, "open s1 10.0.0.5"), (0.7, f"open s2 {self.pick(HOSTS)}"),
                              (0.9, "open u1"), (0.6, "open u2")]:
             if self.chance(chance):
                 self.add(line)

@@ -1,4 +1,5 @@
 pub mod Filled
+pub mod NoValue
 pub mod NulEnded
 pub mod ReadBack
 pub mod WrittenBack

@@ -1,19 +1,31 @@
 -- The wire form of the messages to a client (Channel Access Protocol Specification, "Commands").
-use Rattle.std.specs.Prelude.{ℕ, List, [], ◌++◌}
+use Rattle.std.specs.Prelude.{ℕ, List, [], ◌++◌, max, replicate, Option, Some, None}
 use Rattle.ca_header.specs.Header.{canonical_header}
 use Rattle.ca_header.specs.declared.header.Header.{Header}
 use Rattle.ca_header.specs.declared.header.Message.{Message}
 use Rattle.ca_message.specs.ErrorText.{text_of}
-use Rattle.ca_message.specs.Padding.{nul_ended}
+use Rattle.ca_message.specs.Padding.{nul_ended, padded}
 use Rattle.ca_message.specs.Wire.{message, IsPayload, IsWholeMessage}
 use Rattle.ca_message.specs.declared.codes.TheConstants.{ECA_NORMAL}
 use Rattle.ca_message.specs.declared.commands.TheConstants.{CA_PROTO_VERSION, CA_PROTO_ERROR, CA_PROTO_EVENT_ADD, CA_PROTO_CLEAR_CHANNEL, CA_PROTO_READ_NOTIFY, CA_PROTO_CREATE_CHAN, CA_PROTO_ACCESS_RIGHTS, CA_PROTO_CREATE_CH_FAIL, CA_PROTO_SERVER_DISCONN, CA_PROTO_WRITE_NOTIFY, MINOR_VERSION}
+use Rattle.dbr_layout.specs.declared.dbr.Dbr.{Dbr}
+use Rattle.dbr_layout.specs.Dbr.{dbr_of, value_offset}
 use Rattle.ca_message.specs.declared.to_client.ToClient.{ToClient}
-use Rattle.ca_message.specs.declared.to_client.ToClient.TheVariants.{Version, Echo, Error, Update, EventCancelled, ClearChannel, ReadNotify, ReadNotifyRefused, CreateChannel, CreateChannelFail, WriteNotify, AccessRights, ServerDisconnect}
+use Rattle.ca_message.specs.declared.to_client.ToClient.TheVariants.{Version, Echo, Error, Update, UpdateRefused, EventCancelled, ClearChannel, ReadNotify, ReadNotifyRefused, CreateChannel, CreateChannelFail, WriteNotify, AccessRights, ServerDisconnect}
 
 -- what an ERROR carries: the header of the refused request, then the text of the code
 abbrev pub error_payload : Header → ℕ → List ℕ
 error_payload request code = nul_ended (canonical_header request ++ text_of code)
+
+-- how many bytes stand for a value that isn't told: those before the elements of the type, and at least one, since
+-- clients take an update without any for the confirmation of a cancel
+abbrev pub bytes_before : Option Dbr → ℕ
+bytes_before None = 1
+bytes_before (Some dbr) = max (value_offset dbr) 1
+
+-- all of them zero, and padded
+abbrev pub no_value : ℕ → List ℕ
+no_value dtype = padded (replicate (bytes_before (dbr_of dtype)) 0)
 
 -- the message on the wire: its command, type, count, p1, p2 and payload
 abbrev pub client_message : ToClient → Message
@@ -21,6 +33,7 @@ client_message Version = message CA_PROTO_VERSION 0 MINOR_VERSION 0 0 []
 client_message (Echo m) = m
 client_message (Error cid code request) = message CA_PROTO_ERROR 0 0 cid code (error_payload request code)
 client_message (Update id dtype count value) = message CA_PROTO_EVENT_ADD dtype count ECA_NORMAL id value
+client_message (UpdateRefused id dtype code) = message CA_PROTO_EVENT_ADD dtype 0 code id (no_value dtype)
 client_message (EventCancelled sid id dtype count) = message CA_PROTO_EVENT_ADD dtype count sid id []
 client_message (ClearChannel sid cid) = message CA_PROTO_CLEAR_CHANNEL 0 0 sid cid []
 client_message (ReadNotify ioid dtype count value) = message CA_PROTO_READ_NOTIFY dtype count ECA_NORMAL ioid value

@@ -1,8 +1,9 @@
 //! What the gateway says to clients.
-ghost use Rattle.std.specs.Prelude.{◌≡◌, length, IfOk, IsOk};
+ghost use Rattle.std.specs.Prelude.{◌≡◌, ◌≤◌, length, IfOk, IsOk};
 ghost use Rattle.ca_message.specs.Wire.{message, size_field};
 ghost use Rattle.ca_message.specs.declared.codes.TheConstants.{ECA_NORMAL};
-ghost use Rattle.ca_message.specs.ToClient.{client_head, client_payload, error_payload};
+ghost use Rattle.ca_message.specs.ToClient.{bytes_before, client_head, client_payload, error_payload, no_value};
+ghost use Rattle.dbr_layout.specs.Dbr.{dbr_of};
 
 use crate::NoMemory;
 use crate::codes::{ECA_NORMAL, error_text};
@@ -11,9 +12,12 @@ use crate::commands::{
     CA_PROTO_ERROR, CA_PROTO_EVENT_ADD, CA_PROTO_READ_NOTIFY, CA_PROTO_SERVER_DISCONN,
     CA_PROTO_VERSION, CA_PROTO_WRITE_NOTIFY, MINOR_VERSION,
 };
-use crate::payload::{header, size_of, size_of_nul_ended, write_nul_ended};
+use crate::payload::{
+    header, padded_len, size_of, size_of_len, size_of_nul_ended, write_nul_ended, write_padded,
+};
 use bytes::Bytes;
 use ca_header::{Header, Message, write_head};
+use dbr_layout::Dbr;
 use std::alloc::Global;
 use std::fmt;
 
@@ -41,6 +45,13 @@ pub enum ToClient {
         dtype: u16,
         count: u32,
         value: Bytes,
+    },
+    /// The subscription `id` isn't told a value, for the reason that the code says: an update of no element, in
+    /// whose place zero bytes stand.
+    UpdateRefused {
+        id: u32,
+        dtype: u16,
+        code: u32,
     },
     /// The client's subscription is given up. Type and count are those of the request to do so.
     EventCancelled {
@@ -108,6 +119,7 @@ impl fmt::Debug for ToClient {
             ToClient::Echo(..) => "Echo",
             ToClient::Error { .. } => "Error",
             ToClient::Update { .. } => "Update",
+            ToClient::UpdateRefused { .. } => "UpdateRefused",
             ToClient::EventCancelled { .. } => "EventCancelled",
             ToClient::ClearChannel { .. } => "ClearChannel",
             ToClient::ReadNotify { .. } => "ReadNotify",
@@ -139,6 +151,10 @@ impl ToClient {
                 count,
                 value,
             } => value_header(CA_PROTO_EVENT_ADD, *dtype, *count, *id, value),
+            ToClient::UpdateRefused { id, dtype, code } => Header {
+                size: size_of_no_value(*dtype),
+                ..header(CA_PROTO_EVENT_ADD, *dtype, 0, *code, *id)
+            },
             // An EVENT_CANCEL is answered under the command of an EVENT_ADD.
             ToClient::EventCancelled {
                 sid,
@@ -189,6 +205,7 @@ impl ToClient {
         match self {
             ToClient::Echo(message) => message.payload.slice(..),
             ToClient::Error { code, request, .. } => error_payload(alloc, request, *code),
+            ToClient::UpdateRefused { dtype, .. } => no_value(alloc, *dtype),
             ToClient::Update { value, .. } | ToClient::ReadNotify { value, .. } => value.slice(..),
             ToClient::Version
             | ToClient::EventCancelled { .. }
@@ -211,6 +228,31 @@ fn value_header(command: u16, dtype: u16, count: u32, id: u32, value: &Bytes) ->
         size: size_of(value),
         ..header(command, dtype, count, ECA_NORMAL, id)
     }
+}
+
+// How many bytes stand for a value of this type that isn't told, without their padding.
+#[tactic(auto, using(crate::proofs::NoValue::few_before))]
+fn bytes_before(dtype: u16) -> u32
+    ensures bytes { result ≡ bytes_before (dbr_of dtype) }
+    ensures few { result ≤ 422 }
+{
+    match Dbr::of(dtype) {
+        Some(dbr) => dbr.offset().max(1),
+        None => 1,
+    }
+}
+
+#[tactic(auto, using(crate::proofs::NoValue::length_no_value))]
+fn size_of_no_value(dtype: u16) -> u32
+    ensures { result ≡ size_field (no_value dtype) }
+{
+    size_of_len(padded_len(bytes_before(dtype) as usize))
+}
+
+fn no_value(alloc: Global, dtype: u16) -> Result<Bytes, NoMemory>
+    ensures { IfOk result (λ payload. payload ≡ no_value dtype) }
+{
+    write_padded(alloc, &[], bytes_before(dtype) as usize)
 }
 
 fn error_size(request: &Header, code: u32) -> u32

@@ -10,11 +10,16 @@ use Rattle.channel_table.specs.Demand.{all_exchanged}
 use Rattle.channel_table.specs.Indexes.{AreBySid, IsApart, IsUnlistedBySid, has_sid, rows_at, sub_home, sub_key}
 use Rattle.channel_table.proofs.Counting.{exchanged_among}
 use Rattle.channel_table.proofs.Listed.{listed_same, listed_without, rows_listed}
-use Rattle.channel_table.proofs.Lists.{find_among, none_dropped, unfound_is_absent}
+use Rattle.channel_table.proofs.Lists.{filter_among, find_among, none_dropped, unfound_is_absent}
 use Rattle.channel_table.proofs.Waiting.{second_of_both}
 
 module _ {V : Type 0} (key home : V → Key) where
-  -- the first row that passes, where all that do name this ID
+  -- the rows that pass, where all that do name this ID
+  pub all_by_sid : (p : V → Bool) (sid : ℕ) (rows : List V) (lists : List (ℕ × List Key)) (keys : List Key) → ((row : V) → p row ≡ true → has_sid home sid row ≡ true) → IsApart key rows → AreBySid key home rows lists → keys ≡ of_owner lists sid → filter p (rows_at key rows keys) ≡ filter p rows
+  all_by_sid p sid rows lists keys name apart listed are =
+      ap (λ ks. filter p (rows_at key rows ks)) are ∙ ap (filter p) (rows_listed nat_eq key (has_sid home) rows lists sid apart listed) ∙ filter_among p (has_sid home sid) name rows
+
+  -- the first of them
   pub found_by_sid : (p : V → Bool) (sid : ℕ) (rows : List V) (lists : List (ℕ × List Key)) (keys : List Key) → ((row : V) → p row ≡ true → has_sid home sid row ≡ true) → IsApart key rows → AreBySid key home rows lists → keys ≡ of_owner lists sid → find p (rows_at key rows keys) ≡ find p rows
   found_by_sid p sid rows lists keys name apart listed are =
       ap (λ ks. find p (rows_at key rows ks)) are ∙ ap (find p) (rows_listed nat_eq key (has_sid home) rows lists sid apart listed) ∙ find_among p (has_sid home sid) name rows

@@ -149,6 +149,20 @@ impl Subs {
         first(&self.rows, self.by_sid.of(sid), session, sid)
     }
 
+    /// The subscriptions on a channel, in the order of adding. No other is looked at than those that name its ID.
+    pub(crate) fn all_on(
+        &self,
+        alloc: Global,
+        session: u32,
+        sid: u32,
+    ) -> Result<Vec<ClientSub>, AllocError>
+        ensures { IfOk result (λ subs. subs.items ≡ filter (is_sub_on session sid) self.now.rows) }
+    {
+        self.rows.are_apart();
+        let subs = passing(&self.rows, self.by_sid.of(sid), alloc, session, sid)?;
+        Ok(subs)
+    }
+
     /// What the subscriptions on a channel ask for, in the tally of its name: its client may read now,
     /// or may no longer. No other is looked at than those that name the channel's ID.
     pub(crate) fn exchange_on(
@@ -252,6 +266,27 @@ fn first(rows: &NamedRows<ClientSub>, keys: &[Key], session: u32, sid: u32) -> O
     keys.iter()
         .filter_map(|key| rows.get(*key).copied())
         .find(|row| row.session == session && row.sid == sid)
+}
+
+/// Those of these rows that are on a channel.
+fn passing(
+    rows: &NamedRows<ClientSub>,
+    keys: &[Key],
+    alloc: Global,
+    session: u32,
+    sid: u32,
+) -> Result<Vec<ClientSub>, AllocError>
+    ensures { IfOk result (λ subs. subs.items ≡ filter (is_sub_on session sid) (rows_at sub_key rows.now.rows keys.now)) }
+{
+    let mut subs = Vec::new(alloc);
+    for key in keys {
+        if let Some(sub) = rows.get(*key) {
+            if sub.session == session && sub.sid == sid {
+                subs.push(*sub)?;
+            }
+        }
+    }
+    Ok(subs)
 }
 
 /// Of these rows those on a channel ask for something else.

@@ -1,6 +1,6 @@
 //! ERROR: requests that are refused.
 ghost use Rattle.std.specs.Prelude.{◌≡◌, ◌≤◌, ◌+◌, OnOk};
-ghost use Rattle.gateway_state.specs.Clients.{not_understood, no_channel};
+ghost use Rattle.gateway_state.specs.Clients.{not_understood, no_channel, was_given_out};
 ghost use Rattle.gateway_state.specs.Subscribing.{request_refused, short_subscription};
 
 use ca_header::Header;
@@ -9,6 +9,7 @@ use ca_message::codes::{ECA_BADCHID, ECA_INTERNAL};
 use ca_message::commands::NO_CHANNEL;
 use channel_table::Visits;
 use gateway_rows::Rows;
+use link_table::Counter;
 use std::alloc::AllocError;
 
 /// A message isn't understood.
@@ -24,11 +25,22 @@ pub(crate) fn refuse_unknown(rows: &mut Rows, number: u32, head: &Header) -> Res
     rows.tell(number, &said)
 }
 
-/// The request names no channel of the session.
+/// Whether the number of a channel was given out.
+fn was_given_out(rows: &Rows, sid: u32) -> bool
+    ensures { result ≡ was_given_out rows.now.state sid }
+{
+    rows.config.first <= sid && sid < rows.upstream.next(Counter::Sid)
+}
+
+/// The request names no channel of the session. One on a number that was given out is passed over, where
+/// that is wanted: its client was told that the channel is gone.
 pub(crate) fn refuse_channel(rows: &mut Rows, number: u32, head: &Header) -> Result<(), AllocError>
     ensures ok { OnOk result (rows.new.state ≡ no_channel rows.old.state number head.now) }
     ensures brand { rows.new.brand ≡ rows.old.brand }
 {
+    if rows.limits.passes_over_gone && was_given_out(rows, head.p1) {
+        return Ok(());
+    }
     let said = ToClient::Error {
         cid: NO_CHANNEL,
         code: ECA_BADCHID,

@@ -1,8 +1,10 @@
 //! EVENT_ADD.
-ghost use Rattle.std.specs.Prelude.{◌≡◌, ◌≤◌, ◌+◌, Some, false, OnOk, IfOk};
+ghost use Rattle.std.specs.Prelude.{◌≡◌, ◌≤◌, ◌+◌, ◌&&◌, Some, false, OnOk, IfOk};
 ghost use Rattle.channel_table.specs.ClientRows.{has_sub};
 ghost use Rattle.gateway_state.specs.Rights.{channel_of};
 ghost use Rattle.gateway_state.specs.Subscribing.{new_sub, sub_verdict, sub_verdict_over, subscription_asked, subscription_limit, subscription_refusal, with_sub};
+ghost use Rattle.gateway_state.specs.Told.{KnowRights};
+ghost use Rattle.gateway_state.specs.Updates.{is_unreadable};
 ghost use Rattle.touched_rows.specs.Touches.{made_touches, sub_touches};
 
 use crate::refusals::{refuse_channel, refuse_request};
@@ -12,7 +14,7 @@ use ca_message::codes::{ECA_ALLOCMEM, ECA_BADMASK, ECA_INTERNAL};
 use channel_table::{Channel, ClientSub, TableFault, Visits};
 use gateway_rows::Rows;
 use gateway_state::{Limit, Native, SERVED_EVENTS, SubVerdict};
-use gateway_values::{ConnectedVariable, value_refusal};
+use gateway_values::{ConnectedVariable, may_read, value_refusal};
 use std::alloc::AllocError;
 use touched_rows::Touched;
 
@@ -124,10 +126,11 @@ pub(crate) fn subscribe_client(
     sub: ClientSub,
     head: &Header,
 ) -> Result<Touched, AllocError>
+    requires told { KnowRights rows.old.state }
     requires own { visits.old.brand ≡ rows.old.brand }
     ensures ok { OnOk result (rows.new.state ≡ subscription_asked sub head.now rows.old.state) }
     ensures touched { IfOk result (λ touched. touched ≡ sub_touches rows.old.state sub) }
-    ensures bound { visits.new.looks ≤ visits.old.looks + 3 }
+    ensures bound { visits.new.looks ≤ visits.old.looks + 4 }
     ensures no_less { visits.old.looks ≤ visits.new.looks }
     ensures brand { rows.new.brand ≡ rows.old.brand }
     ensures own { visits.new.brand ≡ visits.old.brand }
@@ -147,10 +150,30 @@ pub(crate) fn subscribe_client(
         }
         SubVerdict::Accepted => {
             let touched = made_touches(rows, visits, sub)?;
+            let barred = is_barred(rows, visits, sub);
             add_sub(rows, sub)?;
+            if barred {
+                rows.tell_unreadable(&sub)?;
+            }
             Ok(touched)
         }
     }
+}
+
+/// Whether a new subscription is told that its channel may not be read.
+fn is_barred(rows: &Rows, visits: &mut Visits, sub: ClientSub) -> bool
+    requires told { KnowRights rows.now.state }
+    requires own { visits.old.brand ≡ rows.now.brand }
+    ensures found { result ≡ (rows.now.state.limits.tells_unreadable && is_unreadable rows.now.state (channel_of rows.now.state sub.session sub.sid)) }
+    ensures bound { visits.new.looks ≤ visits.old.looks + 1 }
+    ensures no_less { visits.old.looks ≤ visits.new.looks }
+    ensures own { visits.new.brand ≡ visits.old.brand }
+{
+    rows.limits.tells_unreadable
+        && match rows.told_channel(visits, sub.session, sub.sid) {
+            Some(channel) => !may_read(channel.rights_told),
+            None => false,
+        }
 }
 
 /// What a subscription touches that is made.

@@ -18,7 +18,7 @@ use Rattle.gateway_state.specs.Telling.{outgoing, sent, told}
 use Rattle.gateway_state.specs.Told.{KnowRights}
 use Rattle.gateway_state.specs.Updates.{is_open_to, is_paused, is_sub_to, is_taking, update_by, update_notice, update_on, update_over, update_told, with_owed_of}
 use Rattle.gateway_state.specs.Variables.{ConnectedVariable, connected}
-use Rattle.gateway_notices.specs.InTurn.{source_over, told_in_turn}
+use Rattle.gateway_notices.specs.InTurn.{is_owed, source_over, told_in_turn}
 use Rattle.gateway_notices.specs.declared.source.Source.{Source}
 use Rattle.touched_rows.specs.Touched.{update_told_if}
 use Rattle.row_index.proofs.Named.{same_bytes}
@@ -109,6 +109,20 @@ from_there w v is (sub ∷ subs) =
 
 pub told_one_by_one : (w : Gateway) (subs : List ClientSub) → fold told_in_turn w subs ≡ fold update_told w (filter_map (update_notice w) subs)
 told_one_by_one w subs = from_there w w (same w) subs
+
+-- where nothing is owed nothing is due
+pub due_to_owed : (w : Gateway) (subs : List ClientSub) → filter_map (update_notice w) (filter is_owed subs) ≡ filter_map (update_notice w) subs
+unfolding update_notice
+due_to_owed w [] = refl
+due_to_owed w (sub ∷ subs) = by sub.owed refl (due_to_owed w subs)
+  where
+    none : sub.owed ≡ false → update_notice w sub ≡ None
+    none is = ap (λ (owed : Bool). cond (owed && is_open_to w sub) (update_on w sub (channel_of w sub.session sub.sid)) None) is
+
+    by : (owed : Bool) → sub.owed ≡ owed → filter_map (update_notice w) (filter is_owed subs) ≡ filter_map (update_notice w) subs
+        → filter_map (update_notice w) (cond owed (sub ∷ filter is_owed subs) (filter is_owed subs)) ≡ cons_option (update_notice w sub) (filter_map (update_notice w) subs)
+    by true is rest = ap (cons_option (update_notice w sub)) rest
+    by false is rest = rest ∙ ap (λ (notice : Option UpdateNotice). cons_option notice (filter_map (update_notice w) subs)) (sym (none is))
 
 -- who is told takes updates
 pub takes_it : (w : Gateway) (sub : ClientSub) (notice : UpdateNotice) → Some notice ≡ update_notice w sub → is_taking w notice.session ≡ true

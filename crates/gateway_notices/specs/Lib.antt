@@ -1,3 +1,4 @@
 pub mod InTurn
 pub mod LateReads
 pub mod Looks
+pub mod Met

@@ -1,12 +1,14 @@
 //! What clients are owed about their channels.
-ghost use Rattle.std.specs.Prelude.{◌≡◌, ◌≤◌, fold, OnOk, IfOk};
-ghost use Rattle.gateway_state.specs.Notices.{channel_notice, channel_notices, channel_told, channels_told, with_reach};
+ghost use Rattle.std.specs.Prelude.{◌≡◌, ◌≤◌, true, fold, OnOk, IfOk};
+ghost use Rattle.gateway_state.specs.Notices.{channel_notice, channel_notices, channel_told, channels_told, loses_reading, reading_ended, with_reach};
+ghost use Rattle.gateway_state.specs.Rights.{channel_of};
 ghost use Rattle.touched_rows.specs.Touched.{channel_notices_on, channels_told_on};
 
 use ca_message::ToClient;
 use channel_table::{Channel, Reach, Visits};
 use gateway_rows::Rows;
 use gateway_state::ChannelNotice;
+use gateway_values::may_read;
 use pv_name::Name;
 use std::alloc::AllocError;
 
@@ -107,6 +109,42 @@ fn set_rights(
         .put_channel(visits, session, sid, reach, rights);
 }
 
+/// Whether a channel could be read, and may not be with these rights, where that is told.
+fn loses_reading(rows: &Rows, visits: &mut Visits, session: u32, sid: u32, rights: u32) -> bool
+    requires own { visits.old.brand ≡ rows.now.brand }
+    ensures found { result ≡ loses_reading rows.now.state rights (channel_of rows.now.state session sid) }
+    ensures no_less { visits.old.looks ≤ visits.new.looks }
+    ensures own { visits.new.brand ≡ visits.old.brand }
+{
+    rows.limits.tells_unreadable
+        && match rows.channel_of(visits, session, sid) {
+            Some(channel) => may_read(channel.rights_told) && !may_read(rights),
+            None => false,
+        }
+}
+
+/// Tells each subscription on a channel that the channel may not be read.
+fn end_reading(
+    rows: &mut Rows,
+    visits: &mut Visits,
+    session: u32,
+    sid: u32,
+) -> Result<(), AllocError>
+    requires own { visits.old.brand ≡ rows.old.brand }
+    ensures ok { OnOk result (rows.new.state ≡ reading_ended session sid true rows.old.state) }
+    ensures no_less { visits.old.looks ≤ visits.new.looks }
+    ensures brand { rows.new.brand ≡ rows.old.brand }
+    ensures own { visits.new.brand ≡ visits.old.brand }
+{
+    let subs = rows
+        .clients
+        .subs_on_channel(visits, rows.alloc, session, sid)?;
+    for sub in &subs {
+        rows.tell_unreadable(sub)?;
+    }
+    Ok(())
+}
+
 fn tell_channel(
     rows: &mut Rows,
     visits: &mut Visits,
@@ -130,8 +168,13 @@ fn tell_channel(
             reach,
             rights,
         } => {
+            let ends = loses_reading(rows, visits, session, sid, rights);
             set_rights(rows, visits, session, sid, reach, rights);
-            rows.tell(session, &ToClient::AccessRights { cid, rights })
+            rows.tell(session, &ToClient::AccessRights { cid, rights })?;
+            if ends {
+                end_reading(rows, visits, session, sid)?;
+            }
+            Ok(())
         }
     }
 }

@@ -14,7 +14,7 @@ use crate::channels::{tell_channels, tell_channels_on};
 use crate::gone::tell_gone;
 use crate::links::{tell_interest, tell_link_on, tell_links, tell_links_among};
 use crate::reads::{tell_new_read, tell_reads, tell_reads_on};
-use crate::sharing::{share_on, share_with};
+use crate::sharing::{share_on, share_with, thin_on};
 use crate::updates::{
     tell_one_update, tell_updates, tell_updates_on, tell_updates_to, withhold_updates,
     withhold_updates_on,
@@ -98,7 +98,11 @@ fn tell_value(
 {
     share_on(rows, visits, name, subs)?;
     tell_reads_on(rows, visits, name)?;
-    tell_updates_on(rows, visits, name, subs)
+    tell_updates_on(rows, visits, name, subs)?;
+    if subs.len() > 1 {
+        thin_on(rows, name);
+    }
+    Ok(())
 }
 
 /// The same of a value, with its subscriptions as they were found. Their list is given back.
@@ -151,7 +155,9 @@ pub fn follow(rows: &mut Rows, visits: &mut Visits, effect: Effect) -> Result<()
         Touched::Subscription(name, sub) => {
             tell_interest(rows, &name)?;
             share_with(rows, visits, &name, &sub)?;
-            Ok(tell_one_update(rows, visits, sub)?)
+            tell_one_update(rows, visits, sub)?;
+            thin_on(rows, &name);
+            Ok(())
         }
     }
 }

@@ -1,6 +1,7 @@
 //! Payloads that several readers of a variable share.
 ghost use Rattle.std.specs.Prelude.{◌≡◌, ◌≤◌, ◌+◌, length, OnOk};
 
+use crate::met::Met;
 use crate::source::source_of;
 use channel_table::{ClientSub, Visits};
 use gateway_rows::Rows;
@@ -8,9 +9,11 @@ use gateway_values::may_read;
 use pv_name::Name;
 use std::alloc::AllocError;
 
-/// Keeps what the subscriptions to a variable that wait for its value are given of it, before it is
-/// told: so all of one type and count are told the same payload; one that is of those that were kept last
-/// isn't looked at further. Nothing is kept for one that is alone. What the gateway knows is as before.
+/// Keeps what several of the subscriptions to a variable that wait for its value are given of it, before it
+/// is told: so they are told the same payload. A type and a count are kept once they are met again among the
+/// last eight that differ. What one subscription alone asks for is laid out when its turn comes, if its
+/// session takes it then. One that is of those that were kept last isn't looked at further. What the gateway
+/// knows is as before.
 pub(crate) fn share_on(
     rows: &mut Rows,
     visits: &mut Visits,
@@ -31,8 +34,12 @@ pub(crate) fn share_on(
         return Ok(());
     };
     let mut kept = None;
+    let mut met = Met::none();
     for sub in subs {
-        if kept != Some((sub.dtype, sub.count)) && is_waiting(rows, visits, sub) {
+        if kept != Some((sub.dtype, sub.count))
+            && is_waiting(rows, visits, sub)
+            && met.meet(sub.dtype, sub.count)
+        {
             rows.keep_value(source.cid, source.native, sub.dtype, sub.count)?;
             kept = Some((sub.dtype, sub.count));
         }
@@ -77,4 +84,15 @@ fn is_waiting(rows: &Rows, visits: &mut Visits, sub: &ClientSub) -> bool
             Some(channel) => may_read(channel.rights_told),
             None => false,
         }
+}
+
+/// Lets go what is large of what was kept, but for one kind, once a variable's value was told: nobody needs
+/// more of it at once until the next value.
+pub(crate) fn thin_on(rows: &mut Rows, name: &Name)
+    ensures same { rows.new.state ≡ rows.old.state }
+    ensures brand { rows.new.brand ≡ rows.old.brand }
+{
+    if let Some(source) = source_of(rows, name) {
+        rows.thin_value(source.cid);
+    }
 }

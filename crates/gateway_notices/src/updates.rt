@@ -1,22 +1,21 @@
 //! What clients are owed about their subscriptions.
 ghost use Rattle.std.specs.Prelude.{◌≡◌, ◌≤◌, ◌+◌, ◌*◌, All, filter, length, true, Some, fold, OnOk, IfOk};
-ghost use Rattle.gateway_notices.specs.InTurn.{source_over, told_in_turn};
+ghost use Rattle.gateway_notices.specs.InTurn.{is_owed, source_over, told_in_turn};
 ghost use Rattle.gateway_rows.specs.Own.{subs_on};
 ghost use Rattle.gateway_state.specs.Rights.{channel_of};
 ghost use Rattle.gateway_state.specs.Told.{KnowRights, KnowsRights};
-ghost use Rattle.gateway_state.specs.Updates.{is_open_to, is_paused, is_sub_to, is_taking, is_unreadable, is_withheld, update_notice, update_notices, update_on, update_over, update_told, updates_told, updates_withheld, withheld};
+ghost use Rattle.gateway_state.specs.Updates.{is_open_to, is_paused, is_sub_to, is_taking, is_unreadable, is_withheld, update_notice, update_on, update_over, update_told, updates_told, updates_withheld, withheld};
 ghost use Rattle.gateway_state.specs.Variables.{connected};
-ghost use Rattle.touched_rows.specs.Touched.{one_update_told, update_notices_to, updates_told_on, updates_told_to, updates_withheld_on, withheld_on};
+ghost use Rattle.touched_rows.specs.Touched.{one_update_told, updates_told_on, updates_told_to, updates_withheld_on, withheld_on};
 
 use crate::source::{Source, source_of};
 use ca_message::ToClient;
 use channel_table::{Channel, ClientSub, Visits};
 use gateway_rows::Rows;
-use gateway_state::{Limit, UpdateNotice};
+use gateway_state::UpdateNotice;
 use gateway_values::may_read;
 use pv_name::Name;
 use std::alloc::AllocError;
-use std::collections::VecDeque;
 
 /// Whether a channel stands that may not be read.
 fn is_unreadable(rows: &Rows, visits: &mut Visits, session: u32, sid: u32) -> bool
@@ -265,60 +264,23 @@ fn update_notice(
     }
 }
 
-fn update_notices(rows: &Rows, visits: &mut Visits) -> Result<VecDeque<UpdateNotice>, AllocError>
-    requires told { KnowRights rows.now.state }
+/// The subscriptions that are owed an update.
+fn owed(rows: &Rows, visits: &mut Visits) -> Result<Vec<ClientSub>, AllocError>
     requires own { visits.old.brand ≡ rows.now.brand }
-    ensures found { IfOk result (λ notices. notices.items ≡ update_notices rows.now.state) }
+    ensures found { IfOk result (λ subs. subs.items ≡ filter is_owed rows.now.state.clients.subs) }
     ensures no_less { visits.old.looks ≤ visits.new.looks }
     ensures own { visits.new.brand ≡ visits.old.brand }
 {
-    let mut notices = VecDeque::new(rows.alloc);
+    let mut subs = Vec::new(rows.alloc);
     for sub in rows.clients.subs(visits, rows.alloc)? {
-        if let Some(notice) = update_notice(rows, visits, *sub)? {
-            notices.push_back(notice)?;
+        if sub.owed {
+            subs.push(*sub)?;
         }
     }
-    Ok(notices)
+    Ok(subs)
 }
 
-/// The updates that are due to a session.
-fn update_notices_to(
-    rows: &Rows,
-    visits: &mut Visits,
-    number: u32,
-) -> Result<VecDeque<UpdateNotice>, AllocError>
-    requires told { KnowRights rows.now.state }
-    requires own { visits.old.brand ≡ rows.now.brand }
-    ensures found { IfOk result (λ notices. notices.items ≡ update_notices_to number rows.now.state) }
-    ensures no_less { visits.old.looks ≤ visits.new.looks }
-    ensures own { visits.new.brand ≡ visits.old.brand }
-{
-    let mut notices = VecDeque::new(rows.alloc);
-    for sub in &rows.subs_of(visits, number)? {
-        if let Some(notice) = update_notice(rows, visits, *sub)? {
-            notices.push_back(notice)?;
-        }
-    }
-    Ok(notices)
-}
-
-/// Gives an update, as long as those given before it leave room for it.
-fn tell_update(rows: &mut Rows, visits: &mut Visits, notice: UpdateNotice) -> Result<(), AllocError>
-    requires own { visits.old.brand ≡ rows.old.brand }
-    ensures ok { OnOk result (rows.new.state ≡ update_told rows.old.state notice) }
-    ensures bound { visits.new.looks ≤ visits.old.looks + 1 }
-    ensures no_less { visits.old.looks ≤ visits.new.looks }
-    ensures brand { rows.new.brand ≡ rows.old.brand }
-    ensures own { visits.new.brand ≡ visits.old.brand }
-{
-    if !rows.is_taking(notice.session) {
-        rows.meet(Limit::Held);
-        return Ok(());
-    }
-    give_update(rows, visits, notice)
-}
-
-/// The same where its session takes updates.
+/// Gives an update to a session that takes updates.
 fn give_update(rows: &mut Rows, visits: &mut Visits, notice: UpdateNotice) -> Result<(), AllocError>
     requires room { is_taking rows.old.state notice.session ≡ true }
     requires own { visits.old.brand ≡ rows.old.brand }
@@ -336,37 +298,6 @@ fn give_update(rows: &mut Rows, visits: &mut Visits, notice: UpdateNotice) -> Re
         value: notice.payload,
     };
     rows.tell(notice.session, &said)
-}
-
-fn tell_each(
-    rows: &mut Rows,
-    visits: &mut Visits,
-    mut notices: VecDeque<UpdateNotice>,
-) -> Result<(), AllocError>
-    requires own { visits.old.brand ≡ rows.old.brand }
-    ensures ok { OnOk result (rows.new.state ≡ fold update_told rows.old.state notices.items) }
-    ensures bound { OnOk result (visits.new.looks ≤ visits.old.looks + length notices.items) }
-    ensures no_less { visits.old.looks ≤ visits.new.looks }
-    ensures brand { rows.new.brand ≡ rows.old.brand }
-    ensures own { visits.new.brand ≡ visits.old.brand }
-{
-    while let Some(notice) = notices.pop_front() {
-        tell_update(rows, visits, notice)?;
-    }
-    Ok(())
-}
-
-/// Gives the updates that are due.
-pub(crate) fn tell_updates(rows: &mut Rows, visits: &mut Visits) -> Result<(), AllocError>
-    requires told { KnowRights rows.old.state }
-    requires own { visits.old.brand ≡ rows.old.brand }
-    ensures ok { OnOk result (rows.new.state ≡ updates_told rows.old.state) }
-    ensures no_less { visits.old.looks ≤ visits.new.looks }
-    ensures brand { rows.new.brand ≡ rows.old.brand }
-    ensures own { visits.new.brand ≡ visits.old.brand }
-{
-    let notices = update_notices(rows, visits)?;
-    tell_each(rows, visits, notices)
 }
 
 /// Tells a subscription to a variable what is due to it now.
@@ -443,24 +374,7 @@ pub(crate) fn tell_updates_on(
     tell_each_in_turn(rows, visits, subs, name)
 }
 
-/// The same of one session.
-pub(crate) fn tell_updates_to(
-    rows: &mut Rows,
-    visits: &mut Visits,
-    number: u32,
-) -> Result<(), AllocError>
-    requires told { KnowRights rows.old.state }
-    requires own { visits.old.brand ≡ rows.old.brand }
-    ensures ok { OnOk result (rows.new.state ≡ updates_told_to number rows.old.state) }
-    ensures no_less { visits.old.looks ≤ visits.new.looks }
-    ensures brand { rows.new.brand ≡ rows.old.brand }
-    ensures own { visits.new.brand ≡ visits.old.brand }
-{
-    let notices = update_notices_to(rows, visits, number)?;
-    tell_each(rows, visits, notices)
-}
-
-/// The same of one subscription.
+/// Gives a subscription the update that is due to it.
 #[tactic(auto, using(crate::proofs::TellingInTurn::takes_it))]
 pub(crate) fn tell_one_update(
     rows: &mut Rows,
@@ -484,4 +398,57 @@ pub(crate) fn tell_one_update(
             Ok(())
         }
     }
+}
+
+/// The same of each of these, in their order. What is due to one is laid out when its turn comes: so no more
+/// is laid out at once than an outbox takes, and one update more.
+#[tactic(auto, using(crate::proofs::TellingInTurn::know_rights_next))]
+fn tell_one_by_one(
+    rows: &mut Rows,
+    visits: &mut Visits,
+    subs: &[ClientSub],
+) -> Result<(), AllocError>
+    requires told { KnowRights rows.old.state }
+    requires own { visits.old.brand ≡ rows.old.brand }
+    ensures ok { OnOk result (rows.new.state ≡ fold told_in_turn rows.old.state subs.now) }
+    ensures no_less { visits.old.looks ≤ visits.new.looks }
+    ensures brand { rows.new.brand ≡ rows.old.brand }
+    ensures own { visits.new.brand ≡ visits.old.brand }
+{
+    for sub in subs {
+        tell_one_update(rows, visits, *sub)?;
+    }
+    Ok(())
+}
+
+/// Gives the updates that are due to a session.
+#[tactic(auto, using(crate::proofs::TellingInTurn::told_one_by_one))]
+pub(crate) fn tell_updates_to(
+    rows: &mut Rows,
+    visits: &mut Visits,
+    number: u32,
+) -> Result<(), AllocError>
+    requires told { KnowRights rows.old.state }
+    requires own { visits.old.brand ≡ rows.old.brand }
+    ensures ok { OnOk result (rows.new.state ≡ updates_told_to number rows.old.state) }
+    ensures no_less { visits.old.looks ≤ visits.new.looks }
+    ensures brand { rows.new.brand ≡ rows.old.brand }
+    ensures own { visits.new.brand ≡ visits.old.brand }
+{
+    let subs = rows.subs_of(visits, number)?;
+    tell_one_by_one(rows, visits, &subs)
+}
+
+/// Gives all updates that are due.
+#[tactic(auto, using(crate::proofs::TellingInTurn::told_one_by_one, crate::proofs::TellingInTurn::due_to_owed))]
+pub(crate) fn tell_updates(rows: &mut Rows, visits: &mut Visits) -> Result<(), AllocError>
+    requires told { KnowRights rows.old.state }
+    requires own { visits.old.brand ≡ rows.old.brand }
+    ensures ok { OnOk result (rows.new.state ≡ updates_told rows.old.state) }
+    ensures no_less { visits.old.looks ≤ visits.new.looks }
+    ensures brand { rows.new.brand ≡ rows.old.brand }
+    ensures own { visits.new.brand ≡ visits.old.brand }
+{
+    let subs = owed(rows, visits)?;
+    tell_one_by_one(rows, visits, &subs)
 }

@@ -46,6 +46,15 @@ impl Rows {
         }
     }
 
+    /// Lets go large encodings of what a link was told last, where several are kept: once an update was
+    /// told one is enough. What the gateway knows is as before.
+    pub fn thin_value(&mut self, cid: u32)
+        ensures state { self.new.state ≡ self.old.state }
+        ensures brand { self.new.brand ≡ self.old.brand }
+    {
+        self.cache.thin(cid);
+    }
+
     fn reading_over(
         &self,
         rights: u32,

@@ -1,10 +1,13 @@
 //! Messages to clients and to servers.
 ghost use Rattle.std.specs.Prelude.{◌≡◌, OnOk, IfOk};
+ghost use Rattle.gateway_state.specs.Subscribing.{unreadable_told};
 ghost use Rattle.gateway_state.specs.Telling.{outgoing, outgoing_upstream, sent, told, asked};
 
 use crate::state::Rows;
 use ca_header::write_head;
+use ca_message::codes::ECA_NORDACCESS;
 use ca_message::{ToClient, ToServer};
+use channel_table::ClientSub;
 use fanout::Out;
 use gateway_state::Dest;
 use std::alloc::{AllocError, Global};
@@ -25,6 +28,21 @@ impl Rows {
     {
         let out = outgoing(self.alloc, said)?;
         self.send(Dest::Session(number), out)
+    }
+
+    /// Tells a subscription that its channel may not be read.
+    pub fn tell_unreadable(&mut self, sub: &ClientSub) -> Result<(), AllocError>
+        ensures ok { OnOk result (self.new.state ≡ unreadable_told self.old.state sub.now) }
+        ensures brand { self.new.brand ≡ self.old.brand }
+    {
+        self.tell(
+            sub.session,
+            &ToClient::UpdateRefused {
+                id: sub.id,
+                dtype: sub.dtype,
+                code: ECA_NORDACCESS,
+            },
+        )
     }
 
     /// Asks a server for something.

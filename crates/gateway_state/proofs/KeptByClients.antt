@@ -1,12 +1,12 @@
 -- What clients say and do keeps what each change of rows keeps.
-use Rattle.std.proofs.Common.{◌≡◌, ℕ, List, [], ◌∷◌, ◌++◌, length, Bool, true, false, cond, eqb, leb, ltb, ◌||◌, Option, Some, None, Ok, Err, Result, refl}
+use Rattle.std.proofs.Common.{◌≡◌, ℕ, List, [], ◌∷◌, ◌++◌, length, Bool, true, false, cond, eqb, leb, ltb, ◌||◌, ◌&&◌, Option, Some, None, Ok, Err, Result, refl}
 use Rattle.std.specs.Prelude.{is_some}
 use Rattle.std.proofs.lemmas.Bool.{eq-eqb}
 use Rattle.std.specs.List.{find, list_any}
 use Rattle.rows.specs.Rows.{change_first}
 use Rattle.ca_header.specs.declared.header.Header.{Header}
 use Rattle.ca_header.specs.declared.header.Message.{Message}
-use Rattle.ca_message.specs.declared.codes.TheConstants.{ECA_INTERNAL, ECA_BADCHID, ECA_NOWTACCESS, ECA_PUTFAIL}
+use Rattle.ca_message.specs.declared.codes.TheConstants.{ECA_INTERNAL, ECA_BADCHID, ECA_NORDACCESS, ECA_NOWTACCESS, ECA_PUTFAIL}
 use Rattle.ca_message.specs.declared.commands.TheConstants.{NO_CHANNEL, CA_PROTO_CREATE_CHAN, CA_PROTO_CLIENT_NAME, CA_PROTO_EVENT_ADD, CA_PROTO_HOST_NAME}
 use Rattle.ca_message.specs.declared.request.ClientRequest.{ClientRequest}
 use Rattle.ca_message.specs.declared.request.ClientRequest.TheVariants as requests
@@ -45,7 +45,7 @@ use Rattle.pv_alias.specs.declared.lead.Lead.{Lead}
 use Rattle.rule_desk.specs.declared.policy.Policy.{Policy}
 use Rattle.gateway_state.specs.declared.connections.Connection.{Connection}
 use Rattle.gateway_state.specs.Asked.{stands}
-use Rattle.gateway_state.specs.Clients.{channel_asked, cleared, created, created_as, created_over, creation_failed, judged, not_connected, read_verdict, remembered, remembered_by, rights_on, versioned, with_channel, with_host_fixed, without_channel, verdict_on, called, fixed, renamed, search_left_by}
+use Rattle.gateway_state.specs.Clients.{channel_asked, cleared, created, created_as, created_over, creation_failed, judged, no_channel, not_connected, read_verdict, remembered, remembered_by, rights_on, versioned, with_channel, with_host_fixed, without_channel, verdict_on, called, fixed, renamed, search_left_by, was_given_out}
 use Rattle.gateway_state.specs.Connections.{fresh, is_to}
 use Rattle.gateway_state.specs.Gateway.{Gateway}
 use Rattle.gateway_state.specs.Requests.{client_said, requested, unreadable}
@@ -53,8 +53,9 @@ use Rattle.gateway_state.specs.Rights.{channel_of, lead_for, lead_in, rights_of}
 use Rattle.gateway_state.specs.Searches.{with_search, without_search}
 use Rattle.gateway_state.specs.Sessions.{opened, with_session}
 use Rattle.gateway_state.specs.Settled.{is_host_fixed, is_of_server, is_write_on_link, link_under}
-use Rattle.gateway_state.specs.Subscribing.{cancelled_on, cid_in, is_on_sid, limit_unless, new_sub, paused_to, sub_judged, sub_of, sub_verdict, sub_verdict_on, sub_verdict_over, sub_verdict_unless, subscription_limit, subscription_refusal, with_pause, without_sub}
+use Rattle.gateway_state.specs.Subscribing.{cancelled_on, cid_in, is_on_sid, limit_unless, new_sub, paused_to, sub_judged, sub_of, sub_verdict, sub_verdict_on, sub_verdict_over, sub_verdict_unless, subscription_limit, subscription_refusal, unreadable_told, with_pause, with_sub, without_sub}
 use Rattle.gateway_state.specs.Telling.{marked, told}
+use Rattle.gateway_state.specs.Updates.{is_unreadable}
 use Rattle.gateway_state.specs.Variables.{ConnectedVariable, connected, connected_in, connected_over, link_of}
 use Rattle.gateway_state.specs.Writing.{may_write, new_write, notified_by, with_write, write_answered, write_handed_on, write_judged, write_verdict, write_verdict_on, write_verdict_over, write_waits, written_by}
 use Rattle.gateway_state.proofs.RowTests.{none_found}
@@ -231,17 +232,24 @@ module _ (P : Gateway → Type 0) (kept : KeepsRows P) where
       kept_created_as number cid name (lead_in w number name) (with_host_fixed number w)
       (λ lead leads. fixed_now w.policy name lead number w.clients.sessions leads) (kept_with_host_fixed number w holds)
 
+  -- requests on no channel
+
+  kept_no_channel : (number : ℕ) (head : Header) → KeepsErrors P number head → (w : Gateway) → P w → P (no_channel w number head)
+  kept_no_channel number head errors w holds =
+      kept_either P (w.limits.passes_over_gone && was_given_out w head.p1) w (told number (replies.Error NO_CHANNEL ECA_BADCHID head) w)
+      (λ _. holds) (errors NO_CHANNEL ECA_BADCHID w holds)
+
   -- channels that go, and reads
 
   kept_cleared : (number sid cid : ℕ) (head : Header) → KeepsErrors P number head → (found : Option Channel) (w : Gateway) → P w → P (cleared number sid cid head found w)
-  kept_cleared number sid cid head errors None w holds = errors NO_CHANNEL ECA_BADCHID w holds
+  kept_cleared number sid cid head errors None w holds = kept_no_channel number head errors w holds
   kept_cleared number sid cid head errors (Some c) w holds =
       kept.messages.telling number (replies.ClearChannel sid cid) by_any (without_channel number sid w) (kept.channel_removed number sid w holds)
 
   kept_judged : (number sid ioid dtype count : ℕ) (head : Header) → KeepsErrors P number head → (verdict : ReadVerdict) (w : Gateway)
       → ((reach : Reach) (rights : ℕ) → verdict ≡ Accepted reach rights → list_any (is_channel number sid) w.clients.channels ≡ true)
       → P w → P (judged number sid ioid dtype count head verdict w)
-  kept_judged number sid ioid dtype count head errors NoChannel w on holds = errors NO_CHANNEL ECA_BADCHID w holds
+  kept_judged number sid ioid dtype count head errors NoChannel w on holds = kept_no_channel number head errors w holds
   kept_judged number sid ioid dtype count head errors Ignored w on holds = holds
   kept_judged number sid ioid dtype count head errors (Refused code) w on holds = kept.messages.telling number (replies.ReadNotifyRefused ioid dtype count code) by_any w holds
   kept_judged number sid ioid dtype count head errors (Accepted reach rights) w on holds =
@@ -251,13 +259,18 @@ module _ (P : Gateway → Type 0) (kept : KeepsRows P) where
   -- subscriptions
 
   kept_sub_judged : (sub : ClientSub) (head : Header) → KeepsErrors P sub.session head → (verdict : SubVerdict) (w : Gateway) → (verdict ≡ SubVerdicts.Accepted → IsFree w sub) → P w → P (sub_judged sub head verdict w)
-  kept_sub_judged sub head errors SubVerdicts.NoChannel w free holds = errors NO_CHANNEL ECA_BADCHID w holds
+  kept_sub_judged sub head errors SubVerdicts.NoChannel w free holds = kept_no_channel sub.session head errors w holds
   kept_sub_judged sub head errors SubVerdicts.Ignored w free holds = holds
   kept_sub_judged sub head errors (SubVerdicts.Refused cid code) w free holds = errors cid code w holds
-  kept_sub_judged sub head errors SubVerdicts.Accepted w free holds = let is = free refl in kept.sub_added sub w is.free is.on holds
+  kept_sub_judged sub head errors SubVerdicts.Accepted w free holds =
+      let is = free refl in
+      let added : Gateway = with_sub sub w in
+      let there : P added = kept.sub_added sub w is.free is.on holds in
+      kept_either P (w.limits.tells_unreadable && is_unreadable added (channel_of added sub.session sub.sid)) (unreadable_told added sub) added
+      (λ _. kept.messages.telling sub.session (replies.UpdateRefused sub.id sub.dtype ECA_NORDACCESS) by_any added there) there
 
   kept_cancelled_on : (number sid id dtype count : ℕ) (head : Header) → KeepsErrors P number head → (found : Option Channel) (w : Gateway) → P w → P (cancelled_on number sid id dtype count head found w)
-  kept_cancelled_on number sid id dtype count head errors None w holds = errors NO_CHANNEL ECA_BADCHID w holds
+  kept_cancelled_on number sid id dtype count head errors None w holds = kept_no_channel number head errors w holds
   kept_cancelled_on number sid id dtype count head errors (Some c) w holds =
       let removed : Gateway = told number (replies.EventCancelled sid id dtype count) (without_sub number id w) in
       let refused : Gateway = told number (replies.Error c.cid ECA_INTERNAL head) w in
@@ -271,7 +284,7 @@ module _ (P : Gateway → Type 0) (kept : KeepsRows P) where
   -- writes
 
   kept_written_by : (number : ℕ) (head : Header) → KeepsErrors P number head → (verdict : WriteVerdict) (w : Gateway) → P w → P (written_by number head verdict w)
-  kept_written_by number head errors WriteVerdicts.NoChannel w holds = errors NO_CHANNEL ECA_BADCHID w holds
+  kept_written_by number head errors WriteVerdicts.NoChannel w holds = kept_no_channel number head errors w holds
   kept_written_by number head errors WriteVerdicts.Ignored w holds = holds
   kept_written_by number head errors (WriteVerdicts.Refused cid code) w holds = errors cid code w holds
   kept_written_by number head errors (WriteVerdicts.Accepted server sid value) w holds = kept.messages.asking server (to_servers.Write sid value) w holds
@@ -287,7 +300,7 @@ module _ (P : Gateway → Type 0) (kept : KeepsRows P) where
   kept_notified_by : (number sid ioid dtype count : ℕ) (head : Header) → KeepsErrors P number head → (verdict : WriteVerdict) (w : Gateway)
       → ((server upstream_sid : ℕ) (value : Written) → verdict ≡ WriteVerdicts.Accepted server upstream_sid value → is_write_on_link w (new_write w server number sid dtype count ioid) ≡ true)
       → P w → P (notified_by number sid ioid dtype count head verdict w)
-  kept_notified_by number sid ioid dtype count head errors WriteVerdicts.NoChannel w on holds = errors NO_CHANNEL ECA_BADCHID w holds
+  kept_notified_by number sid ioid dtype count head errors WriteVerdicts.NoChannel w on holds = kept_no_channel number head errors w holds
   kept_notified_by number sid ioid dtype count head errors WriteVerdicts.Ignored w on holds = holds
   kept_notified_by number sid ioid dtype count head errors (WriteVerdicts.Refused cid code) w on holds = kept.messages.telling number (replies.WriteNotify ioid dtype count code) by_any w holds
   kept_notified_by number sid ioid dtype count head errors (WriteVerdicts.Accepted server upstream_sid value) w on holds =

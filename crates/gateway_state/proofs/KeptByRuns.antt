@@ -1,11 +1,14 @@
 -- What each change of rows keeps, every run keeps.
-use Rattle.std.proofs.Common.{◌≡◌, ℕ, List, [], ◌∷◌, None, false, refl}
-use Rattle.std.specs.Prelude.{is_some}
+use Rattle.std.proofs.Common.{◌≡◌, ℕ, List, [], ◌∷◌, Bool, None, true, false, refl}
+use Rattle.std.specs.Prelude.{filter, is_some}
 use Rattle.std.specs.List.{All, fold}
 use Rattle.std.proofs.lemmas.List.Elements.{All-head, All-tail}
 use Rattle.ca_header.specs.declared.header.Message.{Message}
+use Rattle.ca_message.specs.declared.codes.TheConstants.{ECA_NORDACCESS}
 use Rattle.ca_message.specs.declared.to_client.ToClient.TheVariants as replies
 use Rattle.ca_message.specs.declared.to_server.ToServer.TheVariants as requests
+use Rattle.channel_table.specs.declared.subs.ClientSub.{ClientSub}
+use Rattle.channel_table.specs.Subs.{is_sub_on}
 use Rattle.link_table.specs.declared.links.LinkState.TheVariants.{Creating, Connected, Unusable}
 use Rattle.link_table.specs.declared.links.Subject.TheVariants.{Values, Properties}
 use Rattle.gateway_state.specs.declared.event.Dest.TheVariants as dests
@@ -25,11 +28,13 @@ use Rattle.gateway_state.specs.Clients.{remembered, without_channel}
 use Rattle.gateway_state.specs.Delivered.{before_said}
 use Rattle.gateway_state.specs.Direct.{direct_effect}
 use Rattle.gateway_state.specs.Gateway.{Gateway}
-use Rattle.gateway_state.specs.Notices.{channel_notices, channel_told, channels_told, link_notices, link_told, links_told, read_notices, read_told, reads_told, with_reach, with_subscription_of, without_read}
+use Rattle.gateway_state.specs.Notices.{channel_notices, channel_told, channels_told, link_notices, link_told, links_told, loses_reading, read_notices, read_told, reading_ended, reads_told, with_reach, with_subscription_of, without_read}
 use Rattle.gateway_state.specs.Requests.{client_said}
 use Rattle.gateway_state.specs.Resolution.{lead_of}
+use Rattle.gateway_state.specs.Rights.{channel_of}
 use Rattle.gateway_state.specs.Servers.{found, server_said, without_link}
 use Rattle.gateway_state.specs.Step.{consequences, run, step}
+use Rattle.gateway_state.specs.Subscribing.{unreadable_told}
 use Rattle.gateway_state.specs.Telling.{told}
 use Rattle.gateway_state.specs.Updates.{is_taking, update_notices, update_told, updates_withheld, with_owed_of, withheld}
 use Rattle.gateway_state.proofs.Kept.{IsKept, KeepsLinks, KeepsQuotes, KeepsRows, by_any, kept_either, kept_owed_to_all, quotes_kept, with_new_subscription}
@@ -62,11 +67,22 @@ module _ (P : Gateway → Type 0) (kept : KeepsRows P) where
 
   -- the passes
 
+  kept_all_unreadable : (subs : List ClientSub) (w : Gateway) → P w → P (fold unreadable_told w subs)
+  kept_all_unreadable [] w holds = holds
+  kept_all_unreadable (sub ∷ subs) w holds =
+      kept_all_unreadable subs (unreadable_told w sub) (kept.messages.telling sub.session (replies.UpdateRefused sub.id sub.dtype ECA_NORDACCESS) by_any w holds)
+
+  kept_reading_ended : (session sid : ℕ) (ends : Bool) (w : Gateway) → P w → P (reading_ended session sid ends w)
+  kept_reading_ended session sid false w holds = holds
+  kept_reading_ended session sid true w holds = kept_all_unreadable (filter (is_sub_on session sid) w.clients.subs) w holds
+
   kept_channel_told : (w : Gateway) (notice : ChannelNotice) → P w → P (channel_told w notice)
   kept_channel_told w (Disconnected session sid cid) holds =
       kept.messages.telling session (replies.ServerDisconnect cid) by_any (without_channel session sid w) (kept.channel_removed session sid w holds)
   kept_channel_told w (RightsChanged session sid cid reach rights) holds =
-      kept.messages.telling session (replies.AccessRights cid rights) by_any (with_reach session sid reach rights w) (kept.channel_changed session sid reach rights w holds)
+      let told_rights : Gateway = told session (replies.AccessRights cid rights) (with_reach session sid reach rights w) in
+      kept_reading_ended session sid (loses_reading w rights (channel_of w session sid)) told_rights
+      (kept.messages.telling session (replies.AccessRights cid rights) by_any (with_reach session sid reach rights w) (kept.channel_changed session sid reach rights w holds))
 
   pub kept_channels : (notices : List ChannelNotice) (w : Gateway) → P w → P (fold channel_told w notices)
   kept_channels [] w holds = holds

@@ -18,6 +18,7 @@ pub mod NumberLemmas
 pub mod OnChannels
 pub mod OrderKept
 pub mod ReachedStates
+pub mod ReadingEnded
 pub mod RisingRows
 pub mod RowTests
 pub mod RowsOnChannels

@@ -14,10 +14,12 @@ use Rattle.gateway_state.specs.declared.notice.UpdateNotice.{UpdateNotice}
 use Rattle.ca_message.specs.declared.to_client.ToClient.TheVariants as replies
 use Rattle.link_table.specs.declared.links.LinkState.TheVariants.{Creating, Connected, Unusable}
 use Rattle.gateway_state.specs.Gateway.{Gateway}
-use Rattle.gateway_state.specs.Notices.{channel_told, channels_told, channel_notices, link_told, links_told, link_notices, read_told, reads_told, read_notices}
+use Rattle.gateway_state.specs.Notices.{channel_told, channels_told, channel_notices, loses_reading, with_reach, link_told, links_told, link_notices, read_told, reads_told, read_notices}
 use Rattle.gateway_state.specs.Numbers.{is_past_numbers}
+use Rattle.gateway_state.specs.Rights.{channel_of}
 use Rattle.gateway_state.specs.Step.{consequences}
 use Rattle.gateway_state.specs.Telling.{sent, told}
+use Rattle.gateway_state.proofs.ReadingEnded.{reading_ended_shape}
 use Rattle.gateway_state.specs.Updates.{is_taking, owed_to, owed_to_all, update_notices, update_told, updates_told, updates_withheld, with_owed_of, withheld}
 
 -- a counter that rises stays past its end
@@ -51,7 +53,11 @@ notices_told_past_at w end notices place d within is e =
 channel_told_past : (w : Gateway) (notice : ChannelNotice) → is_past_numbers w ≡ true → is_past_numbers (channel_told w notice) ≡ true
 unfolding sent is_past_numbers
 channel_told_past w (channels.Disconnected session sid cid) e = e
-channel_told_past w (channels.RightsChanged session sid cid reach rights) e = e
+channel_told_past w (channels.RightsChanged session sid cid reach rights) e =
+    ap is_past_numbers
+    (reading_ended_shape session sid (loses_reading w rights (channel_of w session sid))
+    (told session (replies.AccessRights cid rights) (with_reach session sid reach rights w)))
+    ∙ e
 
 all_channels_past : (w : Gateway) (notices : List ChannelNotice) → is_past_numbers w ≡ true → is_past_numbers (fold channel_told w notices) ≡ true
 all_channels_past w [] e = e

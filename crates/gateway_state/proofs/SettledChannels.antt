@@ -4,6 +4,7 @@ use Rattle.std.specs.Prelude.{filter, filter_map}
 use Rattle.std.specs.List.{fold, cons_option}
 use Rattle.std.proofs.lemmas.Bool.{and_from, and_right, ne_eqb, eq-eqb}
 use Rattle.rows.specs.Rows.{change_first}
+use Rattle.ca_message.specs.declared.to_client.ToClient.TheVariants as replies
 use Rattle.channel_table.specs.declared.channels.Channel.{Channel}
 use Rattle.channel_table.specs.declared.reads.WaitingRead.{WaitingRead}
 use Rattle.channel_table.specs.declared.subs.ClientSub.{ClientSub}
@@ -13,10 +14,11 @@ use Rattle.gateway_state.specs.declared.connections.Connection.{Connection}
 use Rattle.gateway_state.specs.declared.notice.ChannelNotice.{ChannelNotice}
 use Rattle.gateway_state.specs.declared.notice.ChannelNotice.TheVariants.{Disconnected, RightsChanged}
 use Rattle.gateway_state.specs.Gateway.{Gateway}
-use Rattle.gateway_state.specs.Notices.{channel_notice, channel_notices, channel_told, channels_told}
-use Rattle.gateway_state.specs.Rights.{rights_of, is_served}
+use Rattle.gateway_state.specs.Notices.{channel_notice, channel_notices, channel_told, channels_told, loses_reading, with_reach}
+use Rattle.gateway_state.specs.Rights.{channel_of, rights_of, is_served}
 use Rattle.gateway_state.specs.Settled.{AreRising, sid_of}
-use Rattle.gateway_state.specs.Telling.{sent}
+use Rattle.gateway_state.specs.Telling.{sent, told}
+use Rattle.gateway_state.proofs.ReadingEnded.{reading_ended_shape}
 use Rattle.gateway_state.proofs.RisingRows.{none_rising, filter_absent}
 
 -- what a notice leaves of the channels
@@ -37,7 +39,12 @@ unfolding sent
 channels_changed [] w = refl
 channels_changed (Disconnected session sid cid ∷ notices) w = channels_changed notices (channel_told w (Disconnected session sid cid))
 channels_changed (RightsChanged session sid cid reach rights ∷ notices) w =
-    channels_changed notices (channel_told w (RightsChanged session sid cid reach rights))
+    let next : Gateway = channel_told w (RightsChanged session sid cid reach rights) in
+    let last : Gateway = fold channel_told next notices in
+    channels_changed notices next
+    ∙ ap (λ (v : Gateway). with_channels v last.connections (fold left_by v.clients.channels notices) last.clients.subs last.clients.reads last.upstream.writes)
+    (reading_ended_shape session sid (loses_reading w rights (channel_of w session sid))
+    (told session (replies.AccessRights cid rights) (with_reach session sid reach rights w)))
 
 -- the notice on a channel, by what it rests on
 abbrev pub notice_by : Bool → Bool → ℕ → Channel → Option ChannelNotice

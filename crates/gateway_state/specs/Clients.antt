@@ -37,9 +37,17 @@ use Rattle.gateway_state.specs.Variables.{ConnectedVariable, connected}
 abbrev pub not_understood : Gateway → ℕ → Header → Gateway
 not_understood w number head = told number (replies.Error NO_CHANNEL ECA_INTERNAL head) w
 
--- it names no channel of the session
+-- the number of a channel was given out, to this session or to another
+abbrev pub was_given_out : Gateway → Sid → Bool
+was_given_out w sid = nat_le w.config.first sid && nat_lt sid w.upstream.counters.sid
+
+-- it names no channel of the session. One on a number that was given out is passed over, where that is
+-- wanted: its client was told that the channel is gone. A number that was only ever another session's was
+-- given out too; a client can name it only by guessing
 abbrev pub no_channel : Gateway → ℕ → Header → Gateway
-no_channel w number head = told number (replies.Error NO_CHANNEL ECA_BADCHID head) w
+no_channel w number head =
+    if w.limits.passes_over_gone && was_given_out w head.p1 then w
+    else told number (replies.Error NO_CHANNEL ECA_BADCHID head) w
 
 -- the session said which minor version it speaks
 abbrev pub versioned : Gateway → ℕ → ℕ → Gateway

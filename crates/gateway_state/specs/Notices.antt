@@ -1,6 +1,6 @@
 -- What others are owed after an event about channels, links and waiting reads. Each pass makes its list
 -- of notices from the rows as the pass begins, and then gives them one by one.
-use Rattle.std.specs.Prelude.{ℕ, ◌+◌, List, [], ◌∷◌, ◌++◌, filter, filter_map, flat_map, not, ◌==◌, if◌then◌else◌, Option, Some, None}
+use Rattle.std.specs.Prelude.{ℕ, ◌+◌, List, [], ◌∷◌, ◌++◌, filter, filter_map, flat_map, Bool, true, false, not, ◌&&◌, ◌==◌, if◌then◌else◌, Option, Some, None}
 use Rattle.std.specs.List.{fold}
 use Rattle.rows.specs.Rows.{change_first, remove_first}
 use Rattle.ca_message.specs.declared.codes.TheConstants.{ECA_NORDACCESS}
@@ -11,6 +11,7 @@ use Rattle.channel_table.specs.declared.channels.Reach.{Reach}
 use Rattle.channel_table.specs.declared.reads.WaitingRead.{WaitingRead}
 use Rattle.channel_table.specs.Channels.{is_channel, with_reach_and_rights}
 use Rattle.channel_table.specs.Reads.{same_read}
+use Rattle.channel_table.specs.Subs.{is_sub_on}
 use Rattle.link_table.specs.declared.links.Link.{Link}
 use Rattle.link_table.specs.declared.links.LinkState.{LinkState}
 use Rattle.link_table.specs.declared.links.LinkState.TheVariants.{Creating, Connected, Unusable}
@@ -32,9 +33,10 @@ use Rattle.gateway_state.specs.Clients.{without_channel}
 use Rattle.gateway_state.specs.declared.reading.Given.{Given}
 use Rattle.gateway_state.specs.Gateway.{Gateway}
 use Rattle.gateway_state.specs.Interest.{is_for, minor_of, sent_for, wanted_for}
-use Rattle.gateway_state.specs.Quantities.{Cid, Count, Dtype, Minor, ServerNumber, Sid}
+use Rattle.gateway_state.specs.Quantities.{Cid, Count, Dtype, Minor, ServerNumber, SessionNumber, Sid}
 use Rattle.gateway_state.specs.Rights.{rights_of, may_read, is_served, channel_of}
 use Rattle.gateway_state.specs.Servers.{ctrl_of, time_of, without_link}
+use Rattle.gateway_state.specs.Subscribing.{unreadable_told}
 use Rattle.gateway_state.specs.Telling.{told, asked}
 use Rattle.gateway_state.specs.Variables.{ConnectedVariable, connected, is_wanted}
 
@@ -57,11 +59,22 @@ with_reach session sid reach rights w = record w {
   };
 }
 
+-- a channel could be read and may not be with these rights, where that is told
+abbrev pub loses_reading : Gateway → ℕ → Option Channel → Bool
+loses_reading w rights None = false
+loses_reading w rights (Some c) = w.limits.tells_unreadable && may_read c.rights_told && not (may_read rights)
+
+-- each subscription on the session's channel is told so, in the order of adding
+abbrev pub reading_ended : SessionNumber → Sid → Bool → Gateway → Gateway
+reading_ended session sid false w = w
+reading_ended session sid true w = fold unreadable_told w (filter (is_sub_on session sid) w.clients.subs)
+
 abbrev pub channel_told : Gateway → ChannelNotice → Gateway
 channel_told w (Disconnected session sid cid) =
     told session (replies.ServerDisconnect cid) (without_channel session sid w)
 channel_told w (RightsChanged session sid cid reach rights) =
-    told session (replies.AccessRights cid rights) (with_reach session sid reach rights w)
+    reading_ended session sid (loses_reading w rights (channel_of w session sid))
+    (told session (replies.AccessRights cid rights) (with_reach session sid reach rights w))
 
 abbrev pub channels_told : Gateway → Gateway
 channels_told w = fold channel_told w (channel_notices w)

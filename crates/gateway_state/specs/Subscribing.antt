@@ -1,9 +1,9 @@
 -- What clients do with their subscriptions.
-use Rattle.std.specs.Prelude.{ℕ, [], ◌∷◌, ◌++◌, filter, bit_and, Bool, true, false, ◌==◌, nat_le, is_some, if◌then◌else◌, Option, Some, None}
+use Rattle.std.specs.Prelude.{ℕ, [], ◌∷◌, ◌++◌, filter, bit_and, Bool, true, false, ◌&&◌, ◌==◌, nat_le, is_some, if◌then◌else◌, Option, Some, None}
 use Rattle.std.specs.List.{find}
 use Rattle.rows.specs.Rows.{change_first}
 use Rattle.ca_header.specs.declared.header.Header.{Header}
-use Rattle.ca_message.specs.declared.codes.TheConstants.{ECA_ALLOCMEM, ECA_BADMASK, ECA_INTERNAL}
+use Rattle.ca_message.specs.declared.codes.TheConstants.{ECA_ALLOCMEM, ECA_BADMASK, ECA_INTERNAL, ECA_NORDACCESS}
 use Rattle.ca_message.specs.declared.commands.TheConstants.{NO_CHANNEL}
 use Rattle.ca_message.specs.declared.to_client.ToClient.TheVariants as replies
 use Rattle.channel_table.specs.declared.channels.Channel.{Channel}
@@ -22,6 +22,7 @@ use Rattle.gateway_state.specs.Gateway.{Gateway}
 use Rattle.gateway_state.specs.Quantities.{Count, Dtype, Mask, SessionNumber, Sid, SubId}
 use Rattle.gateway_state.specs.Rights.{channel_of}
 use Rattle.gateway_state.specs.Telling.{told}
+use Rattle.gateway_state.specs.Updates.{is_unreadable}
 use Rattle.gateway_state.specs.Variables.{ConnectedVariable, connected}
 
 -- the client's request about its channel is refused
@@ -83,6 +84,15 @@ sub_verdict w sub = sub_verdict_on w sub (channel_of w sub.session sub.sid)
 abbrev pub with_sub : ClientSub → Gateway → Gateway
 with_sub sub w = record w { clients = record w.clients { subs = w.clients.subs ++ sub ∷ [] } }
 
+-- a subscription is told that its channel may not be read
+abbrev pub unreadable_told : Gateway → ClientSub → Gateway
+unreadable_told w sub = told sub.session (replies.UpdateRefused sub.id sub.dtype ECA_NORDACCESS) w
+
+-- a new one is, at once, where that is wanted
+abbrev pub told_if_unreadable : ClientSub → Gateway → Gateway
+told_if_unreadable sub w =
+    if w.limits.tells_unreadable && is_unreadable w (channel_of w sub.session sub.sid) then unreadable_told w sub else w
+
 -- a new subscription is owed an update
 abbrev pub new_sub : SessionNumber → Sid → SubId → Dtype → Count → Mask → ClientSub
 new_sub number sid id dtype count mask = record {
@@ -99,7 +109,7 @@ abbrev pub sub_judged : ClientSub → Header → SubVerdict → Gateway → Gate
 sub_judged sub head NoChannel w = no_channel w sub.session head
 sub_judged sub head Ignored w = w
 sub_judged sub head (Refused cid code) w = request_refused sub.session cid code head w
-sub_judged sub head Accepted w = with_sub sub w
+sub_judged sub head Accepted w = told_if_unreadable sub (with_sub sub w)
 
 -- the client wants updates
 abbrev pub subscription_asked : ClientSub → Header → Gateway → Gateway

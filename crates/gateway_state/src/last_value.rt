@@ -72,6 +72,13 @@ impl LastValue {
         Ok(())
     }
 
+    /// Lets go large encodings, but one (`Cached::thin`). What is held is as before.
+    pub fn thin(&mut self)
+        ensures { self.new ≡ self.old }
+    {
+        self.cached.thin();
+    }
+
     /// Whether properties are held (`Cached::has_properties`).
     pub fn has_properties(&self) -> bool
         ensures { result ≡ is_some self.now.properties }

@@ -50,11 +50,11 @@ pub struct Limits {
     pub makes_room: bool,
     /// Whether a number that was given out comes again once nothing has it. Kept, and not heeded yet.
     pub reuses_numbers: bool,
-    /// Whether a request on a number that was given out and stands no more is passed over. Kept, and not
-    /// heeded yet.
+    /// Whether a request on a number that was given out, and that names no channel of the client, is passed
+    /// over. Else it is refused, as one on a number that never was.
     pub passes_over_gone: bool,
-    /// Whether a subscription whose channel may not be read is told so by an update without a value. Kept,
-    /// and not heeded yet.
+    /// Whether a subscription whose channel may not be read is told so, by an update with 368 and no value: as it
+    /// is made, and each time its channel may be read no longer.
     pub tells_unreadable: bool,
 }
 

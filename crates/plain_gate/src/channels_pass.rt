@@ -1,12 +1,15 @@
 //! The pass over channels: what clients are owed about them.
-ghost use Rattle.std.specs.Prelude.{◌≡◌, IfOk, OnOk};
-ghost use Rattle.gateway_state.specs.Notices.{channel_notice, channel_notices, channel_told, channels_told};
+ghost use Rattle.std.specs.Prelude.{◌≡◌, true, filter, IfOk, OnOk};
+ghost use Rattle.channel_table.specs.Subs.{is_sub_on};
+ghost use Rattle.gateway_state.specs.Notices.{channel_notice, channel_notices, channel_told, channels_told, loses_reading, reading_ended};
+ghost use Rattle.gateway_state.specs.Rights.{channel_of};
 
 use crate::clients::put_channel;
 use crate::state::Rows;
 use ca_message::ToClient;
-use channel_table::Channel;
+use channel_table::{Channel, ClientSub};
 use gateway_state::ChannelNotice;
+use gateway_values::may_read;
 use std::alloc::AllocError;
 
 /// What is owed about a channel: that it is gone, or that its rights changed.
@@ -42,6 +45,42 @@ fn channel_notices(rows: &Rows) -> Result<Vec<ChannelNotice>, AllocError>
     Ok(notices)
 }
 
+impl Rows {
+    /// Whether a channel could be read, and may not be with these rights, where that is told.
+    fn loses_reading(&self, session: u32, sid: u32, rights: u32) -> bool
+        ensures { result ≡ loses_reading self.now rights (channel_of self.now session sid) }
+    {
+        self.limits.tells_unreadable
+            && match self.channel_of(session, sid) {
+                Some(channel) => may_read(channel.rights_told) && !may_read(rights),
+                None => false,
+            }
+    }
+}
+
+/// The subscriptions on a channel.
+fn subs_on(rows: &Rows, session: u32, sid: u32) -> Result<Vec<ClientSub>, AllocError>
+    ensures { IfOk result (λ subs. subs.items ≡ filter (is_sub_on session sid) rows.now.clients.subs) }
+{
+    let mut subs = Vec::new(rows.alloc);
+    for sub in &rows.subs {
+        if sub.session == session && sub.sid == sid {
+            subs.push(*sub)?;
+        }
+    }
+    Ok(subs)
+}
+
+/// Tells each subscription on a channel that the channel may not be read.
+fn end_reading(rows: &mut Rows, session: u32, sid: u32) -> Result<(), AllocError>
+    ensures { OnOk result (rows.new ≡ reading_ended session sid true rows.old) }
+{
+    for sub in &subs_on(rows, session, sid)? {
+        rows.tell_unreadable(sub)?;
+    }
+    Ok(())
+}
+
 fn tell_channel(rows: &mut Rows, notice: ChannelNotice) -> Result<(), AllocError>
     ensures { OnOk result (rows.new ≡ channel_told rows.old notice) }
 {
@@ -57,8 +96,13 @@ fn tell_channel(rows: &mut Rows, notice: ChannelNotice) -> Result<(), AllocError
             reach,
             rights,
         } => {
+            let ends = rows.loses_reading(session, sid, rights);
             put_channel(&mut rows.channels, session, sid, reach, rights);
-            rows.tell(session, ToClient::AccessRights { cid, rights })
+            rows.tell(session, ToClient::AccessRights { cid, rights })?;
+            if ends {
+                end_reading(rows, session, sid)?;
+            }
+            Ok(())
         }
     }
 }

@@ -14,7 +14,7 @@ use crate::state::Rows;
 use crate::subscribe::{cancel_subscription, new_sub, refuse_short, subscribe_client};
 use crate::write::{hear_write, hear_write_notify};
 use ca_header::{Header, Message};
-use ca_message::codes::{ECA_BADCHID, ECA_INTERNAL};
+use ca_message::codes::ECA_INTERNAL;
 use ca_message::commands::{
     CA_PROTO_CLIENT_NAME, CA_PROTO_CREATE_CHAN, CA_PROTO_EVENT_ADD, CA_PROTO_HOST_NAME, NO_CHANNEL,
 };
@@ -113,7 +113,7 @@ fn clear_channel(
 {
     let ClearChannel { sid, cid } = clear;
     if rows.channel_of(number, sid).is_none() {
-        return rows.refuse(number, NO_CHANNEL, ECA_BADCHID, head);
+        return rows.refuse_channel(number, head);
     }
     rows.remove_channel(number, sid);
     rows.tell(number, ToClient::ClearChannel { sid, cid })

@@ -2,18 +2,21 @@
 ghost use Rattle.std.specs.Prelude.{◌≡◌, take, OnOk, IfOk};
 ghost use Rattle.rows.specs.Rows.{change_first};
 ghost use Rattle.gateway_state.specs.Asked.{acts, ends, queued, queued_bytes, stands};
-ghost use Rattle.gateway_state.specs.Clients.{read_refused};
+ghost use Rattle.gateway_state.specs.Clients.{no_channel, read_refused};
 ghost use Rattle.gateway_state.specs.Connections.{given, is_to, marked_now, outbox_of, relieved};
-ghost use Rattle.gateway_state.specs.Subscribing.{request_refused};
+ghost use Rattle.gateway_state.specs.Subscribing.{request_refused, unreadable_told};
 ghost use Rattle.gateway_state.specs.Telling.{asked, told};
 
 use crate::lists::{Key, any, find, place_of};
 use crate::state::Rows;
 use ca_header::{Header, write_head};
+use ca_message::codes::{ECA_BADCHID, ECA_NORDACCESS};
+use ca_message::commands::NO_CHANNEL;
 use ca_message::{ToClient, ToServer};
-use channel_table::WaitingRead;
+use channel_table::{ClientSub, WaitingRead};
 use fanout::{AppendFault, Out};
 use gateway_state::{Connection, Dest};
+use link_table::Counter;
 use std::alloc::{AllocError, Global};
 
 /// The connection to or from there.
@@ -132,6 +135,18 @@ impl Rows {
         give(&mut self.connections, Dest::Session(number), out)
     }
 
+    /// Tells a subscription that its channel may not be read.
+    pub(crate) fn tell_unreadable(&mut self, sub: &ClientSub) -> Result<(), AllocError>
+        ensures { OnOk result (self.new ≡ unreadable_told self.old sub.now) }
+    {
+        let said = ToClient::UpdateRefused {
+            id: sub.id,
+            dtype: sub.dtype,
+            code: ECA_NORDACCESS,
+        };
+        self.tell(sub.session, said)
+    }
+
     /// Asks a server for something.
     #[tactic(auto, unfolding(gateway_state::specs::Telling::sent, gateway_state::specs::Telling::outgoing_upstream))]
     pub(crate) fn ask(&mut self, number: u32, said: ToServer<'_>) -> Result<(), AllocError>
@@ -155,6 +170,20 @@ impl Rows {
     {
         let request = *head;
         self.tell(number, ToClient::Error { cid, code, request })
+    }
+
+    /// Refuses a client's request on no channel of its own, or passes it over: where that is wanted, and
+    /// the number that the request names was given out.
+    pub(crate) fn refuse_channel(&mut self, number: u32, head: &Header) -> Result<(), AllocError>
+        ensures { OnOk result (self.new ≡ no_channel self.old number head.now) }
+    {
+        let first = self.config.first;
+        let was_given_out = self.numbers.gave_out(Counter::Sid, first, head.p1);
+        if self.limits.passes_over_gone && was_given_out {
+            Ok(())
+        } else {
+            self.refuse(number, NO_CHANNEL, ECA_BADCHID, head)
+        }
     }
 
     /// Tells a client that its read is refused.

@@ -1,5 +1,5 @@
 //! The numbers that are given out, and why a change of the rows is refused.
-ghost use Rattle.std.specs.Prelude.{◌≡◌, ◌+◌, ◌<◌, ◌↔◌, true, false, IfSome, IfNone, IsNone, OnSome};
+ghost use Rattle.std.specs.Prelude.{◌≡◌, ◌+◌, ◌<◌, ◌↔◌, ◌&&◌, nat_le, nat_lt, true, false, IfSome, IfNone, IsNone, OnSome};
 ghost use Rattle.link_table.specs.Counters.{AreBounded, all_at, are_over, counter_of, raised};
 ghost use Rattle.link_table.specs.declared.counter.TheConstants.{LAST_NUMBER};
 ghost use Rattle.plain_gate.specs.declared.numbers.Refusal.TheVariants.{OutOfMemory};
@@ -75,6 +75,13 @@ impl Numbers {
             Counter::Subscription => self.subscription,
             Counter::Write => self.write,
         }
+    }
+
+    /// Whether a counter gave out the number, of those that it gives out from `first` on.
+    pub(crate) fn gave_out(&self, counter: Counter, first: u32, number: u32) -> bool
+        ensures { result ≡ (nat_le first number && nat_lt number (counter_of counter self.now)) }
+    {
+        first <= number && number < self.next(counter)
     }
 
     /// Gives out the next number of a counter. There is none past the last.

@@ -8,8 +8,7 @@ use crate::lists::count;
 use crate::state::Rows;
 use ca_header::Header;
 use ca_message::ReadNotify;
-use ca_message::codes::{ECA_BADCHID, ECA_GETFAIL};
-use ca_message::commands::NO_CHANNEL;
+use ca_message::codes::ECA_GETFAIL;
 use channel_table::{Channel, Reach, WaitingRead};
 use gateway_state::ReadVerdict;
 use gateway_values::{ConnectedVariable, reach_with, read_refusal};
@@ -102,7 +101,7 @@ pub(crate) fn hear_read(
         ioid: read.ioid,
     };
     match read_verdict(rows, read)? {
-        ReadVerdict::NoChannel => rows.refuse(number, NO_CHANNEL, ECA_BADCHID, head),
+        ReadVerdict::NoChannel => rows.refuse_channel(number, head),
         ReadVerdict::Ignored => Ok(()),
         ReadVerdict::Refused(code) => rows.refuse_read(read, code),
         ReadVerdict::Accepted { reach, rights } => accept_read(rows, read, reach, rights),

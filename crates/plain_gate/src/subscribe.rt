@@ -1,17 +1,19 @@
 //! EVENT_ADD and EVENT_CANCEL.
-ghost use Rattle.std.specs.Prelude.{◌≡◌, OnOk};
+ghost use Rattle.std.specs.Prelude.{◌≡◌, IfOk, OnOk};
+ghost use Rattle.gateway_state.specs.Rights.{channel_of};
 ghost use Rattle.gateway_state.specs.Subscribing.{is_on_sid, new_sub, short_subscription, sub_of, sub_verdict, subscription_asked, subscription_cancelled, subscription_refusal};
+ghost use Rattle.gateway_state.specs.Updates.{is_unreadable};
 
 use crate::clients::{SubAt, SubsOf};
 use crate::lists::{count, find, remove};
 use crate::state::Rows;
 use ca_header::Header;
-use ca_message::codes::{ECA_ALLOCMEM, ECA_BADCHID, ECA_BADMASK, ECA_INTERNAL};
+use ca_message::codes::{ECA_ALLOCMEM, ECA_BADMASK, ECA_INTERNAL};
 use ca_message::commands::NO_CHANNEL;
 use ca_message::{EventAdd, EventCancel, ToClient};
 use channel_table::ClientSub;
 use gateway_state::{Native, SERVED_EVENTS, SubVerdict};
-use gateway_values::value_refusal;
+use gateway_values::{may_read, value_refusal};
 use std::alloc::AllocError;
 
 /// A new subscription, which is owed an update.
@@ -72,6 +74,16 @@ fn sub_verdict(rows: &Rows, sub: ClientSub) -> SubVerdict
     }
 }
 
+/// Whether a subscription's channel may not be read.
+fn is_unreadable(rows: &Rows, sub: ClientSub) -> Result<bool, AllocError>
+    ensures { IfOk result (λ bars. bars ≡ is_unreadable rows.now (channel_of rows.now sub.session sub.sid)) }
+{
+    match rows.channel_of(sub.session, sub.sid) {
+        Some(channel) => Ok(!may_read(rows.rights_of(channel)?)),
+        None => Ok(false),
+    }
+}
+
 /// A client wants updates.
 pub(crate) fn subscribe_client(
     rows: &mut Rows,
@@ -81,11 +93,14 @@ pub(crate) fn subscribe_client(
     ensures { OnOk result (rows.new ≡ subscription_asked sub head.now rows.old) }
 {
     match sub_verdict(rows, sub) {
-        SubVerdict::NoChannel => rows.refuse(sub.session, NO_CHANNEL, ECA_BADCHID, head),
+        SubVerdict::NoChannel => rows.refuse_channel(sub.session, head),
         SubVerdict::Ignored => Ok(()),
         SubVerdict::Refused { cid, code } => rows.refuse(sub.session, cid, code, head),
         SubVerdict::Accepted => {
             rows.subs.push(sub)?;
+            if rows.limits.tells_unreadable && is_unreadable(rows, sub)? {
+                rows.tell_unreadable(&sub)?;
+            }
             Ok(())
         }
     }
@@ -134,7 +149,7 @@ pub(crate) fn cancel_subscription(
         count,
     } = cancel;
     let Some(channel) = rows.channel_of(number, sid) else {
-        return rows.refuse(number, NO_CHANNEL, ECA_BADCHID, head);
+        return rows.refuse_channel(number, head);
     };
     let cid = channel.cid;
     if !is_sub_on(rows, number, id, sid) {

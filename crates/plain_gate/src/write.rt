@@ -8,8 +8,7 @@ use crate::numbers::Refusal;
 use crate::state::Rows;
 use crate::upstream::{WriteAt, WritesOf};
 use ca_header::Header;
-use ca_message::codes::{ECA_BADCHID, ECA_NOWTACCESS, ECA_PUTFAIL};
-use ca_message::commands::NO_CHANNEL;
+use ca_message::codes::{ECA_NOWTACCESS, ECA_PUTFAIL};
 use ca_message::{ToClient, ToServer, Write, WriteFault, WriteNotify, WrittenValue};
 use channel_table::Channel;
 use gateway_state::WriteVerdict;
@@ -87,7 +86,7 @@ pub(crate) fn hear_write(
         count: write.count,
     };
     match write_verdict(rows, its, write.value.as_slice())? {
-        WriteVerdict::NoChannel => rows.refuse(number, NO_CHANNEL, ECA_BADCHID, head),
+        WriteVerdict::NoChannel => rows.refuse_channel(number, head),
         WriteVerdict::Ignored => Ok(()),
         WriteVerdict::Refused { cid, code } => rows.refuse(number, cid, code, head),
         WriteVerdict::Accepted { server, sid, value } => {
@@ -185,7 +184,7 @@ pub(crate) fn hear_write_notify(
         count: write.count,
     };
     match write_verdict(rows, its, write.value.as_slice())? {
-        WriteVerdict::NoChannel => Ok(rows.refuse(number, NO_CHANNEL, ECA_BADCHID, head)?),
+        WriteVerdict::NoChannel => Ok(rows.refuse_channel(number, head)?),
         WriteVerdict::Ignored => Ok(()),
         WriteVerdict::Refused { code, .. } => Ok(answer_write(rows, its, ioid, code)?),
         WriteVerdict::Accepted { server, sid, value } => {

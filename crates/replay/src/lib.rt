@@ -11,12 +11,14 @@
 //! ```
 //!
 //! Here the status is `status::GOOD`, and `out` is the line of the VERSION message that the client
-//! is greeted with. [`replay_plain`] does the same on the plain gateway, to compare the two.
+//! is greeted with. [`replay_plain`] does the same on the plain gateway, to compare the two, and [`replay_from`]
+//! and [`replay_plain_from`] begin with other numbers.
 //! `replay_text` has the lines of scripts, and those that are printed; `script_player` performs them.
 #![tactic(auto)]
 
-ghost use Rattle.std.specs.Prelude.{◌≡◌, ℕ, IfSome, IsSome, Some};
-ghost use Rattle.replay.specs.Beginning.{beginning};
+ghost use Rattle.std.specs.Prelude.{◌≡◌, ◌<◌, ◌≤◌, ℕ, IfSome, IsSome, Some};
+ghost use Rattle.gateway_state.specs.declared.config.TheConstants.{LAST_FIRST};
+ghost use Rattle.replay.specs.Beginning.{beginning, beginning_from};
 ghost use Rattle.script_player.specs.Performed.{IsPlayed, IsPlayedThen};
 ghost use Rattle.script_player.specs.Replay.{EndsIn, IsStatus, bad_line};
 ghost use Rattle.script_player.specs.Script.{IsBadAt, IsGood};
@@ -30,6 +32,9 @@ use script_player::play;
 pub use script_player::status;
 use std::alloc::Global;
 use std::io::{Read, Write};
+
+/// The first number that is given out, where nothing else is said.
+const USUAL_FIRST: u32 = 1;
 
 /// Performs the script that the reader gives, one line after another, and prints what the gateway
 /// sends to each connection. Returns the status that the program ends with: good only where every
@@ -46,10 +51,30 @@ pub fn replay<R: Read + Drop, W: Write>(alloc: Global, reader: R, writer: &mut W
     ensures told { result ≡ 2 → (number : ℕ) × IsBadAt (R.remaining reader) number
         × IsPlayedThen (bad_line number) (R.remaining reader) (Some beginning) (W.contents writer.old) (W.contents writer.new) }
 {
-    replay_on::<Engine, R, W>(alloc, reader, writer)
+    replay_from(alloc, USUAL_FIRST, reader, writer)
 }
 
-/// The same on the plain gateway, which is slow, and to be compared with the other.
+/// The same, where the numbers that the gateway gives out begin with this one.
+pub fn replay_from<R: Read + Drop, W: Write>(
+    alloc: Global,
+    first: u32,
+    reader: R,
+    writer: &mut W,
+) -> u8
+    requires lowest { 0 < first }
+    requires highest { first ≤ LAST_FIRST }
+    ensures among { IsStatus result }
+    ensures good { result ≡ 0 → IsGood (R.remaining reader) }
+    ensures played { result ≡ 0 → IsPlayed (R.remaining reader) (Some (beginning_from first)) (W.contents writer.old) (W.contents writer.new) }
+    ensures bad { result ≡ 2 → (number : ℕ) × IsBadAt (R.remaining reader) number
+        × (((held : W) → IsSome (W.contents held)) → EndsIn (W.contents writer.new) (bad_line number)) }
+    ensures told { result ≡ 2 → (number : ℕ) × IsBadAt (R.remaining reader) number
+        × IsPlayedThen (bad_line number) (R.remaining reader) (Some (beginning_from first)) (W.contents writer.old) (W.contents writer.new) }
+{
+    replay_on::<Engine, R, W>(alloc, first, reader, writer)
+}
+
+/// What [`replay`] does, on the plain gateway, which is slow, and to be compared with the other.
 pub fn replay_plain<R: Read + Drop, W: Write>(alloc: Global, reader: R, writer: &mut W) -> u8
     ensures among { IsStatus result }
     ensures good { result ≡ 0 → IsGood (R.remaining reader) }
@@ -59,24 +84,47 @@ pub fn replay_plain<R: Read + Drop, W: Write>(alloc: Global, reader: R, writer: 
     ensures told { result ≡ 2 → (number : ℕ) × IsBadAt (R.remaining reader) number
         × IsPlayedThen (bad_line number) (R.remaining reader) (Some beginning) (W.contents writer.old) (W.contents writer.new) }
 {
-    replay_on::<PlainGate, R, W>(alloc, reader, writer)
+    replay_plain_from(alloc, USUAL_FIRST, reader, writer)
+}
+
+/// The same, where the numbers that the gateway gives out begin with this one.
+pub fn replay_plain_from<R: Read + Drop, W: Write>(
+    alloc: Global,
+    first: u32,
+    reader: R,
+    writer: &mut W,
+) -> u8
+    requires lowest { 0 < first }
+    requires highest { first ≤ LAST_FIRST }
+    ensures among { IsStatus result }
+    ensures good { result ≡ 0 → IsGood (R.remaining reader) }
+    ensures played { result ≡ 0 → IsPlayed (R.remaining reader) (Some (beginning_from first)) (W.contents writer.old) (W.contents writer.new) }
+    ensures bad { result ≡ 2 → (number : ℕ) × IsBadAt (R.remaining reader) number
+        × (((held : W) → IsSome (W.contents held)) → EndsIn (W.contents writer.new) (bad_line number)) }
+    ensures told { result ≡ 2 → (number : ℕ) × IsBadAt (R.remaining reader) number
+        × IsPlayedThen (bad_line number) (R.remaining reader) (Some (beginning_from first)) (W.contents writer.old) (W.contents writer.new) }
+{
+    replay_on::<PlainGate, R, W>(alloc, first, reader, writer)
 }
 
 /// The same on either gateway.
 fn replay_on<G: GatewayCalls + Drop, R: Read + Drop, W: Write>(
     alloc: Global,
+    first: u32,
     reader: R,
     writer: &mut W,
 ) -> u8
+    requires lowest { 0 < first }
+    requires highest { first ≤ LAST_FIRST }
     ensures among { IsStatus result }
     ensures good { result ≡ 0 → IsGood (R.remaining reader) }
-    ensures played { result ≡ 0 → IsPlayed (R.remaining reader) (Some beginning) (W.contents writer.old) (W.contents writer.new) }
+    ensures played { result ≡ 0 → IsPlayed (R.remaining reader) (Some (beginning_from first)) (W.contents writer.old) (W.contents writer.new) }
     ensures bad { result ≡ 2 → (number : ℕ) × IsBadAt (R.remaining reader) number
         × (((held : W) → IsSome (W.contents held)) → EndsIn (W.contents writer.new) (bad_line number)) }
     ensures told { result ≡ 2 → (number : ℕ) × IsBadAt (R.remaining reader) number
-        × IsPlayedThen (bad_line number) (R.remaining reader) (Some beginning) (W.contents writer.old) (W.contents writer.new) }
+        × IsPlayedThen (bad_line number) (R.remaining reader) (Some (beginning_from first)) (W.contents writer.old) (W.contents writer.new) }
 {
-    match gateway::<G>(alloc) {
+    match gateway::<G>(alloc, first) {
         Some(gate) => play(alloc, gate, reader, writer),
         None => status::FAILED,
     }
@@ -84,14 +132,16 @@ fn replay_on<G: GatewayCalls + Drop, R: Read + Drop, W: Write>(
 
 /// The gateway that scripts are performed on. It admits every name. There is none where memory is
 /// refused.
-fn gateway<G: GatewayCalls>(alloc: Global) -> Option<G>
-    ensures { IfSome result (λ gate. G.state gate ≡ Some beginning) }
+fn gateway<G: GatewayCalls>(alloc: Global, first: u32) -> Option<G>
+    requires lowest { 0 < first }
+    requires highest { first ≤ LAST_FIRST }
+    ensures { IfSome result (λ gate. G.state gate ≡ Some (beginning_from first)) }
 {
     let config = Config {
         client_name: Name::read(alloc, b"pvgate").ok()?,
         host_name: Name::read(alloc, b"gw").ok()?,
         port: 5064,
-        first: 1,
+        first,
     };
     G::new(alloc, config, Policy::open_to_all(alloc)).ok()
 }

@@ -13,7 +13,7 @@ use Rattle.value_cache.specs.Held.{properties_in}
 use Rattle.value_cache.specs.Message.{TellsProperties}
 use Rattle.gateway_state.specs.Servers.{ctrl_of, is_described_in, is_description}
 
-abbrev shown_under : Dbr → ℕ → List ℕ → Result Shown LayoutFault
+abbrev pub shown_under : Dbr → ℕ → List ℕ → Result Shown LayoutFault
 shown_under dbr count bytes = if nat_le (value_end dbr count) (length bytes) then Ok (record { dbr = dbr; parts = parts_in dbr count bytes }) else Err Short
 
 told_alone : (found : Option Dbr) (count : ℕ) (bytes : List ℕ) → is_described_in (ok_or found BadType >>= (λ dbr. shown_under dbr count bytes)) ≡ true

@@ -1,11 +1,11 @@
 //! Updates.
-ghost use Rattle.std.specs.Prelude.{◌≡◌, ◌≤◌, ◌+◌, ◌*◌, [], true, filter, fold, OnOk, IfOk};
+ghost use Rattle.std.specs.Prelude.{◌≡◌, ◌≤◌, ◌<◌, ◌+◌, ◌*◌, ◌^◌, [], true, filter, fold, length, OnOk, IfOk};
 ghost use Rattle.std.specs.List.{find};
 ghost use Rattle.gateway_rows.specs.Own.{own_over};
 ghost use Rattle.link_table.specs.Links.{has_subscription};
 ghost use Rattle.gateway_state.specs.Servers.{fails_without, held_with, is_heard, read_failed, updated, with_held};
 ghost use Rattle.gateway_state.specs.Settled.{HasSubsApart};
-ghost use Rattle.server_messages.specs.Kept.{IsKeptAs};
+ghost use Rattle.server_messages.specs.Kept.{IsKeptAs, counted};
 ghost use Rattle.touched_rows.specs.Touches.{update_touches, AreFound};
 
 use crate::concern::{Concern, owe_on};
@@ -13,16 +13,13 @@ use bytes::Bytes;
 use ca_message::ToClient;
 use ca_message::codes::{ECA_GETFAIL, ECA_NORMAL};
 use channel_table::{Visits, WaitingRead};
+use dbr_layout::Dbr;
 use gateway_rows::Rows;
 use gateway_state::Native;
 use gateway_values::{fails_without, is_heard, native_in, subject_of};
 use link_table::{LinkState, Subject};
 use std::alloc::{AllocError, Global};
 use touched_rows::{Effect, Touched};
-
-/// Shorter payloads are copied before they are kept: one that is kept as it came holds the block in
-/// which it came. Of a longer one that is at most 16 times its size, where blocks have 64 KiB.
-const SHORTEST_SHARED: usize = 4096;
 
 /// How many zero bytes are kept behind a copy: a plain value that is given as it stands in the payload is
 /// filled up by them.
@@ -61,22 +58,34 @@ pub(crate) fn fail_reads(
     Ok(())
 }
 
-/// A payload that may be kept for long, perhaps with bytes behind it, which nobody is shown.
-#[tactic(auto, using(crate::proofs::Longer::kept_itself, crate::proofs::Longer::kept_with_more))]
-fn to_keep(alloc: Global, payload: Bytes) -> Result<Bytes, AllocError>
-    ensures { IfOk result (λ kept. IsKeptAs payload kept) }
+/// How many bytes of a payload count: as far as so many elements of its type reach.
+fn counted(dtype: u16, count: u32) -> usize
+    ensures value { result ≡ counted dtype count }
+    ensures fits { result < 2 ^ 40 }
 {
-    if payload.len() >= SHORTEST_SHARED {
-        return Ok(payload);
+    match Dbr::of(dtype) {
+        Some(dbr) => dbr.offset() as usize + count as usize * dbr.element() as usize,
+        None => 0,
     }
-    let mut copy = Vec::with_capacity(alloc, payload.len() + FILLING)?;
-    copy.extend_from_slice(&payload)?;
+}
+
+/// What may be kept for long of a payload: a copy of the bytes that count, with bytes behind them that nobody
+/// is shown. The payload itself is a part of a block of up to twice the message in which that block began,
+/// some 32 MiB, whatever counts of it: so it is let go, and a variable holds what counts and no more.
+#[tactic(auto, using(crate::proofs::Longer::kept_with_more))]
+fn to_keep(alloc: Global, payload: Bytes, dtype: u16, count: u32) -> Result<Bytes, AllocError>
+    requires { counted dtype count ≤ length payload }
+    ensures { IfOk result (λ kept. IsKeptAs dtype count payload kept) }
+{
+    let front = &payload[..counted(dtype, count)];
+    let mut copy = Vec::with_capacity(alloc, front.len() + FILLING)?;
+    copy.extend_from_slice(front)?;
     copy.extend_from_slice(&[0; FILLING])?;
     Ok(Bytes::from_vec(copy)?)
 }
 
 /// What is held of a link changes by an update that counts.
-#[tactic(auto, using(crate::proofs::Longer::heard_as_kept))]
+#[tactic(auto, using(crate::proofs::Longer::heard_as_kept, crate::proofs::Longer::heard_whole))]
 fn keep(
     rows: &mut Rows,
     subject: Subject,
@@ -92,7 +101,7 @@ fn keep(
     ensures ok { OnOk result (rows.new.state ≡ with_held server cid (held_with subject dtype count payload asked_with) rows.old.state) }
     ensures brand { rows.new.brand ≡ rows.old.brand }
 {
-    let kept = to_keep(rows.alloc, payload)?;
+    let kept = to_keep(rows.alloc, payload, dtype, count)?;
     put(
         rows, subject, native, server, cid, dtype, count, kept, asked_with,
     )

@@ -137,6 +137,13 @@ impl Cache {
         self.latest.keep(alloc, cid, dtype, count)
     }
 
+    /// Lets go large encodings that are kept beside a link's row, but one. The rows are as before.
+    pub fn thin(&mut self, cid: u32)
+        ensures { self.new ≡ self.old }
+    {
+        self.latest.thin(cid);
+    }
+
     /// Forgets what a link was told.
     pub fn remove(&mut self, cid: u32)
         ensures { self.new ≡ filter (is_cached_elsewhere cid) self.old }

@@ -126,6 +126,13 @@ impl Latest {
         keep(alloc, &mut self.rows, key(cid), dtype, count)
     }
 
+    /// Lets go large encodings of a link's row, but one.
+    pub(crate) fn thin(&mut self, cid: u32)
+        ensures { self.new ≡ self.old }
+    {
+        thin(&mut self.rows, key(cid));
+    }
+
     pub(crate) fn remove(&mut self, cid: u32)
         ensures { self.new ≡ filter (is_cached_elsewhere cid) self.old }
     {
@@ -196,5 +203,14 @@ fn keep(
     match rows.get_mut(key) {
         Some(row) => row.held.keep(alloc, dtype, count),
         None => Ok(()),
+    }
+}
+
+#[tactic(auto, using(crate::proofs::ConnectionRows::written_again))]
+fn thin(rows: &mut RowMap<LastMessage>, key: Key)
+    ensures { rows.new ≡ rows.old }
+{
+    if let Some(row) = rows.get_mut(key) {
+        row.held.thin();
     }
 }

@@ -31,18 +31,19 @@ use Rattle.gateway_state.specs.Clients.{without_channel}
 use Rattle.gateway_state.specs.Connections.{given, is_to}
 use Rattle.gateway_state.specs.Gateway.{Gateway}
 use Rattle.gateway_state.specs.Interest.{is_read_through, is_reader, is_subscriber, minor_in, reader_ask, readers}
-use Rattle.gateway_state.specs.Notices.{channel_told, link_notices_of, notice_on, read_notice, with_reach}
+use Rattle.gateway_state.specs.Notices.{channel_told, link_notices_of, loses_reading, notice_on, read_notice, reading_ended, with_reach}
 use Rattle.gateway_state.specs.Rights.{channel_of, may_read, rights_of}
 use Rattle.gateway_state.specs.Searches.{leads_to}
 use Rattle.gateway_state.specs.Servers.{waits_for}
-use Rattle.gateway_state.specs.Telling.{outgoing, sent}
+use Rattle.gateway_state.specs.Telling.{outgoing, sent, told}
 use Rattle.gateway_state.specs.Updates.{is_sub_to, is_unreadable, is_withheld, update_notice, update_on}
 use Rattle.gateway_state.specs.Variables.{is_wanted, link_of}
 use Rattle.gateway_state.proofs.RowTests.{any_changed}
 use Rattle.gateway_state.proofs.SettledWithheld.{with_subs}
 use Rattle.touched_rows.proofs.Blanked.{found_blanked, passing_changed}
 use Rattle.touched_rows.proofs.Cleared.{found_without, left_have, not_so}
-use Rattle.touched_rows.proofs.Connections.{HasNoMoreRoom, no_more_room_given}
+use Rattle.gateway_state.proofs.ReadingEnded.{reading_ended_shape}
+use Rattle.touched_rows.proofs.Connections.{HasNoMoreRoom, no_more_room_ended, no_more_room_given, no_more_room_then}
 use Rattle.touched_rows.proofs.LessGiven.{bare, is_open, plain, read_on-stays, update_if_open, update_on-stays}
 use Rattle.touched_rows.proofs.OneLink.{link_alike}
 use Rattle.touched_rows.specs.Touched.{owed_where}
@@ -298,7 +299,13 @@ beside_one w y links name (Disconnected session sid cid) on beside =
     beside_gone w y links name beside session sid on (change_first (is_to (ToSession session)) (given said) y.connections) (no_more_room_given (ToSession session) said y.connections)
 beside_one w y links name (RightsChanged session sid cid reach rights) on beside =
     let said : Out = outgoing (replies.AccessRights cid rights) in
-    beside_changed w y links name beside session sid on (change_first (is_to (ToSession session)) (given said) y.connections) (no_more_room_given (ToSession session) said y.connections) reach rights
+    let ends : Bool = loses_reading y rights (channel_of y session sid) in
+    let told_rights : Gateway = told session (replies.AccessRights cid rights) (with_reach session sid reach rights y) in
+    let last : Gateway = reading_ended session sid ends told_rights in
+    subst (λ (v : Gateway). IsBeside w v links name) (sym (reading_ended_shape session sid ends told_rights))
+    (beside_changed w y links name beside session sid on last.connections
+    (no_more_room_then y.connections told_rights.connections last.connections (no_more_room_given (ToSession session) said y.connections) (no_more_room_ended session sid ends told_rights))
+    reach rights)
 
 pub beside_told : (w : Gateway) (links : List Link) (name : List ℕ) (notices : List ChannelNotice) (y : Gateway) → list_all (is_notice_on w name) notices ≡ true → IsBeside w y links name
     → IsBeside w (fold channel_told y notices) links name

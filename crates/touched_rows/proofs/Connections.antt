@@ -1,14 +1,23 @@
 -- Outboxes that take no more updates than before.
 use Rattle.std.proofs.Common.{◌≡◌, ℕ, List, [], ◌∷◌, ◌++◌, Bool, true, false, cond, Some, None, refl, sym, ap, ◌∙◌}
-use Rattle.std.specs.List.{find}
+use Rattle.std.specs.Prelude.{filter}
+use Rattle.std.specs.List.{find, fold}
 use Rattle.std.proofs.lemmas.Bool.{true≢false}
 use Rattle.rows.specs.Rows.{change_first}
+use Rattle.ca_message.specs.declared.codes.TheConstants.{ECA_NORDACCESS}
+use Rattle.ca_message.specs.declared.to_client.ToClient.TheVariants as replies
+use Rattle.channel_table.specs.declared.subs.ClientSub.{ClientSub}
+use Rattle.channel_table.specs.Subs.{is_sub_on}
 use Rattle.fanout.specs.declared.outbox.Out.{Out}
 use Rattle.gateway_state.specs.declared.connections.Connection.{Connection}
 use Rattle.gateway_state.specs.declared.event.Dest.{Dest}
 use Rattle.gateway_state.specs.declared.event.Dest.TheVariants.{Session as ToSession}
 use Rattle.gateway_state.specs.declared.limits.Limits.{Limits}
 use Rattle.gateway_state.specs.Connections.{empty, fresh, given, is_to, marked_now, outbox_in, outbox_of}
+use Rattle.gateway_state.specs.Gateway.{Gateway}
+use Rattle.gateway_state.specs.Notices.{reading_ended}
+use Rattle.gateway_state.specs.Subscribing.{unreadable_told}
+use Rattle.gateway_state.specs.Telling.{outgoing, sent}
 use Rattle.gateway_state.specs.Updates.{takes_updates}
 use Rattle.gateway_state.proofs.SettledUpdates.{box_taking}
 
@@ -45,6 +54,22 @@ module _ (limits : Limits) (number : ℕ) (dest : Dest) (change : Connection →
 pub no_more_room_given : (dest : Dest) (out : Out) (rows : List Connection) → HasNoMoreRoom rows (change_first (is_to dest) (given out) rows)
 no_more_room_given dest out rows limits number e =
     taking_before limits number dest (given out) (λ row. refl) (λ row here sought taking. box_taking limits row.outbox out taking) rows e
+
+-- one change after another
+pub no_more_room_then : (first second third : List Connection) → HasNoMoreRoom first second → HasNoMoreRoom second third → HasNoMoreRoom first third
+no_more_room_then first second third before after limits number e = before limits number (after limits number e)
+
+-- subscriptions are told that their channel may not be read
+all_less_room : (subs : List ClientSub) (w : Gateway) → HasNoMoreRoom w.connections (fold unreadable_told w subs).connections
+unfolding sent
+all_less_room [] w limits number e = e
+all_less_room (sub ∷ subs) w limits number e =
+    no_more_room_given (ToSession sub.session) (outgoing (replies.UpdateRefused sub.id sub.dtype ECA_NORDACCESS)) w.connections limits number
+    (all_less_room subs (unreadable_told w sub) limits number e)
+
+pub no_more_room_ended : (session sid : ℕ) (ends : Bool) (w : Gateway) → HasNoMoreRoom w.connections (reading_ended session sid ends w).connections
+no_more_room_ended session sid false w limits number e = e
+no_more_room_ended session sid true w limits number e = all_less_room (filter (is_sub_on session sid) w.clients.subs) w limits number e
 
 -- a mark
 pub no_more_room_marked : (dest : Dest) (rows : List Connection) → HasNoMoreRoom rows (change_first (is_to dest) marked_now rows)

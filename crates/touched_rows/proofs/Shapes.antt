@@ -1,6 +1,7 @@
 -- What tellings leave as it is.
-use Rattle.std.proofs.Common.{◌≡◌, List, [], ◌∷◌, refl}
+use Rattle.std.proofs.Common.{◌≡◌, List, [], ◌∷◌, refl, ap, ◌∙◌}
 use Rattle.std.specs.List.{fold}
+use Rattle.ca_message.specs.declared.to_client.ToClient.TheVariants as replies
 use Rattle.channel_table.specs.declared.channels.Channel.{Channel}
 use Rattle.channel_table.specs.declared.reads.WaitingRead.{WaitingRead}
 use Rattle.channel_table.specs.declared.subs.ClientSub.{ClientSub}
@@ -16,8 +17,10 @@ use Rattle.gateway_state.specs.declared.notice.LinkNotice.TheVariants.{Cancelled
 use Rattle.gateway_state.specs.declared.notice.ReadNotice.{ReadNotice}
 use Rattle.gateway_state.specs.declared.notice.ReadNotice.TheVariants.{Refused, Answered}
 use Rattle.gateway_state.specs.Gateway.{Gateway}
-use Rattle.gateway_state.specs.Notices.{channel_told, link_told, read_told}
-use Rattle.gateway_state.specs.Telling.{sent}
+use Rattle.gateway_state.specs.Notices.{channel_told, link_told, loses_reading, read_told, with_reach}
+use Rattle.gateway_state.specs.Rights.{channel_of}
+use Rattle.gateway_state.specs.Telling.{sent, told}
+use Rattle.gateway_state.proofs.ReadingEnded.{reading_ended_shape}
 
 -- a state with other channels, and what goes with them
 abbrev pub with_channels : Gateway → List Connection → List Channel → List ClientSub → List WaitingRead → List WaitingWrite → Gateway
@@ -32,7 +35,12 @@ unfolding sent
 channels_told_shape [] w = refl
 channels_told_shape (Disconnected session sid cid ∷ notices) w = channels_told_shape notices (channel_told w (Disconnected session sid cid))
 channels_told_shape (RightsChanged session sid cid reach rights ∷ notices) w =
-    channels_told_shape notices (channel_told w (RightsChanged session sid cid reach rights))
+    let next : Gateway = channel_told w (RightsChanged session sid cid reach rights) in
+    let last : Gateway = fold channel_told next notices in
+    channels_told_shape notices next
+    ∙ ap (λ (v : Gateway). with_channels v last.connections last.clients.channels last.clients.subs last.clients.reads last.upstream.writes)
+    (reading_ended_shape session sid (loses_reading w rights (channel_of w session sid))
+    (told session (replies.AccessRights cid rights) (with_reach session sid reach rights w)))
 
 -- a state with other waiting reads and outboxes
 abbrev pub with_reads : Gateway → List Connection → List WaitingRead → Gateway

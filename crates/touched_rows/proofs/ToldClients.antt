@@ -4,8 +4,8 @@ use Rattle.std.specs.Prelude.{Ok, Err, Result}
 use Rattle.std.proofs.lemmas.Bool.{and_parts, eqb-true}
 use Rattle.ca_header.specs.declared.header.Header.{Header}
 use Rattle.ca_header.specs.declared.header.Message.{Message}
-use Rattle.ca_message.specs.declared.codes.TheConstants.{ECA_BADCHID, ECA_INTERNAL}
-use Rattle.ca_message.specs.declared.commands.TheConstants.{CA_PROTO_CLIENT_NAME, CA_PROTO_CREATE_CHAN, CA_PROTO_EVENT_ADD, CA_PROTO_HOST_NAME, NO_CHANNEL}
+use Rattle.ca_message.specs.declared.codes.TheConstants.{ECA_INTERNAL}
+use Rattle.ca_message.specs.declared.commands.TheConstants.{CA_PROTO_CLIENT_NAME, CA_PROTO_CREATE_CHAN, CA_PROTO_EVENT_ADD, CA_PROTO_HOST_NAME}
 use Rattle.ca_message.specs.declared.request.ClientRequest.{ClientRequest}
 use Rattle.ca_message.specs.declared.request.ClientRequest.TheVariants as requests
 use Rattle.ca_message.specs.declared.request.RequestFault.{RequestFault}
@@ -23,7 +23,7 @@ use Rattle.gateway_state.specs.declared.notice.ReadVerdict.TheVariants as reads
 use Rattle.gateway_state.specs.declared.notice.SubVerdict.{SubVerdict}
 use Rattle.gateway_state.specs.declared.notice.SubVerdict.TheVariants as subs
 use Rattle.gateway_state.specs.Answer.{cached_value, refusal}
-use Rattle.gateway_state.specs.Clients.{accepted, channel_cleared, cleared, creation_failed, is_one_too_many, judged, not_understood, read_asked, verdict_on, verdict_over, verdict_unless, versioned, with_host_fixed}
+use Rattle.gateway_state.specs.Clients.{accepted, channel_cleared, cleared, creation_failed, is_one_too_many, judged, no_channel, not_understood, read_asked, verdict_on, verdict_over, verdict_unless, versioned, with_host_fixed}
 use Rattle.gateway_state.specs.Gateway.{Gateway}
 use Rattle.gateway_state.specs.Requests.{requested, unreadable}
 use Rattle.gateway_state.specs.Rights.{channel_of, rights_of}
@@ -47,7 +47,7 @@ use Rattle.touched_rows.proofs.Subscribed.{told_after_subscribing}
 use Rattle.touched_rows.proofs.Tidy.{IsTidy}
 use Rattle.touched_rows.proofs.TouchedAlone.{found_passes}
 use Rattle.touched_rows.proofs.Unsubscribed.{told_after_unsubscribing}
-use Rattle.touched_rows.proofs.Written.{settled_notified, settled_written}
+use Rattle.touched_rows.proofs.Written.{settled_no_channel, settled_notified, settled_written}
 
 -- a read that is accepted leaves the rights last told
 accepted_rights : (w : Gateway) (c : Channel) (dtype count : ℕ) (over : Option ConnectedVariable) (reach : Reach) (rights : ℕ) → verdict_over w c dtype count over ≡ reads.Accepted reach rights → c.rights_told ≡ rights
@@ -69,6 +69,9 @@ module _ (w : Gateway) (tidy : IsTidy w) where
   replied_all : (number : ℕ) (said : ToClient) → IsAll (told number said w)
   replied_all number said = nothing_after_reply (ToSession number) (outgoing said) w tidy.settled
 
+  on_no_channel : (number : ℕ) (head : Header) → IsAll (no_channel w number head)
+  on_no_channel number head = settled_stays (no_channel w number head) (settled_no_channel w tidy.settled number head)
+
   nothing_at_all : IsAll w
   nothing_at_all = settled_stays w tidy.settled
 
@@ -82,14 +85,14 @@ module _ (w : Gateway) (tidy : IsTidy w) where
     where
       made : (c : Channel) → channel_of w sub.session sub.sid ≡ Some c → (verdict : SubVerdict)
           → consequences (sub_judged sub head verdict w) ≡ follows (sub_touches_by sub (Some c) verdict) (sub_judged sub head verdict w)
-      made c is subs.NoChannel = replied_all sub.session (replies.Error NO_CHANNEL ECA_BADCHID head)
+      made c is subs.NoChannel = on_no_channel sub.session head
       made c is subs.Ignored = nothing_at_all
       made c is (subs.Refused cid code) = replied_all sub.session (replies.Error cid code head)
       made c is subs.Accepted = told_after_subscribing w tidy.settled tidy.links_apart sub owed c is
 
       by : (found : Option Channel) → channel_of w sub.session sub.sid ≡ found
           → consequences (sub_judged sub head (sub_verdict_on w sub found) w) ≡ follows (sub_touches_by sub found (sub_verdict_on w sub found)) (sub_judged sub head (sub_verdict_on w sub found) w)
-      by None is = replied_all sub.session (replies.Error NO_CHANNEL ECA_BADCHID head)
+      by None is = on_no_channel sub.session head
       by (Some c) is = made c is (sub_verdict_over w sub c (connected w c.real))
 
   told_cancel : (number sid id dtype count : ℕ) (head : Header)
@@ -119,14 +122,14 @@ module _ (w : Gateway) (tidy : IsTidy w) where
 
       by : (found : Option Channel) → channel_of w number sid ≡ found
           → consequences (cancelled_on number sid id dtype count head found w) ≡ follows (cancel_touches_by sid (sub_of w number id) found) (cancelled_on number sid id dtype count head found w)
-      by None is = replied_all number (replies.Error NO_CHANNEL ECA_BADCHID head)
+      by None is = on_no_channel number head
       by (Some c) is = among c is (sub_of w number id) refl
 
   told_clear : (number sid cid : ℕ) (head : Header) → consequences (channel_cleared number sid cid head w) ≡ follows (clear_touches w number sid) (channel_cleared number sid cid head w)
   told_clear number sid cid head = by (channel_of w number sid) refl
     where
       by : (found : Option Channel) → channel_of w number sid ≡ found → consequences (cleared number sid cid head found w) ≡ follows (clear_touches_by found) (cleared number sid cid head found w)
-      by None is = replied_all number (replies.Error NO_CHANNEL ECA_BADCHID head)
+      by None is = on_no_channel number head
       by (Some c) is = told_after_clearing w tidy.settled tidy.order tidy.links_apart number sid c is (ToSession number) (outgoing (replies.ClearChannel sid cid))
 
   told_read : (number sid ioid dtype count : ℕ) (head : Header)
@@ -138,7 +141,7 @@ module _ (w : Gateway) (tidy : IsTidy w) where
 
       over : (c : Channel) → channel_of w number sid ≡ Some c → (verdict : ReadVerdict) → verdict_over w c dtype count (connected w c.real) ≡ verdict
           → consequences (judged number sid ioid dtype count head verdict w) ≡ follows (read_touches_by read (Some c) verdict) (judged number sid ioid dtype count head verdict w)
-      over c is reads.NoChannel verdict = replied_all number (replies.Error NO_CHANNEL ECA_BADCHID head)
+      over c is reads.NoChannel verdict = on_no_channel number head
       over c is reads.Ignored verdict = nothing_at_all
       over c is (reads.Refused code) verdict = replied_all number (replies.ReadNotifyRefused ioid dtype count code)
       over c is (reads.Accepted reach rights) verdict =
@@ -149,7 +152,7 @@ module _ (w : Gateway) (tidy : IsTidy w) where
       by : (found : Option Channel) → channel_of w number sid ≡ found
           → consequences (judged number sid ioid dtype count head (verdict_on w dtype count found) w)
           ≡ follows (read_touches_by read found (verdict_on w dtype count found)) (judged number sid ioid dtype count head (verdict_on w dtype count found) w)
-      by None is = replied_all number (replies.Error NO_CHANNEL ECA_BADCHID head)
+      by None is = on_no_channel number head
       by (Some c) is = over c is (verdict_over w c dtype count (connected w c.real)) refl
 
   settled_unreadable : (number : ℕ) (head : Header) → IsSettled (unreadable w number head)

@@ -1,5 +1,5 @@
--- Nothing follows from a write, nor from its end.
-use Rattle.std.proofs.Common.{ℕ, List, true, false, cond, leb, Option, Some, None}
+-- Nothing follows from a write, nor from its end, nor from a request on no channel.
+use Rattle.std.proofs.Common.{ℕ, List, true, false, cond, leb, ◌&&◌, Option, Some, None}
 use Rattle.ca_header.specs.declared.header.Header.{Header}
 use Rattle.ca_message.specs.declared.codes.TheConstants.{ECA_BADCHID, ECA_PUTFAIL}
 use Rattle.ca_message.specs.declared.commands.TheConstants.{NO_CHANNEL}
@@ -11,9 +11,10 @@ use Rattle.link_table.specs.LinkRows.{write_count}
 use Rattle.gateway_state.specs.declared.event.Dest.TheVariants.{Session as ToSession, Upstream}
 use Rattle.gateway_state.specs.declared.notice.WriteVerdict.{WriteVerdict}
 use Rattle.gateway_state.specs.declared.notice.WriteVerdict.TheVariants.{NoChannel, Ignored, Refused, Accepted}
+use Rattle.gateway_state.specs.Clients.{no_channel, was_given_out}
 use Rattle.gateway_state.specs.Gateway.{Gateway}
 use Rattle.gateway_state.specs.Settled.{IsSettled}
-use Rattle.gateway_state.specs.Telling.{outgoing, outgoing_upstream}
+use Rattle.gateway_state.specs.Telling.{outgoing, outgoing_upstream, told}
 use Rattle.gateway_state.specs.Updates.{update_notice}
 use Rattle.gateway_state.specs.Writing.{new_write, notified_by, with_write, without_write, write_answered, write_ended_for, write_handed_on, write_waits, written_by}
 use Rattle.touched_rows.proofs.Nothing.{settled_sent}
@@ -33,8 +34,13 @@ settled_writes writes next w settled = record {
 }
 
 module _ (w : Gateway) (settled : IsSettled w) where
+  pub settled_no_channel : (number : ℕ) (head : Header) → IsSettled (no_channel w number head)
+  settled_no_channel number head =
+      elim (w.limits.passes_over_gone && was_given_out w head.p1) as (λ t. IsSettled (cond t w (told number (replies.Error NO_CHANNEL ECA_BADCHID head) w)))
+      [ true ↦ settled | false ↦ settled_sent (ToSession number) (outgoing (replies.Error NO_CHANNEL ECA_BADCHID head)) w settled ]
+
   pub settled_written : (number : ℕ) (head : Header) (verdict : WriteVerdict) → IsSettled (written_by number head verdict w)
-  settled_written number head NoChannel = settled_sent (ToSession number) (outgoing (replies.Error NO_CHANNEL ECA_BADCHID head)) w settled
+  settled_written number head NoChannel = settled_no_channel number head
   settled_written number head Ignored = settled
   settled_written number head (Refused cid code) = settled_sent (ToSession number) (outgoing (replies.Error cid code head)) w settled
   settled_written number head (Accepted server sid value) = settled_sent (Upstream server) (outgoing_upstream (requests.Write sid value)) w settled
@@ -51,7 +57,7 @@ module _ (w : Gateway) (settled : IsSettled w) where
       ]
 
   pub settled_notified : (number sid ioid dtype count : ℕ) (head : Header) (verdict : WriteVerdict) → IsSettled (notified_by number sid ioid dtype count head verdict w)
-  settled_notified number sid ioid dtype count head NoChannel = settled_sent (ToSession number) (outgoing (replies.Error NO_CHANNEL ECA_BADCHID head)) w settled
+  settled_notified number sid ioid dtype count head NoChannel = settled_no_channel number head
   settled_notified number sid ioid dtype count head Ignored = settled
   settled_notified number sid ioid dtype count head (Refused cid code) = settled_sent (ToSession number) (outgoing (replies.WriteNotify ioid dtype count code)) w settled
   settled_notified number sid ioid dtype count head (Accepted server upstream_sid value) = settled_handed_on number sid ioid dtype count server upstream_sid value

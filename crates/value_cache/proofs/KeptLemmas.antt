@@ -1,16 +1,17 @@
 -- What is kept of a message is what is answered from it.
-use Rattle.std.proofs.Common.{◌≡◌, ℕ, ◌-◌, List, [], ◌∷◌, ◌++◌, zero, suc, length, drop, map, true, false, cond, ◌||◌, ◌==◌, Option, Some, None, is_some, Result, Ok, Err, refl, sym, ap, ◌∙◌, Bor}
-use Rattle.std.specs.Prelude.{OnOk, OnErr, IfOk, IsSome}
-use Rattle.std.specs.List.{find, list_any}
+use Rattle.std.proofs.Common.{◌≡◌, ℕ, Bool, ◌+◌, ◌-◌, List, [], ◌∷◌, ◌++◌, zero, suc, length, drop, filter, map, not, true, false, cond, ◌||◌, ◌==◌, Option, Some, None, is_some, Result, Ok, Err, refl, sym, ap, ◌∙◌, Bor}
+use Rattle.std.specs.Prelude.{OnOk, OnErr, IfOk, IsSome, nat_lt}
+use Rattle.std.specs.List.{count_by, find, list_any}
 use Rattle.std.specs.Option.{option_copied}
 use Rattle.std.proofs.lemmas.Bool.{and_parts, eqb-true}
 use Rattle.std.proofs.lemmas.List.{drop-map, length-map, map-append}
+use Rattle.std.proofs.lemmas.List.Sums.{sum_by-cons}
 use Rattle.value_cache.specs.declared.cached.Described.{Described}
 use Rattle.value_cache.specs.declared.cached.Message.{Message}
 use Rattle.value_cache.specs.declared.encodings.Encoding.{Encoding}
-use Rattle.value_cache.specs.Encodings.{AreAnswers, is_of, pair_of}
+use Rattle.value_cache.specs.Encodings.{AreAnswers, is_large_one, is_of, is_small_one, pair_of, thinned_list}
 use Rattle.value_cache.specs.Held.{Held, answer}
-use Rattle.value_cache.specs.Kept.{Keeping, is_pair, keeping, last_eight}
+use Rattle.value_cache.specs.Kept.{Keeping, is_large, is_large_answer, is_pair, is_small, keeping, last_eight, thinned}
 use Rattle.value_cache.specs.Message.{held_in, keeping_in}
 
 -- the one that is found is what is answered
@@ -80,3 +81,39 @@ kept_either (Err refused) last described old new e ok none is seen = tt
 pub copied_some : {X : Type 0} (found : Option (Bor X)) → is_some (option_copied found) ≡ is_some found
 copied_some None = refl
 copied_some (Some x) = refl
+
+-- ---- those that are large
+
+-- an encoding is as large as its answer
+large_as_answered : (held : Held) (e : Encoding) → answer e.dtype e.count held ≡ Some (e.given, e.payload) → is_large held (pair_of e) ≡ is_large_one e
+large_as_answered held e is = ap is_large_answer is
+
+larges : (held : Held) (list : List Encoding) → AreAnswers held list → count_by (is_large held) (map pair_of list) ≡ count_by is_large_one list
+larges held [] answers = refl
+larges held (e ∷ later) answers =
+    sum_by-cons (λ pair. cond (is_large held pair) 1 0) (pair_of e) (map pair_of later)
+    ∙ ap (λ (large : Bool). cond large 1 0 + count_by (is_large held) (map pair_of later)) (large_as_answered held e answers.0)
+    ∙ ap (λ (n : ℕ). cond (is_large_one e) 1 0 + n) (larges held later answers.1)
+    ∙ sym (sum_by-cons (λ (x : Encoding). cond (is_large_one x) 1 0) e later)
+
+smalls : (held : Held) (list : List Encoding) → AreAnswers held list → map pair_of (filter is_small_one list) ≡ filter (is_small held) (map pair_of list)
+smalls held [] answers = refl
+smalls held (e ∷ later) answers =
+    elim (is_large_one e) as (λ t. is_large held (pair_of e) ≡ t → map pair_of (cond (not t) (e ∷ filter is_small_one later) (filter is_small_one later)) ≡ cond (not (is_large held (pair_of e))) (pair_of e ∷ filter (is_small held) (map pair_of later)) (filter (is_small held) (map pair_of later)))
+    [ true ↦ λ is. rw is (smalls held later answers.1) | false ↦ λ is. rw is (ap (λ xs. pair_of e ∷ xs) (smalls held later answers.1)) ] (large_as_answered held e answers.0)
+
+small_answers : (held : Held) (list : List Encoding) → AreAnswers held list → AreAnswers held (filter is_small_one list)
+small_answers held [] answers = tt
+small_answers held (e ∷ later) answers =
+    elim (is_small_one e) as (λ t. AreAnswers held (cond t (e ∷ filter is_small_one later) (filter is_small_one later))) [ true ↦ (answers.0, small_answers held later answers.1) | false ↦ small_answers held later answers.1 ]
+
+pub thinned_answers : (held : Held) (list : List Encoding) → AreAnswers held list → AreAnswers held (thinned_list list)
+thinned_answers held list answers =
+    elim (nat_lt 1 (count_by is_large_one list)) as (λ t. AreAnswers held (cond t (filter is_small_one list) list)) [ true ↦ small_answers held list answers | false ↦ answers ]
+
+pub thinned_as_pairs : (last : Option Message) (described : Option Described) (list : List Encoding) → AreAnswers (held_in last described) list → keeping_in last described (thinned_list list) ≡ thinned (keeping_in last described list)
+thinned_as_pairs last described list answers =
+    let held : Held = held_in last described in
+    rw (larges held list answers)
+    (elim (nat_lt 1 (count_by is_large_one list)) as (λ t. keeping_in last described (cond t (filter is_small_one list) list) ≡ record { held = held; kept = cond t (filter (is_small held) (map pair_of list)) (map pair_of list) })
+    [ true ↦ ap (λ (pairs : List (ℕ × ℕ)). record { held = held; kept = pairs }) (smalls held list answers) | false ↦ refl ])

@@ -12,10 +12,6 @@ use std::alloc::{AllocError, Global};
 use std::marker::Model;
 use std::ops::Range;
 
-/// Payloads of so many bytes and more are laid out anew for each answer: one that is held as it came may hold
-/// a block of many times its size, which shouldn't wait in outboxes.
-const FIRST_LAID_OUT: usize = 4096;
-
 /// A message as it came.
 #[derive(Debug, Drop)]
 struct Message {
@@ -55,7 +51,7 @@ impl Model for Cached {
 impl Cached {
     ghost use Rattle.dbr_layout.specs.View.{shown};
     ghost use Rattle.value_cache.specs.Held.{alarm_differs, covers, nothing, with_properties, with_value, without_properties, without_value};
-    ghost use Rattle.value_cache.specs.Kept.{fresh, keeping};
+    ghost use Rattle.value_cache.specs.Kept.{fresh, keeping, thinned};
     ghost use Rattle.value_cache.specs.Message.{TellsProperties};
 
     /// Nothing is held.
@@ -71,7 +67,8 @@ impl Cached {
 
     /// Holds a message of `count` elements of the type with the number `dtype` in place of the value
     /// before. `asked_with` is the count that was asked for when it came. The properties stay. No
-    /// encoding is kept.
+    /// encoding is kept. Answers share the payload, and so does who waits for them: it should be in a block
+    /// of its own.
     pub fn put(&mut self, dtype: u16, count: u32, payload: Bytes, asked_with: u32)
         requires { IsOk (shown dtype count payload) }
         ensures { self.new ≡ fresh (with_value dtype count payload asked_with self.old.held) }
@@ -137,6 +134,14 @@ impl Cached {
         }
     }
 
+    /// Lets go the encodings of 64 KiB and more, where there are several. One stays, for those who ask
+    /// for it later, and more stay only while an update is told.
+    pub fn thin(&mut self)
+        ensures { self.new ≡ thinned self.old }
+    {
+        self.kept.thin();
+    }
+
     /// How many encodings are kept.
     pub fn kept(&self) -> usize
         ensures value { result ≡ length self.now.kept }
@@ -183,7 +188,7 @@ impl Cached {
     /// no answer where no value is held, where the type isn't had from it, where the type needs
     /// properties and none of the value's base are held, or where the payload would be too large.
     /// Whether the count is covered isn't asked here. Where the encoding is kept, its payload is shared,
-    /// and so is the message's own, where it is short and a part of it is that answer as it came.
+    /// and so is the message's own, where a part of it is that answer as it came.
     pub fn answer(
         &self,
         alloc: Global,
@@ -296,10 +301,8 @@ fn encoded(
     let Some(message) = last else {
         return Ok(None);
     };
-    if message.payload.len() < FIRST_LAID_OUT {
-        if let Some(part) = own_part(message.dtype, message.count, &message.payload, dtype, count) {
-            return part_of(message, part);
-        }
+    if let Some(part) = own_part(message.dtype, message.count, &message.payload, dtype, count) {
+        return part_of(message, part);
     }
     laid_out(alloc, last, described, dtype, count)
 }

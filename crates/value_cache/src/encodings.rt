@@ -1,8 +1,8 @@
 //! Encodings of one message under several types and counts.
-ghost use Rattle.std.specs.Prelude.{◌≡◌, ◌≤◌, List, [], ◌∷◌, ◌++◌, length, OnOk, OnErr, Option, Some, None};
-ghost use Rattle.std.specs.List.{find};
+ghost use Rattle.std.specs.Prelude.{◌≡◌, ◌≤◌, List, [], ◌∷◌, ◌++◌, length, filter, nat_lt, OnOk, OnErr, Option, Some, None};
+ghost use Rattle.std.specs.List.{count_by, find};
 ghost use Rattle.std.specs.Option.{option_copied};
-ghost use Rattle.value_cache.specs.Encodings.{is_of};
+ghost use Rattle.value_cache.specs.Encodings.{is_large_one, is_of, is_small_one, thinned_list};
 ghost use Rattle.value_cache.specs.Kept.{last_eight};
 
 use bytes::Bytes;
@@ -11,6 +11,9 @@ use std::marker::Model;
 
 /// How many encodings of a message are kept at most.
 pub const MOST_KEPT: usize = 8;
+
+/// An encoding of so many bytes and more is large.
+const LARGE: usize = 65_536;
 
 /// What reads of `count` elements of the type with the number `dtype` are given.
 #[derive(Debug, Drop)]
@@ -84,6 +87,45 @@ impl Encodings {
                 Ok(())
             }
         }
+    }
+
+    /// Lets go those that are large, where there are several.
+    pub(crate) fn thin(&mut self)
+        ensures { self.new ≡ thinned_list self.old }
+    {
+        if let Some(list) = &mut self.list {
+            thin(list);
+        }
+    }
+}
+
+fn is_large(encoding: &Encoding) -> bool
+    ensures { result ≡ is_large_one encoding.now }
+{
+    encoding.payload.len() >= LARGE
+}
+
+// Whether several are large.
+fn are_several_large(list: &[Encoding]) -> bool
+    ensures { result ≡ nat_lt 1 (count_by is_large_one list.now) }
+{
+    list.iter().filter(|encoding| is_large(*encoding)).count() > 1
+}
+
+fn drop_large(list: &mut Vec<Encoding>)
+    ensures value { list.new.items ≡ filter is_small_one list.old.items }
+    ensures bound { length list.new.items ≤ length list.old.items }
+{
+    list.retain(|encoding| !is_large(encoding));
+}
+
+fn thin(list: &mut Vec<Encoding>)
+    requires { length list.old.items ≤ 8 }
+    ensures most { length list.new.items ≤ 8 }
+    ensures value { list.new.items ≡ thinned_list list.old.items }
+{
+    if are_several_large(list) {
+        drop_large(list);
     }
 }
 

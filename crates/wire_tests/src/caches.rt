@@ -5,6 +5,7 @@
 //! - `ask TYPE COUNT`: how many elements are given, and their payload; or `none`;
 //! - `keep TYPE COUNT`: how many encodings are kept then;
 //! - `shares TYPE COUNT`: whether the payload that is given is kept beside;
+//! - `thin`: how many encodings are kept where large ones go, but one;
 //! - `covers TYPE COUNT`: whether so many of the type are;
 //! - `describe-held TYPE: BYTES`: a message that tells properties; answered only if it tells none;
 //! - `alarm TYPE COUNT: BYTES`: whether the alarm of this message is another;
@@ -24,6 +25,10 @@ pub(crate) fn call(cached: &mut Cached, verb: &str, call: &Call, told: &mut Told
         "ask" => ask(cached, call, told),
         "keep" => keep(cached, call, told),
         "shares" => shares(cached, call, told),
+        "thin" => {
+            cached.thin();
+            told.line(&cached.kept());
+        }
         "covers" => told.line(&cached.covers(call.short(0), call.number(1))),
         "alarm" => match View::new(call.short(0), call.number(1), &call.bytes) {
             Ok(view) => told.line(&cached.alarm_differs(&view)),

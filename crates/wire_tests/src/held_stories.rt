@@ -3,7 +3,7 @@ use crate::tell::tells;
 use std::test::Fail;
 
 #[test]
-fn properties_are_held(rt: HostRuntime) -> Result<(), Fail> {
+fn what_needs_properties_is_covered_once_they_are_there(rt: HostRuntime) -> Result<(), Fail> {
     tells(
         &rt,
         rt.alloc(),
@@ -47,7 +47,19 @@ ask 33 2
 > 2 in 00000000 6d410000 00000000 00000064 00000000 0000005a 00000050 0000000a 00000005 00000064 00000000 0000002a 00000000 00000000
 ask 22 1
 > none
-# They may come before the value, stay beside it, and go without it.
+",
+    )
+}
+
+#[test]
+fn properties_come_before_the_value_stay_beside_it_and_go_without_it(
+    rt: HostRuntime,
+) -> Result<(), Fail> {
+    tells(
+        &rt,
+        rt.alloc(),
+        "\
+# Properties may come before the value, stay beside it, and go without it.
 describe-held 33: 000700086d41 00*9 64000000000000005a000000500000000a000000050000006400000000
 covers 33 0
 > false
@@ -74,6 +86,16 @@ ask 5 1
 covers 5 1
 > true
 forget-properties
+",
+    )
+}
+
+#[test]
+fn no_encoding_is_left_after_either_message(rt: HostRuntime) -> Result<(), Fail> {
+    tells(
+        &rt,
+        rt.alloc(),
+        "\
 # No encoding is left after either message.
 hold 19 1 1: 000000003b9aca00000000050000002a
 describe-held 33: 000700086d41 00*9 64000000000000005a000000500000000a000000050000006400000000
@@ -124,6 +146,16 @@ shares 12 1
 > none
 keep 12 1
 > 0
+",
+    )
+}
+
+#[test]
+fn properties_of_another_base_are_none(rt: HostRuntime) -> Result<(), Fail> {
+    tells(
+        &rt,
+        rt.alloc(),
+        "\
 # Properties of another base are none, and the value of a message that tells them is nobody's.
 hold 19 1 1: 000000003b9aca00000000050000002a
 describe-held 34: 000700080003ffff560000000000000011111111111111112222222222222222333333333333333344444444444444445555555555555555666666666666666677777777777777778888888888888888
@@ -138,6 +170,16 @@ covers 33 1
 > true
 ask 33 1
 > 1 in 00000000 6d410000 00000000 00000064 00000000 0000005a 00000050 0000000a 00000005 00000064 00000000 0000002a
+",
+    )
+}
+
+#[test]
+fn a_message_that_tells_none_leaves_those_before(rt: HostRuntime) -> Result<(), Fail> {
+    tells(
+        &rt,
+        rt.alloc(),
+        "\
 # A message that tells none leaves those before.
 hold 19 1 1: 000000003b9aca00000000050000002a
 describe-held 33: 000700086d41 00*9 64000000000000005a000000500000000a000000050000006400000000
@@ -151,6 +193,16 @@ describe-held 35: 000700086d41 00*9 64000000000000005a000000500000000a0000000500
 > tells no properties
 ask 33 1
 > 1 in 00000000 6d410000 00000000 00000064 00000000 0000005a 00000050 0000000a 00000005 00000064 00000000 0000002a
+",
+    )
+}
+
+#[test]
+fn states_have_texts_once_these_are_told(rt: HostRuntime) -> Result<(), Fail> {
+    tells(
+        &rt,
+        rt.alloc(),
+        "\
 # States have texts once these are told.
 hold 17 2 2: 000000003b9aca0000000005eeee00010002
 covers 0 1

@@ -8,10 +8,10 @@
 use crate::layouts::Viewed;
 use crate::words::{Call, Told, verb};
 use crate::{
-    caches, datagrams, headers, layouts, messages, outboxes, schedules, searches, streams,
-    to_clients, to_servers,
+    caches, datagrams, headers, layouts, messages, newcomers, outboxes, schedules, searches,
+    streams, to_clients, to_servers,
 };
-use ask_schedule::Schedule;
+use ask_schedule::{AtOnce, Newcomers, Schedule};
 use ca_header::Intake;
 use fanout::Outbox;
 use std::alloc::Global;
@@ -33,6 +33,8 @@ struct Wire {
     cached: Cached,
     outbox: Outbox,
     schedule: Schedule,
+    newcomers: Newcomers,
+    at_once: AtOnce,
 }
 
 impl Wire {
@@ -43,6 +45,8 @@ impl Wire {
             cached: Cached::empty(),
             outbox: Outbox::new(alloc),
             schedule: Schedule::new(alloc, schedules::LIMIT),
+            newcomers: Newcomers::new(alloc, newcomers::LIMIT),
+            at_once: AtOnce::new(alloc),
         }
     }
 
@@ -56,6 +60,7 @@ impl Wire {
             | "ask"
             | "keep"
             | "shares"
+            | "thin"
             | "covers"
             | "alarm"
             | "forget"
@@ -75,6 +80,10 @@ impl Wire {
             "plan" | "look" | "unplan" | "sooner" => {
                 schedules::call(&mut self.schedule, verb, call, told);
             }
+            "come" | "welcome" | "waits" => {
+                newcomers::call(&mut self.newcomers, verb, call, told);
+            }
+            "at-once" => newcomers::hear(&mut self.at_once, call, told),
             "asks" | "asks-sizes" | "parts" | "answer-parts" => datagrams::call(verb, call, told),
             _ => layouts::call(&mut self.viewed, verb, call, told),
         }
@@ -94,6 +103,7 @@ impl Wire {
         told.name(&self.cached);
         told.name(&self.outbox);
         told.word(&self.schedule.len());
+        told.word(&self.newcomers.len());
         told.end();
     }
 }

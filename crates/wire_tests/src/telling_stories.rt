@@ -63,18 +63,28 @@ describe 6: 00
 }
 
 #[test]
-fn each_field_is_there(rt: HostRuntime) -> Result<(), Fail> {
+fn each_field_of_a_string_is_there(rt: HostRuntime) -> Result<(), Fail> {
     tells(
         &rt,
         rt.alloc(),
         "\
-# One byte short at each field of a STRING ..
+# One byte short at each field of a STRING.
 describe 28: 00
 > too short for its elements
 describe 28: 000000
 > too short for its elements
 describe 28: 00000000
-# .. of a SHORT ..
+",
+    )
+}
+
+#[test]
+fn each_field_of_a_short_is_there(rt: HostRuntime) -> Result<(), Fail> {
+    tells(
+        &rt,
+        rt.alloc(),
+        "\
+# One byte short at each field of a SHORT.
 describe 29: 00
 > too short for its elements
 describe 29: 000000
@@ -98,7 +108,17 @@ describe 29: 00*25
 describe 29: 00*27
 > too short for its elements
 describe 29: 00*28
-# .. of a FLOAT ..
+",
+    )
+}
+
+#[test]
+fn each_field_of_a_float_is_there(rt: HostRuntime) -> Result<(), Fail> {
+    tells(
+        &rt,
+        rt.alloc(),
+        "\
+# One byte short at each field of a FLOAT.
 describe 30: 00
 > too short for its elements
 describe 30: 000000
@@ -126,7 +146,17 @@ describe 30: 00*43
 describe 30: 00*47
 > too short for its elements
 describe 30: 00*48
-# .. of an ENUM ..
+",
+    )
+}
+
+#[test]
+fn each_field_of_an_enum_is_there(rt: HostRuntime) -> Result<(), Fail> {
+    tells(
+        &rt,
+        rt.alloc(),
+        "\
+# One byte short at each field of an ENUM.
 describe 31: 00
 > too short for its elements
 describe 31: 000000
@@ -166,7 +196,17 @@ describe 31: 00*395
 describe 31: 00*421
 > too short for its elements
 describe 31: 00*422
-# .. of a CHAR ..
+",
+    )
+}
+
+#[test]
+fn each_field_of_a_char_is_there(rt: HostRuntime) -> Result<(), Fail> {
+    tells(
+        &rt,
+        rt.alloc(),
+        "\
+# One byte short at each field of a CHAR.
 describe 32: 00
 > too short for its elements
 describe 32: 000000
@@ -192,7 +232,17 @@ describe 32: 00*19
 describe 32: 00*20
 > too short for its elements
 describe 32: 00*21
-# .. of a LONG ..
+",
+    )
+}
+
+#[test]
+fn each_field_of_a_long_is_there(rt: HostRuntime) -> Result<(), Fail> {
+    tells(
+        &rt,
+        rt.alloc(),
+        "\
+# One byte short at each field of a LONG.
 describe 33: 00
 > too short for its elements
 describe 33: 000000
@@ -216,7 +266,17 @@ describe 33: 00*39
 describe 33: 00*43
 > too short for its elements
 describe 33: 00*44
-# .. and of a DOUBLE.
+",
+    )
+}
+
+#[test]
+fn each_field_of_a_double_is_there(rt: HostRuntime) -> Result<(), Fail> {
+    tells(
+        &rt,
+        rt.alloc(),
+        "\
+# One byte short at each field of a DOUBLE.
 describe 34: 00
 > too short for its elements
 describe 34: 000000

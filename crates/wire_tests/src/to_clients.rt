@@ -88,7 +88,7 @@ fn message(kind: &str, call: &Call, value: Bytes) -> ToClient {
             code: call.number(1),
             request: header(call, 2),
         },
-        "no-value" | "written" | "cancelled" => of_value(kind, call),
+        "no-update" | "no-value" | "written" | "cancelled" => of_value(kind, call),
         _ => of_channel(kind, call),
     }
 }
@@ -107,6 +107,11 @@ fn echo(size: u32, payload: Bytes) -> ToClient {
 
 fn of_value(kind: &str, call: &Call) -> ToClient {
     match kind {
+        "no-update" => ToClient::UpdateRefused {
+            id: call.number(0),
+            dtype: call.short(1),
+            code: call.number(2),
+        },
         "no-value" => ToClient::ReadNotifyRefused {
             ioid: call.number(0),
             dtype: call.short(1),

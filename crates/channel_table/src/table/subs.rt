@@ -106,6 +106,27 @@ impl Table {
         Ok(())
     }
 
+    /// The subscriptions on the session's channel of this ID, in the order in which they were added. They are
+    /// counted as looked at.
+    pub fn subs_on_channel(
+        &self,
+        visits: &mut Visits,
+        alloc: Global,
+        session: u32,
+        sid: u32,
+    ) -> Result<Vec<ClientSub>, AllocError>
+        requires own { visits.old.brand ≡ self.now.brand }
+        ensures found { IfOk result (λ subs. subs.items ≡ filter (is_sub_on session sid) self.now.rows.subs) }
+        ensures visits { IfOk result (λ subs. visits.new.looks ≡ u64_saturate (visits.old.looks + length subs.items)) }
+        ensures bound { IfOk result (λ subs. visits.new.looks ≤ visits.old.looks + length subs.items) }
+        ensures no_less { visits.old.looks ≤ visits.new.looks }
+        ensures own { visits.new.brand ≡ visits.old.brand }
+    {
+        let subs = self.subs.all_on(alloc, session, sid)?;
+        visits.count(subs.len());
+        Ok(subs)
+    }
+
     /// Adds a subscription to the channel that it names. The caller sees to it that none of its ID
     /// stands in the session.
     pub fn add_sub(&mut self, sub: ClientSub) -> Result<(), TableFault>

@@ -168,7 +168,7 @@ fn table(chance: &mut Chance, beside: Beside) -> &'static [u8] {
     if beside.edits && chance.below(12) == 0 {
         return EDITS;
     }
-    if beside.upkeep && chance.below(12) == 0 {
+    if beside.upkeep && chance.below(9) == 0 {
         return UPKEEP;
     }
     match TABLES.get(chance.below(TABLES.len())) {

@@ -92,6 +92,10 @@ pub(crate) const UPKEEP: &[u8] = b"|limit $Z $z
 |limit share $3
 |limit makes-room 1
 |limit makes-room $y
+|limit passes-over-gone 1
+|limit passes-over-gone $y
+s? 0012|client s$d 000c000000000000$q$p$/client s$d 000f0000$t$k$q000000$9$9$/client s$d 00010010$t$k$q0000003$9000000000000000000000000$M0000$/client s$d 00020000$t$k$q0000003$9
+s? 0012|client s$d 000c000000000000$q$p$/client s$d 00040008$W$K$q00000000$V$V$/client s$d 00130008$W$K$q000000$9$9$V$V$/client s$d 000c000000000000$q$p
 |limit $O $y
 |limit update-bytes $w
 |limit update-bytes 18446744073709551615

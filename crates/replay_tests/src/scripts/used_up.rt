@@ -1,4 +1,4 @@
-//! Numbers that are used up, and reads that are counted.
+//! Numbers that are used up or gone, and reads that are counted.
 use crate::scripts::engine::last_numbers;
 use script_player::counted::Counted;
 use script_player::play;
@@ -101,6 +101,25 @@ asks
 lost s1
 ";
 
+/// The only number of a channel was given out, and none before or after it. Requests on what is gone are
+/// passed over.
+const ONE_GONE: &str = "limit passes-over-gone 1
+found T1 u1
+> u1 0012000800000000fffffffe0000000d5431000000000000
+server u1 0016000000000000fffffffe00000003
+server u1 0012000000050001fffffffe00000065
+client s1 0012000800000000000000070000000d5431000000000000
+> s1 00160000000000000000000700000003
+> s1 001200000005000100000007fffffffe
+client s1 000c000000000000fffffffe00000007
+> s1 000c000000000000fffffffe00000007
+client s1 000f000000050001fffffffd00000021
+> s1 000b002000000000ffffffff0000019a000f000000050001fffffffd00000021756e6b6e6f776e206368616e6e656c00
+client s1 000f000000050001fffffffe00000021
+client s1 000f000000050001ffffffff00000021
+> s1 000b002000000000ffffffff0000019a000f000000050001ffffffff00000021756e6b6e6f776e206368616e6e656c00
+";
+
 /// Parts a story into its script and what is printed.
 fn part(text: &str, script: &mut Vec<u8>, printed: &mut Vec<u8>) -> bool {
     let mut is_whole = true;
@@ -124,15 +143,20 @@ fn ended(alloc: Global, script: &[u8], out: &mut Vec<u8>) -> Option<u8> {
     Some(play(alloc, engine, script, out))
 }
 
-/// Asserts that a story comes out as it is told, and ends with status 4.
-fn fails(rt: &impl Abort, alloc: Global, story: &str) {
+/// Asserts that a story comes out as it is told, and ends with this status.
+fn ends(rt: &impl Abort, alloc: Global, story: &str, status: u8) {
     let mut script = Vec::new(alloc);
     let mut printed = Vec::new(alloc);
     let mut out = Vec::new(alloc);
     let is_whole = part(WANTED, &mut script, &mut printed) & part(story, &mut script, &mut printed);
-    assert_eq!(rt; ended(alloc, script.as_slice(), &mut out), Some(4));
+    assert_eq!(rt; ended(alloc, script.as_slice(), &mut out), Some(status));
     assert_eq!(rt; out.as_slice(), printed.as_slice());
     assert!(rt; is_whole);
+}
+
+/// The same with the status of a gateway that failed.
+fn fails(rt: &impl Abort, alloc: Global, story: &str) {
+    ends(rt, alloc, story, 4);
 }
 
 #[test]
@@ -158,6 +182,11 @@ fn fails_when_no_number_is_left_for_properties(rt: HostRuntime) {
 #[test]
 fn fails_when_its_write_ids_are_used_up(rt: HostRuntime) {
     fails(&rt, rt.alloc(), TWO_WRITES);
+}
+
+#[test]
+fn knows_the_numbers_that_it_gave_out(rt: HostRuntime) {
+    ends(&rt, rt.alloc(), ONE_GONE, 0);
 }
 
 /// The example at the head of `script_player`.

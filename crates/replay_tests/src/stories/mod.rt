@@ -16,6 +16,7 @@ mod beginnings;
 mod channels;
 mod clients;
 mod edits;
+mod gone;
 mod layouts;
 mod limits;
 mod links;
