@@ -6,7 +6,7 @@ use crate::share::{HELD_BYTES, HELD_MESSAGES, RING_BYTES};
 /// How many bytes are on their way to a connection at most before the last messages, and how much waits for a server
 /// at most before those that write to it are held.
 pub fn numbers_are_these()
-    ensures ring_bytes { RING_BYTES ≡ 1_048_576 }
+    ensures ring_bytes { RING_BYTES ≡ 262_144 }
     ensures held_messages { HELD_MESSAGES ≡ 8_192 }
     ensures held_bytes { HELD_BYTES ≡ 16_777_216 }
 {}

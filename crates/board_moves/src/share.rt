@@ -5,7 +5,7 @@ ghost use Rattle.board_moves.specs.Share.{sent_at_once};
 use board_history::MOST_SENT;
 
 /// Where so many bytes are on their way to a connection no more are sent out to it.
-pub const RING_BYTES: usize = 1_048_576;
+pub const RING_BYTES: usize = 262_144;
 
 /// More messages than these wait for a server where those that write to it are held: half of what an outbox holds.
 pub const HELD_MESSAGES: usize = 8_192;

@@ -160,11 +160,16 @@ an answer for so long.
 
 With --late a search for a name that isn't connected yet is answered once it is, within 5 seconds.
 
+With --most-in-all, where more than so many MiB wait for all clients together, as few as will do are cut off,
+first those for which most wait. What clients share is counted for each. Without it only --most-waiting
+bounds what waits, for each client by itself.
+
 --site is what a site wants together: --back-off, --late, --alive 15, --forget 300, --names 65536,
---servers 1024, --clients-of-host 256, and that a reload of an empty rule file is refused. Each that has a
-value may be said otherwise beside it. It also has 262144 variables upstream at most in place of 65536,
-8192 reads and as many writes of a client that wait in place of 256, and updates held back while 1 MiB
-waits for a client.
+--servers 1024, --clients-of-host 256, --most-in-all 1024, and that a reload of an empty rule file is
+refused. Each that has a value may be said otherwise beside it. It also has 262144 variables upstream at
+most in place of 65536, 65536 channels and as many subscriptions of a client in place of 4096 and 8192,
+8192 reads and as many writes of it that wait in place of 256, and updates held back while 256 KiB wait for
+it. Requests on channels that are gone are passed over, and a subscription that may not read is told so.
 
 With --status each who connects to ADDRESS is told of the gateway in one line of JSON, and is hung up on:
 clients, upstreams, rows of each kind, edits of the rules, messages in and out, and the largest outbox.
@@ -181,7 +186,7 @@ Example:
 /// The programs that a command line can name.
 #[derive(Drop)]
 pub enum Program<'a> {
-    Replay(Body),
+    Replay(Replay<'a>),
     CheckRules(CheckRules<'a>),
     Serve(Serve<'a>),
 }
@@ -191,6 +196,13 @@ pub enum Program<'a> {
 pub enum Body {
     Engine,
     Plain,
+}
+
+/// What `replay` performs a script on: a gateway, and the text of the first number that it gives out.
+#[derive(Clone, Copy, Debug)]
+pub struct Replay<'a> {
+    pub body: Body,
+    pub first: Option<&'a str>,
 }
 
 /// What `check-rules` is to check: the paths of the files, the name and the host that it is asked of,
@@ -204,30 +216,36 @@ pub struct CheckRules<'a> {
     pub syntax: Syntax,
 }
 
-/// What `serve` is to serve: the texts of its addresses, the paths of the rule files, the syntax of patterns,
-/// and the texts of how many MiB may wait for a client, after how many seconds lost servers are connected to
-/// again and names are forgotten, what is logged, who is told of it, how many clients a host may have and how many
-/// clients, servers and names there may be, after how many seconds of silence servers are asked whether they are there
-/// and old names are forgotten; and whether names are asked for more and more seldom, searches are answered late, and it
-/// has what a site wants.
+/// What `serve` is to serve: the texts of its words and options, and its flags.
 #[derive(Drop)]
 pub struct Serve<'a> {
+    /// The address that clients connect to, and those of servers.
     pub listen: &'a str,
     pub upstreams: Vec<&'a str>,
+    /// The paths of the rule files, and the syntax of patterns.
     pub rules: Option<&'a str>,
     pub groups: Option<&'a str>,
     pub syntax: Syntax,
+    /// How many MiB may wait for a client, and for all of them.
     pub most_waiting: &'a str,
+    pub most_in_all: Option<&'a str>,
+    /// The first number that is given out.
+    pub first: Option<&'a str>,
+    /// How often lost servers are connected to again, and names are forgotten.
     pub reconnect: Option<&'a str>,
     pub sweep: Option<&'a str>,
+    /// What is logged, and at which address the gateway tells of itself.
     pub log: &'a str,
     pub status: Option<&'a str>,
+    /// How many clients a host may have, and how many clients, servers and names there may be.
     pub clients_of_host: Option<&'a str>,
     pub clients: Option<&'a str>,
     pub servers: Option<&'a str>,
     pub names: Option<&'a str>,
+    /// After how many seconds of silence a peer is asked whether it is there, and an old name is forgotten.
     pub alive: Option<&'a str>,
     pub forget: Option<&'a str>,
+    /// Names are asked for more and more seldom, searches are answered late, and all is as a site wants it.
     pub back_off: bool,
     pub late: bool,
     pub site: bool,
@@ -253,7 +271,10 @@ pub fn read<'a>(alloc: Global, words: &'a [String]) -> Result<Program<'a>, Error
     // The other subcommand was named.
     let found = matches.subcommand_matches("replay");
     let is_plain = found.is_some_and(|found| found.get_flag("plain"));
-    Ok(Program::Replay(if is_plain { Body::Plain } else { Body::Engine }))
+    Ok(Program::Replay(Replay {
+        body: if is_plain { Body::Plain } else { Body::Engine },
+        first: found.and_then(|found| found.get_str("first")),
+    }))
 }
 
 fn replay_command<'a>(alloc: Global) -> Result<Command<'a>, Error> {
@@ -266,7 +287,8 @@ fn replay_command<'a>(alloc: Global) -> Result<Command<'a>, Error> {
             .about(REPLAY_ABOUT)
             .long_about(REPLAY_LONG_ABOUT)
             .after_help(REPLAY_AFTER_HELP)
-            .arg(plain)?,
+            .arg(plain)?
+            .arg(first(alloc))?,
     )
 }
 
@@ -318,6 +340,8 @@ fn serve_command<'a>(alloc: Global) -> Result<Command<'a>, Error> {
 
 fn operating_options<'a>(alloc: Global, command: Command<'a>) -> Result<Command<'a>, Error> {
     let most_waiting = "A client for which more MiB wait is cut off; at least 1";
+    let most_in_all =
+        "Where more MiB wait for all clients, those for which most do are cut off; at least 1";
     let reconnect = "So often servers that aren't connected are tried again; 1 to 86400";
     let sweep = "So often it is forgotten which names clients looked for; 1 to 86400";
     let log = "What is told on standard error: error, warn, info or debug";
@@ -325,11 +349,13 @@ fn operating_options<'a>(alloc: Global, command: Command<'a>) -> Result<Command<
     let clients_of_host = "So many clients of one host may be connected at once; 1 to 1024";
     let back_off = "Names that no server has are asked for more and more seldom";
     let site =
-        "What a site wants: --back-off, --late, --alive 15, --forget 300, --names 65536 and more, as is told below";
+        "What a site wants: --back-off, --late, --alive 15, --forget 300, --names 65536, --most-in-all 1024 and more, as is told below";
     let command = scale_options(alloc, command)?;
     Ok(
         command
             .arg(option(alloc, "most-waiting", "MIB", most_waiting).default_value(MOST_WAITING))?
+            .arg(option(alloc, "most-in-all", "MIB", most_in_all))?
+            .arg(first(alloc))?
             .arg(option(alloc, "reconnect", "SECONDS", reconnect))?
             .arg(option(alloc, "sweep", "SECONDS", sweep))?
             .arg(option(alloc, "log", "LEVEL", log).default_value(LOG))?
@@ -359,6 +385,12 @@ fn scale_options<'a>(alloc: Global, command: Command<'a>) -> Result<Command<'a>,
             .arg(option(alloc, "forget", "SECONDS", forget))?
             .arg(flag(alloc, "late", late))?,
     )
+}
+
+fn first<'a>(alloc: Global) -> Arg<'a> {
+    let help =
+        "The first number of each kind that the gateway gives out; 1 to 4294967294, and 1 where it isn't said";
+    option(alloc, "first", "N", help)
 }
 
 fn plain_groups<'a>(alloc: Global) -> Arg<'a> {
@@ -411,6 +443,8 @@ fn serve_arguments<'a>(alloc: Global, found: &ArgMatches<'a>) -> Result<Serve<'a
         groups: found.get_str("groups"),
         syntax: syntax(found),
         most_waiting: found.get_str("most-waiting").unwrap_or(MOST_WAITING),
+        most_in_all: found.get_str("most-in-all"),
+        first: found.get_str("first"),
         reconnect: found.get_str("reconnect"),
         sweep: found.get_str("sweep"),
         log: found.get_str("log").unwrap_or(LOG),

@@ -7,13 +7,13 @@ mod fault;
 mod heavy;
 mod site;
 
-use arguments::{Body, Program};
+use arguments::{Body, Program, Replay};
 use check_rules::check_rules;
 use clap::error::ErrorKind;
 use fault::Fault;
-use replay::{replay, replay_plain, status};
+use replay::{replay_from, replay_plain_from, status};
 use serve::open;
-use site::{Site, ended, read_site};
+use site::{Site, ended, read_first, read_site};
 use std::io::BufWriter;
 use std::process::ExitCode;
 use std::{env, io};
@@ -71,7 +71,7 @@ fn begin(rt: &HostRuntime) -> io::Result<Begun> {
     let alloc = rt.alloc();
     let words: Vec<String> = env::args(rt)?.collect(alloc)?;
     match arguments::read(alloc, &words) {
-        Ok(Program::Replay(body)) => Ok(Begun::Ended(replay_script(rt, body)?)),
+        Ok(Program::Replay(arguments)) => Ok(Begun::Ended(replay_script(rt, arguments)?)),
         Ok(Program::CheckRules(arguments)) => {
             Ok(Begun::Ended(told(rt, check_rules(rt, &arguments))))
         }
@@ -91,12 +91,16 @@ fn begin(rt: &HostRuntime) -> io::Result<Begun> {
 }
 
 /// Replays the script on standard input.
-fn replay_script(rt: &HostRuntime, body: Body) -> io::Result<u8> {
+fn replay_script(rt: &HostRuntime, arguments: Replay<'_>) -> io::Result<u8> {
     let alloc = rt.alloc();
+    let first = match read_first(alloc, arguments.first) {
+        Ok(first) => first.number(),
+        Err(fault) => return Ok(told(rt, Err(fault))),
+    };
     let mut out = BufWriter::new(alloc, io::writer(rt))?;
-    let ended = match body {
-        Body::Engine => replay(alloc, rt.reader(), &mut out),
-        Body::Plain => replay_plain(alloc, rt.reader(), &mut out),
+    let ended = match arguments.body {
+        Body::Engine => replay_from(alloc, first, rt.reader(), &mut out),
+        Body::Plain => replay_plain_from(alloc, first, rt.reader(), &mut out),
     };
     if ended == status::STREAM_FAILED {
         let _ = eprintln!(rt;

@@ -2,8 +2,9 @@
 use crate::arguments::Serve;
 use crate::fault::Fault;
 use serve::{
-    CLIENTS, Files, HostSeats, Level, MOST_CLIENTS, MOST_NAMES, MOST_SERVERS, MostWaiting, Options,
-    Patience, SERVERS, Scale, Seconds, ServeFault, read_level, read_up_to,
+    CLIENTS, Files, FirstNumber, HostSeats, Level, MOST_CLIENTS, MOST_NAMES, MOST_SERVERS,
+    MostInAll, MostWaiting, Options, Patience, SERVERS, Scale, Seconds, ServeFault, read_level,
+    read_up_to,
 };
 use std::alloc::{AllocError, Global};
 use std::net::SocketAddr;
@@ -22,6 +23,12 @@ const SITE_ALIVE: &str = "15";
 
 /// After how many seconds a site's names are forgotten: libca looks for a name at least as often.
 const SITE_FORGET: &str = "300";
+
+/// How many MiB may wait for all clients of a site together: a quarter of a machine of 4 GB.
+const SITE_IN_ALL: &str = "1024";
+
+/// The highest number that may be the first.
+const LAST_FIRST: u32 = 4_294_967_294;
 
 /// What the command line says of a gateway: its own address, those of servers, the rule files, and how it serves.
 #[derive(Drop)]
@@ -46,6 +53,10 @@ pub fn read_site(alloc: Global, arguments: &Serve<'_>) -> Result<Site, Fault> {
     }
     let options = Options {
         most_waiting: read_most(alloc, arguments.most_waiting)?,
+        most_in_all: read_in_all(
+            alloc,
+            at_site(arguments, arguments.most_in_all, SITE_IN_ALL),
+        )?,
         reconnect: read_seconds(alloc, arguments.reconnect)?,
         sweep: read_seconds(alloc, arguments.sweep)?,
         status: read_status(alloc, arguments.status)?,
@@ -60,6 +71,7 @@ pub fn read_site(alloc: Global, arguments: &Serve<'_>) -> Result<Site, Fault> {
         alive: read_alive(alloc, at_site(arguments, arguments.alive, SITE_ALIVE))?,
         forget: read_seconds(alloc, at_site(arguments, arguments.forget, SITE_FORGET))?,
         late: arguments.late || arguments.site,
+        first: read_first(alloc, arguments.first)?,
     };
     let files = Files {
         rules: copy(alloc, arguments.rules)?,
@@ -92,6 +104,27 @@ fn read_most(alloc: Global, text: &str) -> Result<MostWaiting, Fault> {
     match MostWaiting::read(text.as_bytes()) {
         Some(most) => Ok(most),
         None => Err(Fault::BadMost(String::from_str(alloc, text)?)),
+    }
+}
+
+fn read_in_all(alloc: Global, text: Option<&str>) -> Result<Option<MostInAll>, Fault> {
+    let Some(text) = text else {
+        return Ok(None);
+    };
+    match MostInAll::read(text.as_bytes()) {
+        Some(most) => Ok(Some(most)),
+        None => Err(Fault::BadMost(String::from_str(alloc, text)?)),
+    }
+}
+
+/// Reads the first number that is given out.
+pub fn read_first(alloc: Global, text: Option<&str>) -> Result<FirstNumber, Fault> {
+    let Some(text) = text else {
+        return Ok(FirstNumber::usual());
+    };
+    match FirstNumber::read(text.as_bytes()) {
+        Some(first) => Ok(first),
+        None => Err(Fault::BadNumber(String::from_str(alloc, text)?, LAST_FIRST)),
     }
 }
 

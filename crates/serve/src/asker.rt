@@ -2,10 +2,12 @@
 use crate::asks::{Asks, ask_each};
 use crate::hub::{AsHub, Hub, Wanted};
 use crate::machine::System;
-use ask_schedule::Schedule;
+use ask_schedule::{Added, Newcomers, Schedule};
 use gateway_core::AskFault;
 use pv_name::{Name, NoMemory};
 use serve_state::{AskBudget, AskRhythm, Notice};
+use std::alloc::AllocError;
+use std::collections::HashSet;
 use std::sync::CondvarTimeouts;
 use std::time::Duration;
 
@@ -19,19 +21,35 @@ const LOOK: u64 = 32;
 /// one, so that names that are sought one after the other are asked for again together, in full datagrams.
 const FIRST_GAP: u64 = 512;
 
-/// How many names the schedule keeps.
+/// How many names a schedule keeps, and of how many it is known that a server had them.
 const NAME_LIMIT: usize = 65_536;
 
-/// How many names are taken from the schedule at once: as many as four datagrams hold, of names of 31 bytes.
+/// How many newcomers wait at most.
+const NEWCOMER_LIMIT: usize = 16_384;
+
+/// How many names are taken from the schedules at once: as many as four datagrams hold, of names of 31 bytes.
 const PART: usize = 112;
+
+/// So many of them are lost ones at most, where others wait.
+const LOST_PART: usize = 108;
+
+/// Under this number of a host stand names that no host sought just now.
+const NO_HOST: u128 = 0;
 
 /// What the asker knows besides what is wanted of it.
 #[derive(Drop)]
 struct Asker {
     rhythm: AskRhythm,
+    // Names that were never asked for.
+    newcomers: Newcomers,
+    // Names that were asked for, and that no server had.
     schedule: Schedule,
+    // Names that a server had, and that are missing now.
+    lost: Schedule,
+    // Names that a server had.
+    found: HashSet<Name>,
     budget: AskBudget,
-    // Taken from the schedule, and not sent yet.
+    // Taken from the schedules, and not sent yet.
     asks: Asks,
     had_many: bool,
     // The time, in milliseconds of the system's clock.
@@ -42,7 +60,10 @@ impl Asker {
     fn new(hub: &Hub) -> Asker {
         Asker {
             rhythm: AskRhythm::new(hub.options.back_off),
+            newcomers: Newcomers::new(hub.alloc, NEWCOMER_LIMIT),
             schedule: Schedule::new(hub.alloc, NAME_LIMIT),
+            lost: Schedule::new(hub.alloc, NAME_LIMIT),
+            found: HashSet::new(hub.alloc),
             budget: AskBudget::new(),
             asks: Asks::new(hub.alloc),
             had_many: false,
@@ -59,10 +80,54 @@ impl Asker {
         self.now / FIRST_GAP
     }
 
+    fn has_names(&self) -> bool {
+        self.newcomers.len() > 0
+            || self.schedule.len() > 0
+            || self.lost.len() > 0
+            || !self.asks.is_empty()
+    }
+
+    // Notes names that a server has. Where there are too many, it forgets those that it knows.
+    fn note_found(&mut self, names: Vec<Name>) -> Result<(), NoMemory> {
+        for name in names {
+            if self.found.len() >= NAME_LIMIT {
+                self.found.clear();
+            }
+            if self.found.insert(name).is_err() {
+                return Err(AllocError);
+            }
+        }
+        Ok(())
+    }
+
+    // Has a missing name asked for. One that a server had comes before all that none had.
+    fn want(&mut self, host: u128, name: Name) -> Result<(), NoMemory> {
+        if self.found.contains(&name) {
+            self.schedule.remove(&name);
+            self.lost.add(&name)?;
+            return Ok(());
+        }
+        if self.schedule.has(&name) {
+            return Ok(());
+        }
+        self.newcomers.add(host, name)
+    }
+
+    // Has all missing names asked for. Those that wait already need not come again.
+    fn want_all(&mut self, names: Vec<Name>) -> Result<(), NoMemory> {
+        let has_waiting = self.newcomers.has_of(NO_HOST);
+        for name in names {
+            if !has_waiting || self.found.contains(&name) {
+                self.want(NO_HOST, name)?;
+            }
+        }
+        Ok(())
+    }
+
     // How many milliseconds it may wait. None where it has nothing to do until something is wanted of it.
     fn pause(&self) -> Option<u64> {
         let pause = self.rhythm.wait(self.now);
-        if self.schedule.len() == 0 && self.asks.is_empty() {
+        if !self.has_names() {
             return pause;
         }
         let left = LOOK - self.now % LOOK;
@@ -168,7 +233,7 @@ fn ask_for_all<R: System, H: AsHub>(rt: R, hub: &H, asker: &mut Asker) -> Result
     }
 }
 
-// Takes new names into the schedule, and asks for those that are due.
+// Takes names in, and asks for those that are due.
 fn back_off<R: System, H: AsHub>(
     rt: R,
     hub: &H,
@@ -177,17 +242,16 @@ fn back_off<R: System, H: AsHub>(
 ) -> Result<(), NoMemory> {
     let turn = asker.turn();
     if wanted.soon {
+        // The lost ones are due now.
+        asker.lost.soon(turn.saturating_sub(1), 0);
         asker.schedule.soon(turn, 0);
     }
-    for name in &wanted.names {
-        if matches!(hub.gate().is_missing(&rt, name), Ok(true)) {
-            asker.schedule.add(name)?;
-        }
+    asker.note_found(wanted.found)?;
+    for wish in wanted.wishes {
+        asker.want(wish.host, wish.name)?;
     }
     if let Some(names) = wanted_names(rt, hub, asker) {
-        for name in &names {
-            asker.schedule.add(name)?;
-        }
+        asker.want_all(names)?;
     }
     let sent = ask_due(rt, hub, asker);
     tell_asked(rt, hub.hub(), sent?);
@@ -214,15 +278,83 @@ fn ask_due<R: System, H: AsHub>(rt: R, hub: &H, asker: &mut Asker) -> Result<usi
     Ok(sent)
 }
 
-// Takes the names that are due from the schedule. Those that aren't missing any more leave it.
+// Takes names that are due: lost ones first, then as many that were asked for as newcomers. What one kind leaves is the
+// others'.
 fn take_due<R: System, H: AsHub>(rt: R, hub: &H, asker: &mut Asker) -> Result<(), NoMemory> {
     let turn = asker.turn();
-    for name in asker.schedule.due(turn, PART)? {
+    let lost = take_from(rt, hub, &mut asker.asks, &mut asker.lost, turn, LOST_PART)?;
+    let left = PART.saturating_sub(lost);
+    let again = take_from(
+        rt,
+        hub,
+        &mut asker.asks,
+        &mut asker.schedule,
+        turn,
+        left / 2,
+    )?;
+    let left = left.saturating_sub(again);
+    welcome(rt, hub, asker, left)?;
+    let more = take_from(rt, hub, &mut asker.asks, &mut asker.schedule, turn, left)?;
+    let left = left.saturating_sub(more);
+    take_from(rt, hub, &mut asker.asks, &mut asker.lost, turn, left)?;
+    Ok(())
+}
+
+// Takes the names that are due from a schedule, at most so many, and answers how many these are. Those that aren't missing
+// any more leave it.
+fn take_from<R: System, H: AsHub>(
+    rt: R,
+    hub: &H,
+    asks: &mut Asks,
+    schedule: &mut Schedule,
+    turn: u64,
+    most: usize,
+) -> Result<usize, NoMemory> {
+    let mut count = 0usize;
+    for name in schedule.due(turn, most)? {
         match hub.gate().is_missing(&rt, &name) {
-            Ok(true) => asker.asks.add(rt, hub.hub(), name)?,
-            Ok(false) => asker.schedule.remove(&name),
+            Ok(true) => {
+                asks.add(rt, hub.hub(), name)?;
+                count = count.saturating_add(1);
+            }
+            Ok(false) => schedule.remove(&name),
             Err(_) => (),
         }
     }
+    Ok(count)
+}
+
+// Takes newcomers into the schedule, at most so many. There they are due first.
+fn welcome<R: System, H: AsHub>(
+    rt: R,
+    hub: &H,
+    asker: &mut Asker,
+    most: usize,
+) -> Result<(), NoMemory> {
+    let mut room = most;
+    for _ in rt.forever() {
+        let names = asker.newcomers.take(room)?;
+        if names.is_empty() {
+            break;
+        }
+        for name in names {
+            if welcome_one(rt, hub, asker, &name)? {
+                room = room.saturating_sub(1);
+            }
+        }
+    }
     Ok(())
+}
+
+// Whether it was new, and is missing still.
+fn welcome_one<R: System, H: AsHub>(
+    rt: R,
+    hub: &H,
+    asker: &mut Asker,
+    name: &Name,
+) -> Result<bool, NoMemory> {
+    if asker.schedule.has(name) || !matches!(hub.gate().is_missing(&rt, name), Ok(true)) {
+        return Ok(false);
+    }
+    Ok(asker.schedule.add(name)? == Added::New)
 }

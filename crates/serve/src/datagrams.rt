@@ -1,9 +1,11 @@
 //! Datagrams: clients' searches, and servers' replies to asks.
 use crate::asker::milliseconds;
-use crate::clients::host_of;
-use crate::hub::{AsHub, Hub};
+use crate::clients::{host_number, host_of};
+use crate::hub::{AsHub, Hub, Wish};
 use crate::late::{keep_late, note_found};
 use crate::machine::System;
+use crate::searches::{has_waiting, put_search};
+use ask_schedule::AtOnce;
 use gateway_core::{AskFault, Event};
 use pv_name::{Host, Name, NoMemory};
 use pv_search::{Datagram, SearchAnswer, first_part, read_found};
@@ -21,8 +23,14 @@ const SENT_SIZE: usize = 65_507;
 /// How many searches of a datagram are handed to the gate at once.
 const PART: usize = 16;
 
-/// How many microseconds pass between two parts of a datagram, so that others get at the gate.
-const REST: u64 = 100;
+/// How many milliseconds a look has. A full datagram of libca has as many parts as are heard of a host at once in one.
+const LOOK: u64 = 32;
+
+/// So many bytes a datagram that waits takes besides its own, or a few more.
+const BESIDE: usize = 256;
+
+/// How many microseconds pass between two parts, so that others get at the gate.
+pub const REST: u64 = 100;
 
 /// An hour, in milliseconds.
 const HOUR: u64 = 3_600_000;
@@ -31,28 +39,22 @@ const HOUR: u64 = 3_600_000;
 pub fn receive<R: System, H: AsHub>(rt: R, hub: &H, buffer: Vec<u8>) {
     let mut buffer = buffer;
     let mut clashes = Clashes::new(hub.hub().alloc);
+    let mut at_once = AtOnce::new(hub.hub().alloc);
     for _ in rt.forever() {
         let received = hub.hub().sockets.datagrams.recv_from(&mut buffer);
         if hub.hub().is_closing(&rt) {
             return;
         }
         match received {
-            Ok((count, from)) => hear(rt, hub, &mut clashes, &buffer[..count], from),
+            Ok((count, from)) => {
+                let datagram = &buffer[..count];
+                match server_of(hub.hub().servers.as_slice(), &from) {
+                    Some(server) => hear_server(rt, hub, &mut clashes, datagram, server),
+                    None => hear_client(rt, hub, &mut at_once, datagram, from),
+                }
+            }
             Err(_) => thread::sleep(&rt, Duration::from_millis(1)),
         }
-    }
-}
-
-fn hear<R: System, H: AsHub>(
-    rt: R,
-    hub: &H,
-    clashes: &mut Clashes,
-    datagram: &[u8],
-    from: SocketAddr,
-) {
-    match server_of(hub.hub().servers.as_slice(), &from) {
-        Some(server) => hear_server(rt, hub, clashes, datagram, server),
-        None => hear_client(rt, hub, datagram, from),
     }
 }
 
@@ -67,16 +69,26 @@ fn hear_server<R: System, H: AsHub>(
         hub.hub().tell(&rt, Notice::OutOfMemory);
         return;
     };
+    let mut names = Vec::new(hub.hub().alloc);
     for cid in cids.as_slice() {
         let (name, other) = asked_under(rt, hub.hub(), *cid, server);
         if let Some(name) = name {
             if let Some(other) = other {
                 tell_clash(rt, hub.hub(), clashes, &name, other, server);
             }
+            note_name(&mut names, &name);
             let _ = hub.gate().desk(&rt, Event::Found(name, server));
         }
     }
+    hub.hub().note_found(&rt, names);
     note_found(rt, hub.hub());
+}
+
+// Where memory is refused, it isn't noted.
+fn note_name(names: &mut Vec<Name>, name: &Name) {
+    if let Ok(again) = name.copy() {
+        let _ = names.push(again);
+    }
 }
 
 // The name that was asked for under the CID, and the other server that answered that ask before this one.
@@ -108,31 +120,85 @@ fn tell_clash<R: System>(
     }
 }
 
-fn hear_client<R: System, H: AsHub>(rt: R, hub: &H, datagram: &[u8], from: SocketAddr) {
-    let Ok(host) = host_of(hub.hub(), &from) else {
+// What isn't heard at once of a client's datagram waits, and so do those that come behind it from the same host: each host's
+// are heard in the order in which they came.
+fn hear_client<R: System, H: AsHub>(
+    rt: R,
+    hub: &H,
+    at_once: &mut AtOnce,
+    datagram: &[u8],
+    from: SocketAddr,
+) {
+    let Ok(search) = Search::new(hub.hub(), datagram, from) else {
         hub.hub().tell(&rt, Notice::OutOfMemory);
         return;
     };
-    let before = remembered(rt, hub);
-    let mut sought = Sought {
-        from,
-        reply: Datagram::new(hub.hub().alloc),
-        missing: Vec::new(hub.hub().alloc),
-        has_others: false,
-    };
-    match hear_parts(rt, hub, &host, datagram, &mut sought) {
-        Ok(()) => {
-            send_reply(hub.hub(), &sought);
-            if !hub.hub().options.back_off {
-                hub.hub().ask(&rt);
-                return;
-            }
-            // Where a name leads to another one, that is among all that are asked for.
-            let has_new = sought.has_others && remembered(rt, hub) > before;
-            hub.hub().seek(&rt, sought.missing, has_new);
+    if has_waiting(rt, hub.hub(), search.host()) {
+        put_search(rt, hub.hub(), search);
+    } else if let Some(left) = hear_at_once(rt, hub, at_once, search) {
+        put_search(rt, hub.hub(), left);
+    }
+}
+
+// Hears the first parts, as long as the host has some left in this look, and gives the datagram back where there is more.
+fn hear_at_once<R: System, H: AsHub>(
+    rt: R,
+    hub: &H,
+    at_once: &mut AtOnce,
+    search: Search,
+) -> Option<Search> {
+    let mut search = search;
+    for _ in rt.forever() {
+        let look = milliseconds(rt, 0) / LOOK;
+        if !matches!(at_once.hear(look, search.host()), Ok(true)) {
+            break;
         }
-        Err(AskFault::OutOfMemory) => hub.hub().tell(&rt, Notice::OutOfMemory),
-        Err(AskFault::Failed) => (),
+        search = hear_part(rt, hub, search)?;
+        thread::sleep(&rt, Duration::from_micros(REST));
+    }
+    Some(search)
+}
+
+/// A client's datagram, of which some is heard already.
+#[derive(Drop)]
+pub struct Search {
+    host: Host,
+    text: Vec<u8>,
+    // So many bytes of it were heard.
+    heard: usize,
+    // So many names were remembered before its first part.
+    before: usize,
+    sought: Sought,
+}
+
+impl Search {
+    fn new(hub: &Hub, datagram: &[u8], from: SocketAddr) -> Result<Search, ()> {
+        let mut text = Vec::new(hub.alloc);
+        if text.extend_from_slice(datagram).is_err() {
+            return Err(());
+        }
+        Ok(Search {
+            host: host_of(hub, &from)?,
+            text,
+            heard: 0,
+            before: 0,
+            sought: Sought {
+                from,
+                reply: Datagram::new(hub.alloc),
+                missing: Vec::new(hub.alloc),
+                has_others: false,
+            },
+        })
+    }
+
+    /// The number of the host that it came from.
+    pub fn host(&self) -> u128 {
+        host_number(&self.sought.from)
+    }
+
+    /// How many bytes it takes.
+    pub fn len(&self) -> usize {
+        self.text.len().saturating_add(BESIDE)
     }
 }
 
@@ -142,37 +208,80 @@ struct Sought {
     from: SocketAddr,
     reply: Datagram,
     // The names that were asked for and are missing.
-    missing: Vec<Name>,
+    missing: Vec<Wish>,
     // Whether others were asked for.
     has_others: bool,
 }
 
-// Hands the datagram to the gate in parts, and rests between them.
-fn hear_parts<R: System, H: AsHub>(
+/// Hears the next part, and gives the datagram back where there is another one. Behind the last one the reply is sent,
+/// and what is missing is asked for. Behind the last whole message there is none, whatever bytes are left.
+pub fn hear_part<R: System, H: AsHub>(rt: R, hub: &H, search: Search) -> Option<Search> {
+    let Search {
+        host,
+        text,
+        heard,
+        before,
+        mut sought,
+    } = search;
+    let rest = text.get(heard..).unwrap_or(&[]);
+    let len = first_part(rest, PART);
+    let is_last = first_part(&rest[len..], PART) == 0;
+    let before = if heard == 0 {
+        remembered(rt, hub)
+    } else {
+        before
+    };
+    match hand_part(rt, hub, &host, &rest[..len], &mut sought) {
+        Ok(()) => (),
+        Err(AskFault::OutOfMemory) => {
+            hub.hub().tell(&rt, Notice::OutOfMemory);
+            return None;
+        }
+        Err(AskFault::Failed) => return None,
+    }
+    if is_last {
+        finish(rt, hub, before, sought);
+        return None;
+    }
+    Some(Search {
+        host,
+        text,
+        heard: heard.saturating_add(len),
+        before,
+        sought,
+    })
+}
+
+// Hands a part to the gate.
+fn hand_part<R: System, H: AsHub>(
     rt: R,
     hub: &H,
     host: &Host,
-    datagram: &[u8],
+    part: &[u8],
     sought: &mut Sought,
 ) -> Result<(), AskFault> {
-    let mut rest = datagram;
-    for _ in 0..datagram.len() {
-        let len = first_part(rest, PART);
-        if len == 0 {
-            break;
-        }
-        let answer = hub.gate().search(&rt, host, &rest[..len])?;
-        if add_reply(hub.hub(), sought, &answer.reply).is_err() {
-            return Err(AskFault::OutOfMemory);
-        }
-        remember(rt, hub, host, &answer, sought);
-        keep_late(rt, hub.hub(), &rest[..len], &answer, sought.from);
-        rest = &rest[len..];
-        if !rest.is_empty() {
-            thread::sleep(&rt, Duration::from_micros(REST));
-        }
+    if part.is_empty() {
+        return Ok(());
     }
+    let answer = hub.gate().search(&rt, host, part)?;
+    if add_reply(hub.hub(), sought, &answer.reply).is_err() {
+        return Err(AskFault::OutOfMemory);
+    }
+    remember(rt, hub, host, &answer, sought);
+    keep_late(rt, hub.hub(), part, &answer, sought.from);
     Ok(())
+}
+
+// `before` names were remembered before the datagram.
+fn finish<R: System, H: AsHub>(rt: R, hub: &H, before: usize, sought: Sought) {
+    send_reply(hub.hub(), &sought);
+    if !hub.hub().options.back_off {
+        hub.hub().ask(&rt);
+        return;
+    }
+    // Where a name leads to another one, that is among all that are asked for.
+    let has_new = sought.has_others && remembered(rt, hub) > before;
+    hub.hub().seek(&rt, sought.missing, has_new);
 }
 
 // What is said of one part more stands behind what is said already, where a datagram holds both.
@@ -224,8 +333,9 @@ fn note_missing<R: System, H: AsHub>(rt: R, hub: &H, name: &Name, sought: &mut S
         sought.has_others = true;
         return;
     }
+    let host = host_number(&sought.from);
     let is_noted = match name.copy() {
-        Ok(again) => sought.missing.push(again).is_ok(),
+        Ok(name) => sought.missing.push(Wish { host, name }).is_ok(),
         Err(_) => false,
     };
     if !is_noted {

@@ -3,14 +3,15 @@ use crate::late::LateInbox;
 use crate::line::Line;
 use crate::logging::LogBook;
 use crate::machine::System;
+use crate::searches::Searches;
 use gate_board::Gate;
 use gateway_core::Dest;
 use gateway_state::Limits;
 use log::Level;
 use pv_name::Name;
 use serve_state::{
-    Asked, Cut, HostSeats, MOST_SERVERS, MostWaiting, Notice, Outages, Patience, Roster, Scale,
-    Seconds,
+    Asked, Cut, FirstNumber, HostSeats, MOST_SERVERS, MostInAll, MostWaiting, Notice, Outages,
+    Patience, Roster, Scale, Seconds,
 };
 use std::alloc::Global;
 use std::collections::VecDeque;
@@ -38,6 +39,8 @@ pub struct Sockets {
 pub struct Options {
     /// A client for whom more waits is cut off.
     pub most_waiting: MostWaiting,
+    /// Where more waits for all clients together, those for whom most does are cut off.
+    pub most_in_all: Option<MostInAll>,
     /// So often lost servers are connected to again.
     pub reconnect: Option<Seconds>,
     /// So often it is forgotten which names clients looked for.
@@ -60,12 +63,22 @@ pub struct Options {
     pub forget: Option<Seconds>,
     /// Searches that can't be answered at once are answered once they can be.
     pub late: bool,
+    /// The first number of each kind that is given out.
+    pub first: FirstNumber,
 }
 
-/// So many names that clients sought wait for the asker. Where there are more, it looks for all.
+/// So many names that clients sought wait for the asker. Where there are more, it looks for all. Of those that servers told of
+/// so many wait, too.
 const MOST_SOUGHT: usize = 16_384;
 
-/// What is wanted of the asker.
+/// A name that a client of this host sought.
+#[derive(Drop)]
+pub struct Wish {
+    pub host: u128,
+    pub name: Name,
+}
+
+/// What is wanted of the asker, and what it is told.
 #[derive(Drop)]
 pub struct Wanted {
     /// It is to be found out which names are to be asked for.
@@ -73,7 +86,9 @@ pub struct Wanted {
     /// Each name is to be asked for as if nobody had asked for it yet.
     pub soon: bool,
     /// Names that clients sought, and that are missing.
-    pub names: Vec<Name>,
+    pub wishes: Vec<Wish>,
+    /// Names that a server said it has. Nobody is woken for them.
+    pub found: Vec<Name>,
     pub end: bool,
 }
 
@@ -82,13 +97,14 @@ impl Wanted {
         Wanted {
             asks: false,
             soon: false,
-            names: Vec::new(alloc),
+            wishes: Vec::new(alloc),
+            found: Vec::new(alloc),
             end: false,
         }
     }
 
     pub fn is_nothing(&self) -> bool {
-        !self.asks && !self.soon && !self.end && self.names.is_empty()
+        !self.asks && !self.soon && !self.end && self.wishes.is_empty()
     }
 
     /// What was wanted; from now on nothing is.
@@ -96,14 +112,22 @@ impl Wanted {
         replace(self, Wanted::nothing(alloc))
     }
 
-    fn seek(&mut self, names: Vec<Name>) {
-        for name in names {
-            if self.names.len() >= MOST_SOUGHT {
+    fn seek(&mut self, wishes: Vec<Wish>) {
+        for wish in wishes {
+            if self.wishes.len() >= MOST_SOUGHT {
                 self.asks = true;
                 return;
             }
-            if self.names.push(name).is_err() {
+            if self.wishes.push(wish).is_err() {
                 self.asks = true;
+            }
+        }
+    }
+
+    fn note_found(&mut self, names: Vec<Name>) {
+        for name in names {
+            if self.found.len() >= MOST_SOUGHT || self.found.push(name).is_err() {
+                return;
             }
         }
     }
@@ -145,10 +169,15 @@ pub struct Hub {
     /// Searches that may be answered later.
     pub late: Mutex<LateInbox>,
     pub late_came: Condvar,
+    /// Datagrams of clients of which more is to be heard.
+    pub searches: Mutex<Searches>,
+    pub searched: Condvar,
     /// How many edits of the rules were taken.
     pub edits: Mutex<u64>,
     /// How many clients were refused, since as many as can be were connected.
     pub refused: Mutex<u64>,
+    /// How many clients were cut off, since more waited for all than may.
+    pub cut_in_all: Mutex<u64>,
 }
 
 impl Hub {
@@ -180,8 +209,11 @@ impl Hub {
             outages: Mutex::new(Outages::new()),
             late: Mutex::new(LateInbox::new(alloc)),
             late_came: Condvar::new(),
+            searches: Mutex::new(Searches::new(alloc)),
+            searched: Condvar::new(),
             edits: Mutex::new(0),
             refused: Mutex::new(0),
+            cut_in_all: Mutex::new(0),
         }
     }
 
@@ -207,16 +239,23 @@ impl Hub {
 
     /// Has these names asked for, and those that may be wanted from now on, where there are others. Only who backs
     /// off looks for it.
-    pub fn seek<R: Wait>(&self, rt: &R, names: Vec<Name>, has_others: bool) {
-        if !self.options.back_off || (names.is_empty() && !has_others) {
+    pub fn seek<R: Wait>(&self, rt: &R, wishes: Vec<Wish>, has_others: bool) {
+        if !self.options.back_off || (wishes.is_empty() && !has_others) {
             return;
         }
         {
             let mut wanted = self.wanted.lock(rt);
             wanted.asks |= has_others;
-            wanted.seek(names);
+            wanted.seek(wishes);
         }
         self.asker.notify_all();
+    }
+
+    /// Tells the asker that a server has these names. Only who backs off looks for it.
+    pub fn note_found<R: Wait>(&self, rt: &R, names: Vec<Name>) {
+        if self.options.back_off && !names.is_empty() {
+            self.wanted.lock(rt).note_found(names);
+        }
     }
 
     /// Logs it. Nobody who calls this holds a lock.
@@ -246,6 +285,8 @@ impl Hub {
         self.asker.notify_all();
         self.late.lock(rt).end = true;
         self.late_came.notify_all();
+        self.searches.lock(rt).end = true;
+        self.searched.notify_all();
         self.changed.notify_all();
     }
 

@@ -4,13 +4,14 @@
 //! Its threads, and what each waits for:
 //!
 //! - the calling thread moves the board (`serve_core`);
-//! - one accepts clients, one greets them and starts their workers, and one receives datagrams;
+//! - one accepts clients, one greets them and starts their workers, one receives datagrams, and one hears what is left of
+//!   long ones, of each host a part in turn;
 //! - one asks servers for names: it alone sends asks, as many in a datagram as fit, and rests after 64, or has a
 //!   budget for each look;
 //! - one keeps the connections: it starts the workers of a server that was reached, and takes the rows away of
 //!   those that are lost;
 //! - one looks now and then whether a connection must end whose writer waits for its peer, or too much waits
-//!   for a client, and, where it is to, whether whoever is connected is still there;
+//!   for a client or for all of them, and, where it is to, whether whoever is connected is still there;
 //! - one answers searches that couldn't be answered when they came, where it is to;
 //! - two for each connection, which read and write;
 //! - one reads the orders of standard input, one performs those that are to be repeated, where any is, one tells of
@@ -35,6 +36,7 @@ mod orders;
 mod repeating;
 mod reports;
 mod rules;
+mod searches;
 mod servers;
 mod watcher;
 mod workers;
@@ -46,8 +48,8 @@ pub use machine::{Machine, System};
 pub use opening::open;
 pub use rules::Files;
 pub use serve_state::{
-    CLIENTS, HostSeats, MOST_CLIENTS, MOST_NAMES, MOST_SERVERS, MostWaiting, Patience, SERVERS,
-    Scale, Seconds, read_level, read_up_to,
+    CLIENTS, FirstNumber, HostSeats, MOST_CLIENTS, MOST_NAMES, MOST_SERVERS, MostInAll,
+    MostWaiting, Patience, SERVERS, Scale, Seconds, read_level, read_up_to,
 };
 
 /// What the exit statuses of the program mean.

@@ -1,4 +1,5 @@
 //! What the machine does for the gateway, besides threads and sockets.
+use libc::net::{SO_SNDBUF, SOL_SOCKET, setsockopt};
 use libc::types::rlimit;
 use libc::{RLIMIT_NOFILE, getrlimit};
 use serve_state::FileText;
@@ -6,6 +7,8 @@ use std::alloc::Global;
 use std::fs::{File, Metadata, metadata};
 use std::io;
 use std::io::Read;
+use std::net::TcpListener;
+use std::os::fd::AsRawFd;
 use std::rt::Clock;
 use std::sync::Wait;
 use std::time::UNIX_EPOCH;
@@ -17,6 +20,18 @@ impl<R: Wait + Clock + Eprint + Copy + Send + Sync + Drop> System for R {}
 
 /// The most bytes that a rule file has.
 const MOST_BYTES: u64 = 16 * 1_024 * 1_024;
+
+/// On a site the system is to keep so many bytes for a client, or as many as it lets a program say, where that is less.
+const SEND_BYTES: i32 = 0x4_0000;
+
+/// Bounds what the system keeps for each client that the listener accepts. What it has of an update can't give way to a
+/// newer value, so where it has megabytes, a slow client sees old ones.
+pub fn bound_sends(listener: &TcpListener) {
+    let mut value = [0u8; 16];
+    value[..4].copy_from_slice(&SEND_BYTES.to_ne_bytes());
+    // Where the system refuses that, it keeps what is usual.
+    let _ = unsafe { setsockopt(listener.as_raw_fd(), SOL_SOCKET, SO_SNDBUF, &value, 4) };
+}
 
 /// Why a file isn't read.
 #[derive(Drop)]

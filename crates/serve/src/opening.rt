@@ -7,11 +7,12 @@ use crate::hub::{AsGate, AsHub, AsRest, Hub, Options, Served, Sockets};
 use crate::keeper::keep_rows;
 use crate::late::answer_late;
 use crate::logging::{LogBook, Teller, write_lines};
-use crate::machine::{Machine, System};
+use crate::machine::{Machine, System, bound_sends};
 use crate::orders::{Orders, read_orders};
 use crate::repeating::{repeat_orders, repeats};
 use crate::reports::tell_reports;
 use crate::rules::{Files, When, read_policy, read_texts};
+use crate::searches::hear_searches;
 use crate::servers::connect;
 use crate::status;
 use crate::watcher::watch;
@@ -20,7 +21,7 @@ use gate_board::{Board, Gate};
 use gateway_core::{Config, Engine, Event, Policy};
 use pv_name::Name;
 use rule_desk::Desk;
-use serve_state::{Notice, Try};
+use serve_state::{FirstNumber, Notice, Try};
 use session_worker::{CoreEnd, serve_core};
 use std::alloc::Global;
 use std::fmt::Write;
@@ -51,8 +52,11 @@ pub fn open<
     let texts = read_texts(&rt, alloc, &files, When::AtStart, teller)?;
     let policy = read_policy(&rt, alloc, &mut desk, &texts, teller)?;
     let (sockets, address) = open_sockets(rt, listen).map_err(ServeFault::Listen)?;
+    if options.scale.site {
+        bound_sends(&sockets.listener);
+    }
     let reports = open_reports(rt, options.status).map_err(ServeFault::Reports)?;
-    let gate = gate(alloc, address.port(), policy)?;
+    let gate = gate(alloc, address.port(), options.first, policy)?;
     let Ok(book) = Arc::new(alloc, LogBook::new(alloc, options.log)) else {
         return Err(ServeFault::OutOfMemory);
     };
@@ -213,6 +217,9 @@ fn start_others<'x, 's: 'x, E: 's, R: System + 's, H: AsHub + Sync + 's>(
     let receiver = Builder::new()
         .stack_size(RULES_STACK_SIZE)
         .spawn_scoped(&*scope, move || receive(rt, hub, buffer));
+    let searcher = Builder::new()
+        .stack_size(RULES_STACK_SIZE)
+        .spawn_scoped(&*scope, move || hear_searches(rt, hub));
     let asker = Builder::new()
         .stack_size(RULES_STACK_SIZE)
         .spawn_scoped(&*scope, move || ask_servers(rt, hub));
@@ -224,7 +231,12 @@ fn start_others<'x, 's: 'x, E: 's, R: System + 's, H: AsHub + Sync + 's>(
             .stack_size(RULES_STACK_SIZE)
             .spawn_scoped(&*scope, move || answer_late(rt, hub))
             .is_ok();
-    acceptor.is_ok() && receiver.is_ok() && asker.is_ok() && watcher.is_ok() && is_late
+    acceptor.is_ok()
+        && receiver.is_ok()
+        && searcher.is_ok()
+        && asker.is_ok()
+        && watcher.is_ok()
+        && is_late
 }
 
 // Moves the board until the gate is closed or fails, and then has all threads end.
@@ -239,7 +251,7 @@ fn perform_rounds<R: System, H: AsHub>(rt: R, hub: &H) {
     hub.hub().shut(&rt);
 }
 
-fn gate(alloc: Global, port: u16, policy: Policy) -> Result<Gate, ServeFault> {
+fn gate(alloc: Global, port: u16, first: FirstNumber, policy: Policy) -> Result<Gate, ServeFault> {
     let (Ok(client_name), Ok(host_name)) = (Name::read(alloc, b"pvgate"), Name::read(alloc, b"gw"))
     else {
         return Err(ServeFault::OutOfMemory);
@@ -248,7 +260,7 @@ fn gate(alloc: Global, port: u16, policy: Policy) -> Result<Gate, ServeFault> {
         client_name,
         host_name,
         port,
-        first: 1,
+        first: first.number(),
     };
     let engine = Engine::new(alloc, config, policy)?;
     Ok(Gate::new(Board::new(alloc, engine)))

@@ -3,7 +3,7 @@ use crate::hub::{AsHub, Hub};
 use crate::machine::System;
 use crate::watcher::dest_at;
 use gateway_core::Dest;
-use serve_state::{Report, ServerReport};
+use serve_state::{InAllReport, Report, ServerReport};
 use std::alloc::{AllocError, Global};
 use std::io::Write;
 use std::net::{Shutdown, TcpListener, TcpStream};
@@ -51,6 +51,7 @@ fn report_line<R: System, H: AsHub>(rt: R, hub: &H) -> Option<String> {
         limits: hub.hub().limits(),
         met: hub.gate().limits_met(&rt),
         refused: *hub.hub().refused.lock(&rt),
+        in_all: in_all(rt, hub),
     };
     report.line(hub.hub().alloc).ok()
 }
@@ -73,6 +74,33 @@ fn server_reports<R: System>(rt: R, hub: &Hub) -> Result<Vec<ServerReport>, Allo
         })?;
     }
     Ok(reports)
+}
+
+// None where as much may wait for all clients together as does.
+fn in_all<R: System, H: AsHub>(rt: R, hub: &H) -> Option<InAllReport> {
+    let most = hub.hub().options.most_in_all?;
+    Some(InAllReport {
+        most,
+        bytes: waiting_in_all(rt, hub),
+        cut: *hub.hub().cut_in_all.lock(&rt),
+    })
+}
+
+// How many bytes wait for all clients together.
+fn waiting_in_all<R: System, H: AsHub>(rt: R, hub: &H) -> u64 {
+    let mut all = 0u64;
+    let mut place = 0usize;
+    for _ in rt.forever() {
+        let Some(dest) = dest_at(rt, hub.hub(), place) else {
+            return all;
+        };
+        if let Dest::Session(_) = dest {
+            let bytes = hub.gate().waiting_bytes(&rt, dest).unwrap_or(0);
+            all = all.saturating_add(bytes);
+        }
+        place = place.saturating_add(1);
+    }
+    unreachable!()
 }
 
 // How many bytes wait for the connection for which most wait.

@@ -3,7 +3,9 @@ use crate::hub::{AsHub, Hub};
 use crate::line::{Line, Watched};
 use crate::machine::System;
 use gateway_core::{Dest, Event};
-use serve_state::{Bound, Cut, LIMITS, Limit, LimitWatch, Notice, Patience, Rhythm, Verdict};
+use serve_state::{
+    Bound, Cut, LIMITS, Limit, LimitWatch, Notice, Patience, Rhythm, Verdict, Waiting,
+};
 use std::net::{Shutdown, SocketAddr};
 use std::sync::CondvarTimeouts;
 use std::time::Duration;
@@ -12,8 +14,8 @@ use std::time::Duration;
 const PAUSE: u64 = 250;
 
 /// Looks at all connections again and again, until the gateway closes, and shuts those that must end and those
-/// of clients for whom too much waits. A writer finds the former itself, but not while it waits for a peer that
-/// doesn't read; nobody else looks for the latter.
+/// of clients for whom too much waits, alone or with all others. A writer finds the former itself, but not while it
+/// waits for a peer that doesn't read; nobody else looks for the latter.
 pub fn watch<R: System, H: AsHub>(rt: R, hub: &H) {
     let mut seconds = Rhythm::each_second();
     let mut watches = [
@@ -27,11 +29,13 @@ pub fn watch<R: System, H: AsHub>(rt: R, hub: &H) {
         LimitWatch::new(),
         LimitWatch::new(),
     ];
+    let mut waiting = room_for_all(rt, hub.hub());
     for _ in rt.forever() {
         if !rests(rt, hub.hub()) {
             return;
         }
-        look_at_all(rt, hub);
+        look_at_all(rt, hub, &mut waiting);
+        keep_in_all(rt, hub, &mut waiting);
         if let Some(patience) = hub.hub().options.alive {
             watch_all(rt, hub, patience);
         }
@@ -67,28 +71,84 @@ pub fn rests<R: System>(rt: R, hub: &Hub) -> bool {
     !roster.is_closing()
 }
 
-fn look_at_all<R: System, H: AsHub>(rt: R, hub: &H) {
+// A list with room for all clients, where it is watched what waits for all: so no look takes memory, which is short
+// just where much waits.
+fn room_for_all<R: System>(rt: R, hub: &Hub) -> Vec<Waiting> {
+    let mut waiting = Vec::new(hub.alloc);
+    if hub.options.most_in_all.is_some() {
+        let clients = hub.options.scale.clients as usize;
+        if waiting.reserve(clients).is_err() {
+            hub.tell(&rt, Notice::OutOfMemory);
+        }
+    }
+    waiting
+}
+
+// Shuts those that must end, and lists the clients for whom something waits that go on.
+fn look_at_all<R: System, H: AsHub>(rt: R, hub: &H, waiting: &mut Vec<Waiting>) {
+    waiting.clear();
     let mut place = 0usize;
     for _ in rt.forever() {
-        let Some(dest) = dest_at(rt, hub.hub(), place) else {
+        let Some((dest, is_cut)) = row_at(rt, hub.hub(), place) else {
             return;
         };
-        if let Some(why) = why_shut(rt, hub, dest) {
-            hub.hub().cut(&rt, dest, why);
-            shut(rt, hub.hub(), dest);
+        let Some(bytes) = look_at(rt, hub, dest) else {
+            place = place.saturating_add(1);
+            continue;
+        };
+        // What waits for one that is cut off goes with it.
+        if !is_cut && bytes > 0 {
+            list(hub.hub(), dest, bytes, waiting);
         }
         place = place.saturating_add(1);
     }
 }
 
-// Why a connection is to be shut; None where it goes on, or the gateway failed.
-fn why_shut<R: System, H: AsHub>(rt: R, hub: &H, dest: Dest) -> Option<Cut> {
+// Shuts a connection that must end. How many bytes wait for one that goes on; None too where the gateway failed.
+fn look_at<R: System, H: AsHub>(rt: R, hub: &H, dest: Dest) -> Option<u64> {
     let must_end = hub.gate().must_end(&rt, dest).ok()?;
     let bytes = hub.gate().waiting_bytes(&rt, dest).ok()?;
-    hub.hub()
-        .options
-        .most_waiting
-        .why_shut(dest, must_end, bytes)
+    let most = hub.hub().options.most_waiting;
+    if let Some(why) = most.why_shut(dest, must_end, bytes) {
+        hub.hub().cut(&rt, dest, why);
+        shut(rt, hub.hub(), dest);
+        return None;
+    }
+    Some(bytes)
+}
+
+fn list(hub: &Hub, dest: Dest, bytes: u64, waiting: &mut Vec<Waiting>) {
+    if let Dest::Session(number) = dest {
+        if hub.options.most_in_all.is_some() {
+            // There is room, or there was no memory.
+            let _ = waiting.push(Waiting { number, bytes });
+        }
+    }
+}
+
+// Cuts off those for whom most waits, where more waits for all clients than may.
+fn keep_in_all<R: System, H: AsHub>(rt: R, hub: &H, waiting: &mut Vec<Waiting>) {
+    let Some(most) = hub.hub().options.most_in_all else {
+        return;
+    };
+    most.cut(waiting);
+    for client in waiting.as_slice() {
+        let dest = Dest::Session(client.number);
+        hub.hub()
+            .cut(&rt, dest, Cut::TooMuchInAll(client.bytes, most.mib));
+        shut(rt, hub.hub(), dest);
+        let mut cut = hub.hub().cut_in_all.lock(&rt);
+        *cut = cut.saturating_add(1);
+    }
+}
+
+// The connection whose row has this place, and whether it is cut off.
+fn row_at<R: System>(rt: R, hub: &Hub, place: usize) -> Option<(Dest, bool)> {
+    let roster = hub.roster.lock(&rt);
+    roster
+        .rows()
+        .get(place)
+        .map(|row| (row.dest(), row.cut().is_some()))
 }
 
 /// The connection whose row has this place.

@@ -1,4 +1,5 @@
 mod BudgetLemmas
+mod InAllLemmas
 mod LimitLemmas
 mod LogQueueLemmas
 mod NumberLemmas

@@ -2,7 +2,9 @@ pub mod AskRhythm
 pub mod Asks
 pub mod Clashes
 pub mod FileText
+pub mod First
 pub mod Hosts
+pub mod InAll
 pub mod Late
 pub mod Levels
 pub mod Limits

@@ -22,12 +22,25 @@ abbrev pub with_names : Option ℕ → Limits → Limits
 with_names None limits = limits
 with_names (Some names) limits = record limits { searches = names; share = share_of names; makes_room = true }
 
--- what of it is said by no number: on a site 262,144 links, 8,192 reads and writes of a client that wait, and updates while less
--- than a MiB waits
+-- on a site there are 262,144 links, 65,536 channels and as many subscriptions of a client, 8,192 reads and as many writes of it
+-- that wait, and updates while less than 256 KiB waits; requests on what is gone are passed over, numbers come again, and who
+-- may not read is told so
+abbrev pub site_limits : Limits
+site_limits = record usual_limits {
+  links = 262144;
+  channels = 65536;
+  subs = 65536;
+  reads = 8192;
+  writes = 8192;
+  update_bytes = 262144;
+  passes_over_gone = true;
+  reuses_numbers = true;
+  tells_unreadable = true;
+}
+
+-- what of it is said by no number
 abbrev pub limits_for : Bool → Limits
-limits_for site =
-    if site then record usual_limits { links = 262144; reads = 8192; writes = 8192; update_bytes = 1048576 }
-    else usual_limits
+limits_for site = if site then site_limits else usual_limits
 
 -- what the gateway takes on
 abbrev pub limits_of : Scale → Limits

@@ -21,6 +21,8 @@ pub enum Cut {
     TooSlow,
     /// More bytes wait for it than so many MiB.
     TooMuch(u32),
+    /// So many bytes wait for it, and for all clients together more than so many MiB: it is one of those for whom most do.
+    TooMuchInAll(u64, u32),
     /// It is a server that said nothing for so many seconds, and nothing when it was asked.
     Unanswering(u32),
     /// It is a client from which nothing came, and to which nothing could be written, for so many seconds.
@@ -39,6 +41,12 @@ impl fmt::Display for Cut {
             Cut::TooOld => "its protocol version is below 9",
             Cut::TooSlow => "16384 messages waited for it",
             Cut::TooMuch(mib) => return write!(f, "more than {mib} MiB waited for it"),
+            Cut::TooMuchInAll(bytes, mib) => {
+                return write!(
+                    f,
+                    "{bytes} bytes waited for it, and more than {mib} MiB for all clients"
+                );
+            }
             Cut::Unanswering(seconds) => {
                 return write!(
                     f,

@@ -1,4 +1,5 @@
 //! What the gateway tells of itself.
+use crate::in_all::MostInAll;
 use crate::limits::Limit;
 use gateway_state::{Fullest, Limits, LimitsMet, RowCounts};
 use std::alloc::Global;
@@ -28,6 +29,27 @@ impl fmt::Display for ServerReport {
     }
 }
 
+/// How much of what may wait for all clients together is used.
+#[derive(Clone, Copy, Debug, PartialEq, Eq)]
+pub struct InAllReport {
+    pub most: MostInAll,
+    /// How many bytes wait for all clients together.
+    pub bytes: u64,
+    /// How many clients were cut off since the start because more did.
+    pub cut: u64,
+}
+
+impl fmt::Display for InAllReport {
+    fn fmt<W: fmt::Write>(&self, f: &mut fmt::Formatter<W>) -> fmt::Result {
+        let InAllReport { most, bytes, cut } = self;
+        let most = most.bytes();
+        write!(
+            f,
+            "\"bytes_of_all_clients\":{{\"used\":{bytes},\"most\":{most},\"met\":{cut}}}"
+        )
+    }
+}
+
 /// What the gateway tells of itself: it is printed as JSON, without a line feed.
 #[derive(Clone, Copy)]
 pub struct Report<'a> {
@@ -49,6 +71,8 @@ pub struct Report<'a> {
     pub met: LimitsMet,
     /// How many clients were refused since as many as can be were connected.
     pub refused: u64,
+    /// What waits for all clients together, where a command line says how much may.
+    pub in_all: Option<InAllReport>,
 }
 
 impl<'a> Report<'a> {
@@ -105,6 +129,9 @@ impl<'a> fmt::Display for Report<'a> {
                 "{comma}\"{key}\":{{\"used\":{used},\"most\":{most},\"met\":{met}}}"
             )?;
             comma = ",";
+        }
+        if let Some(in_all) = &self.in_all {
+            write!(f, ",{in_all}")?;
         }
         f.write_str("}}")
     }

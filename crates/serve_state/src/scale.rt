@@ -23,12 +23,15 @@ pub const MOST_NAMES: u32 = 1_048_576;
 /// How many variables may be open upstream on a site.
 const SITE_LINKS: usize = 262_144;
 
+/// How many channels a client may have on a site, and how many subscriptions.
+const SITE_CHANNELS: usize = 65_536;
+
 /// How many reads of a client may wait on a site, and how many writes.
 const SITE_WAITING: usize = 8_192;
 
 /// While fewer bytes wait for a client it is given updates on a site: so what a slow one is given is no older
 /// than so many bytes, and what its socket holds.
-const SITE_BYTES: u64 = 0x10_0000;
+const SITE_BYTES: u64 = 0x4_0000;
 
 /// The share of one host in the names that are remembered: one of so many parts.
 const SHARES: usize = 16;
@@ -53,8 +56,8 @@ pub struct Scale {
     pub servers: u32,
     /// So many searched names are remembered, and old ones go for new ones. `None`: as many as is usual, and none goes.
     pub names: Option<u32>,
-    /// Whether all else is as a site wants it: more variables upstream, more reads and writes that wait, and updates
-    /// held back by bytes.
+    /// Whether all else is as a site wants it: more variables upstream, more channels and subscriptions of a client,
+    /// more reads and writes that wait, updates held back by bytes, and no fault for a request on what is gone.
     pub site: bool,
 }
 
@@ -82,9 +85,14 @@ fn limits_for(site: bool) -> Limits
     let mut limits = Limits::usual();
     if site {
         limits.links = SITE_LINKS;
+        limits.channels = SITE_CHANNELS;
+        limits.subs = SITE_CHANNELS;
         limits.reads = SITE_WAITING;
         limits.writes = SITE_WAITING;
         limits.update_bytes = SITE_BYTES;
+        limits.passes_over_gone = true;
+        limits.reuses_numbers = true;
+        limits.tells_unreadable = true;
     }
     limits
 }
