@@ -4,6 +4,7 @@
     ./pvgate replay < examples/first.replay | tools/explain.py     a line with bytes becomes a line for each message:
                                                                    s1 CREATE_CHAN cid 7 sid 1 LONG[1]
     tools/explain.py < examples/first.replay                       so do the lines of a script that have bytes
+    tools/explain.py < crates/replay_tests/src/stories/ages.rt     and those of stories, where `> ` stands before what is printed
     tools/explain.py --from client < BYTES                         the bytes that a client sent, as they were captured
     tools/explain.py --from server < BYTES                         those that a server sent, a gateway too
 
@@ -34,8 +35,12 @@ SHOWN = 10  # so many values of an array are shown
 
 CLIENT, SERVER = "client", "server"  # who sent a message
 
-# A line with bytes: of a script, and of what a replay prints.
-LINES = re.compile(r"(client s\d+|server u\d+|search \S+|s\d+|u\d+|reply) ((?:[0-9a-fA-F]{2})+)")
+# A line with bytes: of a script, of what a replay prints, and of a story, which has `> ` before what is printed, and bytes that
+# are there N times as `[N from 1:BYTES]`. A story is a text of Rust, so `b"` stands before its first line, and a quote behind it.
+LINES = re.compile(r'((?:.*\bb")?(?:> )?)(client s\d+|server u\d+|search \S+|s\d+|u\d+|reply) ((?:[0-9a-fA-F]{2})+)(?:"[,;])?')
+REPEATED = re.compile(r"\[(\d+) from \d+:((?:[0-9a-f]{2})+)\]")
+STORY = re.compile(r'\bb"')
+OPENS = re.compile(r'(?:.*\bb")?open ([su]\d+)\b')
 
 
 def text_in(payload):
@@ -129,24 +134,34 @@ def sender_of(front):
     return CLIENT if front.startswith(("client", "search", "u")) else SERVER
 
 
+def that_go_on(streams, line):
+    """The streams that aren't begun anew by a line: a story begins all, a connection that opens its own."""
+    opens = OPENS.match(line)
+    if STORY.search(line):
+        return {}
+    return {front: it for front, it in streams.items() if front.split()[-1] != opens[1]} if opens else streams
+
+
 def explained(lines):
     """The lines in words."""
     streams = {}
     for line in lines:
-        found = LINES.fullmatch(line.strip())
+        streams = that_go_on(streams, line)
+        found = LINES.fullmatch(REPEATED.sub(lambda it: it[2] * int(it[1]), line.strip()))
         if not found:
             yield line + "\n"
             continue
-        front, piece = found.group(1), bytes.fromhex(found.group(2))
+        front, piece = found[2], bytes.fromhex(found[3])
+        shown = found[1] + front
         is_datagram = front.startswith(("search", "reply"))
         stream = ca.Frames() if is_datagram else streams.setdefault(front, ca.Frames())
         messages = stream.feed(piece)
         for it in messages:
-            yield f"{front} {words(it, sender_of(front))}\n"
+            yield f"{shown} {words(it, sender_of(front))}\n"
         if not messages:
-            yield f"{front} {len(piece)} bytes, and no whole message yet\n"
+            yield f"{shown} {len(piece)} bytes, and no whole message yet\n"
         elif is_datagram and stream.bytes:
-            yield f"{front} {len(stream.bytes)} bytes more, no whole message\n"
+            yield f"{shown} {len(stream.bytes)} bytes more, no whole message\n"
 
 
 def captured(pieces, sender):
