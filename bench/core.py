@@ -114,7 +114,7 @@ def updates(clients, dtype=5):
     base, turns = [*one_variable(clients, dtype), "server u1 " + update(1)], max(4, 200 // clients)
     cost = of_more(base, ["server u1 " + update(1, value) for value in range(turns)], turns * clients)
     each = turns * clients
-    return cost.step / each, f"{cost.whole / each:,.0f} with drains and printing"
+    return cost.step / each, f"{cost.whole / each:,.0f} in all"
 
 
 @functools.lru_cache(maxsize=None)
@@ -131,7 +131,7 @@ def many_variables(others):
 def beside(others, line, messages, printed, turns=100):
     cost = of_more(many_variables(others), [line] * turns, printed * turns)
     each = turns * messages
-    return cost.step / each, f"{cost.whole / each:,.0f} with reading, drains and printing"
+    return cost.step / each, f"{cost.whole / each:,.0f} in all"
 
 
 def made_and_given_up(sid, own):
@@ -144,7 +144,7 @@ def writes(others):
     lines = list(gateway.writes(turns * gateway.WRITING))
     cost = of_more(base, lines, 2 * turns * gateway.WRITING)
     each = turns * gateway.WRITING
-    return cost.step / each, f"{cost.whole / each:,.0f} with reading, drains and printing"
+    return cost.step / each, f"{cost.whole / each:,.0f} in all"
 
 
 def exponent(sizes, cost):
@@ -327,13 +327,13 @@ def main():
     gateway.PROGRAM, gateway.BEGIN = args.program, args.names
     gateway.need_program()
     if args.markdown:
-        print("| What | Measured | At most | | |\n|---|---|---|---|---|", flush=True)
+        print("| What | Measured | At most | Beside it |\n|---|---|---|---|", flush=True)
     for name, most, unit, figure in table(args):
         if any(word in name for word in args.only):
             found, remark = figure()
             over = "" if most is None or found <= most else f"{found / most:.1f} times"
             bar = "" if most is None else f"{most:,}"
-            line = f"| {name} | {shown(found)} {unit} | {bar} | {over} | {remark} |"
+            line = f"| {name} | {shown(found)} {unit} | {bar} | {'; '.join(it for it in (over, remark) if it)} |"
             print(line if args.markdown else f"{name:100} {shown(found):>10} {bar:>7} {unit:12} {over:12} {remark}", flush=True)
 
 

@@ -1,12 +1,13 @@
 #!/usr/bin/env python3
 """What a site asks of the built server with --site: names that many hosts look for, dead and alive, and peers that are gone without a word.
 
-    bench/site.py [--program PATH] [WORD ..]      WORDs: hosts, bursts, random, cold, away, stopped, vanished; all if not given
+    bench/site.py [--program PATH] [WORD ..]      WORDs: hosts, bursts, random, short, cold, away, stopped, vanished; all if not given
 
 - hosts: nine hosts look for 500 live names each, and then a tenth for 20 new ones: how soon all of these are found.
 - bursts: 200 hosts look for 60 dead names each, in bursts, while a server with 1,000 channels of a client goes and comes back: how soon the
   client has them again, with the dead names and without.
 - random: one host sends three datagrams of 2,000 random names each second: how soon a live name is found meanwhile.
+- short: one host sends a thousand datagrams of 30 random names each second: how soon a live name is found meanwhile.
 - cold: a client looks for 1,000 names that nobody looked for before: how soon it has 1,000 channels, from the server itself and from the gateway.
 - away: a server is away for 90 seconds: how soon ten names are found again, with --forget 20 and without.
 - stopped: a server's process is stopped: when its clients are told, and when they have it again once it goes on.
@@ -16,6 +17,7 @@ Hosts are loopback addresses. Searches go as those of libca: again after 32 ms, 
 nine minutes. Other work on the machine makes all figures worse.
 """
 import argparse
+import multiprocessing
 import os
 import random
 import select
@@ -138,27 +140,27 @@ def hosts(room):
     room.check("20 new names are found within 0.5 s", took is not None and took <= 0.5, milliseconds(took))
 
 
-class Dead(threading.Thread):
-    """Hosts that look for dead names in bursts, until it is stopped."""
+def seek_dead(address, many, names):
+    """So many hosts look for so many dead names each, in bursts, as long as the process lives."""
+    seekers = [Seeker(address, [f"DEAD{it}:{n:02}" for n in range(names)], f"127.0.{2 + it // 200}.{it % 200 + 1}") for it in range(many)]
+    while True:
+        now = time.monotonic()
+        for it in seekers:
+            it.turn(now)
+            it.gap = min(it.gap, 2.0)
+        time.sleep(0.02)
+
+
+class Dead:
+    """Hosts that look for dead names in bursts, in a process of its own, until it is stopped."""
 
     def __init__(self, address, many, names):
-        super().__init__(daemon=True)
-        self.seekers = [Seeker(address, [f"DEAD{it}:{n:02}" for n in range(names)], f"127.0.{2 + it // 200}.{it % 200 + 1}") for it in range(many)]
-        self.over = threading.Event()
-
-    def run(self):
-        while not self.over.is_set():
-            now = time.monotonic()
-            for it in self.seekers:
-                it.turn(now)
-                it.gap = min(it.gap, 2.0)
-            self.over.wait(0.02)
+        self.process = multiprocessing.get_context("spawn").Process(target=seek_dead, args=(address, many, names), daemon=True)
+        self.process.start()
 
     def stop(self):
-        self.over.set()
-        self.join()
-        for it in self.seekers:
-            it.close()
+        self.process.kill()
+        self.process.join()
 
 
 def back_after(room, server, up, client, names):
@@ -187,7 +189,6 @@ def bursts(room):
             client.open(it)
         beside = Dead(server.address, dead, 60) if dead else None
         if beside:
-            beside.start()
             time.sleep(15)
         took[dead] = min(back_after(room, server, up, client, names) for _ in range(3))
         if beside:
@@ -197,7 +198,8 @@ def bursts(room):
     room.check("as soon as without dead names, within a fifth and 50 ms", took[200] <= 1.2 * took[0] + 0.05, took)
 
 
-def random_names(room):
+def beside_random_names(room, label, datagrams, each):
+    """How soon a live name is found while one host sends so many datagrams a second, of so many random names each."""
     names = live("LIVE", 10)
     up = room.upstream(*(variable(it, values=[1]) for it in names))
     server = room.server(up, options=("--site",))
@@ -206,11 +208,12 @@ def random_names(room):
     link.bind(("127.0.4.1", 0))
 
     def flood():
-        draw = random.Random(1)
+        draw, sent, began = random.Random(1), 0, time.monotonic()
         while not over.is_set():
-            for _ in range(3):
-                link.sendto(VERSION + b"".join(search(f"R{draw.randrange(10**6):06}", it) for it in range(2_000)), server.address)
-            over.wait(1)
+            while sent < (time.monotonic() - began) * datagrams:
+                link.sendto(VERSION + b"".join(search(f"R{draw.randrange(10**6):06}", it) for it in range(each)), server.address)
+                sent += 1
+            over.wait(0.001)
     thread = threading.Thread(target=flood, daemon=True)
     thread.start()
     took = []
@@ -220,8 +223,17 @@ def random_names(room):
         took.append(found(server.address, [it], "127.0.5.1"))
     over.set()
     thread.join()
-    print(f"random: a new live name is found after {milliseconds(statistics.median(took))}, at most {milliseconds(max(took))}, beside 6,000 random names a second of one host", flush=True)
+    print(f"{label}: a new live name is found after {milliseconds(statistics.median(took))}, at most {milliseconds(max(took))}, beside "
+          f"{datagrams:,} datagrams a second of one host with {each:,} random names each", flush=True)
     room.check("a new name is found within 0.2 s", max(took) <= 0.2, took)
+
+
+def random_names(room):
+    beside_random_names(room, "random", 3, 2_000)
+
+
+def short(room):
+    beside_random_names(room, "short", 1_000, 30)
 
 
 def channels(address, names, source):
@@ -344,7 +356,7 @@ def vanished(room):
     room.check("all seats are free within 75 s", len(gone) == 1024 and took <= 75, f"{len(gone)}, {took:.0f} s")
 
 
-PARTS = {"hosts": hosts, "bursts": bursts, "random": random_names, "cold": cold, "away": away, "stopped": stopped, "vanished": vanished}
+PARTS = {"hosts": hosts, "bursts": bursts, "random": random_names, "short": short, "cold": cold, "away": away, "stopped": stopped, "vanished": vanished}
 
 
 def main():
