@@ -106,6 +106,8 @@ SERVE_REFUSALS = [
       for value in ("", " 0", " 1025", " 4294967297", " 1.5", " +1", " ten", " 10 --clients-of-host 10")),
     *((f"127.0.0.1:0 127.0.0.1:1 {option}{value}", b"", 2) for option, more in (("--clients", 4097), ("--servers", 1025), ("--names", 1048577), ("--alive", 3601), ("--forget", 86401))
       for value in ("", " 0", f" {more}", " 4294967297", " 1.5", " +1", " -1", " ten", " 10s", f" 10 {option} 10")),
+    *((f"127.0.0.1:0 127.0.0.1:1 {option}{value}", b"", 2) for option, more in (("--first", 4294967295), ("--most-in-all", 4294967296))
+      for value in ("", " 0", f" {more}", " 18446744073709551617", " 1.5", " +1", " -1", " ten", f" 10 {option} 10")),
     ("127.0.0.1:0 127.0.0.1:1 127.0.0.1:2 --servers 1", b"", 2),
     ("127.0.0.1:0" + " 127.0.0.1:1" * 17 + " --site --servers 16", b"", 2),
     ("127.0.0.1:0" + " 127.0.0.1:1" * 1025 + " --site", b"", 2),
@@ -153,6 +155,7 @@ SERVE_OPTIONS = [
     "--status 127.0.0.1:0", "--status [::1]:0 --log error", "--clients-of-host 1", "--clients-of-host 1024",
     "--back-off", "--site", "--site --back-off", "--reconnect 1 --back-off --sweep 1",
     "--clients 1", "--clients 4096", "--servers 1", "--servers 1024", "--names 1", "--names 1048576", "--alive 1", "--alive 3600", "--forget 1", "--forget 86400",
+    "--first 1", "--first 4294967294", "--most-in-all 1", "--most-in-all 4294967295", "--site --most-in-all 1 --first 2",
     "--late", "--site --late --clients 10 --servers 20 --names 30 --alive 40 --forget 50 --clients-of-host 60",
     "--servers 17" + " 127.0.0.1:1" * 16, "--site" + " 127.0.0.1:1" * 40,
 ]
@@ -331,6 +334,31 @@ def examples(root):
             first = run(["replay"], input=script, stdout=subprocess.PIPE)
             yield told(name, first, first.stdout or b"something", 0)
             yield told(f"{name} --plain", run(["replay", "--plain"], input=script, stdout=subprocess.PIPE), first.stdout, 0)
+            yield told(f"{name} --first 1", run(["replay", "--first", "1"], input=script, stdout=subprocess.PIPE), first.stdout, 0)
+
+
+def numbered(first):
+    """A client gets its channel, whose number is the first, as is that of the channel that the server is asked for."""
+    cid = f"{first:08x}"
+    return ("open s1 10.0.0.5\nopen u1\nserver u1 000000000000000d0000000000000000\nclient s1 0012000800000000000000070000000d5431000000000000\n"
+            f"found T1 u1\nserver u1 0016000000000000{cid}00000003\nserver u1 0012000000050001{cid}00000065\n"
+            "client s1 0012000800000000000000070000000d5431000000000000\n").encode()
+
+
+def numbers():
+    """Numbers that a replay gives out begin where they are told to, on both gateways; after the last it fails."""
+    for first in (1, 2, 4_294_967_294):
+        words = ["replay", "--first", str(first)]
+        ran = run(words, input=numbered(first), stdout=subprocess.PIPE)
+        made = f"\ns1 001200000005000100000007{first:08x}\n".encode()
+        yield told(f"--first {first}", ran, ran.stdout if made in ran.stdout else made, 0)
+        yield told(f"--plain --first {first}", run([*words, "--plain"], input=numbered(first), stdout=subprocess.PIPE), ran.stdout, 0)
+    again = numbered(4_294_967_294) + b"client s1 0012000800000000000000080000000d5431000000000000\n"
+    for options in ([], ["--plain"]):
+        ran = run(["replay", "--first", "4294967294", *options], input=again, stdout=subprocess.PIPE)
+        yield told("a number behind the last", ran, ran.stdout if ran.stdout.endswith(b"\nfailed\n") else b"failed", 4)
+    for value in ([], ["0"], ["4294967295"], ["18446744073709551617"], ["1.5"], ["+1"], ["ten"], ["1", "--first", "1"]):
+        yield told(f"replay --first {value}", run(["replay", "--first", *value], input=numbered(1), stdout=subprocess.PIPE), b"", 2)
 
 
 def main():
@@ -344,7 +372,7 @@ def main():
                 file.write(text)
         cases = [*checks(), *replays(), *serve_refusals(), *others()]
         done = [told(label, run(words, stdout=subprocess.PIPE, **streams), printed, status) for label, words, streams, printed, status in cases]
-        done += [*full_streams(), *serving(), *options(), *said(), *helps(), *notes(), *example_rules(root), *examples(root)]
+        done += [*full_streams(), *serving(), *options(), *said(), *helps(), *notes(), *example_rules(root), *examples(root), *numbers()]
         os.chdir(root)
     print(f"command lines: {sum(done)} passed, {len(done) - sum(done)} failed")
     return 0 if all(done) else 1

@@ -20,7 +20,7 @@ LONGEST = 280
 sys.dont_write_bytecode = True
 sys.path.insert(0, os.path.join(ROOT, ".ci"))
 import served  # noqa: E402  (sets the path to examples/)
-from served import (alive, asking, chain, crowds, damage, holding, idlers, lines, packaged, repeating, reports, rules, samples, servers,  # noqa: E402
+from served import (alive, asking, chain, crowds, damage, holding, idlers, keeping, lines, packaged, repeating, reports, rules, samples, servers,  # noqa: E402
                     standing, values, waiting)
 from served.room import Room  # noqa: E402
 
@@ -30,9 +30,9 @@ STORIES = [crowds.thousand, crowds.never_reading, crowds.quitting, idlers.announ
            servers.losing, servers.several, servers.unanswered, values.creating, values.reading, values.watching,
            values.writing, rules.rights, rules.hosts, lines.ordering, lines.starting, lines.remembering,
            chain.chained, packaged.packaged, repeating.unrepeated, repeating.levels, reports.reporting,
-           reports.reporting_nowhere, waiting.waiting_too_much, waiting.waiting_little, standing.unread, standing.unwritable, standing.deep,
-           standing.files, standing.endless, standing.seats, standing.kept, standing.limited, asking.backing_off, asking.asking,
-           asking.leading, asking.answering, asking.clashing, holding.holding, holding.leaving_held, alive.stopped, alive.replacing, alive.vanishing,
+           reports.reporting_nowhere, waiting.waiting_too_much, waiting.waiting_little, waiting.waiting_in_all, standing.unread, standing.unwritable, standing.deep,
+           standing.files, standing.endless, standing.seats, standing.kept, standing.limited, standing.numbered, standing.roomy, asking.backing_off, asking.asking,
+           asking.leading, asking.answering, asking.clashing, holding.holding, holding.leaving_held, keeping.padded, keeping.counted, keeping.shared, alive.stopped, alive.replacing, alive.vanishing,
            alive.unwatched, alive.aging, alive.late, alive.punctual, alive.many_hosts, alive.scaled, alive.promised]
 
 

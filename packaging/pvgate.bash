@@ -3,6 +3,7 @@
 _pvgate() {
     local word="${COMP_WORDS[COMP_CWORD]}" before="${COMP_WORDS[COMP_CWORD-1]}" words="" files=""
     case "${COMP_WORDS[1]}:$before" in
+    replay:--first) : ;;
     check-rules:--groups) files=yes ;;
     check-rules:--name) : ;;
     check-rules:--host) : ;;
@@ -14,6 +15,8 @@ _pvgate() {
     serve:--alive) : ;;
     serve:--forget) : ;;
     serve:--most-waiting) : ;;
+    serve:--most-in-all) : ;;
+    serve:--first) : ;;
     serve:--reconnect) : ;;
     serve:--sweep) : ;;
     serve:--log) : ;;
@@ -22,9 +25,9 @@ _pvgate() {
     *)
         case "$((COMP_CWORD > 1)):${COMP_WORDS[1]}" in
         0:*) words="replay check-rules serve help -h --help -V --version" ;;
-        1:replay) words="--plain -h --help" ;;
+        1:replay) words="--plain --first -h --help" ;;
         1:check-rules) words="--groups --name --host --plain-groups -h --help" files=yes ;;
-        1:serve) words="--rules --groups --plain-groups --clients --servers --names --alive --forget --late --most-waiting --reconnect --sweep --log --status --clients-of-host --back-off --site -h --help" ;;
+        1:serve) words="--rules --groups --plain-groups --clients --servers --names --alive --forget --late --most-waiting --most-in-all --first --reconnect --sweep --log --status --clients-of-host --back-off --site -h --help" ;;
         1:help) words="replay check-rules serve" ;;
         esac
         ;;

@@ -9,8 +9,9 @@ from documented import ROOT, blocks, markdown_files, read
 
 # Commands that are run, with what is run in their place; PROGRAM stands for ./pvgate.
 RUN = {
-    "cd crates/pvgate": "cd crates/pvgate",
-    "rt try --data pvlist=../../examples/site.pvlist --data groups=../../examples/site.groups -- check-rules pvlist --groups groups --name BEAM:CURRENT":
+    "make demo": "tools/demo.py PROGRAM",
+    "make refused": "make -s refused",
+    "out/unproved/pvgate check-rules examples/site.pvlist --groups examples/site.groups --name BEAM:CURRENT":
         "PROGRAM check-rules examples/site.pvlist --groups examples/site.groups --name BEAM:CURRENT",
     "./pvgate replay < examples/first.replay": "PROGRAM replay < examples/first.replay",
     "./pvgate replay < examples/subscribe.replay | tools/explain.py": "PROGRAM replay < examples/subscribe.replay | tools/explain.py",
@@ -23,11 +24,12 @@ SERVES = "it takes the port 5064; .ci/serve.py runs it on others"
 
 # Commands that aren't run, and why.
 NOT_RUN = {
+    "make test": "it takes a quarter of an hour for what the gate does already",
+    "tools/unproved.py": "it compiles for minutes; it is run by hand, and by `make test`",
     "./pvgate --build": "it proves and builds everything, which the gate does already",
     "examples/ioc.py": "it runs until it is ended; .ci/serve.py runs it, in its story `examples`",
     "./pvgate serve 127.0.0.1:5064 127.0.0.1:5070 --rules examples/site.pvlist --groups examples/site.groups": SERVES,
     "examples/ca.py monitor BEAM:CURRENT": "it needs the gateway; .ci/serve.py runs it, in its story `examples`",
-    "./pvgate serve LISTEN UPSTREAM.. [--rules FILE] [--groups FILE] [--plain-groups] [--most-waiting MIB] [--reconnect SECONDS] [--sweep SECONDS] [--log LEVEL] [--status ADDRESS] [--clients-of-host N] [--clients N] [--servers N] [--names N] [--alive SECONDS] [--forget SECONDS] [--back-off] [--late] [--site]": "it is the form of a command",
     "./pvgate serve 0.0.0.0:5064 10.0.1.20:5064 10.0.1.21:5066 --rules gateway.pvlist --groups gateway.groups": SERVES,
     "mkfifo orders": INSTALLED,
     "./pvgate serve 127.0.0.1:5064 127.0.0.1:5070 <> orders 2>> pvgate.log &": INSTALLED,
@@ -41,7 +43,6 @@ NOT_RUN = {
     "procServ -n pvgate -c /etc/pvgate 4051 /usr/local/bin/pvgate serve 0.0.0.0:5064 10.0.1.20:5064 --rules pvlist --groups groups":
         "it needs procServ, with which it was tried by hand",
     ".ci/also_refused.py gateway_core": "it proves, for minutes; it is run by hand",
-    ".ci/refused_page.py": WRITES_PAGES,
     ".ci/callers_pages.py": WRITES_PAGES,
     "packaging/man.py PROGRAM": WRITES_PAGES,
     "packaging/completion.py PROGRAM": WRITES_PAGES,
@@ -49,7 +50,7 @@ NOT_RUN = {
 }
 
 # Programs beside pvgate whose help is printed at least.
-HELPS = ["examples/ca.py --help", "tools/explain.py --help"]
+HELPS = ["examples/ca.py --help", "tools/explain.py --help", "tools/wrong_bodies.py --help", "tools/test.py --help", "tools/unproved.py --help"]
 
 
 def shown():
@@ -104,5 +105,5 @@ def unbuilt():
     with tempfile.TemporaryDirectory() as folder:
         shutil.copy(f"{ROOT}/pvgate", folder)
         done = subprocess.run([f"{folder}/pvgate", "--help"], stdin=subprocess.DEVNULL, capture_output=True, timeout=60)
-    told = all(it in done.stderr for it in (b"rt try", b"pvgate --build"))
+    told = all(it in done.stderr for it in (b"tools/unproved.py", b"pvgate --build"))
     yield None if done.returncode == 1 and not done.stdout and told else f"./pvgate, where nothing is built, ended with {done.returncode}"

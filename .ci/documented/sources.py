@@ -1,4 +1,4 @@
-"""What documents say of the sources: names of clauses, the tour's steps, quoted lines, and what is logged."""
+"""What documents say of the sources: names of clauses, the steps of ways, quoted lines, and what is logged."""
 import glob
 import re
 
@@ -9,7 +9,10 @@ DEFINED = re.compile(r"\b(?:abbrev|unfoldable|record|data|opaque)(?: pub)? (\w+)
 TICKED = re.compile(r"`([^`]+)`")
 # The crate of which a table speaks that names none.
 HEADLINE = "gateway_core"
-STEPS = 14
+GUIDE = "docs/GUIDE.md"
+WAYS = ["An update", "A search", "A create", "A read", "A write", "A lost server", "An edit of the rules", "A sweep"]
+# What stands in place of a word where no contract says what a step does.
+TESTED = "tested"
 
 
 def names(crate):
@@ -53,26 +56,41 @@ def contract(path, function):
     return [re.split(r"\n *\{\n", text[it.start():], maxsplit=1)[0] for it in re.finditer(rf"\bfn {function}\b", text)]
 
 
-def step_fault(cells):
-    number, _, path, function, word = cells
-    path, function = (it.strip("`") for it in (path, function))
-    found = re.fullmatch(r"`(\w+)` in `([\w/.]+)`", word)
-    if not is_there(f"crates/{path}") or not found or not is_there(f"crates/{found[2]}"):
-        return f"docs/TOUR.md: step {number} names no file, or no word"
-    if not any(re.search(rf"\b{found[1]}\b", it.partition("(")[2]) for it in contract(f"crates/{path}", function)):
-        return f"docs/TOUR.md: step {number}: no {function} of {path} cites {found[1]}"
-    if not any(found[1] in it for it in DEFINED.findall(read(f"crates/{found[2]}"))):
-        return f"docs/TOUR.md: step {number}: {found[2]} doesn't define {found[1]}"
+def step_fault(way, cells):
+    """What is wrong with a step: its number, what happens, the function behind its file, and the word behind its own."""
+    number, _, place, word = cells
+    where = re.fullmatch(r"`([\w/.]+)` `(\w+)`", place)
+    if not where or not is_there(f"crates/{where[1]}") or not contract(f"crates/{where[1]}", where[2]):
+        return f"{GUIDE}: {way}, step {number}: there is no {place}"
+    if word == TESTED:
+        return None
+    found = re.fullmatch(r"`([\w/.]+)` `(\w+)`", word)
+    if not found or not is_there(f"crates/{found[1]}"):
+        return f"{GUIDE}: {way}, step {number} names no word"
+    if not any(re.search(rf"\b{found[2]}\b", it.partition("(")[2]) for it in contract(f"crates/{where[1]}", where[2])):
+        return f"{GUIDE}: {way}, step {number}: no {place} cites {found[2]}"
+    if not any(found[2] in it for it in DEFINED.findall(read(f"crates/{found[1]}"))):
+        return f"{GUIDE}: {way}, step {number}: {found[1]} doesn't define {found[2]}"
     return None
 
 
-def tour():
-    """Each step of the tour names a function whose contract cites the word, and the definition of that."""
-    steps = [it for it in rows(prose(read("docs/TOUR.md"))) if it[0].isdigit()]
-    if [it[0] for it in steps] != [str(it) for it in range(1, STEPS + 1)]:
-        yield f"docs/TOUR.md: it hasn't {STEPS} steps"
-    for cells in steps:
-        yield step_fault(cells) if len(cells) == 5 else f"docs/TOUR.md: step {cells[0]} hasn't five cells"
+def steps():
+    """The steps of each way of the guide, in cells: (way, rows)."""
+    section = read(GUIDE).partition("\n## The ways\n")[2].partition("\n## ")[0]
+    for part in section.split("\n### ")[1:]:
+        way, _, text = part.partition("\n")
+        yield way, [it for it in rows(prose(text)) if it[0].isdigit()]
+
+
+def ways():
+    """Each step of a way names a function whose contract cites the word, and the definition of that; or that it is tested."""
+    found = dict(steps())
+    yield None if list(found) == WAYS else f"{GUIDE}: its ways are {', '.join(found)}"
+    for way, cells in found.items():
+        in_order = [it[0] for it in cells] == [str(it) for it in range(1, len(cells) + 1)]
+        yield None if cells and in_order else f"{GUIDE}: {way}: its steps aren't numbered from 1"
+        for it in cells:
+            yield step_fault(way, it) if len(it) == 4 else f"{GUIDE}: {way}: step {it[0]} hasn't four cells"
 
 
 def quotes():
@@ -85,6 +103,18 @@ def quotes():
         if language in ("rust", "antt", "edit"):
             for line in quoted:
                 yield None if line.strip() in lines | {"..", ""} else f"{page}: no file that it names has the line `{line.strip()}`"
+
+
+def options():
+    """The table of options in docs/OPERATING.md has those of `serve`, as the manual page tells them, and no other."""
+    page = read("packaging/pvgate.1").replace("\\-", "-").partition("\n.SH SERVE\n")[2].partition("\n.SH ")[0]
+    known = {it.replace("<", "").replace(">", "") for it in re.findall(r"^\.B (--[\w-]+(?: <\w+>)?)$", page, re.M)}
+    section = read("docs/OPERATING.md").partition("\n### Options\n")[2].partition("\n## ")[0]
+    told = {it for cells in rows(section.split("\n")) for it in TICKED.findall(cells[0]) if it.startswith("-")}
+    for it in sorted(known):
+        yield None if it in told else f"docs/OPERATING.md: the option `{it}` isn't in its table"
+    for it in sorted(told - known):
+        yield f"docs/OPERATING.md: `serve` has no option `{it}`"
 
 
 def pattern(literal):

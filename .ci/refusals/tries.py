@@ -1,14 +1,19 @@
 """Tries of edits: many of different functions in one check first, and what isn't refused so alone."""
+import functools
 import os
 import re
 import shutil
 import subprocess
+import sys
 
 from refusals.edits import GATE, ROOT, crates, path_of
 
 REFUSED, PROVED, BAD, UNTRIED = "refused", "still proved", "no longer applies", "not tried"
 # What rt must-fail says of an edit, and what it means here.
 MEANINGS = {"refused, as it must be": REFUSED, "NOT REFUSED": PROVED, "BAD EDIT": BAD, "NOT TRIED": UNTRIED}
+# What a crate's library is made from, and where rt's own modules are.
+PARTS = ("src", "specs", "proofs")
+KIT = "/opt/rattle/bin"
 # How many edits are tried together at most.
 TOGETHER = 12
 PLACE = re.compile(r"(?:note: )?(?:\./)?((?:src|specs|proofs)/\S+?):(\d+):\d+: (.*)")
@@ -33,11 +38,38 @@ def copied(room):
     for name in crates():
         source, target = f"{ROOT}/crates/{name}", f"{room}/crates/{name}"
         os.makedirs(target)
-        for part in ("src", "specs", "proofs"):
+        for part in PARTS:
             if os.path.isdir(f"{source}/{part}"):
                 shutil.copytree(f"{source}/{part}", f"{target}/{part}")
-        if os.path.isfile(f"{source}/out/rlib/stamp"):
+        if os.path.isfile(f"{source}/out/rlib/stamp") or is_newer(f"{source}/out/rlib/{name}.rlib", source):
             shutil.copytree(f"{source}/out/rlib", f"{target}/out/rlib", copy_function=linked)
+    stamped(room)
+
+
+def is_newer(library, crate):
+    """Whether a crate has a library that was built after its sources were written."""
+    files = [f"{at}/{it}" for part in PARTS for at, _, its in os.walk(f"{crate}/{part}") for it in its]
+    return os.path.isdir(library) and os.path.getmtime(library) > max(map(os.path.getmtime, files))
+
+
+def stamped(room):
+    """Has rt take the libraries in the copy for what they are: `rt ci` leaves them without the stamp by which `rt check` knows a
+    library of these files, and would build it anew for minutes. So it does with one that is older than a source of its own or of
+    a crate below, and where this rt makes its stamps otherwise."""
+    sys.path.insert(0, KIT)
+    try:
+        from rtlib import Crate, crates_below
+        # A stamp is made of those of all crates below.
+        Crate.stamp = functools.cache(Crate.stamp)
+        for it in crates_below(room):
+            rlib = os.path.dirname(it.rlib)
+            is_stamped = os.path.isfile(f"{rlib}/stamp")
+            if not is_stamped and all(is_newer(it.rlib, crate.folder) for crate in (it, *it.below())):
+                with open(f"{rlib}/stamp", "w", encoding="utf-8") as file:
+                    file.write(it.stamp())
+    except (ImportError, AttributeError):
+        pass
+    sys.path.remove(KIT)
 
 
 def gathered(found):

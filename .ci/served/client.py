@@ -13,14 +13,22 @@ class Client(ca.Connection):
         super().__init__(address, 60, (source, 0) if source else None)
         self.address = address
         self.last = 0
-        self.asker = socket.socket(socket.AF_INET, socket.SOCK_DGRAM)
-        if source:
-            self.asker.bind((source, 0))
+        self.source = source
+        self.asker = self.datagrams()
+        # What is searched for while a channel isn't there yet: nobody reads what comes back.
+        self.caller = self.datagrams()
         self.send(ca.greeting("someone", host))
 
+    def datagrams(self):
+        """A socket for searches, of the host that the client is on."""
+        own = socket.socket(socket.AF_INET, socket.SOCK_DGRAM)
+        if self.source:
+            own.bind((self.source, 0))
+        return own
+
     def close(self):
-        self.socket.close()
-        self.asker.close()
+        for it in (self.socket, self.asker, self.caller):
+            it.close()
 
     def number(self):
         self.last += 1
@@ -39,10 +47,10 @@ class Client(ca.Connection):
         self.send(ca.message(ca.ECHO, payload, 7, 3, own, 5))
         return self.answer(ca.ECHO, "p1", own) == ca.Message(ca.ECHO, 7, 3, own, 5, payload)
 
-    def search(self, *names):
+    def search(self, *names, sender=None):
         """One datagram that asks for these names, under rising numbers from 1."""
         asked = b"".join(ca.search(name, 1 + at) for at, name in enumerate(names))
-        self.asker.sendto(ca.message(ca.VERSION, count=ca.MINOR) + asked, self.address)
+        (sender or self.asker).sendto(ca.message(ca.VERSION, count=ca.MINOR) + asked, self.address)
 
     def replies(self, seconds):
         """The messages of the next datagram, or None."""
@@ -59,6 +67,9 @@ class Client(ca.Connection):
             self.search(name)
             replies = self.replies(0.2)
             if replies:
+                # A reply to an earlier one may still come: it is none to the next search.
+                self.asker.close()
+                self.asker = self.datagrams()
                 return replies
         return None
 
@@ -79,7 +90,7 @@ class Client(ca.Connection):
             channel = self.try_open(name)
             if channel is not None or self.ended or time.monotonic() > until:
                 return channel
-            self.search(name)
+            self.search(name, sender=self.caller)
             time.sleep(0.05)
 
     def ask(self, channel, dtype=None, count=0):

@@ -111,6 +111,7 @@ def descriptors(room):
     room.check("who is there is served", first.echo() and first.values(channel) == [1])
     for link in links:
         link.close()
+    room.eventually("their descriptors are free", lambda: server.files() <= 16)
     room.eventually("then there is room", lambda: room.admitted(server) is not None)
     after = room.client(server)
     again = after.open("V")

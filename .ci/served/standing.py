@@ -171,9 +171,12 @@ def rewritten(room, server, path):
             time.sleep(0.003)
     writer = threading.Thread(target=write, daemon=True)
     writer.start()
-    for _ in range(3):
+
+    def refused():
+        # Where the machine is busy, the writer may rest for as long as a reading takes.
         server.write("reload")
-    room.eventually("a file that changes all the while is refused", lambda: server.has_logged("WARN", "rules refused", "changes while it is read"))
+        return room.wait(lambda: server.has_logged("WARN", "rules refused", "changes while it is read"), 0.5)
+    room.eventually("a file that changes all the while is refused", refused)
     goes[0] = False
     writer.join(PATIENCE)
     server.write("reload")
@@ -238,6 +241,24 @@ def kept(room):
     room.equal("quit", server.quit(), 0)
 
 
+def numbered(room):
+    """Numbers begin where they are told to; a number that wasn't given out is none, and after the last the gateway ends."""
+    up = room.upstream(variable("V", values=[1]))
+    server = room.server(up, options=("--first", "4294967290"))
+    client = room.client(server)
+    channel = client.open("V")
+    room.equal("the first", channel.sid, 4_294_967_290)
+    room.equal("it is read", client.values(channel), [1])
+    client.send(ca.message(ca.READ_NOTIFY, b"", ca.LONG, 1, channel.sid + 1, client.number()))
+    room.equal("the next one isn't given out", client.error(), 410)
+    for number in range(4_294_967_291, 4_294_967_295):
+        room.equal("the next", client.try_open("V").sid, number)
+    room.equal("all are read", client.values(channel), [1])
+    client.send(ca.create("V", client.number()))
+    room.equal("there is none behind the last", server.status(), 4)
+    room.check("it is told", server.has_logged("ERROR", "the gateway ran out of memory or numbers, and ends"))
+
+
 def limited(room):
     """Each limit that a client meets is told once, with how often, and counted in what the gateway tells of itself."""
     up = room.upstream(variable("V", values=[1]), variable("W", values=[2]))
@@ -261,4 +282,27 @@ def limited(room):
     limits = json.loads(told(address))["limits"]
     room.equal("they are used up", [limits[it]["used"] for it in ("channels_of_a_client", "subscriptions_of_a_client", "writes_of_a_client")], [4096, 8192, 256])
     room.equal("and counted", [limits[it]["met"] for it in ("channels_of_a_client", "subscriptions_of_a_client", "writes_of_a_client")], [6, 8, 4])
+    room.equal("quit", server.quit(), 0)
+
+
+def roomy(room):
+    """On a site a client may have 65,536 channels and as many subscriptions, and one more of each is refused as ever."""
+    up = room.upstream(variable("V", values=[1]))
+    address = ("127.0.0.1", free_port())
+    server = room.server(up, options=("--site", "--status", text_of(address)))
+    client = room.client(server)
+    one = client.open("V")
+    for at in range(0, 65_536, 1_024):
+        client.send(*(ca.create("V", 100_000 + at + it) for it in range(1_024)))
+        room.check("they are heard", client.echo())
+        client.inbox.clear()
+    for at in range(0, 65_536, 1_024):
+        client.send(*(ca.subscribe(one.sid, 1 + at + it, ca.LONG) for it in range(1_024)))
+        room.check("they are heard", client.echo())
+        client.inbox.clear()
+    limits = json.loads(told(address))["limits"]
+    room.equal("as many as may be", [limits[it]["used"] for it in ("channels_of_a_client", "subscriptions_of_a_client")], [65_536] * 2)
+    room.equal("one channel too many", limits["channels_of_a_client"]["met"], 1)
+    client.send(ca.subscribe(one.sid, 70_000, ca.LONG))
+    room.equal("one subscription too many", client.error(), 48)
     room.equal("quit", server.quit(), 0)
