@@ -3,7 +3,8 @@
 
 Each story has a gateway, servers and clients of its own, on free ports, and runs in a process of its own, several
 at a time. Prints each check that failed, and a last line with the counts; the status is 1 where one failed.
-Whatever still runs after LONGEST seconds is ended, and counts as failed.
+Whatever still runs after LONGEST seconds is ended, and counts as failed. Many a check is of a time, which a machine that
+also does other things can miss: a few stories that failed are told once more, each alone, and that counts.
 """
 import os
 import resource
@@ -16,6 +17,7 @@ import traceback
 
 ROOT = os.path.dirname(os.path.dirname(os.path.abspath(__file__)))
 LONGEST = 280
+AGAIN = 3  # stories that are told again; where more failed it wasn't the machine
 
 sys.dont_write_bytecode = True
 sys.path.insert(0, os.path.join(ROOT, ".ci"))
@@ -53,7 +55,7 @@ class Run:
     """A story in a process of its own."""
 
     def __init__(self, program, story):
-        self.name = story.__name__
+        self.story, self.name = story, story.__name__
         self.began = time.monotonic()
         words = [sys.executable, os.path.abspath(__file__), "--story", program, self.name]
         self.process = subprocess.Popen(words, stdin=subprocess.DEVNULL, stdout=subprocess.PIPE, stderr=subprocess.STDOUT,
@@ -77,24 +79,33 @@ class Run:
         return (int(counts[1]), int(counts[2])) if counts else (0, 1)
 
 
-def run_all(program, stories):
-    """The counts of all stories together."""
+def run_all(program, stories, at_once):
+    """Each story and its counts, in the order in which they ended."""
     until = time.monotonic() + LONGEST
-    waiting, running, passed, failed = list(stories), [], 0, 0
+    waiting, running, told = list(stories), [], []
     try:
         while waiting or running:
-            while waiting and len(running) < max(2, min(4, os.cpu_count() or 2)):
+            while waiting and len(running) < at_once:
                 running.append(Run(program, waiting.pop(0)))
             late = time.monotonic() > until
             for run in [it for it in running if late or it.process.poll() is not None]:
                 running.remove(run)
-                good, bad = run.result(run.process.poll() is not None)
-                passed, failed = passed + good, failed + bad
+                told.append((run.story, *run.result(run.process.poll() is not None)))
             time.sleep(0.05)
     finally:
         for run in running:
             run.end()
-    return passed, failed
+    return told
+
+
+def tell_all(program, stories):
+    """The counts of all stories together."""
+    told = run_all(program, stories, max(2, min(4, os.cpu_count() or 2)))
+    missed = [story for story, _, failed in told if failed]
+    if 0 < len(missed) <= AGAIN:
+        print(f"told once more, alone: {' '.join(it.__name__ for it in missed)}", flush=True)
+        told = [it for it in told if it[0] not in missed] + run_all(program, missed, 1)
+    return sum(it[1] for it in told), sum(it[2] for it in told)
 
 
 def main():
@@ -107,7 +118,7 @@ def main():
     signal.signal(signal.SIGTERM, lambda *_: sys.exit(1))
     with tempfile.TemporaryDirectory(prefix="serve-") as folder:
         os.environ["TMPDIR"] = folder
-        passed, failed = run_all(program, [it for it in STORIES if not names or it.__name__ in names])
+        passed, failed = tell_all(program, [it for it in STORIES if not names or it.__name__ in names])
     print(f"served: {passed} passed, {failed} failed")
     return 1 if failed else 0
 
