@@ -16,7 +16,7 @@ import time
 import traceback
 
 ROOT = os.path.dirname(os.path.dirname(os.path.abspath(__file__)))
-LONGEST = 280
+LONGEST = 500
 AGAIN = 3  # stories that are told again; where more failed it wasn't the machine
 
 sys.dont_write_bytecode = True
