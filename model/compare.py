@@ -16,6 +16,7 @@ import tempfile
 import rules
 from generated import ASKED, RuleFiles, Scripts
 from replay import Replay
+from rows import FIRST, LAST
 
 PROGRAM = os.path.join(os.path.dirname(os.path.abspath(__file__)), "../crates/pvgate/out/pvgate")
 RIGHTS = {0: "none", 1: "read", 3: "write"}
@@ -34,11 +35,22 @@ def difference(what, got, want):
     print(f"{what}: line {number}, statuses {got[1]} and {want[1]}", ours, theirs, sep="\n  ")
 
 
+def beginning(source, scripts):
+    """A first number, and the script; where that one is near the last, numbers mostly come again."""
+    if source.random() < 0.7:
+        return scripts.script(), FIRST
+    again = "limit reuses-numbers 1\n" if source.random() < 0.9 else ""
+    scripts.first = LAST - source.choice([0, 1, 2, 3, 4, 6, 8, 12])
+    return again + scripts.script(), scripts.first
+
+
 def compare_scripts(count, seed):
     differences = 0
     for number in range(count):
-        script = Scripts(random.Random(f"{seed} script {number}")).script()
-        want, got = Replay(script).run(), program("replay", script=script)
+        source = random.Random(f"{seed} script {number}")
+        script, first = beginning(source, Scripts(source))
+        want = Replay(script, first).run()
+        got = program("replay", "--first", str(first), script=script)
         if got != want:
             with tempfile.NamedTemporaryFile("w", suffix=".replay", delete=False) as kept:
                 kept.write(script)

@@ -8,7 +8,7 @@ from codes import (
     ECA_NORDACCESS, ECA_NOWTACCESS, ECA_PUTFAIL, ECA_TOLARGE, TEXTS,
 )
 from rows import (
-    ALARM, FIRST, LOWEST_MINOR, MESSAGES_WAIT, MINOR, PROPERTIES, PROPERTY, SERVED_EVENTS,
+    ALARM, FIRST, LAST, LOWEST_MINOR, MESSAGES_WAIT, MINOR, PROPERTIES, PROPERTY, SERVED_EVENTS,
     UPDATES_WAIT, VALUE, VALUES,
     Channel, Limits, Link, Outbox, Search, Session, Subscription, Upstream, Waiting,
 )
@@ -17,20 +17,43 @@ from servers import Servers
 from wire import message
 
 
+class UsedUp(Exception):
+    """There is no number left."""
+
+
 class Gateway(Servers):
     """Its state, by lists. Connections are ("s", number) and ("u", number)."""
 
-    def __init__(self):
+    def __init__(self, first=FIRST):
         self.sessions, self.servers, self.boxes = {}, {}, {}
         self.channels, self.subs, self.reads, self.writes = [], [], [], []
         self.links, self.searches = [], []
         self.rules, self.groups = None, {}
-        self.next = dict.fromkeys(("sid", "cid", "sub", "ioid"), FIRST)
+        self.first, self.again = first, set()
+        self.next = dict.fromkeys(("sid", "cid", "sub", "ioid"), first)
         self.limits, self.last_age = Limits(), dict(self.next)
 
-    def number(self, counter):
-        self.next[counter] += 1
-        return self.next[counter] - 1
+    def turned(self, number):
+        """Behind the last number comes the first one, where numbers come again."""
+        return self.first if self.limits.reuses_numbers and number == LAST + 1 else number
+
+    def number(self, counter, had):
+        """The next number; once its counter began again, the next that none of these rows has."""
+        number = self.turned(self.next[counter])
+        if number != self.next[counter]:
+            self.again.add(counter)
+        tries = len(had)
+        while counter in self.again and number in had and tries:
+            number, tries = self.turned(number + 1), tries - 1
+        if number > LAST or counter in self.again and number in had:
+            raise UsedUp
+        self.next[counter] = number + 1
+        return number
+
+    def is_older(self, counter, number):
+        """Whether a number that a row has was given out before the last age."""
+        then, now = self.last_age[counter], self.next[counter]
+        return number < then or now <= number if then <= now else now <= number < then
 
     # What is sent.
 
@@ -38,7 +61,7 @@ class Gateway(Servers):
         box = self.boxes.get(dest)
         if box is None or box.marked:
             return
-        if len(box.messages) >= MESSAGES_WAIT:
+        if len(box.messages) >= (self.limits.messages if dest[0] == "s" else MESSAGES_WAIT):
             box.marked = True
         else:
             box.messages.append(text)
@@ -178,7 +201,7 @@ class Gateway(Servers):
         full = len(self.links) >= self.limits.links
         if full or not self.acts(("u", server)) or name not in self.asks():
             return
-        link = Link(self.number("cid"), server, name)
+        link = Link(self.number("cid", {link.cid for link in self.links}), server, name)
         self.links.append(link)
         self.ask(server, wire.CREATE_CHAN, 0, 0, link.cid, MINOR, name.encode() + b"\0")
 
@@ -225,7 +248,7 @@ class Gateway(Servers):
         for link in [link for link in self.links if self.owes_properties(link)]:
             self.fail_reads(link, PROPERTIES)
         self.links = [link for link in self.links
-                      if link.state != "creating" or link.cid >= self.last_age["cid"]]
+                      if link.state != "creating" or not self.is_older("cid", link.cid)]
         self.last_age = dict(self.next)
         self.searches = [search for search in self.searches if search.fresh]
         for search in self.searches:
@@ -233,7 +256,7 @@ class Gateway(Servers):
 
     def owes_properties(self, link):
         asked = link.upstream.get(PROPERTIES)
-        return asked is not None and asked.id < self.last_age["sub"] and link.properties is None
+        return asked is not None and self.is_older("sub", asked.id) and link.properties is None
 
     def probe(self, server):
         self.ask(server, wire.ECHO, 0, 0, 0, 0)
@@ -252,7 +275,7 @@ class Gateway(Servers):
                        if (row.session, row.sid) != (channel.session, channel.sid)]
 
     def tell_channels(self):
-        for channel in sorted(self.channels, key=lambda c: (c.session, c.sid)):
+        for channel in sorted(self.channels, key=lambda c: c.session):
             rights = self.rights(channel)
             if not self.is_served(channel):
                 self.remove(channel)
@@ -276,7 +299,7 @@ class Gateway(Servers):
             sub.owed |= not self.may_read(self.channel(sub.session, sub.sid))
 
     def tell_links(self):
-        for link in sorted(self.links, key=lambda link: link.cid):
+        for link in list(self.links):
             for subject in (VALUES, PROPERTIES):
                 want, present = self.want(link, subject), link.upstream.get(subject)
                 if want != (present and (present.mask, present.count)):
@@ -297,7 +320,9 @@ class Gateway(Servers):
             return
         mask, count = want
         whole = subject == VALUES and count == link.count and self.servers[link.server] >= MINOR
-        sent, number = 0 if whole else count, self.number("sub")
+        had = {asked.id for other in self.links if other.server == link.server
+               for asked in other.upstream.values()}
+        sent, number = 0 if whole else count, self.number("sub", had)
         link.upstream[subject] = Upstream(number, mask, count, sent)
         events = bytes(12) + struct.pack(">HH", mask, 0)
         self.ask(link.server, wire.EVENT_ADD, dtype, sent, link.sid, number, events)
@@ -357,7 +382,8 @@ class Gateway(Servers):
             self.session_said(session, request)
 
     def on_no_channel(self, session, request):
-        was_given_out = FIRST <= request.p1 < self.next["sid"]
+        end = LAST + 1 if "sid" in self.again else self.next["sid"]
+        was_given_out = self.first <= request.p1 < max(end, self.next["sid"])
         if not (self.limits.passes_over_gone and was_given_out):
             self.error(session, request, ECA_BADCHID)
 
@@ -400,7 +426,7 @@ class Gateway(Servers):
             self.tell(session, wire.CREATE_CH_FAIL, 0, 0, request.p1, 0)
             return
         rights = link.rights & self.left_by_group(lead[1])
-        sid = self.number("sid")
+        sid = self.number("sid", {c.sid for c in self.channels if c.session == session})
         self.channels.append(Channel(session, sid, request.p1, name, lead[0], rights))
         self.tell(session, wire.ACCESS_RIGHTS, 0, 0, request.p1, rights)
         self.tell(session, wire.CREATE_CHAN, link.native, link.count, request.p1, sid)
@@ -490,7 +516,8 @@ class Gateway(Servers):
         if code:
             self.tell(session, wire.WRITE_NOTIFY, dtype, count, code, request.p2)
             return
-        link, number = self.link(channel.real), self.number("ioid")
+        link = self.link(channel.real)
+        number = self.number("ioid", {w.id for w in self.writes if w.server == link.server})
         write = Waiting(session, channel.sid, dtype, count, request.p2, link.server, number)
         self.writes.append(write)
         self.ask(link.server, wire.WRITE_NOTIFY, dtype, count, link.sid, number, value)

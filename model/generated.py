@@ -3,7 +3,7 @@ import struct
 
 import values
 import wire
-from rows import PROPERTIES, VALUES
+from rows import FIRST, LAST, PROPERTIES, VALUES
 from wire import message
 
 NAMES = ["T1", "T2", "A:SET", "A:SP", "B"]
@@ -39,6 +39,14 @@ class Scripts:
         self.source = source
         self.lines = []
         self.base = self.pick(BASES)
+        self.first = FIRST
+
+    def nth(self, number):
+        """The number that is given out so late, where the first is given out first; they may come again."""
+        return self.first + (number - 1) % (LAST + 1 - self.first)
+
+    def sid(self):
+        return self.nth(self.pick(SIDS))
 
     def pick(self, *choices):
         return self.source.choice(choices[0] if len(choices) == 1 else choices)
@@ -92,8 +100,9 @@ class Scripts:
     def serve(self, name, server, cid):
         """A name is wanted, found and connected, and channels are made on it."""
         create = message(wire.CREATE_CHAN, 0, 0, 7, 13, text(name)).hex()
-        made = message(wire.ACCESS_RIGHTS, 0, 0, cid, 3)
-        made += message(wire.CREATE_CHAN, self.native(), self.pick(1, 3), cid, 100 + cid)
+        link = self.nth(cid)
+        made = message(wire.ACCESS_RIGHTS, 0, 0, link, 3)
+        made += message(wire.CREATE_CHAN, self.native(), self.pick(1, 3), link, 100 + cid)
         self.add("client", self.pick("s1", "s1", "s1", "s2"), create)
         self.add("found", name, f"u{server}")
         self.add("server", f"u{server}", made.hex())
@@ -139,17 +148,17 @@ class Scripts:
     def event_add(self):
         events = bytes(12) + struct.pack(">HH", self.pick(1, 1, 4, 5, 2, 7, 8, 9, 15, 24, 0), 0)
         payload = events if self.chance(0.95) else bytes(8)
-        dtype, count, sid = self.type(), self.pick(COUNTS), self.pick(SIDS)
+        dtype, count, sid = self.type(), self.pick(COUNTS), self.sid()
         return message(wire.EVENT_ADD, dtype, count, sid, self.pick(31, 32, 33, 34), payload)
 
     def read_notify(self):
-        dtype, count, sid = self.type(), self.pick(COUNTS), self.pick(SIDS)
+        dtype, count, sid = self.type(), self.pick(COUNTS), self.sid()
         return message(wire.READ_NOTIFY, dtype, count, sid, self.pick(21, 22))
 
     def on_channel(self):
         if self.chance(0.6):
-            return message(wire.EVENT_CANCEL, 5, 1, self.pick(SIDS), self.pick(31, 32, 33, 34))
-        return message(wire.CLEAR_CHANNEL, 0, 0, self.pick(SIDS), self.pick(7, 8, 9))
+            return message(wire.EVENT_CANCEL, 5, 1, self.sid(), self.pick(31, 32, 33, 34))
+        return message(wire.CLEAR_CHANNEL, 0, 0, self.sid(), self.pick(7, 8, 9))
 
     def plain_request(self):
         return self.pick(
@@ -163,14 +172,14 @@ class Scripts:
 
     def write(self):
         command, dtype = self.pick(wire.WRITE, wire.WRITE_NOTIFY), self.pick(5, 5, 0, 4, 6, 7)
-        count, sid = self.pick(COUNTS), self.pick(SIDS)
+        count, sid = self.pick(COUNTS), self.sid()
         payload = self.bytes(self.pick(0, 4, 8, 8, 16, 40))
         return message(command, dtype, count, sid, self.pick(41, 42), payload)
 
     def reply(self):
-        cid = self.pick(1, 1, 2, 2, 3, 4, 5, 9)
+        cid = self.nth(self.pick(1, 1, 2, 2, 3, 4, 5, 9))
         rights, minor = self.pick(3, 3, 3, 1, 0, 2, 7), self.pick(13, 12, 0)
-        ioid = self.pick(1, 2, 3)
+        ioid = self.nth(self.pick(1, 2, 3))
         kinds = [self.update] * 20 + [self.description] * 10 + [self.updates] * 20
         kinds += [lambda: self.made(cid)] * 25
         kinds += [lambda: message(wire.ACCESS_RIGHTS, 0, 0, cid, rights)] * 20
@@ -201,7 +210,7 @@ class Scripts:
         if self.chance(0.05):
             payload = payload[:8]
         status, sub = self.pick(1, 1, 1, 1, 1, 152), number or self.pick(1, 1, 2, 3, 4, 5, 6)
-        return message(wire.EVENT_ADD, dtype, count, status, sub, payload)
+        return message(wire.EVENT_ADD, dtype, count, status, self.nth(sub), payload)
 
     def description(self, number=None):
         """What a server tells of properties, mostly in a CTRL type."""
@@ -215,7 +224,7 @@ class Scripts:
         if self.chance(0.05):
             payload = payload[:8]
         status, sub = self.pick(1, 1, 1, 1, 1, 1, 152), number or self.pick(1, 2, 2, 2, 3, 4, 5, 6)
-        return message(wire.EVENT_ADD, dtype, count, status, sub, payload)
+        return message(wire.EVENT_ADD, dtype, count, status, self.nth(sub), payload)
 
     def text_of_state(self):
         text = self.pick(b"OFF", b"ON", b"", b"x" * 30, b"A\0B")
@@ -250,11 +259,11 @@ class Scripts:
         self.lines += rules + groups
 
     def question(self):
-        read = self.session(), self.pick(SIDS), self.type(), self.pick(COUNTS)
+        read = self.session(), self.sid(), self.type(), self.pick(COUNTS)
         self.pick([
             lambda: self.add("asks"), lambda: self.add("sub", self.pick(NAMES)),
             lambda: self.add("props", self.pick("T1", "T2", *NAMES)),
-            lambda: self.add("rights", self.session(), self.pick(SIDS)),
+            lambda: self.add("rights", self.session(), self.sid()),
             lambda: self.add("read", *read),
         ])()
 
@@ -282,6 +291,8 @@ class Scripts:
             self.add("limit", self.pick(FLAGS), self.pick(1, 1, 1, 0))
         elif self.chance(0.1):
             self.add("limit", "update-bytes", self.pick(0, 1, 24, 40, 100, 2**64 - 1))
+        elif self.chance(0.1):
+            self.add("limit", "messages", self.pick(0, 1, 2, 3, 4, 8, 16_384, 16_384))
         else:
             self.add("limit", self.pick(LIMITS), self.pick(0, 1, 1, 2, 2, 3, 3, 4, 5, 100))
 

@@ -6,11 +6,11 @@ import sys
 import rules
 import values
 import wire
-from gateway import Gateway
-from rows import PROPERTIES, VALUES, Limits
+from gateway import Gateway, UsedUp
+from rows import FIRST, PROPERTIES, VALUES, Limits
 from wire import framed, is_name, is_word, message
 
-GOOD, BAD_INPUT = 0, 2
+GOOD, BAD_INPUT, FAILED = 0, 2, 4
 U32, USIZE = 2**32 - 1, 2**64 - 1
 PORT = 5064
 LIMITS = {field.replace("_", "-"): field for field in vars(Limits())}
@@ -65,8 +65,8 @@ def hexadecimal(text):
 class Replay:
     """A gateway, the script that is performed on it, and what it prints."""
 
-    def __init__(self, script):
-        self.gateway = Gateway()
+    def __init__(self, script, first=FIRST):
+        self.gateway = Gateway(first)
         self.lines = script.split("\n")
         if self.lines[-1] == "":
             self.lines.pop()
@@ -83,6 +83,9 @@ class Replay:
             except BadLine:
                 self.printed.append(f"line {line_number}: bad")
                 return self.output(), BAD_INPUT
+            except UsedUp:
+                self.printed.append("failed")
+                return self.output(), FAILED
         return self.output(), GOOD
 
     def output(self):

@@ -6,7 +6,7 @@ VALUE, LOG, ALARM, PROPERTY = 1, 2, 4, 8
 SERVED_EVENTS = VALUE | LOG | ALARM | PROPERTY
 VALUES, PROPERTIES = "values", "properties"
 MINOR, LOWEST_MINOR = 13, 9
-FIRST = 1
+FIRST, LAST = 1, 0xFFFF_FFFE
 UPDATES_WAIT, MESSAGES_WAIT = 4_096, 16_384
 
 
@@ -22,6 +22,7 @@ class Limits:
     subscriptions: int = 8_192
     reads: int = 256
     writes: int = 256
+    messages: int = MESSAGES_WAIT
     update_bytes: int = 2**64 - 1
     makes_room: bool = False
     reuses_numbers: bool = False

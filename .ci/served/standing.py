@@ -266,6 +266,28 @@ def numbered(room):
     room.check("it is told", server.has_logged("ERROR", "the gateway ran out of memory or numbers, and ends"))
 
 
+def again(room):
+    """On a site numbers come again: behind the last one those are given out that nothing has any more."""
+    up = room.upstream(variable("V", values=[1]), variable("W", values=[0]))
+    server = room.server(up, options=("--site", "--first", "4294967290"))
+    client = room.client(server)
+    kept, numbers = client.open("V"), []
+    watched = client.watch(kept)
+    room.equal("the first number", kept.sid, 4_294_967_290)
+    for it in range(20):
+        channel = client.open("W")
+        numbers.append(channel.sid)
+        room.equal("it is written", client.write(channel, [it]), ca.NORMAL)
+        client.send(ca.message(ca.CLEAR_CHANNEL, p1=channel.sid, p2=channel.cid))
+        room.check("it is cleared", client.answer(ca.CLEAR_CHANNEL, "p1", channel.sid) is not None)
+    room.equal("the others come in turn", numbers, [4_294_967_291 + it % 4 for it in range(20)])
+    room.equal("each write arrived once", [it[3][:4] for it in up.writes if it[0] == "W"], [it.to_bytes(4, "big") for it in range(20)])
+    room.equal("what stands has its number still", client.values(kept), [1])
+    up.give("V", [7])
+    room.equal("and is told of", client.updates_until(watched, [7])[-1], [7])
+    room.equal("quit", server.quit(), 0)
+
+
 def limited(room):
     """Each limit that a client meets is told once, with how often, and counted in what the gateway tells of itself."""
     up = room.upstream(variable("V", values=[1]), variable("W", values=[2]))

@@ -6,10 +6,10 @@ use Rattle.std.proofs.lemmas.List.{length-map}
 use Rattle.std.proofs.lemmas.List.Sums.{length-filter}
 use Rattle.rows.specs.Rows.{change_first, remove_first}
 use Rattle.row_index.specs.declared.key.Key.{Key}
-use Rattle.row_index.specs.Rows.{same_key, row_of, has_key, lacks_key, is_owned_by, value_at, put_at, HasKeysApart}
+use Rattle.row_index.specs.Rows.{same_key, row_of, has_key, has_one_of, lacks_key, is_owned_by, value_at, put_at, HasKeysApart}
 use Rattle.row_index.proofs.Keys.{same_key_is_same, same_key_itself, unmapped}
 use Rattle.row_index.proofs.Owned.{undone}
-use Rattle.channel_table.specs.Indexes.{is_at, keyed, changed_by, IsApart}
+use Rattle.channel_table.specs.Indexes.{is_at, is_one_of, keyed, changed_by, IsApart}
 use Rattle.channel_table.proofs.Lists.{none_dropped, unfound_is_absent, absent_is_unfound}
 
 -- P holds of each row
@@ -76,6 +76,13 @@ module _ {V : Type 0} (key : V → Key) where
   owned_keyed owner (row ∷ rows) =
       elim ((key row).owner == owner) as (λ t. map row_of (cond t ((key row, row) ∷ filter (is_owned_by owner) (keyed key rows)) (filter (is_owned_by owner) (keyed key rows))) ≡ cond t (row ∷ filter (λ r. (key r).owner == owner) rows) (filter (λ r. (key r).owner == owner) rows))
       [ true ↦ ap (λ rest. row ∷ rest) (owned_keyed owner rows) | false ↦ owned_keyed owner rows ]
+
+  -- the rows of some keys
+  pub some_keyed : (keys : List Key) (rows : List V) → map row_of (filter (has_one_of keys) (keyed key rows)) ≡ filter (is_one_of key keys) rows
+  some_keyed keys [] = refl
+  some_keyed keys (row ∷ rows) =
+      elim (is_one_of key keys row) as (λ t. map row_of (cond t ((key row, row) ∷ filter (has_one_of keys) (keyed key rows)) (filter (has_one_of keys) (keyed key rows))) ≡ cond t (row ∷ filter (is_one_of key keys) rows) (filter (is_one_of key keys) rows))
+      [ true ↦ ap (λ rest. row ∷ rest) (some_keyed keys rows) | false ↦ some_keyed keys rows ]
 
   -- how many they are
   pub count_keyed : (owner : ℕ) (rows : List V) → count_by (is_owned_by owner) (keyed key rows) ≡ count_by (λ row. (key row).owner == owner) rows
@@ -161,6 +168,10 @@ module _ {V : Type 0} (key : V → Key) where
     -- the entries of an owner are its rows
     pub entries_owned : (owner : ℕ) → map row_of (filter (is_owned_by owner) entries) ≡ filter (λ row. (key row).owner == owner) (map row_of entries)
     entries_owned owner = ap (λ es. map row_of (filter (is_owned_by owner) es)) under ∙ owned_keyed owner (map row_of entries)
+
+    -- the entries of some keys are their rows
+    pub entries_of : (keys : List Key) → map row_of (filter (has_one_of keys) entries) ≡ filter (is_one_of key keys) (map row_of entries)
+    entries_of keys = ap (λ es. map row_of (filter (has_one_of keys) es)) under ∙ some_keyed keys (map row_of entries)
 
     pub entries_counted : (owner : ℕ) → count_by (is_owned_by owner) entries ≡ count_by (λ row. (key row).owner == owner) (map row_of entries)
     entries_counted owner = ap (count_by (is_owned_by owner)) under ∙ count_keyed owner (map row_of entries)

@@ -10,6 +10,7 @@ pub mod Listed
 pub mod Lists
 pub mod Mapped
 pub mod Numbered
+pub mod OnAny
 pub mod Removal
 pub mod Rising
 pub mod Somebody

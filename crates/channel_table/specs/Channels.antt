@@ -1,5 +1,6 @@
 -- Rows of channels.
-use Rattle.std.specs.Prelude.{ℕ, List, Bool, false, not, ◌&&◌, ◌==◌, bytes_eq, Option, Some, None}
+use Rattle.std.specs.Prelude.{ℕ, List, length, Bool, false, not, ◌&&◌, ◌==◌, bytes_eq, Option, Some, None}
+use Rattle.std.specs.List.{filter, list_any, sum_by}
 use Rattle.channel_table.specs.declared.channels.Channel.{Channel}
 use Rattle.channel_table.specs.declared.channels.Reach.{Reach}
 
@@ -31,3 +32,11 @@ is_on name channel = bytes_eq channel.real name
 abbrev pub is_channel_on : List ℕ → Option Channel → Bool
 is_channel_on name None = false
 is_channel_on name (Some channel) = is_on name channel
+
+-- a channel on one of these real names
+abbrev pub is_on_any : List (List ℕ) → Channel → Bool
+is_on_any names channel = list_any (λ name. bytes_eq name channel.real) names
+
+-- how many channels are on each of these real names, together
+abbrev pub count_on_each : List (List ℕ) → List Channel → ℕ
+count_on_each names channels = sum_by (λ name. length (filter (is_on name) channels)) names

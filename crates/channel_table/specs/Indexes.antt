@@ -1,6 +1,6 @@
 -- How the table keeps rows: each under its key, and the keys in lists by real names and by the IDs of channels.
 use Rattle.std.specs.Prelude.{◌≡◌, ℕ, List, Bool, true, not, ◌==◌, nat_eq, bytes_eq, map, filter, filter_map, length, Option, Some, None}
-use Rattle.std.specs.List.{count_by, find, list_any, list_all}
+use Rattle.std.specs.List.{count_by, find, flat_map, list_any, list_all}
 use Rattle.row_index.specs.declared.key.Key.{Key}
 use Rattle.row_index.specs.Lists.{is_key, listed, of, AddsTo, RemovesFrom, RemovesFromOwner, SameLists, SameOwnerLists}
 use Rattle.row_index.specs.Rows.{same_key, row_of, HasKeysApart}
@@ -69,6 +69,10 @@ module _ {V : Type 0} (key : V → Key) where
   -- another
   abbrev pub is_not_at : Key → V → Bool
   is_not_at k row = not (is_at k row)
+
+  -- a row of one of these keys
+  abbrev pub is_one_of : List Key → V → Bool
+  is_one_of keys row = list_any (λ k. same_key (key row) k) keys
 
   -- a row of this owner
   abbrev pub is_owned : ℕ → V → Bool
@@ -161,6 +165,10 @@ IsUnderKeys key entries = entries ≡ keyed key (map row_of entries)
 -- each name has the keys of the channels on it
 abbrev pub AreChannelsListed : ListedRows Channel → Type 0
 AreChannelsListed channels = AreListed channel_key is_on channels.rows channels.on
+
+-- the keys of the channels on these names, those of one name after the other
+abbrev pub channel_keys_on : List (List ℕ) → List Channel → List Key
+channel_keys_on names channels = flat_map (λ name. map channel_key (filter (is_on name) channels)) names
 
 module _ {V : Type 0} (name : V → List ℕ) where
   -- the key of a row that was found isn't listed under its own name

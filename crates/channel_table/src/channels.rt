@@ -3,8 +3,8 @@ ghost use Rattle.std.specs.Prelude.{◌≡◌, ◌-◌, [], ◌∷◌, ◌++◌,
 ghost use Rattle.std.specs.List.{list_any, filter, find, count_by};
 ghost use Rattle.std.specs.Option.{option_copied};
 ghost use Rattle.rows.specs.Rows.{change_first};
-ghost use Rattle.channel_table.specs.Channels.{is_channel, is_not_channel, is_channel_of, is_on, with_reach_and_rights};
-ghost use Rattle.channel_table.specs.Indexes.{channel_key, IsApart};
+ghost use Rattle.channel_table.specs.Channels.{count_on_each, is_channel, is_not_channel, is_channel_of, is_on, is_on_any, with_reach_and_rights};
+ghost use Rattle.channel_table.specs.Indexes.{channel_key, channel_keys_on, IsApart};
 
 use crate::keys::key_of;
 use crate::named_rows::{Changing, Named, NamedRows, Row};
@@ -165,6 +165,29 @@ impl Channels {
     {
         self.rows.are_apart();
         self.rows.nth_on(name, n)
+    }
+
+    /// The keys of the channels on these names, those of one name after the other.
+    pub(crate) fn keys_on_each(&self, alloc: Global, names: &[Name]) -> Result<Vec<Key>, AllocError>
+        ensures keys { IfOk result (λ keys. keys.items ≡ channel_keys_on names.now self.now) }
+        ensures count { IfOk result (λ keys. length keys.items ≡ count_on_each names.now self.now) }
+    {
+        self.rows.keys_on_each(alloc, names)
+    }
+
+    /// The channels on any of these names, each once, in the order of adding. These are their keys.
+    pub(crate) fn on_any(
+        &self,
+        alloc: Global,
+        names: &[Name],
+        keys: &[Key],
+    ) -> Result<Vec<&Channel>, AllocError>
+        requires theirs { keys.now ≡ channel_keys_on names.now self.now }
+        ensures { IfOk result (λ rows. map (λ row. row.now) rows.items ≡ filter (is_on_any names.now) self.now) }
+    {
+        let _ = names;
+        self.rows.are_apart();
+        self.rows.in_order(alloc, keys)
     }
 
     /// Adds a channel. At an error it is let go, and the others are as before.

@@ -9,7 +9,8 @@
 //!   for one, and `channel_count` and the like count those of a session.
 //! - `nth_session` gives the sessions one by one, by rising number.
 //! - `channel_of`, `sub_of` and `read_of` give the rows of a session one by one, and `channel_on` and
-//!   `read_on` those of a real name: of the channels on it, and of what waits on these.
+//!   `read_on` those of a real name: of the channels on it, and of what waits on these. `channels_on_any` gives the
+//!   channels on several real names, each once, in the order of adding.
 //! - `want_on` tells what the subscriptions to a real name and the channels on it want together, and
 //!   `props_on` whether any of them needs the properties of the variable.
 //! - `put_session`, `put_user`, `put_channel` and `put_sub` change a row that stands.

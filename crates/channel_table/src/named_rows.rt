@@ -1,13 +1,13 @@
 //! Rows under their keys, and the lists of these keys by names.
 ghost use Rattle.std.specs.Prelude.{◌≡◌, ℕ, List, [], ◌∷◌, ◌++◌, false, length, map, slice_get, IfOk, OnOk, OnErr};
-ghost use Rattle.std.specs.List.{filter, find, count_by, list_any};
+ghost use Rattle.std.specs.List.{filter, find, flat_map, count_by, list_any};
 ghost use Rattle.std.specs.Option.{option_copied};
 ghost use Rattle.rows.specs.Rows.{change_first};
 ghost use Rattle.row_index.specs.declared.key.Key.{Key as RowKey};
 ghost use Rattle.row_index.specs.Lists.{is_key, of, AddsTo, RemovesFrom, SameLists};
 ghost use Rattle.row_index.specs.Pieces.{joined};
 ghost use Rattle.row_index.specs.Rows.{has_key, lacks_key, value_at};
-ghost use Rattle.channel_table.specs.Indexes.{changed_by, is_at, is_not_at, is_owned, row_at, IsApart, IsListedOn, IsUnlisted, IsUnlistedOn};
+ghost use Rattle.channel_table.specs.Indexes.{changed_by, is_at, is_not_at, is_one_of, is_owned, row_at, IsApart, IsListedOn, IsUnlisted, IsUnlistedOn};
 
 use pv_name::Name;
 use row_index::{Key, NameKeys, RowMap, Sequence};
@@ -132,6 +132,25 @@ impl<T: Row> NamedRows<T> {
         self.on.of(name)
     }
 
+    /// The keys that are listed under these names, those of one name after the other.
+    pub(crate) fn keys_on_each(&self, alloc: Global, names: &[Name]) -> Result<Vec<Key>, AllocError>
+        ensures { IfOk result (λ keys. keys.items ≡ flat_map (of self.now.on) names.now) }
+    {
+        let mut keys = Vec::new(alloc);
+        for name in names {
+            let (pieces, last) = self.on.of(name);
+            add_keys(&mut keys, pieces, last)?;
+        }
+        Ok(keys)
+    }
+
+    /// The rows of these keys, each once, in the order of adding.
+    pub(crate) fn in_order(&self, alloc: Global, keys: &[Key]) -> Result<Vec<&T>, AllocError>
+        ensures { IfOk result (λ rows. map (λ row. row.now) rows.items ≡ filter (is_one_of T.key keys.now) self.now.rows) }
+    {
+        self.rows.in_order(alloc, keys)
+    }
+
     /// The row of the nth key under a name, counted from 0.
     pub(crate) fn nth_on(&self, name: &Name, n: usize) -> Option<&T>
         ensures { option_copied result ≡ row_at T.key self.now.rows (slice_get (of self.now.on name.now) n) }
@@ -201,6 +220,29 @@ impl<T: Changing> NamedRows<T> {
     {
         put(&mut self.rows, key, change);
     }
+}
+
+/// Adds the keys of some pieces and those behind them to a list.
+fn add_keys(keys: &mut Vec<Key>, pieces: &[Sequence<Key>], last: &[Key]) -> Result<(), AllocError>
+    ensures { OnOk result (keys.new.items ≡ keys.old.items ++ (joined pieces.now ++ last.now)) }
+{
+    add_pieces(keys, pieces)?;
+    add_all(keys, last)
+}
+
+fn add_pieces(keys: &mut Vec<Key>, pieces: &[Sequence<Key>]) -> Result<(), AllocError>
+    ensures { OnOk result (keys.new.items ≡ keys.old.items ++ joined pieces.now) }
+{
+    for piece in pieces {
+        add_all(keys, piece.as_slice())?;
+    }
+    Ok(())
+}
+
+fn add_all(keys: &mut Vec<Key>, more: &[Key]) -> Result<(), AllocError>
+    ensures { OnOk result (keys.new.items ≡ keys.old.items ++ more.now) }
+{
+    keys.extend_from_slice(more)
 }
 
 /// Takes the row of a key out again, unless the key was listed.

@@ -1,8 +1,8 @@
 //! CREATE_CHAN.
 ghost use Rattle.std.specs.Prelude.{◌≡◌, ◌≤◌, ◌+◌, true, OnOk, IfOk, IsErrOf};
 ghost use Rattle.gateway_state.specs.Numbers.{is_past_numbers};
-ghost use Rattle.gateway_state.specs.Clients.{remembered_by, with_channel, created, created_with, created_over, created_as, creation_failed, not_connected, channel_asked, rights_on};
-ghost use Rattle.gateway_state.specs.Settled.{HasSidsInOrder};
+ghost use Rattle.gateway_state.specs.Clients.{next_sid, remembered_by, with_channel, created, created_with, created_over, created_as, creation_failed, not_connected, channel_asked, rights_on};
+ghost use Rattle.gateway_state.specs.Settled.{HasSidsApart};
 ghost use Rattle.gateway_state.specs.Variables.{connected};
 ghost use Rattle.std.specs.List.{find};
 ghost use Rattle.channel_table.specs.Sessions.{is_numbered};
@@ -14,7 +14,7 @@ use ca_message::{CreateChannel, ToClient};
 use channel_table::{Channel, Reach, Visits};
 use gateway_rows::{Refusal, Rows};
 use gateway_state::{Limit, Native, Search};
-use link_table::{Counter, Link};
+use link_table::Link;
 use pv_alias::{Lead, group_rights};
 use pv_name::Name;
 use std::alloc::AllocError;
@@ -83,13 +83,13 @@ fn add_channel(
     real: Name,
     rights: u32,
 ) -> Result<u32, Refusal>
-    requires order { HasSidsInOrder rows.old.state }
+    requires order { HasSidsApart rows.old.state }
     ensures ok { OnOk result (rows.new.state ≡ with_channel number cid asked real rights rows.old.state) }
-    ensures sid { IfOk result (λ sid. sid ≡ rows.old.state.upstream.counters.sid) }
+    ensures sid { IfOk result (λ sid. sid ≡ next_sid rows.old.state number) }
     ensures used_up { IsErrOf result Refusal.NumbersUsedUp → is_past_numbers (with_channel number cid asked real rights rows.old.state) ≡ true }
     ensures brand { rows.new.brand ≡ rows.old.brand }
 {
-    let Some(sid) = rows.upstream.give_out(Counter::Sid) else {
+    let Some(sid) = rows.new_sid(number) else {
         return Err(Refusal::NumbersUsedUp);
     };
     let channel = Channel {
@@ -123,7 +123,7 @@ fn create_on(
     rights: u32,
     native: Native,
 ) -> Result<(), Refusal>
-    requires order { HasSidsInOrder rows.old.state }
+    requires order { HasSidsApart rows.old.state }
     ensures ok { OnOk result (rows.new.state ≡ created_with number cid asked real rights native rows.old.state) }
     ensures used_up { IsErrOf result Refusal.NumbersUsedUp → is_past_numbers (created_with number cid asked real rights native rows.old.state) ≡ true }
     ensures brand { rows.new.brand ≡ rows.old.brand }
@@ -159,7 +159,7 @@ fn create_as(
     name: &Name,
     lead: Lead,
 ) -> Result<Touched, Refusal>
-    requires order { HasSidsInOrder rows.old.state }
+    requires order { HasSidsApart rows.old.state }
     requires own { visits.old.brand ≡ rows.old.brand }
     ensures ok { OnOk result (rows.new.state ≡ created_over number cid name.now lead (connected rows.old.state lead.real) rows.old.state) }
     ensures touched { IfOk result (λ touched. touched ≡ create_touches_over rows.old.state (find (is_numbered number) rows.old.state.clients.sessions) name.now (connected rows.old.state lead.real)) }
@@ -187,7 +187,7 @@ pub(crate) fn create_channel(
     number: u32,
     create: &CreateChannel<'_>,
 ) -> Result<Touched, Refusal>
-    requires order { HasSidsInOrder rows.old.state }
+    requires order { HasSidsApart rows.old.state }
     requires own { visits.old.brand ≡ rows.old.brand }
     ensures ok { OnOk result (rows.new.state ≡ channel_asked number create.now.cid create.now.name rows.old.state) }
     ensures touched { IfOk result (λ touched. touched ≡ create_touches rows.old.state number create.now.name) }
@@ -210,7 +210,7 @@ fn create_named(
     cid: u32,
     name: &Name,
 ) -> Result<Touched, Refusal>
-    requires order { HasSidsInOrder rows.old.state }
+    requires order { HasSidsApart rows.old.state }
     requires own { visits.old.brand ≡ rows.old.brand }
     ensures ok { OnOk result (rows.new.state ≡ channel_asked number cid name.now rows.old.state) }
     ensures touched { IfOk result (λ touched. touched ≡ create_touches rows.old.state number name.now) }
@@ -234,7 +234,7 @@ fn create_led(
     name: &Name,
     lead: Option<Lead>,
 ) -> Result<Touched, Refusal>
-    requires order { HasSidsInOrder rows.old.state }
+    requires order { HasSidsApart rows.old.state }
     requires own { visits.old.brand ≡ rows.old.brand }
     ensures ok { OnOk result (rows.new.state ≡ created_as number cid name.now lead rows.old.state) }
     ensures touched { IfOk result (λ touched. touched ≡ create_touches_as rows.old.state number name.now lead) }

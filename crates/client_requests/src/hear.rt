@@ -4,7 +4,7 @@ ghost use Rattle.ca_message.specs.ClientRequest.{request_of};
 ghost use Rattle.gateway_state.specs.Numbers.{is_past_numbers};
 ghost use Rattle.gateway_state.specs.Clients.{versioned};
 ghost use Rattle.gateway_state.specs.Requests.{client_said, requested, unreadable};
-ghost use Rattle.gateway_state.specs.Settled.{HasSidsInOrder, HasWriteIdsBelow};
+ghost use Rattle.gateway_state.specs.Settled.{HasSidsApart, HasWriteIdsApart};
 ghost use Rattle.gateway_state.specs.Telling.{told};
 ghost use Rattle.gateway_state.specs.Told.{KnowRights};
 ghost use Rattle.touched_rows.specs.declared.touched.Touched.TheVariants.{Nothing};
@@ -38,8 +38,8 @@ pub fn hear_client(
     number: u32,
     message: Message,
 ) -> Result<Touched, Refusal>
-    requires order { HasSidsInOrder rows.old.state }
-    requires ids { HasWriteIdsBelow rows.old.state }
+    requires order { HasSidsApart rows.old.state }
+    requires ids { HasWriteIdsApart rows.old.state }
     requires told { KnowRights rows.old.state }
     requires own { visits.old.brand ≡ rows.old.brand }
     ensures ok { IfOk result (λ touched. with_touched touched rows.new.state ≡ client_said rows.old.state number message) }
@@ -68,8 +68,8 @@ fn hear_request(
     request: ClientRequest<'_>,
     message: &Message,
 ) -> Result<Touched, Refusal>
-    requires order { HasSidsInOrder rows.old.state }
-    requires ids { HasWriteIdsBelow rows.old.state }
+    requires order { HasSidsApart rows.old.state }
+    requires ids { HasWriteIdsApart rows.old.state }
     requires told { KnowRights rows.old.state }
     requires own { visits.old.brand ≡ rows.old.brand }
     ensures ok { IfOk result (λ touched. with_touched touched rows.new.state ≡ requested rows.old.state number message.now (Ok request.entry)) }

@@ -9,7 +9,7 @@ use ca_message::codes::{ECA_BADCHID, ECA_INTERNAL};
 use ca_message::commands::NO_CHANNEL;
 use channel_table::Visits;
 use gateway_rows::Rows;
-use link_table::Counter;
+use link_table::{Counter, LAST_NUMBER};
 use std::alloc::AllocError;
 
 /// A message isn't understood.
@@ -25,11 +25,13 @@ pub(crate) fn refuse_unknown(rows: &mut Rows, number: u32, head: &Header) -> Res
     rows.tell(number, &said)
 }
 
-/// Whether the number of a channel was given out.
+/// Whether the number of a channel was given out. Where its counter began again, each was.
 fn was_given_out(rows: &Rows, sid: u32) -> bool
     ensures { result ≡ was_given_out rows.now.state sid }
 {
-    rows.config.first <= sid && sid < rows.upstream.next(Counter::Sid)
+    let next = rows.upstream.next(Counter::Sid);
+    let again = rows.upstream.began_again(Counter::Sid);
+    rows.config.first <= sid && (sid < next || again && sid <= LAST_NUMBER)
 }
 
 /// The request names no channel of the session. One on a number that was given out is passed over, where

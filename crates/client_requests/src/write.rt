@@ -2,9 +2,9 @@
 ghost use Rattle.std.specs.Prelude.{◌≡◌, ◌≤◌, ◌+◌, true, Some, OnOk, IfOk, IsErrOf};
 ghost use Rattle.gateway_state.specs.Gateway.{Gateway};
 ghost use Rattle.gateway_state.specs.Numbers.{is_past_numbers};
-ghost use Rattle.gateway_state.specs.Settled.{HasWriteIdsBelow};
+ghost use Rattle.gateway_state.specs.Settled.{HasWriteIdsApart};
 ghost use Rattle.gateway_state.specs.Told.{KnowRights, KnowsRights};
-ghost use Rattle.gateway_state.specs.Writing.{new_write, notified_by, with_write, write_answered, write_asked, write_handed_on, write_judged, write_notify_asked, write_verdict, write_verdict_over, write_waits, written_by};
+ghost use Rattle.gateway_state.specs.Writing.{new_write, next_write_id, notified_by, with_write, write_answered, write_asked, write_handed_on, write_judged, write_notify_asked, write_verdict, write_verdict_over, write_waits, written_by};
 ghost use Rattle.touched_rows.specs.declared.touched.Touched.TheVariants.{Nothing};
 
 use crate::refusals::{refuse_channel, refuse_request};
@@ -15,7 +15,7 @@ use channel_table::{Channel, Visits};
 use gateway_rows::{Refusal, Rows};
 use gateway_state::{Limit, WriteVerdict};
 use gateway_values::{ConnectedVariable, may_write};
-use link_table::{Counter, WaitingWrite};
+use link_table::WaitingWrite;
 use std::alloc::AllocError;
 use touched_rows::Touched;
 
@@ -144,15 +144,16 @@ fn answer_write(
 }
 
 /// Notes that the write waits, under the next ID, which it gives.
-#[tactic(auto, using(gateway_state::proofs::WriteIdsBelow::write_is_new), unfolding(gateway_state::specs::Numbers::is_past_numbers))]
+#[tactic(auto, using(gateway_state::proofs::NewNumbers::write_is_new), unfolding(gateway_state::specs::Numbers::is_past_numbers))]
 fn add_write(rows: &mut Rows, write: ClientWrite, ioid: u32, server: u32) -> Result<u32, Refusal>
-    requires ids { HasWriteIdsBelow rows.old.state }
+    requires ids { HasWriteIdsApart rows.old.state }
     ensures ok { OnOk result (rows.new.state ≡ with_write (new_write rows.old.state server write.session write.sid write.dtype write.count ioid) rows.old.state) }
-    ensures id { IfOk result (λ id. id ≡ rows.old.state.upstream.counters.write) }
+    ensures id { IfOk result (λ id. id ≡ next_write_id rows.old.state server) }
     ensures used_up { IsErrOf result Refusal.NumbersUsedUp → is_past_numbers (with_write (new_write rows.old.state server write.session write.sid write.dtype write.count ioid) rows.old.state) ≡ true }
     ensures brand { rows.new.brand ≡ rows.old.brand }
 {
-    let Some(id) = rows.upstream.give_out(Counter::Write) else {
+    let (reuses, first) = (rows.limits.reuses_numbers, rows.config.first);
+    let Some(id) = rows.upstream.new_write_id(reuses, first, server) else {
         return Err(Refusal::NumbersUsedUp);
     };
     let waiting = WaitingWrite {
@@ -180,7 +181,7 @@ fn hand_on(
     sid: u32,
     value: WrittenValue<'_>,
 ) -> Result<(), Refusal>
-    requires ids { HasWriteIdsBelow rows.old.state }
+    requires ids { HasWriteIdsApart rows.old.state }
     ensures ok { OnOk result (rows.new.state ≡ write_handed_on write.session write.sid ioid write.dtype write.count server sid value.entry rows.old.state) }
     ensures used_up { IsErrOf result Refusal.NumbersUsedUp → is_past_numbers (write_handed_on write.session write.sid ioid write.dtype write.count server sid value.entry rows.old.state) ≡ true }
     ensures brand { rows.new.brand ≡ rows.old.brand }
@@ -207,7 +208,7 @@ pub(crate) fn hear_write_notify(
     head: &Header,
 ) -> Result<Touched, Refusal>
     requires told { KnowRights rows.old.state }
-    requires ids { HasWriteIdsBelow rows.old.state }
+    requires ids { HasWriteIdsApart rows.old.state }
     requires own { visits.old.brand ≡ rows.old.brand }
     ensures ok { OnOk result (rows.new.state ≡ write_notify_asked number write.now.sid write.now.ioid write.now.dtype write.now.count write.now.value head.now rows.old.state) }
     ensures touched { IfOk result (λ touched. touched ≡ Nothing) }

@@ -1,7 +1,6 @@
 -- The value of an outbox.
 use Rattle.std.specs.Prelude.{◌≡◌, ℕ, ◌+◌, ◌-◌, ◌^◌, ◌≤◌, List, length, All, sum_by, min, Bool}
 use Rattle.fanout.specs.declared.outbox.Out.{Out}
-use Rattle.fanout.specs.declared.outbox.TheConstants.{OUTBOX_LIMIT}
 
 -- what waits for a connection, oldest first, and whether the connection must end
 pub record Waiting : Type 0 where
@@ -18,6 +17,6 @@ waiting_bytes box = min (sum_by out_len box.messages) (2 ^ 64 - 1)
 
 -- the count of the bytes is that of these messages, which are so few and so short that it fits
 pub record CountsBytes (messages : List Out) (count : ℕ) : Type 0 where
-  pub few : length messages ≤ OUTBOX_LIMIT
+  pub few : length messages ≤ 2 ^ 32
   pub short : All (λ out. out_len out ≤ 2 ^ 65) messages
   pub counted : count ≡ sum_by out_len messages

@@ -2,6 +2,7 @@
 ghost use Rattle.std.specs.Prelude.{◌≡◌, ◌^◌, ◌≤◌, [], length, drop, take, false, true, OnOk, OnErr, IfOk, IfErr};
 ghost use Rattle.std.specs.VecDeque.{deque_len};
 ghost use Rattle.fanout.specs.Waiting.{out_len, waiting_bytes};
+ghost use Rattle.fanout.specs.declared.outbox.TheConstants.{OUTBOX_LIMIT};
 ghost use Rattle.fanout.specs.Outbox.{refuses, appended, without_first, front, IsRefusalOf};
 
 use bytes::Bytes;
@@ -10,7 +11,7 @@ use std::alloc::{AllocError, Global};
 use std::collections::VecDeque;
 use std::marker::Model;
 
-/// How many messages an outbox holds at most.
+/// How many messages an outbox holds at most, unless it is said otherwise.
 pub const OUTBOX_LIMIT: usize = 16_384;
 
 /// A message as it goes out: its canonical header, and its payload with the padding.
@@ -100,11 +101,20 @@ impl Outbox {
 
     /// Puts a message last. A marked outbox takes none, and a full one is marked instead.
     pub fn append(&mut self, out: Out) -> Result<(), AppendFault>
-        ensures ok { OnOk result (self.new ≡ appended self.old out) }
-        ensures taken { OnOk result (refuses self.old ≡ false) }
-        ensures err { IfErr result (IsRefusalOf self.old out self.new) }
+        ensures ok { OnOk result (self.new ≡ appended OUTBOX_LIMIT self.old out) }
+        ensures taken { OnOk result (refuses OUTBOX_LIMIT self.old ≡ false) }
+        ensures err { IfErr result (IsRefusalOf OUTBOX_LIMIT self.old out self.new) }
     {
-        if self.marked || self.messages.len() >= OUTBOX_LIMIT {
+        self.append_within(OUTBOX_LIMIT as u32, out)
+    }
+
+    /// Puts a message last, where at most so many may wait. A marked outbox takes none, and a full one is marked instead.
+    pub fn append_within(&mut self, most: u32, out: Out) -> Result<(), AppendFault>
+        ensures ok { OnOk result (self.new ≡ appended most self.old out) }
+        ensures taken { OnOk result (refuses most self.old ≡ false) }
+        ensures err { IfErr result (IsRefusalOf most self.old out self.new) }
+    {
+        if self.marked || self.messages.len() >= most as usize {
             self.marked = true;
             return Err(AppendFault::Marked(out));
         }

@@ -3,13 +3,13 @@ use Rattle.std.proofs.Common.{◌≡◌, ℕ, refl, ap, subst, ◌∙◌}
 use Rattle.gateway_notices.specs.Looks.{looks_after}
 use Rattle.gateway_rows.specs.Own.{IsWithin}
 use Rattle.gateway_state.specs.Gateway.{Gateway}
-use Rattle.gateway_state.specs.Settled.{AreInOrder}
+use Rattle.gateway_state.specs.Settled.{AreNumbersApart}
 use Rattle.touched_rows.specs.declared.touched.Touched.{Touched}
 use Rattle.touched_rows.specs.declared.touched.Touched.TheVariants.{All, Gone, Nothing, Session, Variable, Value, Interest, Link, Links, Read, Subscription}
 use Rattle.touched_rows.specs.Touches.{IsReady, with_touched}
 
-pub order_without : (touched : Touched) (w : Gateway) → AreInOrder (with_touched touched w) → AreInOrder w
-order_without (Read name read) w order = record { channels = order.channels; links = order.links; ids = order.ids }
+pub order_without : (touched : Touched) (w : Gateway) → AreNumbersApart (with_touched touched w) → AreNumbersApart w
+order_without (Read name read) w order = record { channels = order.channels; links = order.links; subscriptions = order.subscriptions; writes = order.writes }
 order_without All w order = order
 order_without (Gone names) w order = order
 order_without Nothing w order = order

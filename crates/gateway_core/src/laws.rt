@@ -8,7 +8,7 @@ ghost use Rattle.gateway_state.specs.declared.event.Dest.{Dest};
 ghost use Rattle.gateway_state.specs.declared.event.Event.{Event};
 ghost use Rattle.gateway_state.specs.Delivered.{IsWireForm, given_by, is_loss_of};
 ghost use Rattle.gateway_state.specs.Gateway.{Gateway, initial};
-ghost use Rattle.gateway_state.specs.Settled.{AreInOrder, HasHostsFixed, HasLinksApart, HasLinksOnServers, HasSessionsConnected, HasSubsApart, HasSubsOnChannels, HasWriteIdsBelow, HasWritesOnLinks, IsInUse, IsKeptPosted, IsSettled, IsSubscribedExactly, IsSubscribedTo, IsUpToDate, IsWaiting};
+ghost use Rattle.gateway_state.specs.Settled.{AreNumbersApart, HasHostsFixed, HasLinksApart, HasLinksOnServers, HasServersOfLinks, HasSessionsConnected, HasSubsApart, HasSubsOnChannels, HasWritesOnLinks, IsInUse, IsKeptPosted, IsSettled, IsSubscribedExactly, IsSubscribedTo, IsUpToDate, IsWaiting};
 ghost use Rattle.gateway_state.specs.Step.{consequences, delivered, makes, run};
 
 /// In every state that a run reaches nobody is owed anything: no pass over channels, links, waiting
@@ -106,17 +106,18 @@ pub fn run_keeps_hosts_fixed()
         → HasHostsFixed (run (initial config policy) events) }
 {}
 
-/// In every state that a run reaches each write that waits has an ID below the one that is given out next.
-pub fn run_keeps_write_ids_below()
+/// In every state that a run reaches the server of each link has a row.
+pub fn run_keeps_servers_of_links()
     ensures { (config : Config) (policy : Policy) (events : List Event)
-        → HasWriteIdsBelow (run (initial config policy) events) }
+        → HasServersOfLinks (run (initial config policy) events) }
 {}
 
-/// In every state that a run reaches channels stand in the order of their SIDs, and links in the
-/// order of their CIDs: no number stands twice, and the counters are above them all.
-pub fn run_keeps_numbers_in_order()
+/// In every state that a run reaches numbers tell rows apart: no session has two channels under one SID,
+/// no two links have one CID, and no server has two subscriptions or two writes under one ID. All are below
+/// their counters as long as those didn't begin again at the first number.
+pub fn run_keeps_numbers_apart()
     ensures { (config : Config) (policy : Policy) (events : List Event)
-        → AreInOrder (run (initial config policy) events) }
+        → AreNumbersApart (run (initial config policy) events) }
 {}
 
 /// What was delivered to a connection, once one event more ran, is what was delivered before and then,

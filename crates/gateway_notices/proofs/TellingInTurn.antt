@@ -1,13 +1,14 @@
 -- Updates of which each is worked out when its turn comes are those that were worked out before the first
 -- was told: an outbox only grows meanwhile, so who takes one at its turn took it at the start.
-use Rattle.std.proofs.Common.{◌≡◌, ℕ, List, [], ◌∷◌, Bool, true, false, cond, filter, not, ◌&&◌, Option, Some, None, IfSome, slice_index_or, refl, sym, ap, subst, ◌∙◌}
+use Rattle.std.proofs.Common.{◌≡◌, ℕ, List, [], ◌∷◌, Bool, true, false, cond, filter, not, ◌&&◌, Option, Some, None, IfSome, drop, slice_index_or, refl, sym, ap, subst, ◌∙◌}
 use Rattle.std.specs.List.{All, cons_option, filter_map, fold}
-use Rattle.std.proofs.lemmas.Bool.{true≢false}
-use Rattle.std.proofs.lemmas.List.Elements.{filter_passes}
+use Rattle.std.proofs.lemmas.Bool.{eqb-true, true≢false}
+use Rattle.std.proofs.lemmas.List.Elements.{All-drop, All-filter, All-head, All-tail, filter_passes}
 use Rattle.ca_message.specs.declared.to_client.ToClient.TheVariants as replies
 use Rattle.channel_table.specs.declared.channels.Channel.{Channel}
 use Rattle.channel_table.specs.declared.subs.ClientSub.{ClientSub}
 use Rattle.channel_table.specs.Channels.{is_channel_on}
+use Rattle.channel_table.specs.Subs.{is_sub_of}
 use Rattle.gateway_state.specs.declared.event.Dest.TheVariants.{Session as ToSession}
 use Rattle.gateway_state.specs.declared.notice.UpdateNotice.{UpdateNotice}
 use Rattle.gateway_state.specs.declared.reading.Given.{Given}
@@ -18,7 +19,8 @@ use Rattle.gateway_state.specs.Telling.{outgoing, sent, told}
 use Rattle.gateway_state.specs.Told.{KnowRights}
 use Rattle.gateway_state.specs.Updates.{is_open_to, is_paused, is_sub_to, is_taking, update_by, update_notice, update_on, update_over, update_told, with_owed_of}
 use Rattle.gateway_state.specs.Variables.{ConnectedVariable, connected}
-use Rattle.gateway_notices.specs.InTurn.{is_owed, source_over, told_in_turn}
+use Rattle.gateway_rows.specs.Own.{is_owed, owed_of}
+use Rattle.gateway_notices.specs.InTurn.{source_over, told_in_turn}
 use Rattle.gateway_notices.specs.declared.source.Source.{Source}
 use Rattle.touched_rows.specs.Touched.{update_told_if}
 use Rattle.row_index.proofs.Named.{same_bytes}
@@ -48,7 +50,7 @@ told_later w notice = by (is_taking w notice.session)
     by true = record {
       updates = λ sub. refl;
       paused = λ number. refl;
-      room = λ number taking. no_more_room_given (ToSession notice.session) (outgoing (replies.Update notice.id notice.dtype notice.count notice.payload)) w.connections w.limits number taking;
+      room = λ number taking. no_more_room_given w.limits.messages (ToSession notice.session) (outgoing (replies.Update notice.id notice.dtype notice.count notice.payload)) w.connections w.limits number taking;
     }
     by false = same w
 
@@ -123,6 +125,33 @@ due_to_owed w (sub ∷ subs) = by sub.owed refl (due_to_owed w subs)
         → filter_map (update_notice w) (cond owed (sub ∷ filter is_owed subs) (filter is_owed subs)) ≡ cons_option (update_notice w sub) (filter_map (update_notice w) subs)
     by true is rest = ap (cons_option (update_notice w sub)) rest
     by false is rest = rest ∙ ap (λ (notice : Option UpdateNotice). cons_option notice (filter_map (update_notice w) subs)) (sym (none is))
+
+-- where the outbox of their session takes none, none of these is told
+pub none_told : (w : Gateway) (number : ℕ) (subs : List ClientSub) → All (λ sub. is_sub_of number sub ≡ true) subs → is_taking w number ≡ false → fold told_in_turn w subs ≡ w
+unfolding update_notice
+none_told w number [] of full = refl
+none_told w number (sub ∷ subs) of full = ap (λ (v : Gateway). fold told_in_turn v subs) none ∙ none_told w number subs (All-tail (λ (s : ClientSub). is_sub_of number s ≡ true) sub subs of) full
+  where
+    own : sub.session ≡ number
+    own = eqb-true sub.session number (All-head (λ (s : ClientSub). is_sub_of number s ≡ true) sub subs of)
+
+    none : told_in_turn w sub ≡ w
+    none = elim sub.owed as (λ owed. update_told_if (cond (owed && (not (is_paused w sub.session) && is_taking w sub.session)) (update_on w sub (channel_of w sub.session sub.sid)) None) w ≡ w)
+        [ true ↦ ap (λ (t : Bool). update_told_if (cond t (update_on w sub (channel_of w sub.session sub.sid)) None) w) (closed (is_paused w sub.session) (is_taking w sub.session) (ap (is_taking w) own ∙ full)) | false ↦ refl ]
+      where
+        closed : (paused taking : Bool) → taking ≡ false → (not paused && taking) ≡ false
+        closed true taking is = refl
+        closed false taking is = is
+
+-- so telling those that are left leads nowhere else
+pub none_left : (w end : Gateway) (number : ℕ) (subs : List ClientSub) (place : ℕ) → All (λ sub. is_sub_of number sub ≡ true) subs → is_taking w number ≡ false
+    → fold told_in_turn w (drop place subs) ≡ end → w ≡ end
+none_left w end number subs place of full so_far =
+    sym (none_told w number (drop place subs) (All-drop (λ (s : ClientSub). is_sub_of number s ≡ true) place subs of) full) ∙ so_far
+
+-- what is owed to a session is its own
+pub owed_are_its : (w : Gateway) (number : ℕ) → All (λ sub. is_sub_of number sub ≡ true) (owed_of w number)
+owed_are_its w number = All-filter is_owed (λ (s : ClientSub). is_sub_of number s ≡ true) (filter (is_sub_of number) w.clients.subs) (filter_passes (is_sub_of number) w.clients.subs)
 
 -- who is told takes updates
 pub takes_it : (w : Gateway) (sub : ClientSub) (notice : UpdateNotice) → Some notice ≡ update_notice w sub → is_taking w notice.session ≡ true

@@ -1,5 +1,5 @@
 -- Updates that are told one by one, and where a variable's value is.
-use Rattle.std.specs.Prelude.{Bool, Option, Some, None}
+use Rattle.std.specs.Prelude.{Option, Some, None}
 use Rattle.channel_table.specs.declared.subs.ClientSub.{ClientSub}
 use Rattle.gateway_state.specs.Gateway.{Gateway}
 use Rattle.gateway_state.specs.Variables.{ConnectedVariable}
@@ -14,7 +14,3 @@ told_in_turn w sub = one_update_told sub w
 abbrev pub source_over : Option ConnectedVariable → Option Source
 source_over None = None
 source_over (Some v) = Some (record { cid = v.link.cid; native = v.native.count })
-
--- an update is owed
-abbrev pub is_owed : ClientSub → Bool
-is_owed sub = sub.owed

@@ -3,7 +3,7 @@ ghost use Rattle.std.specs.Prelude.{◌≡◌, ◌≤◌, ◌+◌, ◌*◌, true
 ghost use Rattle.gateway_notices.specs.Looks.{looks_after};
 ghost use Rattle.gateway_rows.specs.Own.{IsWithin, reads_on, subs_on};
 ghost use Rattle.gateway_state.specs.Numbers.{is_past_numbers};
-ghost use Rattle.gateway_state.specs.Settled.{AreInOrder};
+ghost use Rattle.gateway_state.specs.Settled.{AreNumbersApart};
 ghost use Rattle.gateway_state.specs.Step.{consequences};
 ghost use Rattle.gateway_state.specs.Told.{KnowRights};
 ghost use Rattle.gateway_state.specs.Updates.{is_sub_to};
@@ -26,9 +26,9 @@ use std::alloc::AllocError;
 use touched_rows::{Effect, Touched};
 
 /// All passes, over all rows.
-#[tactic(auto, using(gateway_state::proofs::NumberLemmas::links_told_past, gateway_state::proofs::OrderKept::order_before_links, gateway_state::proofs::ToldRights::told_before_withheld, gateway_state::proofs::ToldRights::told_before_links, gateway_state::proofs::ToldRights::told_before_reads, gateway_state::proofs::ToldRights::told_before_updates))]
+#[tactic(auto, using(gateway_state::proofs::NumberLemmas::links_told_past, gateway_state::proofs::NumbersKept::numbers_before_links, gateway_state::proofs::ToldRights::told_before_withheld, gateway_state::proofs::ToldRights::told_before_links, gateway_state::proofs::ToldRights::told_before_reads, gateway_state::proofs::ToldRights::told_before_updates))]
 fn follow_all(rows: &mut Rows, visits: &mut Visits) -> Result<(), Refusal>
-    requires order { AreInOrder rows.old.state }
+    requires order { AreNumbersApart rows.old.state }
     requires own { visits.old.brand ≡ rows.old.brand }
     ensures ok { OnOk result (rows.new.state ≡ consequences rows.old.state) }
     ensures used_up { IsErrOf result Refusal.NumbersUsedUp → is_past_numbers (consequences rows.old.state) ≡ true }
@@ -47,7 +47,7 @@ fn follow_all(rows: &mut Rows, visits: &mut Visits) -> Result<(), Refusal>
 /// The same where names may lead elsewhere. What they lead to is learned first, so that the rules are run
 /// once for each channel.
 fn follow_anew(rows: &mut Rows, visits: &mut Visits) -> Result<(), Refusal>
-    requires order { AreInOrder rows.old.state }
+    requires order { AreNumbersApart rows.old.state }
     requires own { visits.old.brand ≡ rows.old.brand }
     ensures ok { OnOk result (rows.new.state ≡ consequences rows.old.state) }
     ensures used_up { IsErrOf result Refusal.NumbersUsedUp → is_past_numbers (consequences rows.old.state) ≡ true }
@@ -62,7 +62,7 @@ fn follow_anew(rows: &mut Rows, visits: &mut Visits) -> Result<(), Refusal>
 /// All passes, over the rows of one variable.
 #[tactic(auto, using(touched_rows::proofs::Numbers::variable_follows_past, touched_rows::proofs::Ready::order_before_link, touched_rows::proofs::Ready::told_after_withheld, touched_rows::proofs::Ready::told_after_link))]
 fn follow_variable(rows: &mut Rows, visits: &mut Visits, name: &Name) -> Result<(), Refusal>
-    requires order { AreInOrder rows.old.state }
+    requires order { AreNumbersApart rows.old.state }
     requires told { KnowRights (channels_told_on name.now rows.old.state) }
     requires own { visits.old.brand ≡ rows.old.brand }
     ensures ok { OnOk result (rows.new.state ≡ variable_told name.now rows.old.state) }
@@ -129,7 +129,7 @@ fn tell_found(
 /// What follows from an event with this effect. A read that was touched isn't kept yet.
 #[tactic(auto, using(touched_rows::proofs::Numbers::update_follows_past, touched_rows::proofs::Ready::told_after_interest))]
 pub fn follow(rows: &mut Rows, visits: &mut Visits, effect: Effect) -> Result<(), Refusal>
-    requires order { AreInOrder rows.old.state }
+    requires order { AreNumbersApart rows.old.state }
     requires told { IsReady effect.touched rows.old.state }
     requires found { AreFound effect.touched effect.subs.items rows.old.state }
     requires own { visits.old.brand ≡ rows.old.brand }
@@ -154,9 +154,11 @@ pub fn follow(rows: &mut Rows, visits: &mut Visits, effect: Effect) -> Result<()
         Touched::Read(name, read) => tell_new_read(rows, visits, &name, read),
         Touched::Subscription(name, sub) => {
             tell_interest(rows, &name)?;
-            share_with(rows, visits, &name, &sub)?;
+            let is_shared = share_with(rows, visits, &name, &sub)?;
             tell_one_update(rows, visits, sub)?;
-            thin_on(rows, &name);
+            if is_shared {
+                thin_on(rows, &name);
+            }
             Ok(())
         }
     }

@@ -1,7 +1,5 @@
 //! Channels that are gone with the links of several variables.
-ghost use Rattle.std.specs.Prelude.{◌≡◌, ◌≤◌, map, filter, flat_map, OnOk, IfOk};
-ghost use Rattle.channel_table.specs.Channels.{is_on};
-ghost use Rattle.gateway_state.specs.Settled.{HasSidsInOrder};
+ghost use Rattle.std.specs.Prelude.{◌≡◌, ◌≤◌, map, filter, OnOk, IfOk};
 ghost use Rattle.touched_rows.specs.Touched.{channels_gone_on, gone_notices_among, is_channel_among};
 
 use crate::channels::{disconnected, tell_each};
@@ -11,41 +9,19 @@ use gateway_state::ChannelNotice;
 use std::alloc::AllocError;
 use touched_rows::Names;
 
-/// The channels on these variables, in the order of the names.
-fn channels_of<'a>(
-    rows: &'a Rows,
-    visits: &mut Visits,
-    names: &Names,
-) -> Result<Vec<&'a Channel>, AllocError>
-    requires own { visits.old.brand ≡ rows.now.brand }
-    ensures found { IfOk result (λ channels. map (λ channel. channel.now) channels.items ≡ flat_map (λ name. filter (is_on name) rows.now.state.clients.channels) names.now) }
-    ensures no_less { visits.old.looks ≤ visits.new.looks }
-    ensures own { visits.new.brand ≡ visits.old.brand }
-{
-    let mut channels = Vec::new(rows.alloc);
-    for name in names.as_slice() {
-        let mut more = rows.channels_on(visits, name)?;
-        channels.append(&mut more)?;
-    }
-    Ok(channels)
-}
-
-/// The same, each once, in the order in which they were opened.
+/// The channels on these variables, each once, in the order in which they were opened.
 fn channels_among<'a>(
     rows: &'a Rows,
     visits: &mut Visits,
     names: &Names,
 ) -> Result<Vec<&'a Channel>, AllocError>
-    requires order { HasSidsInOrder rows.now.state }
     requires own { visits.old.brand ≡ rows.now.brand }
     ensures found { IfOk result (λ channels. map (λ channel. channel.now) channels.items ≡ filter (is_channel_among names.now) rows.now.state.clients.channels) }
     ensures no_less { visits.old.looks ≤ visits.new.looks }
     ensures own { visits.new.brand ≡ visits.old.brand }
 {
-    let mut channels = channels_of(rows, visits, names)?;
-    channels.sort_unstable_by_key(|channel| channel.sid);
-    channels.dedup_by_key(|channel| channel.sid);
-    Ok(channels)
+    rows.clients
+        .channels_on_any(visits, rows.alloc, names.as_slice())
 }
 
 fn gone_notices(
@@ -53,7 +29,6 @@ fn gone_notices(
     visits: &mut Visits,
     names: &Names,
 ) -> Result<Vec<ChannelNotice>, AllocError>
-    requires order { HasSidsInOrder rows.now.state }
     requires own { visits.old.brand ≡ rows.now.brand }
     ensures found { IfOk result (λ notices. notices.items ≡ gone_notices_among names.now rows.now.state) }
     ensures no_less { visits.old.looks ≤ visits.new.looks }
@@ -72,7 +47,6 @@ pub(crate) fn tell_gone(
     visits: &mut Visits,
     names: &Names,
 ) -> Result<(), AllocError>
-    requires order { HasSidsInOrder rows.old.state }
     requires own { visits.old.brand ≡ rows.old.brand }
     ensures ok { OnOk result (rows.new.state ≡ channels_gone_on names.now rows.old.state) }
     ensures no_less { visits.old.looks ≤ visits.new.looks }

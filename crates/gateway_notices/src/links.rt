@@ -1,11 +1,11 @@
 //! What servers are owed about links.
-ghost use Rattle.std.specs.Prelude.{◌≡◌, ◌++◌, map, filter, filter_map, true, false, fold, OnOk, IfOk, IfSome, IsErrOf};
+ghost use Rattle.std.specs.Prelude.{◌≡◌, ◌++◌, map, filter, true, false, fold, OnOk, IfOk, IfSome, IsErrOf};
 ghost use Rattle.std.specs.List.{list_any};
 ghost use Rattle.link_table.specs.Links.{has_other_sub};
 ghost use Rattle.gateway_state.specs.Interest.{wanted_for};
 ghost use Rattle.gateway_state.specs.Numbers.{is_past_numbers};
 ghost use Rattle.gateway_state.specs.Notices.{dropped, interest_notices, link_notices, link_notices_of, link_told, links_told, subject_notices, subscribed_to, with_subscription_of};
-ghost use Rattle.gateway_state.specs.Settled.{AreInOrder, HasCidsInOrder, HasLinksApart};
+ghost use Rattle.gateway_state.specs.Settled.{AreNumbersApart};
 ghost use Rattle.gateway_state.specs.Told.{KnowRights};
 ghost use Rattle.gateway_state.specs.Variables.{link_of};
 ghost use Rattle.touched_rows.specs.Touched.{interest_notices_over, interest_told, is_link_among, link_notices_among, link_notices_over, link_told_on, links_told_among};
@@ -15,7 +15,7 @@ use ca_message::ToServer;
 use gateway_rows::{Refusal, Rows};
 use gateway_state::{LinkNotice, Native};
 use gateway_values::{is_for, sent_for, type_for};
-use link_table::{Counter, Link, LinkState, Subject, Subscription, TableFault};
+use link_table::{Link, LinkState, Subject, Subscription, TableFault};
 use mask_merge::Want;
 use pv_name::Name;
 use std::alloc::AllocError;
@@ -154,12 +154,13 @@ fn subscribe(
     want: Want,
     sent: u32,
 ) -> Result<(), Refusal>
-    requires order { AreInOrder rows.old.state }
+    requires order { AreNumbersApart rows.old.state }
     ensures ok { OnOk result (rows.new.state ≡ subscribed_to subject server cid sid dtype want sent rows.old.state) }
     ensures used_up { IsErrOf result Refusal.NumbersUsedUp → is_past_numbers (subscribed_to subject server cid sid dtype want sent rows.old.state) ≡ true }
     ensures brand { rows.new.brand ≡ rows.old.brand }
 {
-    let Some(id) = rows.upstream.give_out(Counter::Subscription) else {
+    let (reuses, first) = (rows.limits.reuses_numbers, rows.config.first);
+    let Some(id) = rows.upstream.new_sub_id(reuses, first, server) else {
         return Err(Refusal::NumbersUsedUp);
     };
     let subscription = Subscription {
@@ -197,7 +198,7 @@ fn drop_link(rows: &mut Rows, server: u32, cid: u32, state: LinkState) -> Result
 }
 
 fn tell_link(rows: &mut Rows, notice: LinkNotice) -> Result<(), Refusal>
-    requires order { AreInOrder rows.old.state }
+    requires order { AreNumbersApart rows.old.state }
     ensures ok { OnOk result (rows.new.state ≡ link_told rows.old.state notice) }
     ensures used_up { IsErrOf result Refusal.NumbersUsedUp → is_past_numbers (link_told rows.old.state notice) ≡ true }
     ensures brand { rows.new.brand ≡ rows.old.brand }
@@ -241,9 +242,9 @@ fn tell_link(rows: &mut Rows, notice: LinkNotice) -> Result<(), Refusal>
     }
 }
 
-#[tactic(auto, using(gateway_state::proofs::OrderKept::order_told))]
+#[tactic(auto, using(gateway_state::proofs::NumbersKept::numbers_told))]
 fn tell_each(rows: &mut Rows, notices: &[LinkNotice]) -> Result<(), Refusal>
-    requires order { AreInOrder rows.old.state }
+    requires order { AreNumbersApart rows.old.state }
     ensures ok { OnOk result (rows.new.state ≡ fold link_told rows.old.state notices.now) }
     ensures used_up { IsErrOf result Refusal.NumbersUsedUp → is_past_numbers (fold link_told rows.old.state notices.now) ≡ true }
     ensures brand { rows.new.brand ≡ rows.old.brand }
@@ -256,7 +257,7 @@ fn tell_each(rows: &mut Rows, notices: &[LinkNotice]) -> Result<(), Refusal>
 
 /// Asks servers for what is wanted of each variable, and drops links that are no longer wanted.
 pub(crate) fn tell_links(rows: &mut Rows) -> Result<(), Refusal>
-    requires order { AreInOrder rows.old.state }
+    requires order { AreNumbersApart rows.old.state }
     requires told { KnowRights rows.old.state }
     ensures ok { OnOk result (rows.new.state ≡ links_told rows.old.state) }
     ensures used_up { IsErrOf result Refusal.NumbersUsedUp → is_past_numbers (links_told rows.old.state) ≡ true }
@@ -279,7 +280,7 @@ fn interest_notices_on(rows: &Rows, name: &Name) -> Result<Vec<LinkNotice>, Allo
 
 /// Asks one variable's server for what is wanted of it.
 pub(crate) fn tell_interest(rows: &mut Rows, name: &Name) -> Result<(), Refusal>
-    requires order { AreInOrder rows.old.state }
+    requires order { AreNumbersApart rows.old.state }
     requires told { KnowRights rows.old.state }
     ensures ok { OnOk result (rows.new.state ≡ interest_told name.now rows.old.state) }
     ensures used_up { IsErrOf result Refusal.NumbersUsedUp → is_past_numbers (interest_told name.now rows.old.state) ≡ true }
@@ -302,7 +303,7 @@ fn link_notices_on(rows: &Rows, name: &Name) -> Result<Vec<LinkNotice>, AllocErr
 
 /// The same, and drops its link where it is no longer wanted.
 pub(crate) fn tell_link_on(rows: &mut Rows, name: &Name) -> Result<(), Refusal>
-    requires order { AreInOrder rows.old.state }
+    requires order { AreNumbersApart rows.old.state }
     requires told { KnowRights rows.old.state }
     ensures ok { OnOk result (rows.new.state ≡ link_told_on name.now rows.old.state) }
     ensures used_up { IsErrOf result Refusal.NumbersUsedUp → is_past_numbers (link_told_on name.now rows.old.state) ≡ true }
@@ -312,35 +313,15 @@ pub(crate) fn tell_link_on(rows: &mut Rows, name: &Name) -> Result<(), Refusal>
     tell_each(rows, &notices)
 }
 
-/// The links of these variables, in the order of the names.
-fn links_of<'a>(rows: &'a Rows, names: &Names) -> Result<Vec<&'a Link>, AllocError>
-    ensures { IfOk result (λ links. map (λ link. link.now) links.items ≡ filter_map (link_of rows.now.state) names.now) }
-{
-    let mut links = Vec::new(rows.alloc);
-    for name in names.as_slice() {
-        if let Some(link) = rows.link_of(name) {
-            links.push(link)?;
-        }
-    }
-    Ok(links)
-}
-
-/// The same, each once, in the order of links.
+/// The links of these variables, each once, in the order of links.
 fn links_among<'a>(rows: &'a Rows, names: &Names) -> Result<Vec<&'a Link>, AllocError>
-    requires order { HasCidsInOrder rows.now.state }
-    requires apart { HasLinksApart rows.now.state }
     ensures { IfOk result (λ links. map (λ link. link.now) links.items ≡ filter (is_link_among names.now) rows.now.state.upstream.links) }
 {
-    let mut links = links_of(rows, names)?;
-    links.sort_unstable_by_key(|link| link.cid);
-    links.dedup_by_key(|link| link.cid);
-    Ok(links)
+    rows.upstream.links_named(rows.alloc, names.as_slice())
 }
 
 /// The notices on the links of these variables.
 fn link_notices_among(rows: &Rows, names: &Names) -> Result<Vec<LinkNotice>, AllocError>
-    requires order { HasCidsInOrder rows.now.state }
-    requires apart { HasLinksApart rows.now.state }
     requires told { KnowRights rows.now.state }
     ensures { IfOk result (λ notices. notices.items ≡ link_notices_among names.now rows.now.state) }
 {
@@ -353,7 +334,7 @@ fn link_notices_among(rows: &Rows, names: &Names) -> Result<Vec<LinkNotice>, All
 
 /// The same of each of these variables, in the order of their links.
 pub(crate) fn tell_links_among(rows: &mut Rows, names: &Names) -> Result<(), Refusal>
-    requires order { AreInOrder rows.old.state }
+    requires order { AreNumbersApart rows.old.state }
     requires ready { AreReady rows.old.state }
     ensures ok { OnOk result (rows.new.state ≡ links_told_among names.now rows.old.state) }
     ensures used_up { IsErrOf result Refusal.NumbersUsedUp → is_past_numbers (links_told_among names.now rows.old.state) ≡ true }

@@ -4,7 +4,7 @@ ghost use Rattle.gateway_notices.specs.LateReads.{read_said};
 ghost use Rattle.gateway_rows.specs.Own.{reads_on};
 ghost use Rattle.gateway_state.specs.Notices.{answered_over, read_notice, read_notices, read_told, reads_told};
 ghost use Rattle.gateway_state.specs.Numbers.{is_past_numbers};
-ghost use Rattle.gateway_state.specs.Settled.{AreInOrder};
+ghost use Rattle.gateway_state.specs.Settled.{AreNumbersApart};
 ghost use Rattle.gateway_state.specs.Told.{KnowRights};
 ghost use Rattle.gateway_state.specs.Variables.{connected};
 ghost use Rattle.touched_rows.specs.Touched.{interest_told, one_read_told, read_notices_on, reads_told_on};
@@ -211,7 +211,7 @@ pub(crate) fn tell_new_read(
     name: &Name,
     read: WaitingRead,
 ) -> Result<(), Refusal>
-    requires order { AreInOrder rows.old.state }
+    requires order { AreNumbersApart rows.old.state }
     requires told { KnowRights rows.old.state }
     requires own { visits.old.brand ≡ rows.old.brand }
     ensures ok { OnOk result (rows.new.state ≡ one_read_told read (interest_told name.now (with_read read rows.old.state))) }
@@ -246,7 +246,7 @@ fn tell_kept_read(
     name: &Name,
     read: WaitingRead,
 ) -> Result<(), Refusal>
-    requires order { AreInOrder rows.old.state }
+    requires order { AreNumbersApart rows.old.state }
     requires told { KnowRights rows.old.state }
     requires own { visits.old.brand ≡ rows.old.brand }
     ensures ok { OnOk result (rows.new.state ≡ one_read_told read (interest_told name.now (with_read read rows.old.state))) }

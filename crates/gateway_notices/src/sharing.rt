@@ -47,13 +47,13 @@ pub(crate) fn share_on(
     Ok(())
 }
 
-/// The same of one subscription, where the variable has others.
+/// The same of one subscription, where the variable has others. It tells whether anything was kept.
 pub(crate) fn share_with(
     rows: &mut Rows,
     visits: &mut Visits,
     name: &Name,
     sub: &ClientSub,
-) -> Result<(), AllocError>
+) -> Result<bool, AllocError>
     requires own { visits.old.brand ≡ rows.old.brand }
     ensures same { rows.new.state ≡ rows.old.state }
     ensures bound { visits.new.looks ≤ visits.old.looks + 1 }
@@ -62,12 +62,13 @@ pub(crate) fn share_with(
     ensures own { visits.new.brand ≡ visits.old.brand }
 {
     if rows.clients.subs_on(name) < 2 || !is_waiting(rows, visits, sub) {
-        return Ok(());
+        return Ok(false);
     }
-    match source_of(rows, name) {
-        Some(source) => rows.keep_value(source.cid, source.native, sub.dtype, sub.count),
-        None => Ok(()),
-    }
+    let Some(source) = source_of(rows, name) else {
+        return Ok(false);
+    };
+    rows.keep_value(source.cid, source.native, sub.dtype, sub.count)?;
+    Ok(true)
 }
 
 // Whether a subscription may be told an update, by the rights that were told last. What is kept for

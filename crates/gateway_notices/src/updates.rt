@@ -1,7 +1,8 @@
 //! What clients are owed about their subscriptions.
 ghost use Rattle.std.specs.Prelude.{◌≡◌, ◌≤◌, ◌+◌, ◌*◌, All, filter, length, true, Some, fold, OnOk, IfOk};
-ghost use Rattle.gateway_notices.specs.InTurn.{is_owed, source_over, told_in_turn};
-ghost use Rattle.gateway_rows.specs.Own.{subs_on};
+ghost use Rattle.channel_table.specs.Subs.{is_sub_of};
+ghost use Rattle.gateway_notices.specs.InTurn.{source_over, told_in_turn};
+ghost use Rattle.gateway_rows.specs.Own.{is_owed, subs_on};
 ghost use Rattle.gateway_state.specs.Rights.{channel_of};
 ghost use Rattle.gateway_state.specs.Told.{KnowRights, KnowsRights};
 ghost use Rattle.gateway_state.specs.Updates.{is_open_to, is_paused, is_sub_to, is_taking, is_unreadable, is_withheld, update_notice, update_on, update_over, update_told, updates_told, updates_withheld, withheld};
@@ -421,8 +422,35 @@ fn tell_one_by_one(
     Ok(())
 }
 
+/// The same of subscriptions of one session, as long as its outbox takes any: so what a session has to wait for costs
+/// nothing each time that a few of its messages went out.
+#[tactic(auto, using(crate::proofs::TellingInTurn::know_rights_next, crate::proofs::TellingInTurn::none_left))]
+fn tell_while_taking(
+    rows: &mut Rows,
+    visits: &mut Visits,
+    number: u32,
+    subs: &[ClientSub],
+) -> Result<(), AllocError>
+    requires told { KnowRights rows.old.state }
+    requires of { All (λ sub. is_sub_of number sub ≡ true) subs.now }
+    requires own { visits.old.brand ≡ rows.old.brand }
+    ensures ok { OnOk result (rows.new.state ≡ fold told_in_turn rows.old.state subs.now) }
+    ensures no_less { visits.old.looks ≤ visits.new.looks }
+    ensures brand { rows.new.brand ≡ rows.old.brand }
+    ensures own { visits.new.brand ≡ visits.old.brand }
+{
+    for sub in subs {
+        if !rows.is_taking(number) {
+            rows.note_held(number);
+            return Ok(());
+        }
+        tell_one_update(rows, visits, *sub)?;
+    }
+    Ok(())
+}
+
 /// Gives the updates that are due to a session.
-#[tactic(auto, using(crate::proofs::TellingInTurn::told_one_by_one))]
+#[tactic(auto, using(crate::proofs::TellingInTurn::told_one_by_one, crate::proofs::TellingInTurn::due_to_owed, crate::proofs::TellingInTurn::owed_are_its))]
 pub(crate) fn tell_updates_to(
     rows: &mut Rows,
     visits: &mut Visits,
@@ -435,8 +463,8 @@ pub(crate) fn tell_updates_to(
     ensures brand { rows.new.brand ≡ rows.old.brand }
     ensures own { visits.new.brand ≡ visits.old.brand }
 {
-    let subs = rows.subs_of(visits, number)?;
-    tell_one_by_one(rows, visits, &subs)
+    let subs = rows.owed_of(visits, number)?;
+    tell_while_taking(rows, visits, number, &subs)
 }
 
 /// Gives all updates that are due.

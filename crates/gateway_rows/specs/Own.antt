@@ -1,5 +1,7 @@
 -- How many rows a variable has, and how many rows of clients are looked at.
-use Rattle.std.specs.Prelude.{◌≤◌, ⊤, ℕ, ◌+◌, List, length, filter, Option, Some, None}
+use Rattle.std.specs.Prelude.{◌≤◌, ⊤, ℕ, ◌+◌, Bool, List, length, filter, Option, Some, None}
+use Rattle.channel_table.specs.declared.subs.ClientSub.{ClientSub}
+use Rattle.channel_table.specs.Subs.{is_sub_of}
 use Rattle.link_table.specs.declared.links.Link.{Link}
 use Rattle.gateway_state.specs.Gateway.{Gateway}
 use Rattle.gateway_state.specs.Servers.{waits_for}
@@ -18,7 +20,15 @@ subs_on w name = length (filter (is_sub_to w name) w.clients.subs)
 abbrev pub reads_on : Gateway → List ℕ → ℕ
 reads_on w name = length (filter (waits_for w name) w.clients.reads)
 
--- all of them
+-- an update is owed
+abbrev pub is_owed : ClientSub → Bool
+is_owed sub = sub.owed
+
+-- the subscriptions of a session that are owed an update
+abbrev pub owed_of : Gateway → ℕ → List ClientSub
+owed_of w session = filter is_owed (filter (is_sub_of session) w.clients.subs)
+
+-- all rows of a variable
 abbrev pub own : Gateway → List ℕ → ℕ
 own w name = channels_on w name + subs_on w name + reads_on w name
 

@@ -5,7 +5,7 @@ ghost use Rattle.gateway_state.specs.Aged.{age_told, is_link_overdue, links_give
 
 use crate::state::Rows;
 use gateway_state::LastAge;
-use gateway_values::is_creating;
+use gateway_values::{is_creating, is_older};
 use link_table::{Counter, Link};
 use std::alloc::AllocError;
 
@@ -21,7 +21,8 @@ impl Rows {
     fn is_link_overdue(&self, link: &Link) -> bool
         ensures { result ≡ is_link_overdue self.now.state link.now }
     {
-        is_creating(link.state) && link.cid < self.last_age.cid
+        let next = self.upstream.next(Counter::Cid);
+        is_creating(link.state) && is_older(self.last_age.cid, next, link.cid)
     }
 
     /// Which links are so.

@@ -19,6 +19,7 @@ mod connections;
 mod fault;
 mod interest;
 mod limits;
+mod numbers;
 mod own;
 mod policy;
 mod rights;

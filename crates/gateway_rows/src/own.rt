@@ -4,6 +4,7 @@ ghost use Rattle.channel_table.specs.Subs.{is_sub_of};
 ghost use Rattle.gateway_state.specs.Servers.{waits_for};
 ghost use Rattle.gateway_state.specs.Updates.{is_sub_to};
 ghost use Rattle.channel_table.specs.Channels.{is_on};
+ghost use Rattle.gateway_rows.specs.Own.{is_owed, owed_of};
 
 use crate::state::Rows;
 use channel_table::{Channel, ClientSub, Table, Visits, WaitingRead};
@@ -97,33 +98,35 @@ impl Rows {
         self.spare = subs;
     }
 
-    /// The subscriptions of a session, in the order in which they were made.
-    pub fn subs_of(&self, visits: &mut Visits, session: u32) -> Result<Vec<ClientSub>, AllocError>
+    /// The subscriptions of a session that are owed an update, in the order in which they were made.
+    pub fn owed_of(&self, visits: &mut Visits, session: u32) -> Result<Vec<ClientSub>, AllocError>
         requires own { visits.old.brand ≡ self.now.brand }
-        ensures found { IfOk result (λ subs. subs.items ≡ filter (is_sub_of session) self.now.state.clients.subs) }
+        ensures found { IfOk result (λ subs. subs.items ≡ owed_of self.now.state session) }
         ensures no_less { visits.old.looks ≤ visits.new.looks }
         ensures own { visits.new.brand ≡ visits.old.brand }
     {
-        subs_of(self.alloc, &self.clients, visits, session)
+        owed_of(self.alloc, &self.clients, visits, session)
     }
 }
 
-#[tactic(auto, using(crate::proofs::Counted::taken_one_more, crate::proofs::Counted::taken_none))]
-fn subs_of(
+#[tactic(auto, using(crate::proofs::Counted::kept_one_more, crate::proofs::Counted::passed_one_more, crate::proofs::Counted::kept_none))]
+fn owed_of(
     alloc: Global,
     clients: &Table,
     visits: &mut Visits,
     session: u32,
 ) -> Result<Vec<ClientSub>, AllocError>
     requires own { visits.old.brand ≡ clients.now.brand }
-    ensures found { IfOk result (λ subs. subs.items ≡ filter (is_sub_of session) clients.now.rows.subs) }
+    ensures found { IfOk result (λ subs. subs.items ≡ filter is_owed (filter (is_sub_of session) clients.now.rows.subs)) }
     ensures no_less { visits.old.looks ≤ visits.new.looks }
     ensures own { visits.new.brand ≡ visits.old.brand }
 {
     let mut subs = Vec::new(alloc);
     for n in 0..clients.sub_count(session) {
         if let Some(sub) = clients.sub_of(visits, session, n) {
-            subs.push(*sub)?;
+            if sub.owed {
+                subs.push(*sub)?;
+            }
         }
     }
     Ok(subs)

@@ -18,7 +18,8 @@ impl Rows {
         ensures ok { OnOk result (self.new.state ≡ sent dest out self.old.state) }
         ensures brand { self.new.brand ≡ self.old.brand }
     {
-        self.connections.give(dest, out)
+        let most = self.limits.most_for(dest);
+        self.connections.give(most, dest, out)
     }
 
     /// Tells a client something.

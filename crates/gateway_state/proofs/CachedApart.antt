@@ -62,10 +62,11 @@ cached_apart_kept : IsKept HasCachedApart
 cached_apart_kept = record {
   rows = record {
     messages = messages_kept HasCachedApart (λ dest change w apart. apart);
-    connection_added = λ dest w apart. apart;
+    connection_added = λ dest w rowed apart. apart;
     session_added = λ row w there apart. apart;
     session_changed = λ number change w same apart. apart;
-    servers = λ rows w apart. apart;
+    server_added = λ row w apart. apart;
+    server_changed = λ number minor w apart. apart;
     cache_left = λ stays w apart. apart_filtered stays w.cache apart;
     cached = λ server cid change w apart. apart_put server cid change w.cache apart;
     bare = λ cid w apart other.

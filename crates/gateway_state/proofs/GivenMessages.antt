@@ -21,7 +21,7 @@ use Rattle.gateway_state.specs.declared.event.Dest.TheVariants.{Session, Upstrea
 use Rattle.gateway_state.specs.declared.event.Event.{Event}
 use Rattle.gateway_state.specs.declared.event.Event.TheVariants.{Opened, Lost, Client, UpOpened, UpLost, Server, Found, Search, Sweep, Edit, Drain, Limit, Age, Probe}
 use Rattle.gateway_state.specs.Asked.{stands}
-use Rattle.gateway_state.specs.Connections.{fresh, given, is_not_to, is_to, marked_now, outbox_in, outbox_of, relieved, same_dest}
+use Rattle.gateway_state.specs.Connections.{fresh, given, is_not_to, is_to, marked_now, most_for, outbox_in, outbox_of, relieved, same_dest}
 use Rattle.gateway_state.specs.Delivered.{IsSaidBy, IsWireForm, before_said, given_by, is_loss_of, waiting_for}
 use Rattle.gateway_state.specs.Direct.{direct_effect}
 use Rattle.gateway_state.specs.Gateway.{Gateway}
@@ -55,8 +55,8 @@ grown_on event dest a b c first second = record {
   said = All-append (IsWireForm event dest) first.given second.given first.said second.said;
 }
 
-appended_grows : (event : Event) (dest : Dest) (box : Waiting) (out : Out) → IsWireForm event dest out → HasGrown event dest box.messages (appended box out).messages
-appended_grows event dest box out wire = by (refuses box)
+appended_grows : (event : Event) (dest : Dest) (most : ℕ) (box : Waiting) (out : Out) → IsWireForm event dest out → HasGrown event dest box.messages (appended most box out).messages
+appended_grows event dest most box out wire = by (refuses most box)
   where
     by : (full : Bool) → HasGrown event dest box.messages (cond full (record box { marked = true }) (record box { messages = box.messages ++ out ∷ [] })).messages
     by true = as_before event dest box.messages box.messages refl
@@ -65,16 +65,16 @@ appended_grows event dest box out wire = by (refuses box)
 abbrev messages_of : Dest → List Connection → List Out
 messages_of dest rows = (outbox_of dest rows).messages
 
-sent_grows : (event : Event) (dest to : Dest) (out : Out) (rows : List Connection) → (to ≡ dest → IsWireForm event dest out)
-    → HasGrown event dest (messages_of dest rows) (messages_of dest (change_first (is_to to) (given out) rows))
-sent_grows event dest to out [] wire = as_before event dest [] [] refl
-sent_grows event dest to out (row ∷ rows) wire = by (is_to to row) (is_to dest row) refl refl (sent_grows event dest to out rows wire)
+sent_grows : (event : Event) (dest to : Dest) (most : ℕ) (out : Out) (rows : List Connection) → (to ≡ dest → IsWireForm event dest out)
+    → HasGrown event dest (messages_of dest rows) (messages_of dest (change_first (is_to to) (given most out) rows))
+sent_grows event dest to most out [] wire = as_before event dest [] [] refl
+sent_grows event dest to most out (row ∷ rows) wire = by (is_to to row) (is_to dest row) refl refl (sent_grows event dest to most out rows wire)
   where
     by : (hit own : Bool) → is_to to row ≡ hit → is_to dest row ≡ own
-        → HasGrown event dest (messages_of dest rows) (messages_of dest (change_first (is_to to) (given out) rows))
+        → HasGrown event dest (messages_of dest rows) (messages_of dest (change_first (is_to to) (given most out) rows))
         → HasGrown event dest (outbox_in (cond own (Some row) (find (is_to dest) rows))).messages
-        (messages_of dest (cond hit (given out row ∷ rows) (row ∷ change_first (is_to to) (given out) rows)))
-    by true true is_hit is_own rest = rw (messages_of, is_own) (appended_grows event dest row.outbox out (wire (sym (same_dest_is row.dest to is_hit) ∙ same_dest_is row.dest dest is_own)))
+        (messages_of dest (cond hit (given most out row ∷ rows) (row ∷ change_first (is_to to) (given most out) rows)))
+    by true true is_hit is_own rest = rw (messages_of, is_own) (appended_grows event dest most row.outbox out (wire (sym (same_dest_is row.dest to is_hit) ∙ same_dest_is row.dest dest is_own)))
     by true false is_hit is_own rest = rw (messages_of, is_own) (as_before event dest (messages_of dest rows) (messages_of dest rows) refl)
     by false true is_hit is_own rest = rw (messages_of, is_own) (as_before event dest row.outbox.messages row.outbox.messages refl)
     by false false is_hit is_own rest = rw (messages_of, is_own) rest
@@ -105,7 +105,7 @@ module _ (x : Gateway) (event : Event) (dest : Dest) where
   grown_by : (to : Dest) (out : Out) (v : Gateway) → (to ≡ dest → IsWireForm event dest out) → GrownFrom v → GrownFrom (sent to out v)
   unfolding sent
   grown_by to out v wire grown =
-      grown_on event dest (waiting_for x dest) (waiting_for v dest) (messages_of dest (change_first (is_to to) (given out) v.connections)) grown (sent_grows event dest to out v.connections wire)
+      grown_on event dest (waiting_for x dest) (waiting_for v dest) (messages_of dest (change_first (is_to to) (given (most_for v.limits to) out) v.connections)) grown (sent_grows event dest to (most_for v.limits to) out v.connections wire)
 
   same_still : (v : Gateway) (after : List Out) → after ≡ waiting_for v dest → GrownFrom v → HasGrown event dest (waiting_for x dest) after
   same_still v after same grown = subst (λ (l : List Out). HasGrown event dest (waiting_for x dest) l) (sym same) grown
@@ -132,10 +132,11 @@ module _ (x : Gateway) (event : Event) (dest : Dest) where
       asking = λ number said w grown. grown_by (Upstream number) (outgoing_upstream said) w (to_server number said) grown;
       marking = λ to w grown. same_still w (messages_of dest (change_first (is_to to) marked_now w.connections)) (marked_same dest to w.connections) grown;
     };
-    connection_added = λ new w grown. same_still w (messages_of dest (w.connections ++ fresh new ∷ [])) (added_same dest new w.connections) grown;
+    connection_added = λ new w rowed grown. same_still w (messages_of dest (w.connections ++ fresh new ∷ [])) (added_same dest new w.connections) grown;
     session_added = λ row w there grown. grown;
     session_changed = λ number change w same grown. grown;
-    servers = λ rows w grown. grown;
+    server_added = λ row w grown. grown;
+    server_changed = λ number minor w grown. grown;
     cache_left = λ stays w grown. grown;
     cached = λ server cid change w grown. grown;
     bare = λ cid w grown. grown;

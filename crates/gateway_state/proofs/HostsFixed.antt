@@ -66,13 +66,14 @@ hosts_fixed_kept : IsKept HasHostsFixed
 hosts_fixed_kept = record {
   rows = record {
     messages = messages_kept HasHostsFixed (λ dest change w fixed. fixed);
-    connection_added = λ dest w fixed. fixed;
+    connection_added = λ dest w rowed fixed. fixed;
     session_added = λ row w there fixed.
         all_weaker (has_host_fixed w) (has_fixed_in (w.clients.sessions ++ row ∷ [])) w.clients.channels (λ c is. fixed_more c.session w.clients.sessions row is) fixed;
     session_changed = λ number change w same fixed.
         all_weaker (has_host_fixed w) (has_fixed_in (change_first (is_numbered number) change w.clients.sessions)) w.clients.channels
         (λ c is. fixed_changed c.session number change w.clients.sessions same is) fixed;
-    servers = λ rows w fixed. fixed;
+    server_added = λ row w fixed. fixed;
+    server_changed = λ number minor w fixed. fixed;
     cache_left = λ stays w fixed. fixed;
     cached = λ server cid change w fixed. fixed;
     bare = λ cid w fixed. fixed;

@@ -1,5 +1,5 @@
 -- What every state of a run has, if each change of rows keeps it.
-use Rattle.std.proofs.Common.{◌≡◌, ℕ, ◌+◌, List, [], ◌∷◌, ◌++◌, Bool, true, false, cond, Some, None, Ok, refl}
+use Rattle.std.proofs.Common.{◌≡◌, ℕ, List, [], ◌∷◌, ◌++◌, Bool, true, false, cond, Some, None, Ok, refl}
 use Rattle.std.specs.Prelude.{filter, is_some}
 use Rattle.std.specs.List.{find, list_any}
 use Rattle.rows.specs.Rows.{change_first}
@@ -31,25 +31,30 @@ use Rattle.gateway_state.specs.declared.last_age.LastAge.{LastAge}
 use Rattle.gateway_state.specs.declared.limits.Limits.{Limits}
 use Rattle.rule_desk.specs.declared.policy.Policy.{Policy}
 use Rattle.gateway_state.specs.declared.connections.Connection.{Connection}
+use Rattle.fanout.specs.declared.outbox.TheConstants.{OUTBOX_LIMIT}
 use Rattle.fanout.specs.Outbox.{appended}
 use Rattle.fanout.specs.Waiting.{Waiting}
 use Rattle.gateway_state.specs.declared.search.Search.{Search}
+use Rattle.link_table.specs.declared.counter.Counter.TheVariants.{Cid as CountsCids, Subscription as CountsSubscriptions}
+use Rattle.link_table.specs.Counters.{given_out}
+use Rattle.link_table.specs.LinkRows.{has_server}
 use Rattle.link_table.specs.Links.{new_link}
-use Rattle.gateway_state.specs.Clients.{no_reach, with_channel, without_channel}
+use Rattle.link_table.specs.Servers.{is_server, with_minor}
+use Rattle.gateway_state.specs.Clients.{next_sid, no_reach, with_channel, without_channel}
 use Rattle.gateway_state.specs.Asked.{stands}
 use Rattle.gateway_state.specs.CachedRows.{put_row}
 use Rattle.gateway_state.specs.Connections.{fresh, is_to}
 use Rattle.gateway_state.specs.Delivered.{IsSaidBy}
 use Rattle.gateway_state.specs.Gateway.{Gateway}
-use Rattle.gateway_state.specs.Notices.{forgotten, with_reach, with_subscription_of, without_read}
-use Rattle.gateway_state.specs.Servers.{with_link_state, without_link}
+use Rattle.gateway_state.specs.Notices.{forgotten, next_sub_id, with_reach, with_subscription_of, without_read}
+use Rattle.gateway_state.specs.Servers.{next_cid, with_link_state, without_link}
 use Rattle.gateway_state.specs.Sessions.{lost, up_lost}
 use Rattle.gateway_state.specs.Subscribing.{sub_of, with_sub, without_sub}
 use Rattle.gateway_state.specs.Settled.{is_host_fixed, is_write_on_link}
 use Rattle.gateway_state.specs.Telling.{asked, marked, outgoing, outgoing_upstream, sent, told}
 use Rattle.gateway_state.specs.Updates.{owed_to, owed_to_all, with_owed_of}
 use Rattle.gateway_state.specs.Variables.{is_linked}
-use Rattle.gateway_state.specs.Writing.{with_write, without_write}
+use Rattle.gateway_state.specs.Writing.{next_write_id, with_write, without_write}
 
 -- the outbox of one connection is changed
 abbrev pub with_outbox : Dest → (Waiting → Waiting) → Gateway → Gateway
@@ -81,14 +86,16 @@ with_limits limits w = record w { limits = limits }
 abbrev pub with_last_age : LastAge → Gateway → Gateway
 with_last_age last w = record w { last_age = last }
 
-abbrev pub with_next_subscription : ℕ → Gateway → Gateway
-with_next_subscription next w = record w { upstream = record w.upstream { counters = record w.upstream.counters { subscription = next } } }
+-- the ID of a subscription was given out
+abbrev pub with_id_given : ℕ → Gateway → Gateway
+with_id_given id w =
+    record w { upstream = record w.upstream { counters = given_out CountsSubscriptions w.limits.reuses_numbers id w.upstream.counters } }
 
--- a link gets the subscription of the next number for a subject
+-- a link gets a subscription under the next ID for a subject
 abbrev pub with_new_subscription : Subject → ℕ → ℕ → ℕ → ℕ → ℕ → Gateway → Gateway
 with_new_subscription subject server cid mask count sent w =
-    let id = w.upstream.counters.subscription in
-    with_subscription_of subject server cid (Some (record { id = id; mask = mask; count = count; sent = sent })) (with_next_subscription (id + 1) w)
+    let id = next_sub_id w server in
+    with_subscription_of subject server cid (Some (record { id = id; mask = mask; count = count; sent = sent })) (with_id_given id w)
 
 -- rows that are added and removed
 abbrev pub with_read : WaitingRead → Gateway → Gateway
@@ -97,8 +104,8 @@ with_read read w = record w { clients = record w.clients { reads = w.clients.rea
 abbrev pub with_link : ℕ → List ℕ → Gateway → Gateway
 with_link server name w = record w {
   upstream = record w.upstream {
-    links = w.upstream.links ++ new_link server w.upstream.counters.cid name ∷ [];
-    counters = record w.upstream.counters { cid = w.upstream.counters.cid + 1 };
+    links = w.upstream.links ++ new_link server (next_cid w) name ∷ [];
+    counters = given_out CountsCids w.limits.reuses_numbers (next_cid w) w.upstream.counters;
   };
 }
 
@@ -106,7 +113,7 @@ with_link server name w = record w {
 abbrev pub new_channel : ℕ → ℕ → List ℕ → List ℕ → ℕ → Gateway → Channel
 new_channel session cid name real rights w = record {
   session = session;
-  sid = w.upstream.counters.sid;
+  sid = next_sid w session;
   cid = cid;
   asked = name;
   real = real;
@@ -146,11 +153,12 @@ pub record KeepsQuotes (P : Gateway → Type 0) (number : ℕ) (message : Messag
 -- links
 pub record KeepsRows (P : Gateway → Type 0) : Type 0 where
   pub messages : KeepsMessages P
-  pub connection_added : (dest : Dest) (w : Gateway) → P w → P (with_connections (w.connections ++ fresh dest ∷ []) w)
+  pub connection_added : (dest : Dest) (w : Gateway) → ((number : ℕ) → dest ≡ dests.Upstream number → has_server number w.upstream ≡ true) → P w → P (with_connections (w.connections ++ fresh dest ∷ []) w)
   pub session_added : (row : Session) (w : Gateway) → stands w (dests.Session row.number) ≡ true → P w → P (with_sessions (w.clients.sessions ++ row ∷ []) w)
   pub session_changed : (number : ℕ) (change : Session → Session) (w : Gateway) → KeepsSession change → P w
       → P (with_sessions (change_first (is_numbered number) change w.clients.sessions) w)
-  pub servers : (rows : List Server) (w : Gateway) → P w → P (with_servers rows w)
+  pub server_added : (row : Server) (w : Gateway) → P w → P (with_servers (w.upstream.servers ++ row ∷ []) w)
+  pub server_changed : (number minor : ℕ) (w : Gateway) → P w → P (with_servers (change_first (is_server number) (with_minor minor) w.upstream.servers) w)
   pub cache_left : (stays : LastMessage → Bool) (w : Gateway) → P w → P (with_cache (filter stays w.cache) w)
   pub cached : (server cid : ℕ) (change : Held → Held) (w : Gateway) → P w → P (with_cache (put_row server cid change w.cache) w)
   pub bare : (cid : ℕ) (w : Gateway) → P w → P (forgotten Properties cid w)
@@ -168,7 +176,7 @@ pub record KeepsRows (P : Gateway → Type 0) : Type 0 where
   pub sub_removed : (session id : ℕ) (w : Gateway) → P w → P (without_sub session id w)
   pub read_added : (read : WaitingRead) (w : Gateway) → list_any (is_channel read.session read.sid) w.clients.channels ≡ true → P w → P (with_read read w)
   pub read_removed : (read : WaitingRead) (w : Gateway) → P w → P (without_read read w)
-  pub write_added : (write : WaitingWrite) (w : Gateway) → is_write_on_link w write ≡ true → write.id ≡ w.upstream.counters.write → P w → P (with_write write w)
+  pub write_added : (write : WaitingWrite) (w : Gateway) → is_write_on_link w write ≡ true → write.id ≡ next_write_id w write.server → P w → P (with_write write w)
   pub write_removed : (server id : ℕ) (w : Gateway) → P w → P (without_write server id w)
   pub link_changed : (server cid : ℕ) (state : LinkState) (rights : ℕ) (w : Gateway) → P w → P (with_link_state server cid state rights w)
   pub subscription_made : (subject : Subject) (server cid mask count sent : ℕ) (w : Gateway) → P w → P (with_new_subscription subject server cid mask count sent w)
@@ -190,11 +198,11 @@ KeepsLinks P = (server : ℕ) (name : List ℕ) (w : Gateway) → is_linked w na
 module _ (P : Gateway → Type 0) (kept : (dest : Dest) (change : Waiting → Waiting) (w : Gateway) → P w → P (with_outbox dest change w)) where
   kept_told : (number : ℕ) (said : ToClient) (w : Gateway) → P w → P (told number said w)
   unfolding sent
-  kept_told number said w holds = kept (dests.Session number) (λ (waiting : Waiting). appended waiting (outgoing said)) w holds
+  kept_told number said w holds = kept (dests.Session number) (λ (waiting : Waiting). appended w.limits.messages waiting (outgoing said)) w holds
 
   kept_asked : (number : ℕ) (said : ToServer) (w : Gateway) → P w → P (asked number said w)
   unfolding sent
-  kept_asked number said w holds = kept (dests.Upstream number) (λ (waiting : Waiting). appended waiting (outgoing_upstream said)) w holds
+  kept_asked number said w holds = kept (dests.Upstream number) (λ (waiting : Waiting). appended OUTBOX_LIMIT waiting (outgoing_upstream said)) w holds
 
   pub messages_kept : KeepsMessages P
   messages_kept = record {

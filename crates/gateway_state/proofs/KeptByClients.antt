@@ -45,7 +45,7 @@ use Rattle.pv_alias.specs.declared.lead.Lead.{Lead}
 use Rattle.rule_desk.specs.declared.policy.Policy.{Policy}
 use Rattle.gateway_state.specs.declared.connections.Connection.{Connection}
 use Rattle.gateway_state.specs.Asked.{stands}
-use Rattle.gateway_state.specs.Clients.{channel_asked, cleared, created, created_as, created_over, creation_failed, judged, no_channel, not_connected, read_verdict, remembered, remembered_by, rights_on, versioned, with_channel, with_host_fixed, without_channel, verdict_on, called, fixed, renamed, search_left_by, was_given_out}
+use Rattle.gateway_state.specs.Clients.{channel_asked, cleared, created, created_as, created_over, creation_failed, judged, next_sid, no_channel, not_connected, read_verdict, remembered, remembered_by, rights_on, versioned, with_channel, with_host_fixed, without_channel, verdict_on, called, fixed, renamed, search_left_by, was_given_out}
 use Rattle.gateway_state.specs.Connections.{fresh, is_to}
 use Rattle.gateway_state.specs.Gateway.{Gateway}
 use Rattle.gateway_state.specs.Requests.{client_said, requested, unreadable}
@@ -181,7 +181,7 @@ module _ (P : Gateway → Type 0) (kept : KeepsRows P) where
   kept_opened w number host holds =
       let new : Session = record { number = number; peer = host; host = host; user = []; host_fixed = false; paused = false } in
       let first : Gateway = with_connections (w.connections ++ fresh (ToSession number) ∷ []) w in
-      let second = kept.session_added new first (added_stands number w.connections) (kept.connection_added (ToSession number) w holds) in
+      let second = kept.session_added new first (added_stands number w.connections) (kept.connection_added (ToSession number) w (λ other is. absurd cc) holds) in
       kept_either P (stands w (ToSession number) || leb w.limits.sessions (length w.clients.sessions)) w (told number replies.Version (with_session w number host))
       (λ _. holds) (kept.messages.telling number replies.Version by_any (with_session w number host) second)
 
@@ -195,7 +195,7 @@ module _ (P : Gateway → Type 0) (kept : KeepsRows P) where
   kept_created number cid name lead link native w fixed holds =
       let rights : ℕ = rights_on w lead link in
       let first : Gateway = with_channel number cid name lead.real rights w in
-      kept.messages.telling number (replies.CreateChannel cid w.upstream.counters.sid native.dtype native.count) by_any (told number (replies.AccessRights cid rights) first)
+      kept.messages.telling number (replies.CreateChannel cid (next_sid w number) native.dtype native.count) by_any (told number (replies.AccessRights cid rights) first)
       (kept.messages.telling number (replies.AccessRights cid rights) by_any first (kept.channel_added number cid name lead.real rights w fixed holds))
 
   pub kept_remembered : (host name : List ℕ) (w : Gateway) → P w → P (remembered host name w)

@@ -28,7 +28,7 @@ use Rattle.gateway_state.specs.Clients.{remembered, without_channel}
 use Rattle.gateway_state.specs.Delivered.{before_said}
 use Rattle.gateway_state.specs.Direct.{direct_effect}
 use Rattle.gateway_state.specs.Gateway.{Gateway}
-use Rattle.gateway_state.specs.Notices.{channel_notices, channel_told, channels_told, link_notices, link_told, links_told, loses_reading, read_notices, read_told, reading_ended, reads_told, with_reach, with_subscription_of, without_read}
+use Rattle.gateway_state.specs.Notices.{channel_notices, channel_told, channels_told, link_notices, link_told, links_told, loses_reading, next_sub_id, read_notices, read_told, reading_ended, reads_told, with_reach, with_subscription_of, without_read}
 use Rattle.gateway_state.specs.Requests.{client_said}
 use Rattle.gateway_state.specs.Resolution.{lead_of}
 use Rattle.gateway_state.specs.Rights.{channel_of}
@@ -97,7 +97,7 @@ module _ (P : Gateway → Type 0) (kept : KeepsRows P) where
   kept_link_told w (Unread Values cid) holds = kept.cache_left (is_cached_elsewhere cid) w holds
   kept_link_told w (Unread Properties cid) holds = kept.bare cid w holds
   kept_link_told w (Subscribed subject server cid sid dtype want sent) holds =
-      let id : ℕ = w.upstream.counters.subscription in
+      let id : ℕ = next_sub_id w server in
       kept.messages.asking server (requests.EventAdd sid id dtype sent want.mask) (with_new_subscription subject server cid want.mask want.count sent w)
       (kept.subscription_made subject server cid want.mask want.count sent w holds)
   kept_link_told w (Dropped server cid Creating) holds = kept.link_removed server cid w holds

@@ -1,8 +1,7 @@
 -- What servers say and do keeps what each change of rows keeps.
-use Rattle.std.proofs.Common.{true, ◌≡◌, ℕ, List, [], ◌∷◌, ◌++◌, length, Bool, false, eqb, leb, ltb, not, ◌||◌, ◌&&◌, Option, Some, None, Ok, Err, Result}
+use Rattle.std.proofs.Common.{true, ◌≡◌, ◌∙◌, ℕ, List, [], ◌∷◌, ◌++◌, length, Bool, false, eqb, leb, ltb, not, ◌||◌, ◌&&◌, Option, Some, None, Ok, Err, Result}
 use Rattle.std.specs.Prelude.{filter}
-use Rattle.std.specs.List.{find, fold}
-use Rattle.rows.specs.Rows.{change_first}
+use Rattle.std.specs.List.{find, fold, list_any}
 use Rattle.ca_header.specs.declared.header.Message.{Message}
 use Rattle.ca_message.specs.declared.codes.TheConstants.{ECA_NORMAL, ECA_GETFAIL}
 use Rattle.ca_message.specs.declared.reply.ReplyFault.{ReplyFault}
@@ -24,20 +23,27 @@ use Rattle.gateway_state.specs.declared.event.Dest.TheVariants.{Upstream}
 use Rattle.gateway_state.specs.Answer.{native_in}
 use Rattle.gateway_state.specs.Asked.{acts, ends, stands}
 use Rattle.gateway_state.specs.Gateway.{Gateway}
-use Rattle.gateway_state.specs.Servers.{answered_creating, concerned_owed, concerns, created_for, failed_for, fails_without, found, gone_for, held_with, is_heard, is_usable, linked, read_failed, reads_failed, replied, rights_given, server_said, subject_of, updated_by, updated_link, updated_under, waits_for, with_held, with_link_state, without_link}
+use Rattle.gateway_state.specs.Servers.{answered_creating, concerned_owed, concerns, created_for, failed_for, fails_without, found, gone_for, held_with, is_heard, is_usable, linked, next_cid, read_failed, reads_failed, replied, rights_given, server_said, subject_of, updated_by, updated_link, updated_under, waits_for, with_held, with_link_state, without_link}
 use Rattle.gateway_state.specs.Sessions.{introduced, up_opened, with_server}
-use Rattle.gateway_state.specs.Connections.{fresh}
 use Rattle.gateway_state.specs.Notices.{without_read}
 use Rattle.link_table.specs.declared.servers.Server.{Server}
 use Rattle.link_table.specs.declared.writes.WaitingWrite.{WaitingWrite}
 use Rattle.link_table.specs.Writes.{is_write}
-use Rattle.link_table.specs.Servers.{is_server, with_minor}
-use Rattle.std.proofs.lemmas.Bool.{and_parts, not-true}
+use Rattle.link_table.specs.Servers.{is_server}
+use Rattle.std.proofs.lemmas.Bool.{and_parts, eq-eqb, not-true, or_left, or_right}
+use Rattle.std.proofs.lemmas.List.Folds.{list_any-append}
 use Rattle.gateway_state.specs.Telling.{asked}
 use Rattle.gateway_state.specs.Updates.{concerned}
 use Rattle.gateway_state.specs.Variables.{is_creating, is_linked, is_missing, is_wanted}
 use Rattle.gateway_state.specs.Writing.{without_write, write_ended_for}
-use Rattle.gateway_state.proofs.Kept.{KeepsMessages, KeepsRows, by_any, kept_either, kept_owed_to_all, with_connections, with_link}
+use Rattle.gateway_state.proofs.Kept.{KeepsMessages, KeepsRows, by_any, kept_either, kept_owed_to_all, with_link, with_servers}
+
+-- a server that was added has a row
+server_there : (other number : ℕ) (rows : List Server) → Upstream number ≡ Upstream other → list_any (is_server other) (rows ++ record { number = number; minor = 0 } ∷ []) ≡ true
+server_there other number rows is =
+    let same : number ≡ other = cc in
+    list_any-append (is_server other) rows (record { number = number; minor = 0 } ∷ [])
+    ∙ or_right (list_any (is_server other) rows) (eqb number other || false) (or_left (eqb number other) false (eq-eqb number other same))
 
 module _ (P : Gateway → Type 0) (kept : KeepsRows P) where
   -- connections that come
@@ -52,15 +58,15 @@ module _ (P : Gateway → Type 0) (kept : KeepsRows P) where
   pub kept_up_opened : (w : Gateway) (number : ℕ) → P w → P (up_opened w number)
   kept_up_opened w number holds =
       let new : Server = record { number = number; minor = 0 } in
-      let first : Gateway = with_connections (w.connections ++ fresh (Upstream number) ∷ []) w in
-      let second = kept.servers (w.upstream.servers ++ new ∷ []) first (kept.connection_added (Upstream number) w holds) in
+      let first : Gateway = with_servers (w.upstream.servers ++ new ∷ []) w in
+      let second = kept.connection_added (Upstream number) first (λ other is. server_there other number w.upstream.servers is) (kept.server_added new w holds) in
       kept_either P (stands w (Upstream number) || leb w.limits.servers (length w.upstream.servers)) w (introduced number (with_server w number))
       (λ _. holds) (kept_introduced number (with_server w number) second)
 
 -- a new link, where it keeps it
 module _ (P : Gateway → Type 0) (messages : KeepsMessages P) where
   kept_linked : (w : Gateway) (server : ℕ) (name : List ℕ) → P (with_link server name w) → P (linked w server name)
-  kept_linked w server name holds = messages.asking server (requests.CreateChannel w.upstream.counters.cid name) (with_link server name w) holds
+  kept_linked w server name holds = messages.asking server (requests.CreateChannel (next_cid w) name) (with_link server name w) holds
 
   pub kept_found : (w : Gateway) (name : List ℕ) (server : ℕ) → (is_linked w name ≡ false → stands w (Upstream server) ≡ true → P (with_link server name w))
       → P w → P (found w name server)
@@ -143,7 +149,7 @@ module _ (P : Gateway → Type 0) (kept : KeepsRows P) where
   -- what a server says
 
   kept_replied : (w : Gateway) (server : ℕ) (reply : Result ServerReply ReplyFault) → P w → P (replied w server reply)
-  kept_replied w server (Ok (says.Version minor)) holds = kept.servers (change_first (is_server server) (with_minor minor) w.upstream.servers) w holds
+  kept_replied w server (Ok (says.Version minor)) holds = kept.server_changed server minor w holds
   kept_replied w server (Ok (says.EventAdd id status dtype count value)) holds =
       kept_updated_by id status dtype count value (find (has_subscription server id) w.upstream.links) w holds
   kept_replied w server (Ok (says.CreateChannel cid sid dtype count)) holds =

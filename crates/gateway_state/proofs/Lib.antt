@@ -2,7 +2,6 @@ pub mod AskedNames
 pub mod CachedApart
 pub mod GivenMessages
 pub mod HostsFixed
-pub mod InOrder
 pub mod Kept
 pub mod KeptByAge
 pub mod KeptByClients
@@ -14,15 +13,17 @@ pub mod LinkNotices
 pub mod LinksApart
 pub mod LinksOnServers
 pub mod NewNumbers
+pub mod NextNumbers
 pub mod NumberLemmas
+pub mod NumbersApart
+pub mod NumbersKept
 pub mod OnChannels
-pub mod OrderKept
 pub mod ReachedStates
 pub mod ReadingEnded
-pub mod RisingRows
 pub mod RowTests
 pub mod RowsOnChannels
 pub mod SearchedNames
+pub mod ServersOfLinks
 pub mod SessionsConnected
 pub mod SettledChannels
 pub mod SettledLinks
@@ -33,7 +34,8 @@ pub mod SettledSteps
 pub mod SettledSubs
 pub mod SettledUpdates
 pub mod SettledWithheld
+pub mod SubIdsKept
 pub mod SubsApart
 pub mod ToldRights
-pub mod WriteIdsBelow
+pub mod UnlikeRows
 pub mod WritesOnLinks

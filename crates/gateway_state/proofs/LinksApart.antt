@@ -10,6 +10,8 @@ use Rattle.gateway_state.specs.declared.config.Config.{Config}
 use Rattle.rule_desk.specs.declared.policy.Policy.{Policy}
 use Rattle.gateway_state.specs.declared.event.Event.{Event}
 use Rattle.gateway_state.specs.Gateway.{initial}
+use Rattle.gateway_state.specs.Notices.{next_sub_id}
+use Rattle.gateway_state.specs.Servers.{next_cid}
 use Rattle.gateway_state.specs.Settled.{HasLinksApart}
 use Rattle.gateway_state.specs.Step.{run}
 use Rattle.gateway_state.proofs.Kept.{IsKept, KeepsLinks, messages_kept}
@@ -92,10 +94,11 @@ pub links_apart_kept : IsKept HasLinksApart
 links_apart_kept = record {
   rows = record {
     messages = messages_kept HasLinksApart (λ dest change w apart. apart);
-    connection_added = λ dest w apart. apart;
+    connection_added = λ dest w rowed apart. apart;
     session_added = λ row w there apart. apart;
     session_changed = λ number change w same apart. apart;
-    servers = λ rows w apart. apart;
+    server_added = λ row w apart. apart;
+    server_changed = λ number minor w apart. apart;
     cache_left = λ stays w apart. apart;
     cached = λ server cid change w apart. apart;
     bare = λ cid w apart. apart;
@@ -115,7 +118,7 @@ links_apart_kept = record {
     write_removed = λ server id w apart. apart;
     link_changed = λ server cid state rights w apart. apart_changed w.upstream.links (is_link server cid) (with_state state rights) (λ name link. refl) apart;
     subscription_made = λ subject server cid mask count sent w apart.
-        apart_changed w.upstream.links (is_link server cid) (with_subscription subject (Some (record { id = w.upstream.counters.subscription; mask = mask; count = count; sent = sent }))) (λ name link. refl) apart;
+        apart_changed w.upstream.links (is_link server cid) (with_subscription subject (Some (record { id = next_sub_id w server; mask = mask; count = count; sent = sent }))) (λ name link. refl) apart;
     subscription_ended = λ subject server cid w apart. apart_changed w.upstream.links (is_link server cid) (with_subscription subject None) (λ name link. refl) apart;
     link_removed = λ server cid w apart. apart_filtered w.upstream.links (is_not_link server cid) apart;
   };
@@ -126,7 +129,7 @@ links_apart_kept = record {
 
 pub links_apart_with_links : KeepsLinks HasLinksApart
 links_apart_with_links = λ server name w missing standing apart.
-    apart_pushed w.upstream.links (new_link server w.upstream.counters.cid name) missing apart
+    apart_pushed w.upstream.links (new_link server (next_cid w) name) missing apart
 
 pub run_links_apart : (config : Config) (policy : Policy) (events : List Event) → HasLinksApart (run (initial config policy) events)
 run_links_apart config policy events = kept_run HasLinksApart links_apart_kept links_apart_with_links (initial config policy) events (λ name. omega arith)

@@ -15,6 +15,7 @@ use Rattle.gateway_state.specs.declared.event.Event.{Event}
 use Rattle.fanout.specs.Waiting.{Waiting}
 use Rattle.gateway_state.specs.Connections.{fresh, is_not_to, is_to, same_dest}
 use Rattle.gateway_state.specs.Gateway.{Gateway, initial}
+use Rattle.gateway_state.specs.Notices.{next_sub_id}
 use Rattle.gateway_state.specs.Settled.{HasLinksOnServers, is_on_server}
 use Rattle.gateway_state.specs.Step.{run}
 use Rattle.gateway_state.proofs.Kept.{IsKept, KeepsLinks, messages_kept, with_outbox}
@@ -63,12 +64,13 @@ links_on_servers_kept : IsKept HasLinksOnServers
 links_on_servers_kept = record {
   rows = record {
     messages = messages_kept HasLinksOnServers outboxes_changed;
-    connection_added = λ dest w on.
+    connection_added = λ dest w rowed on.
         all_weaker (is_on_server w) (λ (link : Link). list_any (is_to (Upstream link.server)) (w.connections ++ fresh dest ∷ [])) w.upstream.links
         (λ link there. list_any-append (is_to (Upstream link.server)) w.connections (fresh dest ∷ []) ∙ rw there refl) on;
     session_added = λ row w there on. on;
     session_changed = λ number change w same on. on;
-    servers = λ rows w on. on;
+    server_added = λ row w on. on;
+    server_changed = λ number minor w on. on;
     cache_left = λ stays w on. on;
     cached = λ server cid change w on. on;
     bare = λ cid w on. on;
@@ -88,7 +90,7 @@ links_on_servers_kept = record {
     write_removed = λ server id w on. on;
     link_changed = λ server cid state rights w on. all_changed (is_on_server w) (is_link server cid) (with_state state rights) w.upstream.links (λ link. refl) ∙ on;
     subscription_made = λ subject server cid mask count sent w on.
-        all_changed (is_on_server w) (is_link server cid) (with_subscription subject (Some (record { id = w.upstream.counters.subscription; mask = mask; count = count; sent = sent }))) w.upstream.links (λ link. refl) ∙ on;
+        all_changed (is_on_server w) (is_link server cid) (with_subscription subject (Some (record { id = next_sub_id w server; mask = mask; count = count; sent = sent }))) w.upstream.links (λ link. refl) ∙ on;
     subscription_ended = λ subject server cid w on. all_changed (is_on_server w) (is_link server cid) (with_subscription subject None) w.upstream.links (λ link. refl) ∙ on;
     link_removed = λ server cid w on. all_filtered (is_on_server w) (is_not_link server cid) w.upstream.links on;
   };

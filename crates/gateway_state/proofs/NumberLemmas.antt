@@ -1,8 +1,13 @@
-use Rattle.std.proofs.Common.{◌≡◌, ℕ, suc, ◌+◌, ◌<◌, List, [], ◌∷◌, true, false, cond, length, drop, get_or, sym, ap, ◌∙◌, arith}
+use Rattle.std.proofs.Common.{◌≡◌, ℕ, suc, ◌+◌, ◌<◌, List, [], ◌∷◌, Bool, true, false, ◌||◌, cond, length, drop, get_or, refl, sym, ap, ◌∙◌}
 use Rattle.std.proofs.Math.Seq.{drop-cons}
-use Rattle.std.specs.List.{fold}
-use Rattle.link_table.specs.Counters.{is_over, are_over}
+use Rattle.std.specs.Prelude.{filter, flat_map}
+use Rattle.std.specs.List.{fold, list_any}
+use Rattle.std.proofs.lemmas.Bool.{or_left, or_right}
+use Rattle.link_table.specs.declared.counter.Counter.TheVariants.{Subscription as CountsSubscriptions}
+use Rattle.link_table.specs.Counters.{is_over, are_over, given_out}
+use Rattle.link_table.specs.Links.{has_subscription, is_of}
 use Rattle.link_table.specs.LinkRows.{Counters}
+use Rattle.link_table.specs.Numbers.{sub_ids}
 use Rattle.gateway_state.specs.declared.notice.ChannelNotice.{ChannelNotice}
 use Rattle.gateway_state.specs.declared.notice.ChannelNotice.TheVariants as channels
 use Rattle.gateway_state.specs.declared.notice.LinkNotice.{LinkNotice}
@@ -14,27 +19,39 @@ use Rattle.gateway_state.specs.declared.notice.UpdateNotice.{UpdateNotice}
 use Rattle.ca_message.specs.declared.to_client.ToClient.TheVariants as replies
 use Rattle.link_table.specs.declared.links.LinkState.TheVariants.{Creating, Connected, Unusable}
 use Rattle.gateway_state.specs.Gateway.{Gateway}
-use Rattle.gateway_state.specs.Notices.{channel_told, channels_told, channel_notices, loses_reading, with_reach, link_told, links_told, link_notices, read_told, reads_told, read_notices}
+use Rattle.gateway_state.specs.Notices.{channel_told, channels_told, channel_notices, loses_reading, with_reach, link_told, links_told, link_notices, next_sub_id, read_told, reads_told, read_notices}
 use Rattle.gateway_state.specs.Numbers.{is_past_numbers}
 use Rattle.gateway_state.specs.Rights.{channel_of}
 use Rattle.gateway_state.specs.Step.{consequences}
 use Rattle.gateway_state.specs.Telling.{sent, told}
+use Rattle.gateway_state.proofs.NextNumbers.{next_is_past}
 use Rattle.gateway_state.proofs.ReadingEnded.{reading_ended_shape}
 use Rattle.gateway_state.specs.Updates.{is_taking, owed_to, owed_to_all, update_notices, update_told, updates_told, updates_withheld, with_owed_of, withheld}
 
--- a counter that rises stays past its end
-over_next : (next : ℕ) → is_over next ≡ true → is_over (next + 1) ≡ true
-over_next next e = Prim.grind arith
+-- of four counters one is past its end, also once one of them went on
+one_of_four : (a b c d after : Bool) → (c ≡ true → after ≡ true) → (a || b || c || d) ≡ true → (a || b || after || d) ≡ true
+one_of_four true b c d after stays e = refl
+one_of_four false true c d after stays e = refl
+one_of_four false false true d after stays e = or_left after d (stays refl)
+one_of_four false false false d after stays e = or_right after d e
 
-subscription_rises : (counters : Counters) → are_over counters ≡ true → are_over (record counters { subscription = counters.subscription + 1 }) ≡ true
-subscription_rises counters e = Prim.grind arith
+-- the ID of a subscription is given out
+id_given_past : (w : Gateway) (server : ℕ) → is_past_numbers w ≡ true
+    → are_over (given_out CountsSubscriptions w.limits.reuses_numbers (next_sub_id w server) w.upstream.counters) ≡ true
+unfolding is_past_numbers
+id_given_past w server e =
+    let counters : Counters = w.upstream.counters in
+    one_of_four (is_over counters.sid) (is_over counters.cid) (is_over counters.subscription) (is_over counters.write) (is_over (next_sub_id w server + 1))
+    (λ over.
+    next_is_past w.limits.reuses_numbers w.config.first (λ (id : ℕ). list_any (has_subscription server id) w.upstream.links) counters.again.subscription
+    (flat_map sub_ids (filter (is_of server) w.upstream.links)) counters.subscription over) e
 
 -- no notice on a link takes a number back
 link_told_past : (w : Gateway) (notice : LinkNotice) → is_past_numbers w ≡ true → is_past_numbers (link_told w notice) ≡ true
 unfolding sent is_past_numbers
 link_told_past w (links.Cancelled subject server cid sid dtype sub) e = e
 link_told_past w (links.Unread subject cid) e = e
-link_told_past w (links.Subscribed subject server cid sid dtype want sent_count) e = subscription_rises w.upstream.counters e
+link_told_past w (links.Subscribed subject server cid sid dtype want sent_count) e = id_given_past w server e
 link_told_past w (links.Dropped server cid Creating) e = e
 link_told_past w (links.Dropped server cid Unusable) e = e
 link_told_past w (links.Dropped server cid (Connected sid dtype count)) e = e

@@ -2,7 +2,7 @@
 use Rattle.std.proofs.Common.{◌≡◌, List, [], ◌∷◌, Bool, true, false, cond, ◌||◌, ◌&&◌, Some, refl, sym, ap, subst, ◌∙◌}
 use Rattle.std.specs.Prelude.{filter, is_some}
 use Rattle.std.specs.List.{All, find, list_all, list_any}
-use Rattle.std.proofs.lemmas.Bool.{and_from, and_parts, true≢false}
+use Rattle.std.proofs.lemmas.Bool.{and_from, and_parts, or_from, or_parts, true≢false}
 use Rattle.std.proofs.lemmas.List.Elements.{All-head, All-tail}
 use Rattle.rows.specs.Rows.{change_first, remove_first}
 
@@ -102,3 +102,19 @@ found_left test stays (row ∷ rows) both = by (test row) (stays row) refl refl 
     by true false is is_kept rest = absurd (true≢false (sym (both row is) ∙ is_kept))
     by false true is is_kept rest = rw is rest
     by false false is is_kept rest = rest
+
+-- where none passes, none passes what lets fewer through
+pub none_weaker : {A : Type 0} (test other : A → Bool) (rows : List A) → ((row : A) → test row ≡ false → other row ≡ false) → list_any test rows ≡ false → list_any other rows ≡ false
+none_weaker test other [] fewer none = refl
+none_weaker test other (row ∷ rows) fewer none =
+    let parts = or_parts (test row) (list_any test rows) none in
+    or_from (other row) (list_any other rows) (fewer row parts.0) (none_weaker test other rows fewer parts.1)
+
+-- of fewer rows none does
+pub none_filtered : {A : Type 0} (test other : A → Bool) (rows : List A) → list_any test rows ≡ false → list_any test (filter other rows) ≡ false
+none_filtered test other [] none = refl
+none_filtered test other (row ∷ rows) none =
+    let parts = or_parts (test row) (list_any test rows) none in
+    let rest = none_filtered test other rows parts.1 in
+    elim (other row) as (λ t. list_any test (cond t (row ∷ filter other rows) (filter other rows)) ≡ false)
+    [ true ↦ or_from (test row) (list_any test (filter other rows)) parts.0 rest | false ↦ rest ]

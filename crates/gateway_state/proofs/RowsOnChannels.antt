@@ -37,10 +37,11 @@ rows_on_channels_kept : IsKept HasRowsOnChannels
 rows_on_channels_kept = record {
   rows = record {
     messages = messages_kept HasRowsOnChannels (λ dest change w on. record { reads = on.reads; subs = on.subs });
-    connection_added = λ dest w on. record { reads = on.reads; subs = on.subs };
+    connection_added = λ dest w rowed on. record { reads = on.reads; subs = on.subs };
     session_added = λ row w there on. record { reads = on.reads; subs = on.subs };
     session_changed = λ number change w same on. record { reads = on.reads; subs = on.subs };
-    servers = λ rows w on. record { reads = on.reads; subs = on.subs };
+    server_added = λ row w on. record { reads = on.reads; subs = on.subs };
+    server_changed = λ number minor w on. record { reads = on.reads; subs = on.subs };
     cache_left = λ stays w on. record { reads = on.reads; subs = on.subs };
     cached = λ server cid change w on. record { reads = on.reads; subs = on.subs };
     bare = λ cid w on. record { reads = on.reads; subs = on.subs };

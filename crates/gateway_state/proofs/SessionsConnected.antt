@@ -64,13 +64,14 @@ sessions_connected_kept : IsKept HasSessionsConnected
 sessions_connected_kept = record {
   rows = record {
     messages = messages_kept HasSessionsConnected outboxes_changed;
-    connection_added = λ dest w connected.
+    connection_added = λ dest w rowed connected.
         all_weaker (is_session_connected w) (λ (row : Session). list_any (is_to (dests.Session row.number)) (w.connections ++ fresh dest ∷ [])) w.clients.sessions
         (λ row there. list_any-append (is_to (dests.Session row.number)) w.connections (fresh dest ∷ []) ∙ rw there refl) connected;
     session_added = λ row w there connected. list_all-append (is_session_connected w) w.clients.sessions (row ∷ []) ∙ rw (connected, there) refl;
     session_changed = λ number change w same connected.
         all_changed (is_session_connected w) (is_numbered number) change w.clients.sessions (λ row. ap (λ (n : ℕ). stands w (dests.Session n)) (same.same_number row)) ∙ connected;
-    servers = λ rows w connected. connected;
+    server_added = λ row w connected. connected;
+    server_changed = λ number minor w connected. connected;
     cache_left = λ stays w connected. connected;
     cached = λ server cid change w connected. connected;
     bare = λ cid w connected. connected;

@@ -1,8 +1,8 @@
 -- The pass over channels leaves nothing that it would tell.
-use Rattle.std.proofs.Common.{◌≡◌, ℕ, ◌+◌, ◌<◌, List, [], ◌∷◌, Bool, true, false, cond, eqb, not, Option, Some, None, refl, ap, ◌∙◌, arith}
+use Rattle.std.proofs.Common.{◌≡◌, ℕ, List, [], ◌∷◌, Bool, true, false, cond, eqb, not, Option, Some, None, refl, ap, ◌∙◌}
 use Rattle.std.specs.Prelude.{filter, filter_map}
-use Rattle.std.specs.List.{fold, cons_option}
-use Rattle.std.proofs.lemmas.Bool.{and_from, and_right, ne_eqb, eq-eqb}
+use Rattle.std.specs.List.{fold, cons_option, list_any}
+use Rattle.std.proofs.lemmas.Bool.{and_from, eq-eqb, or_parts}
 use Rattle.rows.specs.Rows.{change_first}
 use Rattle.ca_message.specs.declared.to_client.ToClient.TheVariants as replies
 use Rattle.channel_table.specs.declared.channels.Channel.{Channel}
@@ -16,10 +16,10 @@ use Rattle.gateway_state.specs.declared.notice.ChannelNotice.TheVariants.{Discon
 use Rattle.gateway_state.specs.Gateway.{Gateway}
 use Rattle.gateway_state.specs.Notices.{channel_notice, channel_notices, channel_told, channels_told, loses_reading, with_reach}
 use Rattle.gateway_state.specs.Rights.{channel_of, rights_of, is_served}
-use Rattle.gateway_state.specs.Settled.{AreRising, sid_of}
+use Rattle.gateway_state.specs.Settled.{AreUnlike, HasSidsApart, is_same_channel}
 use Rattle.gateway_state.specs.Telling.{sent, told}
 use Rattle.gateway_state.proofs.ReadingEnded.{reading_ended_shape}
-use Rattle.gateway_state.proofs.RisingRows.{none_rising, filter_absent}
+use Rattle.gateway_state.proofs.UnlikeRows.{both_swapped, filter_absent}
 
 -- what a notice leaves of the channels
 abbrev left_by : List Channel → ChannelNotice → List Channel
@@ -51,21 +51,21 @@ abbrev pub notice_by : Bool → Bool → ℕ → Channel → Option ChannelNotic
 notice_by served same rights c =
     cond (not served) (Some (Disconnected c.session c.sid c.cid)) (cond same None (Some (RightsChanged c.session c.sid c.cid c.reach rights)))
 
-other_number : (c : Channel) (session sid : ℕ) → (c.sid ≡ sid → ⊥) → is_channel session sid c ≡ false
-other_number c session sid differ = and_right (eqb c.session session) (eqb c.sid sid) (ne_eqb c.sid sid differ)
-
 itself : (c : Channel) → is_channel c.session c.sid c ≡ true
 itself c = and_from (eqb c.session c.session) (eqb c.sid c.sid) (eq-eqb c.session c.session refl) (eq-eqb c.sid c.sid refl)
 
 -- notices on later channels leave a channel as it is
-kept_by_later : (w : Gateway) (low high : ℕ) (rows : List Channel) (c : Channel) (others : List Channel) → c.sid < low → AreRising sid_of low rows high
+kept_by_later : (w : Gateway) (rows : List Channel) (c : Channel) (others : List Channel) → list_any (is_same_channel c) rows ≡ false
     → fold left_by (c ∷ others) (filter_map (channel_notice w) rows) ≡ c ∷ fold left_by others (filter_map (channel_notice w) rows)
-kept_by_later w low high [] c others below rising = refl
-kept_by_later w low high (row ∷ rows) c others below rising =
-    by (is_served w row) (eqb row.rights_told (rights_of w row)) (λ left. kept_by_later w (row.sid + 1) high rows c left (omega (arith, rising.0)) rising.1)
+kept_by_later w [] c others none = refl
+kept_by_later w (row ∷ rows) c others none =
+    by (is_served w row) (eqb row.rights_told (rights_of w row)) (λ left. kept_by_later w rows c left parts.1)
   where
+    parts : (is_same_channel c row ≡ false) × (list_any (is_same_channel c) rows ≡ false)
+    parts = or_parts (is_same_channel c row) (list_any (is_same_channel c) rows) none
+
     other : is_channel row.session row.sid c ≡ false
-    other = other_number c row.session row.sid (λ same. omega (arith, rising.0))
+    other = both_swapped c.session row.session c.sid row.sid ∙ parts.0
 
     by : (served same : Bool)
         → ((left : List Channel) → fold left_by (c ∷ left) (filter_map (channel_notice w) rows) ≡ c ∷ fold left_by left (filter_map (channel_notice w) rows))
@@ -81,20 +81,18 @@ kept_by_later w low high (row ∷ rows) c others below rising =
         ap (λ (left : List Channel). fold left_by left (filter_map (channel_notice w) rows)) step ∙ on (change_first (is_channel row.session row.sid) change others)
 
 -- once all notices on channels are given, none of the channels left has one
-quiet_channels : (w : Gateway) (low high : ℕ) (rows : List Channel) → AreRising sid_of low rows high
+quiet_channels : (w : Gateway) (rows : List Channel) → AreUnlike is_same_channel rows
     → filter_map (channel_notice w) (fold left_by rows (filter_map (channel_notice w) rows)) ≡ []
-quiet_channels w low high [] rising = refl
-quiet_channels w low high (row ∷ rows) rising =
-    by (is_served w row) (eqb row.rights_told (rights_of w row)) refl refl (quiet_channels w (row.sid + 1) high rows rising.1)
+quiet_channels w [] apart = refl
+quiet_channels w (row ∷ rows) apart =
+    by (is_served w row) (eqb row.rights_told (rights_of w row)) refl refl (quiet_channels w rows apart.1)
   where
     gone : filter (is_not_channel row.session row.sid) rows ≡ rows
-    gone =
-        filter_absent (is_channel row.session row.sid) rows
-        (none_rising sid_of (is_channel row.session row.sid) (row.sid + 1) high rows (λ x above. other_number x row.session row.sid (λ same. omega arith)) rising.1)
+    gone = filter_absent (is_channel row.session row.sid) rows apart.0
 
-    kept : (c : Channel) → c.sid ≡ row.sid
+    kept : (c : Channel) → list_any (is_same_channel c) rows ≡ false
         → fold left_by (c ∷ rows) (filter_map (channel_notice w) rows) ≡ c ∷ fold left_by rows (filter_map (channel_notice w) rows)
-    kept c same = kept_by_later w (row.sid + 1) high rows c rows (omega arith) rising.1
+    kept c none = kept_by_later w rows c rows none
 
     by : (served same : Bool) → is_served w row ≡ served → eqb row.rights_told (rights_of w row) ≡ same
         → filter_map (channel_notice w) (fold left_by rows (filter_map (channel_notice w) rows)) ≡ []
@@ -102,14 +100,14 @@ quiet_channels w low high (row ∷ rows) rising =
     by false same is_so is_same rest =
         let step : filter (is_not_channel row.session row.sid) (row ∷ rows) ≡ rows = rw (itself row) gone in
         ap (λ (left : List Channel). filter_map (channel_notice w) (fold left_by left (filter_map (channel_notice w) rows))) step ∙ rest
-    by true true is_so is_same rest = rw (kept row refl, is_so, is_same) rest
+    by true true is_so is_same rest = rw (kept row apart.0, is_so, is_same) rest
     by true false is_so is_same rest =
         let new : Channel = with_reach_and_rights row.reach (rights_of w row) row in
         let step : change_first (is_channel row.session row.sid) (with_reach_and_rights row.reach (rights_of w row)) (row ∷ rows) ≡ new ∷ rows = rw (itself row) refl in
         ap (λ (left : List Channel). filter_map (channel_notice w) (fold left_by left (filter_map (channel_notice w) rows))) step
-        ∙ rw (kept new refl, is_so, eq-eqb (rights_of w row) (rights_of w row) refl) rest
+        ∙ rw (kept new apart.0, is_so, eq-eqb (rights_of w row) (rights_of w row) refl) rest
 
 -- after the pass no channel is owed a notice
-pub channels_settled : (w : Gateway) → AreRising sid_of 0 w.clients.channels w.upstream.counters.sid → channel_notices (channels_told w) ≡ []
-channels_settled w rising =
-    ap channel_notices (channels_changed (channel_notices w) w) ∙ quiet_channels w 0 w.upstream.counters.sid w.clients.channels rising
+pub channels_settled : (w : Gateway) → HasSidsApart w → channel_notices (channels_told w) ≡ []
+channels_settled w order =
+    ap channel_notices (channels_changed (channel_notices w) w) ∙ quiet_channels w w.clients.channels order.apart

@@ -1,8 +1,8 @@
 -- The pass over links leaves nothing that it would tell.
-use Rattle.std.proofs.Common.{◌≡◌, ℕ, ◌+◌, ◌<◌, List, [], ◌∷◌, ◌++◌, Bool, true, false, cond, eqb, ◌||◌, Option, Some, None, refl, sym, ap, subst, ◌∙◌, arith}
+use Rattle.std.proofs.Common.{◌≡◌, ℕ, List, [], ◌∷◌, ◌++◌, Bool, true, false, cond, eqb, ◌||◌, Option, Some, None, refl, sym, ap, subst, ◌∙◌}
 use Rattle.std.specs.Prelude.{filter, flat_map}
 use Rattle.std.specs.List.{fold, find, list_any}
-use Rattle.std.proofs.lemmas.Bool.{and_from, and_right, ne_eqb, eq-eqb, both_ways, true≢false}
+use Rattle.std.proofs.lemmas.Bool.{and_from, and_right, eq-eqb, both_ways, or_parts, true≢false}
 use Rattle.std.proofs.lemmas.List.Folds.{list_any-append}
 use Rattle.std.proofs.lemmas.List.Sums.{fold-append}
 use Rattle.std.proofs.lemmas.Slice.Eq.{bytes_eq-Decides}
@@ -14,7 +14,7 @@ use Rattle.link_table.specs.declared.links.Subject.{Subject}
 use Rattle.link_table.specs.declared.links.Subject.TheVariants.{Values, Properties}
 use Rattle.link_table.specs.declared.links.Subscription.{Subscription}
 use Rattle.link_table.specs.declared.links.Subscriptions.{Subscriptions}
-use Rattle.link_table.specs.LinkRows.{LinkRows}
+use Rattle.link_table.specs.LinkRows.{Counters}
 use Rattle.mask_merge.specs.declared.want.Want.{Want}
 use Rattle.link_table.specs.Links.{is_link, is_named, is_not_link, sub_at, with_at, with_subscription}
 use Rattle.gateway_state.specs.declared.cached.LastMessage.{LastMessage}
@@ -23,30 +23,72 @@ use Rattle.gateway_state.specs.declared.notice.LinkNotice.{LinkNotice}
 use Rattle.gateway_state.specs.declared.notice.LinkNotice.TheVariants.{Cancelled, Unread, Subscribed, Dropped}
 use Rattle.gateway_state.specs.Gateway.{Gateway}
 use Rattle.gateway_state.specs.Interest.{is_for, minor_of, sent_for, wanted_for}
-use Rattle.gateway_state.specs.Notices.{cancelled, subscribed, interest_notices, notices_between, subject_notices, link_notices_of, link_notices, link_told, links_told}
+use Rattle.gateway_state.specs.Notices.{cancelled, subscribed, interest_notices, notices_between, subject_notices, link_notices_of, link_notices, link_told, links_told, next_sub_id}
 use Rattle.gateway_state.specs.Rights.{link_rights, link_connected}
-use Rattle.gateway_state.specs.Settled.{AreRising, cid_of}
+use Rattle.gateway_state.specs.Settled.{AreUnlike, HasCidsApart, is_same_link}
 use Rattle.gateway_state.specs.Telling.{sent}
 use Rattle.gateway_state.specs.Variables.{is_wanted}
-use Rattle.gateway_state.proofs.RisingRows.{none_rising, filter_absent}
+use Rattle.gateway_state.proofs.RowTests.{none_weaker}
+use Rattle.gateway_state.proofs.UnlikeRows.{eqb_swapped, filter_absent}
 
--- what a notice leaves of the rows of links
-abbrev left_by : LinkRows → LinkNotice → LinkRows
+-- links, and the IDs that new subscriptions get, whichever those are
+record LinksAndIds : Type 0 where
+  links : List Link
+  ids : List ℕ
+
+abbrev next_of : List ℕ → ℕ
+next_of [] = 0
+next_of (id ∷ ids) = id
+
+abbrev rest_of : List ℕ → List ℕ
+rest_of [] = []
+rest_of (id ∷ ids) = ids
+
+abbrev dealt : List Link → List ℕ → LinksAndIds
+dealt links ids = record { links = links; ids = ids }
+
+-- what a notice leaves of them
+abbrev left_by : LinksAndIds → LinkNotice → LinksAndIds
 left_by rows (Cancelled subject server cid sid dtype sub) =
     record rows { links = change_first (is_link server cid) (with_subscription subject None) rows.links }
 left_by rows (Unread subject cid) = rows
-left_by rows (Subscribed subject server cid sid dtype want sent) = record rows {
-  links = change_first (is_link server cid) (with_subscription subject (Some (record { id = rows.counters.subscription; mask = want.mask; count = want.count; sent = sent }))) rows.links;
-  counters = record rows.counters { subscription = rows.counters.subscription + 1 };
+left_by rows (Subscribed subject server cid sid dtype want sent) = record {
+  links = change_first (is_link server cid) (with_subscription subject (Some (record { id = next_of rows.ids; mask = want.mask; count = want.count; sent = sent }))) rows.links;
+  ids = rest_of rows.ids;
 }
 left_by rows (Dropped server cid state) = record rows { links = filter (is_not_link server cid) rows.links }
 
--- a state with other links, and what goes with them
-abbrev with_upstream : Gateway → List Connection → List LastMessage → LinkRows → Gateway
-with_upstream w connections cache rows = record w { connections = connections; cache = cache; upstream = rows }
+-- the IDs that are given out
+abbrev id_given : Gateway → LinkNotice → List ℕ
+id_given w (Cancelled subject server cid sid dtype sub) = []
+id_given w (Unread subject cid) = []
+id_given w (Subscribed subject server cid sid dtype want sent) = next_sub_id w server ∷ []
+id_given w (Dropped server cid state) = []
+
+abbrev ids_given : Gateway → List LinkNotice → List ℕ
+ids_given w [] = []
+ids_given w (notice ∷ notices) = id_given w notice ++ ids_given (link_told w notice) notices
+
+-- notices leave these links
+left_is : (notices : List LinkNotice) (w : Gateway)
+    → (fold link_told w notices).upstream.links ≡ (fold left_by (dealt w.upstream.links (ids_given w notices)) notices).links
+unfolding sent
+left_is [] w = refl
+left_is (Cancelled subject server cid sid dtype sub ∷ notices) w = left_is notices (link_told w (Cancelled subject server cid sid dtype sub))
+left_is (Unread subject cid ∷ notices) w = left_is notices (link_told w (Unread subject cid))
+left_is (Subscribed subject server cid sid dtype want sent ∷ notices) w = left_is notices (link_told w (Subscribed subject server cid sid dtype want sent))
+left_is (Dropped server cid Creating ∷ notices) w = left_is notices (link_told w (Dropped server cid Creating))
+left_is (Dropped server cid Unusable ∷ notices) w = left_is notices (link_told w (Dropped server cid Unusable))
+left_is (Dropped server cid (Connected sid dtype native) ∷ notices) w = left_is notices (link_told w (Dropped server cid (Connected sid dtype native)))
+
+-- a state with other links, other counters, and what goes with them
+abbrev pub with_links_left : Gateway → List Connection → List LastMessage → List Link → Counters → Gateway
+with_links_left w connections cache links counters =
+    record w { connections = connections; cache = cache; upstream = record w.upstream { links = links; counters = counters } }
 
 abbrev after_notices : Gateway → List LinkNotice → Gateway
-after_notices w notices = with_upstream w (fold link_told w notices).connections (fold link_told w notices).cache (fold left_by w.upstream notices)
+after_notices w notices =
+    with_links_left w (fold link_told w notices).connections (fold link_told w notices).cache (fold link_told w notices).upstream.links (fold link_told w notices).upstream.counters
 
 -- notices on links change nothing else
 links_changed : (notices : List LinkNotice) (w : Gateway) → fold link_told w notices ≡ after_notices w notices
@@ -63,7 +105,7 @@ links_changed (Dropped server cid (Connected sid dtype native) ∷ notices) w =
 
 -- ---- notices on other links
 
-abbrev in_front : Link → LinkRows → LinkRows
+abbrev in_front : Link → LinksAndIds → LinksAndIds
 in_front link rows = record rows { links = link ∷ rows.links }
 
 -- the notice changes this link
@@ -73,14 +115,14 @@ concerns link (Unread subject cid) = false
 concerns link (Subscribed subject server cid sid dtype want sent) = is_link server cid link
 concerns link (Dropped server cid state) = is_link server cid link
 
-passed_by : (link : Link) (rows : LinkRows) (notice : LinkNotice) → concerns link notice ≡ false → left_by (in_front link rows) notice ≡ in_front link (left_by rows notice)
+passed_by : (link : Link) (rows : LinksAndIds) (notice : LinkNotice) → concerns link notice ≡ false → left_by (in_front link rows) notice ≡ in_front link (left_by rows notice)
 passed_by link rows (Cancelled subject server cid sid dtype sub) other = rw other refl
 passed_by link rows (Unread subject cid) other = refl
 passed_by link rows (Subscribed subject server cid sid dtype want sent) other = rw other refl
 passed_by link rows (Dropped server cid state) other = rw other refl
 
 -- notices that don't concern the first link leave it as it is
-all_passed_by : (link : Link) (rows : LinkRows) (notices : List LinkNotice) → list_any (concerns link) notices ≡ false
+all_passed_by : (link : Link) (rows : LinksAndIds) (notices : List LinkNotice) → list_any (concerns link) notices ≡ false
     → fold left_by (in_front link rows) notices ≡ in_front link (fold left_by rows notices)
 all_passed_by link rows [] others = refl
 all_passed_by link rows (notice ∷ notices) others =
@@ -90,10 +132,7 @@ all_passed_by link rows (notice ∷ notices) others =
         → (list_any (concerns link) notices ≡ false → fold left_by (in_front link (left_by rows notice)) notices ≡ in_front link (fold left_by (left_by rows notice) notices))
         → fold left_by (left_by (in_front link rows) notice) notices ≡ in_front link (fold left_by (left_by rows notice) notices)
     by true is none on = absurd (true≢false none)
-    by false is none on = ap (λ (left : LinkRows). fold left_by left notices) (passed_by link rows notice is) ∙ on none
-
-other_number : (link : Link) (server cid : ℕ) → (link.cid ≡ cid → ⊥) → is_link server cid link ≡ false
-other_number link server cid differ = and_right (eqb link.server server) (eqb link.cid cid) (ne_eqb link.cid cid differ)
+    by false is none on = ap (λ (left : LinksAndIds). fold left_by left notices) (passed_by link rows notice is) ∙ on none
 
 itself : (link : Link) → is_link link.server link.cid link ≡ true
 itself link = and_from (eqb link.server link.server) (eqb link.cid link.cid) (eq-eqb link.server link.server refl) (eq-eqb link.cid link.cid refl)
@@ -134,16 +173,17 @@ link_notices_of-other w link row other = by (is_wanted w row.name)
     by false = rw (list_any-append, interest_notices-other w link row row.state other, other) refl
 
 -- notices on later links don't concern a link
-later_notices-other : (w : Gateway) (link : Link) (low high : ℕ) (rows : List Link) → link.cid < low → AreRising cid_of low rows high → list_any (concerns link) (flat_map (link_notices_of w) rows) ≡ false
-later_notices-other w link low high [] below rising = refl
-later_notices-other w link low high (row ∷ rows) below rising =
-    let other : is_link row.server row.cid link ≡ false = other_number link row.server row.cid (λ same. omega (arith, rising.0)) in
-    rw (list_any-append, link_notices_of-other w link row other) (later_notices-other w link (row.cid + 1) high rows (omega (arith, rising.0)) rising.1)
+later_notices-other : (w : Gateway) (link : Link) (rows : List Link) → list_any (is_same_link link) rows ≡ false → list_any (concerns link) (flat_map (link_notices_of w) rows) ≡ false
+later_notices-other w link [] none = refl
+later_notices-other w link (row ∷ rows) none =
+    let parts = or_parts (is_same_link link row) (list_any (is_same_link link) rows) none in
+    let other : is_link row.server row.cid link ≡ false = and_right (eqb link.server row.server) (eqb link.cid row.cid) (eqb_swapped link.cid row.cid ∙ parts.0) in
+    rw (list_any-append, link_notices_of-other w link row other) (later_notices-other w link rows parts.1)
 
 -- ---- a link's own notices
 
-abbrev with_next : ℕ → LinkRows → LinkRows
-with_next id rows = record rows { counters = record rows.counters { subscription = id } }
+abbrev with_ids : List ℕ → LinksAndIds → LinksAndIds
+with_ids ids rows = record rows { ids = ids }
 
 abbrev with_subs : Subscriptions → Link → Link
 with_subs subs link = record link { subscriptions = subs }
@@ -157,34 +197,34 @@ put_again Values first second subs = refl
 put_again Properties first second subs = refl
 
 -- the notices about a subject leave the link with a subscription that is for what is wanted of it
-record IsMetFor (subject : Subject) (want : Option Want) (link : Link) (rows : LinkRows) (notices : List LinkNotice) : Type 0 where
+record IsMetFor (subject : Subject) (want : Option Want) (link : Link) (rows : LinksAndIds) (notices : List LinkNotice) : Type 0 where
   sub : Option Subscription
-  next : ℕ
-  gives : fold left_by (in_front link rows) notices ≡ in_front (with_subscription subject sub link) (with_next next rows)
+  ids : List ℕ
+  gives : fold left_by (in_front link rows) notices ≡ in_front (with_subscription subject sub link) (with_ids ids rows)
   met : is_for want sub ≡ true
 
-met_for : (subject : Subject) (want : Option Want) (link : Link) (rows : LinkRows) (minor sid dtype native : ℕ)
+met_for : (subject : Subject) (want : Option Want) (link : Link) (rows : LinksAndIds) (minor sid dtype native : ℕ)
     → IsMetFor subject want link rows (notices_between subject minor link sid dtype native want (sub_at subject link.subscriptions))
 met_for subject want link rows minor sid dtype native = by (is_for want (sub_at subject link.subscriptions)) refl
   where
     new : Want → Subscription
-    new asked = record { id = rows.counters.subscription; mask = asked.mask; count = asked.count; sent = sent_for subject minor native asked.count }
+    new asked = record { id = next_of rows.ids; mask = asked.mask; count = asked.count; sent = sent_for subject minor native asked.count }
 
     anew : (sub : Option Subscription) (want : Option Want) → is_for want sub ≡ false
         → IsMetFor subject want link rows (cancelled subject link sid dtype sub ++ subscribed subject minor link sid dtype native want)
     anew None None differs = absurd (true≢false differs)
-    anew (Some sub) None differs = record { sub = None; next = rows.counters.subscription; gives = rw (itself link) refl; met = refl }
+    anew (Some sub) None differs = record { sub = None; ids = rows.ids; gives = rw (itself link) refl; met = refl }
     anew None (Some asked) differs = record {
       sub = Some (new asked);
-      next = rows.counters.subscription + 1;
+      ids = rest_of rows.ids;
       gives = rw (itself link) refl;
       met = rw (eq-eqb asked.mask asked.mask refl, eq-eqb asked.count asked.count refl) refl;
     }
     anew (Some sub) (Some asked) differs = record {
       sub = Some (new asked);
-      next = rows.counters.subscription + 1;
+      ids = rest_of rows.ids;
       gives = rw (itself link, itself link)
-          (ap (λ (subs : Subscriptions). in_front (with_subs subs link) (with_next (rows.counters.subscription + 1) rows)) (put_again subject None (Some (new asked)) link.subscriptions));
+          (ap (λ (subs : Subscriptions). in_front (with_subs subs link) (with_ids (rest_of rows.ids) rows)) (put_again subject None (Some (new asked)) link.subscriptions));
       met = rw (eq-eqb asked.mask asked.mask refl, eq-eqb asked.count asked.count refl) refl;
     }
 
@@ -192,28 +232,28 @@ met_for subject want link rows minor sid dtype native = by (is_for want (sub_at 
         → IsMetFor subject want link rows (cond met [] (cancelled subject link sid dtype (sub_at subject link.subscriptions) ++ subscribed subject minor link sid dtype native want))
     by true met = record {
       sub = sub_at subject link.subscriptions;
-      next = rows.counters.subscription;
+      ids = rows.ids;
       gives = ap (λ (subs : Subscriptions). in_front (with_subs subs link) rows) (sym (same_at subject link.subscriptions));
       met = met;
     }
     by false met = anew (sub_at subject link.subscriptions) want met
 
 -- the notices leave the link with subscriptions that are for what is wanted
-record IsMet (w : Gateway) (link : Link) (state : LinkState) (rows : LinkRows) (notices : List LinkNotice) : Type 0 where
+record IsMet (w : Gateway) (link : Link) (state : LinkState) (rows : LinksAndIds) (notices : List LinkNotice) : Type 0 where
   subs : Subscriptions
-  next : ℕ
-  gives : fold left_by (in_front link rows) notices ≡ in_front (with_subs subs link) (with_next next rows)
+  ids : List ℕ
+  gives : fold left_by (in_front link rows) notices ≡ in_front (with_subs subs link) (with_ids ids rows)
   quiet : interest_notices w (with_subs subs link) state ≡ []
 
-interest_met : (w : Gateway) (link : Link) (rows : LinkRows) (state : LinkState) → IsMet w link state rows (interest_notices w link state)
-interest_met w link rows Creating = record { subs = link.subscriptions; next = rows.counters.subscription; gives = refl; quiet = refl }
-interest_met w link rows Unusable = record { subs = link.subscriptions; next = rows.counters.subscription; gives = refl; quiet = refl }
+interest_met : (w : Gateway) (link : Link) (rows : LinksAndIds) (state : LinkState) → IsMet w link state rows (interest_notices w link state)
+interest_met w link rows Creating = record { subs = link.subscriptions; ids = rows.ids; gives = refl; quiet = refl }
+interest_met w link rows Unusable = record { subs = link.subscriptions; ids = rows.ids; gives = refl; quiet = refl }
 interest_met w link rows (Connected sid dtype native) = record {
   subs = record { values = first.sub; properties = second.sub };
-  next = second.next;
+  ids = second.ids;
   gives =
       fold-append left_by (in_front link rows) (subject_notices Values w link sid dtype native) (subject_notices Properties w link sid dtype native)
-      ∙ ap (λ (left : LinkRows). fold left_by left (subject_notices Properties w link sid dtype native)) first.gives ∙ second.gives;
+      ∙ ap (λ (left : LinksAndIds). fold left_by left (subject_notices Properties w link sid dtype native)) first.gives ∙ second.gives;
   quiet = rw (first.met, second.met) refl;
 }
   where
@@ -224,8 +264,8 @@ interest_met w link rows (Connected sid dtype native) = record {
     first = met_for Values (wanted_for Values w link.name dtype native) link rows minor sid dtype native
 
     -- on the link that the first leaves
-    second : IsMetFor Properties (wanted_for Properties w link.name dtype native) (with_subscription Values first.sub link) (with_next first.next rows) (subject_notices Properties w link sid dtype native)
-    second = met_for Properties (wanted_for Properties w link.name dtype native) (with_subscription Values first.sub link) (with_next first.next rows) minor sid dtype native
+    second : IsMetFor Properties (wanted_for Properties w link.name dtype native) (with_subscription Values first.sub link) (with_ids first.ids rows) (subject_notices Properties w link sid dtype native)
+    second = met_for Properties (wanted_for Properties w link.name dtype native) (with_subscription Values first.sub link) (with_ids first.ids rows) minor sid dtype native
 
 -- ---- all links
 
@@ -270,14 +310,14 @@ left_with w link subs links left quiet rest = record {
         elim (is_named name link) as (λ t. link_connected (cond t (Some (with_subs subs link)) (find (is_named name) left)) ≡ link_connected (cond t (Some link) (find (is_named name) links)))
         [ true ↦ refl | false ↦ rest ]
 
-abbrev with_links : List Link → LinkRows → LinkRows
+abbrev with_links : List Link → LinksAndIds → LinksAndIds
 with_links links rows = record rows { links = links }
 
-links_left : (w : Gateway) (low high : ℕ) (rows : LinkRows) (links : List Link) → AreRising cid_of low links high
+links_left : (w : Gateway) (rows : LinksAndIds) (links : List Link) → AreUnlike is_same_link links
     → IsLeft w links (fold left_by (with_links links rows) (flat_map (link_notices_of w) links)).links
-links_left w low high rows [] rising = record { quiet = refl; rights = λ name wanted. refl; connected = λ name wanted. refl }
-links_left w low high rows (link ∷ links) rising =
-    by (is_wanted w link.name) refl (λ next. links_left w (link.cid + 1) high (with_next next rows) links rising.1)
+links_left w rows [] apart = record { quiet = refl; rights = λ name wanted. refl; connected = λ name wanted. refl }
+links_left w rows (link ∷ links) apart =
+    by (is_wanted w link.name) refl (λ ids. links_left w (with_ids ids rows) links apart.1)
   where
     met : IsMet w link link.state (with_links links rows) (interest_notices w link link.state)
     met = interest_met w link (with_links links rows) link.state
@@ -285,76 +325,61 @@ links_left w low high rows (link ∷ links) rising =
     left : Link
     left = with_subs met.subs link
 
-    own : fold left_by (with_links (link ∷ links) rows) (interest_notices w link link.state) ≡ in_front left (with_links links (with_next met.next rows))
+    own : fold left_by (with_links (link ∷ links) rows) (interest_notices w link link.state) ≡ in_front left (with_links links (with_ids met.ids rows))
     own = met.gives
 
     gone : filter (is_not_link link.server link.cid) links ≡ links
     gone =
         filter_absent (is_link link.server link.cid) links
-        (none_rising cid_of (is_link link.server link.cid) (link.cid + 1) high links (λ x above. other_number x link.server link.cid (λ same. omega arith)) rising.1)
+        (none_weaker (is_same_link link) (is_link link.server link.cid) links (λ x other. and_right (eqb x.server link.server) (eqb x.cid link.cid) other) apart.0)
 
     -- behind a link's own notices come those on later links
-    behind : (after : LinkRows) (last : List LinkNotice) → fold left_by (in_front left (with_links links (with_next met.next rows))) last ≡ after
+    behind : (after : LinksAndIds) (last : List LinkNotice) → fold left_by (in_front left (with_links links (with_ids met.ids rows))) last ≡ after
         → fold left_by (with_links (link ∷ links) rows) ((interest_notices w link link.state ++ last) ++ flat_map (link_notices_of w) links)
         ≡ fold left_by after (flat_map (link_notices_of w) links)
     behind after last e =
         fold-append left_by (with_links (link ∷ links) rows) (interest_notices w link link.state ++ last) (flat_map (link_notices_of w) links)
-        ∙ ap (λ (r : LinkRows). fold left_by r (flat_map (link_notices_of w) links))
-        (fold-append left_by (with_links (link ∷ links) rows) (interest_notices w link link.state) last ∙ ap (λ (r : LinkRows). fold left_by r last) own ∙ e)
+        ∙ ap (λ (r : LinksAndIds). fold left_by r (flat_map (link_notices_of w) links))
+        (fold-append left_by (with_links (link ∷ links) rows) (interest_notices w link link.state) last ∙ ap (λ (r : LinksAndIds). fold left_by r last) own ∙ e)
 
     by : (wanted : Bool) → is_wanted w link.name ≡ wanted
-        → ((next : ℕ) → IsLeft w links (fold left_by (with_links links (with_next next rows)) (flat_map (link_notices_of w) links)).links)
+        → ((ids : List ℕ) → IsLeft w links (fold left_by (with_links links (with_ids ids rows)) (flat_map (link_notices_of w) links)).links)
         → IsLeft w (link ∷ links)
         (fold left_by (with_links (link ∷ links) rows)
         ((interest_notices w link link.state ++ cond wanted [] (Dropped link.server link.cid link.state ∷ [])) ++ flat_map (link_notices_of w) links)).links
     by true is on =
-        let others = later_notices-other w left (link.cid + 1) high links (omega arith) rising.1 in
-        let all = behind (in_front left (with_links links (with_next met.next rows))) [] refl
-        ∙ all_passed_by left (with_links links (with_next met.next rows)) (flat_map (link_notices_of w) links) others in
+        let others = later_notices-other w left links apart.0 in
+        let all = behind (in_front left (with_links links (with_ids met.ids rows))) [] refl
+        ∙ all_passed_by left (with_links links (with_ids met.ids rows)) (flat_map (link_notices_of w) links) others in
         let quiet : link_notices_of w left ≡ [] = rw (met.quiet, is) refl in
-        subst (λ (r : LinkRows). IsLeft w (link ∷ links) r.links) (sym all)
-        (left_with w link met.subs links (fold left_by (with_links links (with_next met.next rows)) (flat_map (link_notices_of w) links)).links quiet (on met.next))
+        subst (λ (r : LinksAndIds). IsLeft w (link ∷ links) r.links) (sym all)
+        (left_with w link met.subs links (fold left_by (with_links links (with_ids met.ids rows)) (flat_map (link_notices_of w) links)).links quiet (on met.ids))
     by false is on =
-        let step : left_by (in_front left (with_links links (with_next met.next rows))) (Dropped link.server link.cid link.state) ≡ with_links links (with_next met.next rows) =
+        let step : left_by (in_front left (with_links links (with_ids met.ids rows))) (Dropped link.server link.cid link.state) ≡ with_links links (with_ids met.ids rows) =
         rw (itself link, gone) refl in
-        let all = behind (with_links links (with_next met.next rows)) (Dropped link.server link.cid link.state ∷ []) step in
-        subst (λ (r : LinkRows). IsLeft w (link ∷ links) r.links) (sym all)
-        (left_without w link links (fold left_by (with_links links (with_next met.next rows)) (flat_map (link_notices_of w) links)).links is (on met.next))
+        let all = behind (with_links links (with_ids met.ids rows)) (Dropped link.server link.cid link.state ∷ []) step in
+        subst (λ (r : LinksAndIds). IsLeft w (link ∷ links) r.links) (sym all)
+        (left_without w link links (fold left_by (with_links links (with_ids met.ids rows)) (flat_map (link_notices_of w) links)).links is (on met.ids))
 
 -- ---- what the pass does to a state
-
--- a state with other links, another next number of subscriptions, and what goes with them
-abbrev pub with_links_left : Gateway → List Connection → List LastMessage → List Link → ℕ → Gateway
-with_links_left w connections cache links next = record w {
-  connections = connections;
-  cache = cache;
-  upstream = record w.upstream { links = links; counters = record w.upstream.counters { subscription = next } };
-}
-
-rows_changed : (notices : List LinkNotice) (rows : LinkRows)
-    → fold left_by rows notices ≡ with_next (fold left_by rows notices).counters.subscription (with_links (fold left_by rows notices).links rows)
-rows_changed [] rows = refl
-rows_changed (Cancelled subject server cid sid dtype sub ∷ notices) rows = rows_changed notices (left_by rows (Cancelled subject server cid sid dtype sub))
-rows_changed (Unread subject cid ∷ notices) rows = rows_changed notices rows
-rows_changed (Subscribed subject server cid sid dtype want sent ∷ notices) rows = rows_changed notices (left_by rows (Subscribed subject server cid sid dtype want sent))
-rows_changed (Dropped server cid state ∷ notices) rows = rows_changed notices (left_by rows (Dropped server cid state))
 
 -- the pass gives such a state, whose links are those left
 pub record IsPassed (w v : Gateway) : Type 0 where
   pub connections : List Connection
   pub cache : List LastMessage
   pub links : List Link
-  pub next : ℕ
-  pub is : v ≡ with_links_left w connections cache links next
+  pub counters : Counters
+  pub is : v ≡ with_links_left w connections cache links counters
   pub left : IsLeft w w.upstream.links links
 
-pub links_passed : (w : Gateway) → AreRising cid_of 0 w.upstream.links w.upstream.counters.cid → IsPassed w (links_told w)
-links_passed w rising =
-    record {
-      connections = (links_told w).connections;
-      cache = (links_told w).cache;
-      links = (fold left_by w.upstream (link_notices w)).links;
-      next = (fold left_by w.upstream (link_notices w)).counters.subscription;
-      is = links_changed (link_notices w) w ∙ ap (with_upstream w (links_told w).connections (links_told w).cache) (rows_changed (link_notices w) w.upstream);
-      left = links_left w 0 w.upstream.counters.cid w.upstream w.upstream.links rising;
-    }
+pub links_passed : (w : Gateway) → HasCidsApart w → IsPassed w (links_told w)
+links_passed w order = record {
+  connections = (links_told w).connections;
+  cache = (links_told w).cache;
+  links = (links_told w).upstream.links;
+  counters = (links_told w).upstream.counters;
+  is = links_changed (link_notices w) w;
+  left =
+      subst (λ (links : List Link). IsLeft w w.upstream.links links) (sym (left_is (link_notices w) w))
+      (links_left w (dealt w.upstream.links (ids_given w (link_notices w))) w.upstream.links order.apart);
+}

@@ -8,6 +8,7 @@ use Rattle.channel_table.specs.declared.subs.ClientSub.{ClientSub}
 use Rattle.channel_table.specs.Channels.{is_channel, is_on}
 use Rattle.channel_table.specs.Demand.{own_ask}
 use Rattle.link_table.specs.declared.links.Link.{Link}
+use Rattle.link_table.specs.LinkRows.{Counters}
 use Rattle.gateway_state.specs.declared.cached.LastMessage.{LastMessage}
 use Rattle.gateway_state.specs.declared.connections.Connection.{Connection}
 use Rattle.gateway_state.specs.declared.notice.ChannelNotice.{ChannelNotice}
@@ -19,12 +20,12 @@ use Rattle.gateway_state.specs.Interest.{is_read_through, is_reader, is_subscrib
 use Rattle.gateway_state.specs.Notices.{channel_notice, channel_notices, channels_told, link_notices, links_told, reads_told, channel_told, link_told, read_notices, read_told}
 use Rattle.gateway_state.specs.Resolution.{is_real, rights_left}
 use Rattle.gateway_state.specs.Rights.{channel_of, is_served, lead_in, may_read, rights_of}
-use Rattle.gateway_state.specs.Settled.{AreInOrder, HasSubsApart, IsSettled}
+use Rattle.gateway_state.specs.Settled.{AreNumbersApart, HasSubsApart, IsSettled}
 use Rattle.gateway_state.specs.Step.{consequences}
 use Rattle.gateway_state.specs.Updates.{is_unreadable, is_withheld, owed_to_all, update_notices, update_told, updates_told, updates_withheld, withheld}
 use Rattle.gateway_state.specs.Variables.{is_wanted}
 use Rattle.gateway_state.specs.Searches.{leads_to}
-use Rattle.gateway_state.proofs.InOrder.{in_order_kept}
+use Rattle.gateway_state.proofs.NumbersApart.{numbers_apart_kept}
 use Rattle.gateway_state.proofs.KeptByRuns.{kept_channels_told, kept_links_told, kept_reads_told, kept_updates_withheld}
 use Rattle.gateway_state.proofs.LinkNotices.{link_notices_alike}
 use Rattle.gateway_state.proofs.SettledChannels.{channels_settled, notice_by}
@@ -47,9 +48,9 @@ found_is_on test (row ∷ rows) c e = by (test row) e (λ rest. found_is_on test
         ap (λ (t : Bool). t || list_any (is_on c.real) rows) ((bytes_eq-Decides row.real c.real).1 (ap (λ (x : Channel). x.real) same))
     by false e rest = elim (is_on c.real row) as (λ t. (t || list_any (is_on c.real) rows) ≡ true) [ true ↦ refl | false ↦ rest e ]
 
-module _ (w : Gateway) (connections : List Connection) (cache : List LastMessage) (links : List Link) (next : ℕ) (left : IsLeft w w.upstream.links links) where
+module _ (w : Gateway) (connections : List Connection) (cache : List LastMessage) (links : List Link) (counters : Counters) (left : IsLeft w w.upstream.links links) where
   abbrev v : Gateway
-  v = with_links_left w connections cache links next
+  v = with_links_left w connections cache links counters
 
   rights_same : (c : Channel) → is_wanted w c.real ≡ true → rights_of v c ≡ rights_of w c
   rights_same c wanted = ap (λ (rights : ℕ). bit_and rights (rights_left w.policy (lead_in w c.session c.asked))) (left.rights c.real wanted)
@@ -136,19 +137,19 @@ module _ (w : Gateway) (connections : List Connection) (cache : List LastMessage
 -- after the pass over links none is owed a notice, nor is a channel that was owed none
 links_settled : (w v : Gateway) → IsPassed w v → link_notices v ≡ []
 links_settled w v passed =
-    ap link_notices passed.is ∙ left_links_settled w passed.connections passed.cache passed.links passed.next passed.left
+    ap link_notices passed.is ∙ left_links_settled w passed.connections passed.cache passed.links passed.counters passed.left
 
 pub links_keep_channels : (w v : Gateway) → IsPassed w v → channel_notices v ≡ channel_notices w
 links_keep_channels w v passed =
-    ap channel_notices passed.is ∙ left_channels_same w passed.connections passed.cache passed.links passed.next passed.left
+    ap channel_notices passed.is ∙ left_channels_same w passed.connections passed.cache passed.links passed.counters passed.left
 
 links_keep_withheld : (w v : Gateway) → IsPassed w v → withheld v ≡ withheld w
 links_keep_withheld w v passed =
-    ap withheld passed.is ∙ left_withheld_same w passed.connections passed.cache passed.links passed.next passed.left
+    ap withheld passed.is ∙ left_withheld_same w passed.connections passed.cache passed.links passed.counters passed.left
 
 -- ---- the passes
 
-module _ (w : Gateway) (order : AreInOrder w) (apart : HasSubsApart w) where
+module _ (w : Gateway) (order : AreNumbersApart w) (apart : HasSubsApart w) where
   abbrev first : Gateway
   first = channels_told w
 
@@ -169,7 +170,7 @@ module _ (w : Gateway) (order : AreInOrder w) (apart : HasSubsApart w) where
       kept_reads_told HasSubsApart subs_apart_kept.rows third (kept_links_told HasSubsApart subs_apart_kept.rows second (kept_updates_withheld HasSubsApart subs_apart_kept.rows first first_apart))
 
   passed : IsPassed second third
-  passed = links_passed second (kept_updates_withheld AreInOrder in_order_kept.rows first (kept_channels_told AreInOrder in_order_kept.rows w order)).links
+  passed = links_passed second (kept_updates_withheld AreNumbersApart numbers_apart_kept.rows first (kept_channels_told AreNumbersApart numbers_apart_kept.rows w order)).links
 
   -- before updates are given
   held_back : withheld fourth ≡ []

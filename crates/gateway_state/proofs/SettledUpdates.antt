@@ -56,7 +56,7 @@ said notice = outgoing (replies.Update notice.id notice.dtype notice.count notic
 abbrev left_by : Limits → Served → UpdateNotice → Served
 left_by limits served notice =
     cond (takes limits served.connections notice.session) (record {
-      connections = change_first (is_to (ToSession notice.session)) (given (said notice)) served.connections;
+      connections = change_first (is_to (ToSession notice.session)) (given limits.messages (said notice)) served.connections;
       subs = change_first (is_sub notice.session notice.id) (with_owed false) served.subs;
     }) served
 
@@ -67,10 +67,10 @@ told_served : (w : Gateway) (served : Served) (notice : UpdateNotice) → update
 unfolding sent
 told_served w served notice =
     elim (takes w.limits served.connections notice.session) as (λ t. cond t (with_served w (record {
-      connections = change_first (is_to (ToSession notice.session)) (given (said notice)) served.connections;
+      connections = change_first (is_to (ToSession notice.session)) (given w.limits.messages (said notice)) served.connections;
       subs = change_first (is_sub notice.session notice.id) (with_owed false) served.subs;
     })) (with_served w served) ≡ with_served w (cond t (record {
-      connections = change_first (is_to (ToSession notice.session)) (given (said notice)) served.connections;
+      connections = change_first (is_to (ToSession notice.session)) (given w.limits.messages (said notice)) served.connections;
       subs = change_first (is_sub notice.session notice.id) (with_owed false) served.subs;
     }) served))
     [ true ↦ refl | false ↦ refl ]
@@ -89,8 +89,8 @@ more_bytes box out =
     let bytes : ℕ = sum_by out_len box.messages in
     le-min (omega (arith, min-le_left bytes (2 ^ 64 - 1), sum_by_push out_len box.messages out)) (min-le_right bytes (2 ^ 64 - 1))
 
-pub box_taking : (limits : Limits) (box : Waiting) (out : Out) → takes_updates limits (appended box out) ≡ true → takes_updates limits box ≡ true
-box_taking limits box out e = by (refuses box) e
+pub box_taking : (limits : Limits) (most : ℕ) (box : Waiting) (out : Out) → takes_updates limits (appended most box out) ≡ true → takes_updates limits box ≡ true
+box_taking limits most box out e = by (refuses most box) e
   where
     by : (refused : Bool) → takes_updates limits (cond refused (record box { marked = true }) (record box { messages = box.messages ++ out ∷ [] })) ≡ true → takes_updates limits box ≡ true
     by true e = absurd (true≢false (sym e))
@@ -107,22 +107,22 @@ box_taking limits box out e = by (refuses box) e
         (lt-ltb (waiting_bytes box) limits.update_bytes (omega (arith, less, more)))
 
 -- an outbox that takes updates once a message was given to some took them before
-taking_before : (limits : Limits) (number : ℕ) (dest : Dest) (out : Out) (rows : List Connection) → takes limits (change_first (is_to dest) (given out) rows) number ≡ true → takes limits rows number ≡ true
-taking_before limits number dest out [] e = e
-taking_before limits number dest out (row ∷ rows) e = by (is_to dest row) (is_to (ToSession number) row) refl refl e (λ rest. taking_before limits number dest out rows rest)
+taking_before : (limits : Limits) (number : ℕ) (dest : Dest) (most : ℕ) (out : Out) (rows : List Connection) → takes limits (change_first (is_to dest) (given most out) rows) number ≡ true → takes limits rows number ≡ true
+taking_before limits number dest most out [] e = e
+taking_before limits number dest most out (row ∷ rows) e = by (is_to dest row) (is_to (ToSession number) row) refl refl e (λ rest. taking_before limits number dest most out rows rest)
   where
     by : (here sought : Bool) → is_to dest row ≡ here → is_to (ToSession number) row ≡ sought
-        → takes limits (cond here (given out row ∷ rows) (row ∷ change_first (is_to dest) (given out) rows)) number ≡ true
-        → (takes limits (change_first (is_to dest) (given out) rows) number ≡ true → takes limits rows number ≡ true)
+        → takes limits (cond here (given most out row ∷ rows) (row ∷ change_first (is_to dest) (given most out) rows)) number ≡ true
+        → (takes limits (change_first (is_to dest) (given most out) rows) number ≡ true → takes limits rows number ≡ true)
         → takes_updates limits (outbox_in (cond sought (Some row) (find (is_to (ToSession number)) rows))) ≡ true
     by true true is is_sought e rest =
-        box_taking limits row.outbox out (ap (λ (t : Bool). takes_updates limits (outbox_in (cond t (Some (given out row)) (find (is_to (ToSession number)) rows)))) (sym is_sought) ∙ e)
+        box_taking limits most row.outbox out (ap (λ (t : Bool). takes_updates limits (outbox_in (cond t (Some (given most out row)) (find (is_to (ToSession number)) rows)))) (sym is_sought) ∙ e)
     by true false is is_sought e rest =
-        ap (λ (t : Bool). takes_updates limits (outbox_in (cond t (Some (given out row)) (find (is_to (ToSession number)) rows)))) (sym is_sought) ∙ e
+        ap (λ (t : Bool). takes_updates limits (outbox_in (cond t (Some (given most out row)) (find (is_to (ToSession number)) rows)))) (sym is_sought) ∙ e
     by false true is is_sought e rest =
-        ap (λ (t : Bool). takes_updates limits (outbox_in (cond t (Some row) (find (is_to (ToSession number)) (change_first (is_to dest) (given out) rows))))) (sym is_sought) ∙ e
+        ap (λ (t : Bool). takes_updates limits (outbox_in (cond t (Some row) (find (is_to (ToSession number)) (change_first (is_to dest) (given most out) rows))))) (sym is_sought) ∙ e
     by false false is is_sought e rest =
-        rest (ap (λ (t : Bool). takes_updates limits (outbox_in (cond t (Some row) (find (is_to (ToSession number)) (change_first (is_to dest) (given out) rows))))) (sym is_sought) ∙ e)
+        rest (ap (λ (t : Bool). takes_updates limits (outbox_in (cond t (Some row) (find (is_to (ToSession number)) (change_first (is_to dest) (given most out) rows))))) (sym is_sought) ∙ e)
 
 -- no session takes updates after that didn't before
 abbrev HasNoMoreRoom : Limits → List Connection → List Connection → Type 0
@@ -133,12 +133,12 @@ no_more_room limits served notice number e = by (takes limits served.connections
   where
     anew : Served
     anew = record {
-      connections = change_first (is_to (ToSession notice.session)) (given (said notice)) served.connections;
+      connections = change_first (is_to (ToSession notice.session)) (given limits.messages (said notice)) served.connections;
       subs = change_first (is_sub notice.session notice.id) (with_owed false) served.subs;
     }
 
     by : (room : Bool) → takes limits (cond room anew served).connections number ≡ true → takes limits served.connections number ≡ true
-    by true e = taking_before limits number (ToSession notice.session) (said notice) served.connections e
+    by true e = taking_before limits number (ToSession notice.session) limits.messages (said notice) served.connections e
     by false e = e
 
 all_no_more_room : (limits : Limits) (notices : List UpdateNotice) (served : Served) → HasNoMoreRoom limits served.connections (fold (left_by limits) served notices).connections
@@ -229,10 +229,10 @@ kept_by_others w before quiet (row ∷ rows) served apart =
     passed : (notice : UpdateNotice) → is_sub notice.session notice.id quiet ≡ false → left_by w.limits (in_front quiet served) notice ≡ in_front quiet (left_by w.limits served notice)
     passed notice other =
         elim (takes w.limits served.connections notice.session) as (λ t. cond t (record {
-          connections = change_first (is_to (ToSession notice.session)) (given (said notice)) served.connections;
+          connections = change_first (is_to (ToSession notice.session)) (given w.limits.messages (said notice)) served.connections;
           subs = cond (is_sub notice.session notice.id quiet) (with_owed false quiet ∷ served.subs) (quiet ∷ change_first (is_sub notice.session notice.id) (with_owed false) served.subs);
         }) (in_front quiet served) ≡ in_front quiet (cond t (record {
-          connections = change_first (is_to (ToSession notice.session)) (given (said notice)) served.connections;
+          connections = change_first (is_to (ToSession notice.session)) (given w.limits.messages (said notice)) served.connections;
           subs = change_first (is_sub notice.session notice.id) (with_owed false) served.subs;
         }) served))
         [ true ↦ rw other refl | false ↦ refl ]
@@ -293,10 +293,10 @@ quiet_updates w before (row ∷ rows) connections apart less none =
         subst (λ (left : Served). IsQuiet w (fold (left_by w.limits) left (filter_map (notice_in w before) rows))) (sym step)
         (unchanged (none_without_room w (end connections).connections row (full_after full)) not_held (on connections less))
     noticed notice true made not_held is on =
-        let left : List Connection = change_first (is_to (ToSession notice.session)) (given (said notice)) connections in
+        let left : List Connection = change_first (is_to (ToSession notice.session)) (given w.limits.messages (said notice)) connections in
         let here : is_sub notice.session notice.id row ≡ true = (λ i. is_sub (made.session i) (made.id i) row) ∙ itself row in
         let step : left_by w.limits (in_front row (with_rows rows connections)) notice ≡ in_front (with_owed false row) (with_rows rows left) = rw (is, here) refl in
-        let fewer : HasNoMoreRoom w.limits before left = λ number e. less number (taking_before w.limits number (ToSession notice.session) (said notice) connections e) in
+        let fewer : HasNoMoreRoom w.limits before left = λ number e. less number (taking_before w.limits number (ToSession notice.session) w.limits.messages (said notice) connections e) in
         subst (λ (front : Served). IsQuiet w (fold (left_by w.limits) front (filter_map (notice_in w before) rows))) (sym step)
         (subst (IsQuiet w) (sym (kept_by_others w before (with_owed false row) rows (with_rows rows left) apart.0))
         (quiet_in_front w (with_owed false row) (end left) refl made.readable (on left fewer)))
@@ -362,7 +362,7 @@ all_alike limits [] served = refl
 all_alike limits (notice ∷ notices) served = all_alike limits notices (left_by limits served notice) ∙ by (takes limits served.connections notice.session)
   where
     by : (room : Bool) → map (with_owed true) (cond room (record {
-      connections = change_first (is_to (ToSession notice.session)) (given (said notice)) served.connections;
+      connections = change_first (is_to (ToSession notice.session)) (given limits.messages (said notice)) served.connections;
       subs = change_first (is_sub notice.session notice.id) (with_owed false) served.subs;
     }) served).subs ≡ map (with_owed true) served.subs
     by true = alike_but_owed notice.session notice.id false served.subs

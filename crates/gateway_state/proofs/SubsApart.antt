@@ -1,7 +1,7 @@
 -- No session ever has two subscriptions under one ID.
-use Rattle.std.proofs.Common.{◌≡◌, ℕ, List, [], ◌∷◌, ◌++◌, Bool, true, false, cond, eqb, ◌||◌, Some, refl, sym, ◌∙◌}
+use Rattle.std.proofs.Common.{◌≡◌, ℕ, List, [], ◌∷◌, ◌++◌, Bool, true, false, cond, eqb, Some, refl, sym, ◌∙◌}
 use Rattle.std.specs.Prelude.{filter, is_some}
-use Rattle.std.specs.List.{find, list_any}
+use Rattle.std.specs.List.{find}
 use Rattle.std.proofs.lemmas.Bool.{and_from, and_parts, eqb-true, eq-eqb, true≢false}
 use Rattle.std.proofs.lemmas.List.Folds.{list_any-append}
 use Rattle.rows.specs.Rows.{change_first}
@@ -15,7 +15,7 @@ use Rattle.gateway_state.specs.Settled.{AreApart, HasSubsApart}
 use Rattle.gateway_state.specs.Step.{run}
 use Rattle.gateway_state.proofs.Kept.{IsKept, KeepsLinks, messages_kept}
 use Rattle.gateway_state.proofs.KeptByRuns.{kept_run}
-use Rattle.gateway_state.proofs.RowTests.{any_changed}
+use Rattle.gateway_state.proofs.RowTests.{any_changed, none_filtered}
 
 -- a subscription under the ID of another one is not the other's
 pub other_key : (a b : ClientSub) → is_sub a.session a.id b ≡ false → is_sub b.session b.id a ≡ false
@@ -31,18 +31,6 @@ other_key a b e = by (is_sub b.session b.id a) refl
 
 pub itself : (sub : ClientSub) → is_sub sub.session sub.id sub ≡ true
 itself sub = and_from (eqb sub.session sub.session) (eqb sub.id sub.id) (eq-eqb sub.session sub.session refl) (eq-eqb sub.id sub.id refl)
-
--- where none passes, none of fewer does
-none_filtered : (test other : ClientSub → Bool) (rows : List ClientSub) → list_any test rows ≡ false → list_any test (filter other rows) ≡ false
-none_filtered test other [] none = refl
-none_filtered test other (row ∷ rows) none = by (test row) (other row) refl refl none (λ rest. none_filtered test other rows rest)
-  where
-    by : (passes stays : Bool) → test row ≡ passes → other row ≡ stays → (passes || list_any test rows) ≡ false
-        → (list_any test rows ≡ false → list_any test (filter other rows) ≡ false)
-        → list_any test (cond stays (row ∷ filter other rows) (filter other rows)) ≡ false
-    by true stays is is_staying none rest = absurd (true≢false none)
-    by false true is is_staying none rest = rw is (rest none)
-    by false false is is_staying none rest = rest none
 
 apart_filtered : (test : ClientSub → Bool) (rows : List ClientSub) → AreApart rows → AreApart (filter test rows)
 apart_filtered test [] apart = apart
@@ -74,10 +62,11 @@ pub subs_apart_kept : IsKept HasSubsApart
 subs_apart_kept = record {
   rows = record {
     messages = messages_kept HasSubsApart (λ dest change w apart. apart);
-    connection_added = λ dest w apart. apart;
+    connection_added = λ dest w rowed apart. apart;
     session_added = λ row w there apart. apart;
     session_changed = λ number change w same apart. apart;
-    servers = λ rows w apart. apart;
+    server_added = λ row w apart. apart;
+    server_changed = λ number minor w apart. apart;
     cache_left = λ stays w apart. apart;
     cached = λ server cid change w apart. apart;
     bare = λ cid w apart. apart;

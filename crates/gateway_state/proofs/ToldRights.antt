@@ -7,11 +7,11 @@ use Rattle.gateway_state.specs.Gateway.{Gateway, initial}
 use Rattle.gateway_state.specs.Notices.{channel_notices, channels_told, links_told, reads_told}
 use Rattle.gateway_state.specs.Reached.{IsReached}
 use Rattle.gateway_state.specs.Rights.{channel_of}
-use Rattle.gateway_state.specs.Settled.{AreInOrder, IsUpToDate}
+use Rattle.gateway_state.specs.Settled.{AreNumbersApart, IsUpToDate}
 use Rattle.gateway_state.specs.Step.{run}
 use Rattle.gateway_state.specs.Told.{KnowRights, KnowsRights}
 use Rattle.gateway_state.specs.Updates.{updates_withheld}
-use Rattle.gateway_state.proofs.OrderKept.{order_before_links}
+use Rattle.gateway_state.proofs.NumbersKept.{numbers_before_links}
 use Rattle.gateway_state.proofs.RowTests.{found_passes}
 use Rattle.gateway_state.proofs.SettledChannels.{channels_settled}
 use Rattle.gateway_state.proofs.SettledLinks.{links_passed}
@@ -35,14 +35,14 @@ pub found_told : (w : Gateway) (session sid : ℕ) (c : Channel) → KnowRights 
 found_told w session sid c told is = found_passes (KnowsRights w) (is_channel session sid) w.clients.channels c told is
 
 -- once clients were told, in each of the later passes
-module _ (w : Gateway) (order : AreInOrder w) where
+module _ (w : Gateway) (order : AreNumbersApart w) where
   quiet_held_back : channel_notices (updates_withheld (channels_told w)) ≡ []
   quiet_held_back = withheld_keeps_channels (channels_told w) ∙ channels_settled w order.channels
 
   quiet_links : channel_notices (links_told (updates_withheld (channels_told w))) ≡ []
   quiet_links =
       links_keep_channels (updates_withheld (channels_told w)) (links_told (updates_withheld (channels_told w)))
-      (links_passed (updates_withheld (channels_told w)) (order_before_links w order).links)
+      (links_passed (updates_withheld (channels_told w)) (numbers_before_links w order).links)
       ∙ quiet_held_back
 
   pub told_before_withheld : KnowRights (channels_told w)

@@ -21,10 +21,12 @@ use Rattle.rule_desk.specs.declared.policy.Policy.{Policy}
 use Rattle.gateway_state.specs.declared.event.Event.{Event}
 use Rattle.gateway_state.specs.Gateway.{Gateway, initial}
 use Rattle.gateway_state.specs.Rights.{channel_of, link_connected}
-use Rattle.gateway_state.specs.Settled.{AreInOrder, HasLinksApart, HasSubsApart, HasWritesOnLinks, IsSettled, IsUpToDate, is_of_server, is_write_on_link, link_under}
+use Rattle.gateway_state.specs.Notices.{next_sub_id}
+use Rattle.gateway_state.specs.Servers.{next_cid}
+use Rattle.gateway_state.specs.Settled.{AreNumbersApart, HasLinksApart, HasSubsApart, HasWritesOnLinks, IsSettled, IsUpToDate, is_of_server, is_write_on_link, link_under}
 use Rattle.gateway_state.specs.Step.{run, step}
 use Rattle.gateway_state.specs.Variables.{is_linked, link_of}
-use Rattle.gateway_state.proofs.InOrder.{in_order_kept, in_order_with_links, initial_in_order}
+use Rattle.gateway_state.proofs.NumbersApart.{initial_numbers_apart, numbers_apart_kept, numbers_apart_with_links}
 use Rattle.gateway_state.proofs.Kept.{IsKept, messages_kept, new_channel, with_link}
 use Rattle.gateway_state.proofs.KeptByRuns.{kept_step, kept_step_by}
 use Rattle.gateway_state.proofs.KeptByServers.{kept_found}
@@ -215,10 +217,11 @@ writes_fit_kept : IsKept HasWritesFit
 writes_fit_kept = record {
   rows = record {
     messages = messages_kept HasWritesFit (λ dest change w on. record { apart = on.apart; fit = on.fit });
-    connection_added = λ dest w on. record { apart = on.apart; fit = on.fit };
+    connection_added = λ dest w rowed on. record { apart = on.apart; fit = on.fit };
     session_added = λ row w there on. record { apart = on.apart; fit = on.fit };
     session_changed = λ number change w same on. record { apart = on.apart; fit = on.fit };
-    servers = λ rows w on. record { apart = on.apart; fit = on.fit };
+    server_added = λ row w on. record { apart = on.apart; fit = on.fit };
+    server_changed = λ number minor w on. record { apart = on.apart; fit = on.fit };
     cache_left = λ stays w on. record { apart = on.apart; fit = on.fit };
     cached = λ server cid change w on. record { apart = on.apart; fit = on.fit };
     bare = λ cid w on. record { apart = on.apart; fit = on.fit };
@@ -252,7 +255,7 @@ writes_fit_kept = record {
     };
     subscription_made = λ subject server cid mask count sent w on. record {
       apart = links_apart_kept.rows.subscription_made subject server cid mask count sent w on.apart;
-      fit = fit_subscribed w subject server cid (Some (record { id = w.upstream.counters.subscription; mask = mask; count = count; sent = sent })) on.fit;
+      fit = fit_subscribed w subject server cid (Some (record { id = next_sub_id w server; mask = mask; count = count; sent = sent })) on.fit;
     };
     subscription_ended = λ subject server cid w on. record {
       apart = links_apart_kept.rows.subscription_ended subject server cid w on.apart;
@@ -308,7 +311,7 @@ fits_found w write new settled missing there = by (channel_of w write.session wr
 fit_found : (w : Gateway) (server : ℕ) (name : List ℕ) → IsSettled w → is_linked w name ≡ false → list_all (fits w.clients.channels w.upstream.links) w.upstream.writes ≡ true
     → list_all (fits w.clients.channels (with_link server name w).upstream.links) w.upstream.writes ≡ true
 fit_found w server name settled missing fit =
-    let new : Link = new_link server w.upstream.counters.cid name in
+    let new : Link = new_link server (next_cid w) name in
     all_weaker (fits w.clients.channels w.upstream.links) (fits w.clients.channels (w.upstream.links ++ new ∷ [])) w.upstream.writes
     (λ write there. fits_found w write new settled missing there) fit
 
@@ -319,11 +322,11 @@ step_fit w event settled on =
     (λ missing standing. record { apart = links_apart_with_links server name w missing standing holds.apart; fit = fit_found w server name settled missing holds.fit }) holds)
     on
 
-run_fit_from : (w : Gateway) (events : List Event) → AreInOrder w → HasSubsApart w → IsSettled w → HasWritesFit w → HasWritesFit (run w events)
+run_fit_from : (w : Gateway) (events : List Event) → AreNumbersApart w → HasSubsApart w → IsSettled w → HasWritesFit w → HasWritesFit (run w events)
 unfolding run
 run_fit_from w [] order apart settled fit = fit
 run_fit_from w (event ∷ events) order apart settled fit =
-    run_fit_from (step w event) events (kept_step AreInOrder in_order_kept in_order_with_links w event order) (kept_step HasSubsApart subs_apart_kept subs_apart_with_links w event apart)
+    run_fit_from (step w event) events (kept_step AreNumbersApart numbers_apart_kept numbers_apart_with_links w event order) (kept_step HasSubsApart subs_apart_kept subs_apart_with_links w event apart)
     (step_settled w event order apart) (step_fit w event settled fit)
 
 on_link : (w : Gateway) (write : WaitingWrite) → IsSettled w → fits w.clients.channels w.upstream.links write ≡ true → is_write_on_link w write ≡ true
@@ -347,4 +350,4 @@ run_writes_on_links config policy events =
     let settled : IsSettled (initial config policy) = record { channels = refl; held_back = refl; links = refl; reads = refl; updates = refl } in
     let fit : HasWritesFit (initial config policy) = record { apart = λ name. omega arith; fit = refl } in
     all_on_links (run (initial config policy) events) (run_settled config policy events)
-    (run_fit_from (initial config policy) events (initial_in_order config policy) (record {}) settled fit)
+    (run_fit_from (initial config policy) events (initial_numbers_apart config policy) (record {}) settled fit)

@@ -1,5 +1,5 @@
 -- What is forgotten and given up as time passes.
-use Rattle.std.specs.Prelude.{map, filter, Bool, false, not, ◌&&◌, nat_lt, is_some, Option, Some, None}
+use Rattle.std.specs.Prelude.{ℕ, map, filter, Bool, false, not, ◌&&◌, ◌||◌, nat_le, nat_lt, is_some, if◌then◌else◌, Option, Some, None}
 use Rattle.std.specs.List.{fold}
 use Rattle.link_table.specs.declared.links.Link.{Link}
 use Rattle.link_table.specs.declared.links.Subject.TheVariants.{Properties}
@@ -14,9 +14,16 @@ use Rattle.gateway_state.specs.Variables.{is_connected, is_creating}
 
 -- CHANNELS that servers were asked for
 
+-- a number that a row has was given out before the last age, at which this one was the next: it isn't one of those
+-- from that one on to the present next one, which may stand behind the last number and go on at the first
+abbrev pub is_older : ℕ → ℕ → ℕ → Bool
+is_older before next number =
+    if nat_le before next then nat_lt number before || nat_le next number
+    else nat_le next number && nat_lt number before
+
 -- the server was asked for the channel before the last age, and hasn't answered
 abbrev pub is_link_overdue : Gateway → Link → Bool
-is_link_overdue w link = is_creating link.state && nat_lt link.cid w.last_age.cid
+is_link_overdue w link = is_creating link.state && is_older w.last_age.cid w.upstream.counters.cid link.cid
 
 abbrev pub link_given_up : Gateway → Link → Gateway
 link_given_up w link = without_link link.server link.cid w
@@ -30,7 +37,7 @@ links_given_up w = fold link_given_up w (filter (is_link_overdue w) w.upstream.l
 -- they were asked for before the last age
 abbrev pub is_asked_before : Gateway → Option Subscription → Bool
 is_asked_before w None = false
-is_asked_before w (Some sub) = nat_lt sub.id w.last_age.subscription
+is_asked_before w (Some sub) = is_older w.last_age.subscription w.upstream.counters.subscription sub.id
 
 -- and weren't told
 abbrev pub are_properties_overdue : Gateway → Link → Bool

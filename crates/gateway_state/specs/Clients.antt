@@ -1,5 +1,5 @@
 -- What clients' messages do.
-use Rattle.std.specs.Prelude.{ℕ, ◌+◌, List, [], ◌∷◌, ◌++◌, filter, max, bit_and, Bool, true, false, not, ◌||◌, ◌&&◌, nat_lt, nat_le, is_some, if◌then◌else◌, Option, Some, None}
+use Rattle.std.specs.Prelude.{ℕ, ◌+◌, List, [], ◌∷◌, ◌++◌, filter, map, max, bit_and, Bool, true, false, not, ◌||◌, ◌&&◌, nat_lt, nat_le, is_some, if◌then◌else◌, Option, Some, None}
 use Rattle.std.specs.List.{find}
 use Rattle.rows.specs.Rows.{change_first}
 use Rattle.ca_header.specs.declared.header.Header.{Header}
@@ -9,12 +9,15 @@ use Rattle.ca_message.specs.declared.to_client.ToClient.TheVariants as replies
 use Rattle.channel_table.specs.declared.channels.Channel.{Channel}
 use Rattle.channel_table.specs.declared.channels.Reach.{Reach}
 use Rattle.channel_table.specs.declared.sessions.Session.{Session}
-use Rattle.channel_table.specs.Channels.{is_channel, is_not_channel, with_reach_and_rights}
-use Rattle.channel_table.specs.ClientRows.{channel_count, read_count}
+use Rattle.channel_table.specs.Channels.{is_channel, is_channel_of, is_not_channel, with_reach_and_rights}
+use Rattle.channel_table.specs.ClientRows.{channel_count, has_channel, read_count}
 use Rattle.channel_table.specs.Reads.{is_not_read_on}
 use Rattle.channel_table.specs.Sessions.{is_numbered}
 use Rattle.channel_table.specs.Subs.{is_not_sub_on}
 use Rattle.link_table.specs.declared.links.Link.{Link}
+use Rattle.link_table.specs.declared.counter.Counter.TheVariants.{Sid as CountsSids}
+use Rattle.link_table.specs.declared.counter.TheConstants.{LAST_NUMBER}
+use Rattle.link_table.specs.Counters.{given_out, next_number}
 use Rattle.link_table.specs.Writes.{is_not_write_on}
 use Rattle.pv_alias.specs.declared.lead.Lead.{Lead}
 use Rattle.pv_alias.specs.Rights.{group_rights}
@@ -37,9 +40,11 @@ use Rattle.gateway_state.specs.Variables.{ConnectedVariable, connected}
 abbrev pub not_understood : Gateway → ℕ → Header → Gateway
 not_understood w number head = told number (replies.Error NO_CHANNEL ECA_INTERNAL head) w
 
--- the number of a channel was given out, to this session or to another
+-- the number of a channel was given out, to this session or to another. Where its counter began again, each was
 abbrev pub was_given_out : Gateway → Sid → Bool
-was_given_out w sid = nat_le w.config.first sid && nat_lt sid w.upstream.counters.sid
+was_given_out w sid =
+    nat_le w.config.first sid
+    && (nat_lt sid w.upstream.counters.sid || w.upstream.counters.again.sid && nat_le sid LAST_NUMBER)
 
 -- it names no channel of the session. One on a number that was given out is passed over, where that is
 -- wanted: its client was told that the channel is gone. A number that was only ever another session's was
@@ -71,13 +76,27 @@ remembered host name w = record w { searches = with_search w.limits host name w.
 abbrev pub no_reach : Reach
 no_reach = record { count = 0; props = false }
 
+-- the server's number of a channel
+abbrev pub sid_of : Channel → ℕ
+sid_of c = c.sid
+
+-- the numbers of the session's channels
+abbrev pub sids_of : SessionNumber → Gateway → List ℕ
+sids_of number w = map sid_of (filter (is_channel_of number) w.clients.channels)
+
+-- the number of the session's next channel: one that no other channel of it has
+abbrev pub next_sid : Gateway → SessionNumber → ℕ
+next_sid w number =
+    next_number w.limits.reuses_numbers w.config.first w.upstream.counters.again.sid
+    (λ sid. has_channel number sid w.clients) (sids_of number w) w.upstream.counters.sid
+
 -- with a new channel
 abbrev pub with_channel : ℕ → ℕ → List ℕ → List ℕ → ℕ → Gateway → Gateway
 with_channel number cid name real rights w = record w {
   clients = record w.clients {
     channels = w.clients.channels ++ record {
       session = number;
-      sid = w.upstream.counters.sid;
+      sid = next_sid w number;
       cid = cid;
       asked = name;
       real = real;
@@ -85,7 +104,9 @@ with_channel number cid name real rights w = record w {
       rights_told = rights;
     } ∷ [];
   };
-  upstream = record w.upstream { counters = record w.upstream.counters { sid = w.upstream.counters.sid + 1 } };
+  upstream = record w.upstream {
+    counters = given_out CountsSids w.limits.reuses_numbers (next_sid w number) w.upstream.counters;
+  };
 }
 
 -- the rights on a link that the policy leaves to who was led to it
@@ -95,7 +116,7 @@ rights_on w lead link = bit_and link.rights (group_rights w.policy.groups lead.g
 -- the client's channel is made, with these rights, and the client is told of both
 abbrev pub created_with : ℕ → ℕ → List ℕ → List ℕ → ℕ → Native → Gateway → Gateway
 created_with number cid name real rights native w =
-    told number (replies.CreateChannel cid w.upstream.counters.sid native.dtype native.count)
+    told number (replies.CreateChannel cid (next_sid w number) native.dtype native.count)
     (told number (replies.AccessRights cid rights) (with_channel number cid name real rights w))
 
 -- the client's channel on a variable whose native type and count are known

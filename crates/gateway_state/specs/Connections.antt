@@ -4,7 +4,9 @@ use Rattle.std.specs.List.{find}
 use Rattle.gateway_state.specs.declared.event.Dest.{Dest}
 use Rattle.gateway_state.specs.declared.event.Dest.TheVariants.{Session, Upstream}
 use Rattle.gateway_state.specs.declared.connections.Connection.{Connection}
+use Rattle.gateway_state.specs.declared.limits.Limits.{Limits}
 use Rattle.fanout.specs.declared.outbox.Out.{Out}
+use Rattle.fanout.specs.declared.outbox.TheConstants.{OUTBOX_LIMIT}
 use Rattle.fanout.specs.Outbox.{appended, without_first}
 use Rattle.fanout.specs.Waiting.{Waiting}
 
@@ -23,9 +25,14 @@ is_to dest row = same_dest row.dest dest
 abbrev pub is_not_to : Dest → Connection → Bool
 is_not_to dest row = not (is_to dest row)
 
--- with a message put last in its outbox
-abbrev pub given : Out → Connection → Connection
-given out row = record row { outbox = appended row.outbox out }
+-- how many messages may wait for a connection at most
+abbrev pub most_for : Limits → Dest → ℕ
+most_for limits (Session number) = limits.messages
+most_for limits (Upstream number) = OUTBOX_LIMIT
+
+-- with a message put last in its outbox, where so many may wait
+abbrev pub given : ℕ → Out → Connection → Connection
+given most out row = record row { outbox = appended most row.outbox out }
 
 -- marked to end
 abbrev pub marked_now : Connection → Connection

@@ -3,7 +3,9 @@ use Rattle.std.specs.Prelude.{List, [], false}
 use Rattle.channel_table.specs.declared.table.TheConstants.{CHANNEL_LIMIT, READ_LIMIT, SESSION_LIMIT, SUB_LIMIT}
 use Rattle.channel_table.specs.ClientRows.{ClientRows}
 use Rattle.link_table.specs.declared.table.TheConstants.{LINK_LIMIT, SERVER_LIMIT, WRITE_LIMIT}
+use Rattle.link_table.specs.Counters.{all_at}
 use Rattle.link_table.specs.LinkRows.{LinkRows}
+use Rattle.fanout.specs.declared.outbox.TheConstants.{OUTBOX_LIMIT}
 use Rattle.gateway_state.specs.declared.cached.LastMessage.{LastMessage}
 use Rattle.gateway_state.specs.declared.config.Config.{Config}
 use Rattle.gateway_state.specs.declared.last_age.LastAge.{LastAge}
@@ -37,6 +39,7 @@ usual_limits = record {
   subs = SUB_LIMIT;
   reads = READ_LIMIT;
   writes = WRITE_LIMIT;
+  messages = OUTBOX_LIMIT;
   update_bytes = UPDATE_BYTES;
   makes_room = false;
   reuses_numbers = false;
@@ -56,7 +59,7 @@ initial config policy = record {
     servers = [];
     links = [];
     writes = [];
-    counters = record { sid = config.first; cid = config.first; subscription = config.first; write = config.first };
+    counters = all_at config.first;
   };
   cache = [];
   searches = [];

@@ -1,6 +1,6 @@
 -- What others are owed after an event about channels, links and waiting reads. Each pass makes its list
 -- of notices from the rows as the pass begins, and then gives them one by one.
-use Rattle.std.specs.Prelude.{ℕ, ◌+◌, List, [], ◌∷◌, ◌++◌, filter, filter_map, flat_map, Bool, true, false, not, ◌&&◌, ◌==◌, if◌then◌else◌, Option, Some, None}
+use Rattle.std.specs.Prelude.{ℕ, List, [], ◌∷◌, ◌++◌, filter, filter_map, flat_map, Bool, true, false, not, ◌&&◌, ◌==◌, if◌then◌else◌, Option, Some, None}
 use Rattle.std.specs.List.{fold}
 use Rattle.rows.specs.Rows.{change_first, remove_first}
 use Rattle.ca_message.specs.declared.codes.TheConstants.{ECA_NORDACCESS}
@@ -18,7 +18,10 @@ use Rattle.link_table.specs.declared.links.LinkState.TheVariants.{Creating, Conn
 use Rattle.link_table.specs.declared.links.Subject.{Subject}
 use Rattle.link_table.specs.declared.links.Subject.TheVariants.{Values, Properties}
 use Rattle.link_table.specs.declared.links.Subscription.{Subscription}
+use Rattle.link_table.specs.declared.counter.Counter.TheVariants.{Subscription as CountsSubscriptions}
+use Rattle.link_table.specs.Counters.{given_out}
 use Rattle.link_table.specs.Links.{is_link, sub_at, with_subscription}
+use Rattle.link_table.specs.Numbers.{next_sub_id as next_sub_id_in}
 use Rattle.mask_merge.specs.declared.want.Want.{Want}
 use Rattle.gateway_state.specs.declared.cached.LastMessage.{LastMessage}
 use Rattle.gateway_state.specs.declared.notice.ChannelNotice.{ChannelNotice}
@@ -138,13 +141,17 @@ forgotten_rows Properties cid rows = change_first (is_cached_of cid) without_tol
 abbrev pub forgotten : Subject → ℕ → Gateway → Gateway
 forgotten subject cid w = record w { cache = forgotten_rows subject cid w.cache }
 
+-- the ID of the next subscription to a server: one that no other subscription to it has
+abbrev pub next_sub_id : Gateway → ServerNumber → ℕ
+next_sub_id w server = next_sub_id_in w.limits.reuses_numbers w.config.first server w.upstream
+
 -- a new subscription for a subject, under the next ID
 abbrev pub subscribed_to : Subject → ServerNumber → Cid → Sid → Dtype → Want → Count → Gateway → Gateway
 subscribed_to subject server cid sid dtype want sent w =
-    let id = w.upstream.counters.subscription in
+    let id = next_sub_id w server in
     asked server (requests.EventAdd sid id dtype sent want.mask)
     (with_subscription_of subject server cid (Some (record { id = id; mask = want.mask; count = want.count; sent = sent }))
-    (record w { upstream = record w.upstream { counters = record w.upstream.counters { subscription = id + 1 } } }))
+    (record w { upstream = record w.upstream { counters = given_out CountsSubscriptions w.limits.reuses_numbers id w.upstream.counters } }))
 
 -- a link goes; where it was connected, the server is told
 abbrev pub dropped : ℕ → ℕ → LinkState → Gateway → Gateway

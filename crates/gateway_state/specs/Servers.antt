@@ -24,7 +24,10 @@ use Rattle.link_table.specs.declared.links.Subject.{Subject}
 use Rattle.link_table.specs.declared.links.Subject.TheVariants.{Values, Properties}
 use Rattle.link_table.specs.declared.links.Subscription.{Subscription}
 use Rattle.mask_merge.specs.declared.want.TheConstants.{PROPERTY_EVENT}
+use Rattle.link_table.specs.declared.counter.Counter.TheVariants.{Cid as CountsCids}
+use Rattle.link_table.specs.Counters.{given_out}
 use Rattle.link_table.specs.Links.{is_link, is_not_link, has_id, has_subscription, new_link, sub_at, with_state}
+use Rattle.link_table.specs.Numbers.{next_cid as next_cid_in}
 use Rattle.link_table.specs.Servers.{is_server, with_minor}
 use Rattle.gateway_state.specs.declared.reading.Native.{Native}
 use Rattle.gateway_state.specs.declared.event.Dest.TheVariants as dests
@@ -42,14 +45,18 @@ use Rattle.gateway_state.specs.Writing.{write_ended}
 
 -- FOUND
 
+-- the number of the next link: one that no other link has
+abbrev pub next_cid : Gateway → ℕ
+next_cid w = next_cid_in w.limits.reuses_numbers w.config.first w.upstream
+
 -- with a new link, for which a channel is asked of the server
 abbrev pub linked : Gateway → ℕ → List ℕ → Gateway
 linked w server name =
-    asked server (requests.CreateChannel w.upstream.counters.cid name)
+    asked server (requests.CreateChannel (next_cid w) name)
     (record w {
       upstream = record w.upstream {
-        links = w.upstream.links ++ new_link server w.upstream.counters.cid name ∷ [];
-        counters = record w.upstream.counters { cid = w.upstream.counters.cid + 1 };
+        links = w.upstream.links ++ new_link server (next_cid w) name ∷ [];
+        counters = given_out CountsCids w.limits.reuses_numbers (next_cid w) w.upstream.counters;
       };
     })
 

@@ -1,10 +1,11 @@
 -- What every state that a run reaches has: nobody is owed anything.
-use Rattle.std.specs.Prelude.{◌≡◌, ℕ, ◌+◌, ◌≤◌, List, [], ◌∷◌, length, filter, Bool, true, false, ◌&&◌, ◌==◌, nat_lt, Option, Some, None, option_map}
+use Rattle.std.specs.Prelude.{◌≡◌, ℕ, ◌≤◌, List, [], ◌∷◌, length, filter, Bool, true, false, not, ◌&&◌, ◌||◌, ◌==◌, nat_lt, Option, Some, None, option_map}
 use Rattle.std.specs.List.{find, list_all, list_any}
 use Rattle.channel_table.specs.declared.channels.Channel.{Channel}
 use Rattle.channel_table.specs.declared.reads.WaitingRead.{WaitingRead}
 use Rattle.channel_table.specs.declared.sessions.Session.{Session}
 use Rattle.channel_table.specs.declared.subs.ClientSub.{ClientSub}
+use Rattle.channel_table.specs.Channels.{is_channel}
 use Rattle.channel_table.specs.ClientRows.{has_channel}
 use Rattle.channel_table.specs.Sessions.{is_numbered}
 use Rattle.channel_table.specs.Subs.{is_sub}
@@ -13,9 +14,11 @@ use Rattle.link_table.specs.declared.links.LinkState.{LinkState}
 use Rattle.link_table.specs.declared.links.LinkState.TheVariants.{Creating, Connected, Unusable}
 use Rattle.link_table.specs.declared.links.Subject.{Subject}
 use Rattle.link_table.specs.declared.links.Subscription.{Subscription}
-use Rattle.link_table.specs.declared.links.Subscriptions.{Subscriptions}
 use Rattle.link_table.specs.declared.writes.WaitingWrite.{WaitingWrite}
-use Rattle.link_table.specs.Links.{is_named, sub_at}
+use Rattle.link_table.specs.LinkRows.{has_server}
+use Rattle.link_table.specs.Links.{has_subscription, is_named, is_same_id, sub_at}
+use Rattle.link_table.specs.Numbers.{has_cid_below, has_id_below, has_write_id_below, is_of_cid, AreBelow}
+use Rattle.link_table.specs.Writes.{is_write}
 use Rattle.mask_merge.specs.declared.want.Want.{Want}
 use Rattle.gateway_state.specs.declared.event.Dest.TheVariants as dests
 use Rattle.gateway_state.specs.declared.interest.Sub.{Sub}
@@ -37,46 +40,79 @@ pub record IsSettled (w : Gateway) : Type 0 where
   pub reads : read_notices w ≡ []
   pub updates : update_notices w ≡ []
 
--- the numbers of rows rise: from this one on, and below that one
-abbrev pub AreRising : {A : Type 0} → (A → ℕ) → ℕ → List A → ℕ → Type 0
-AreRising number low [] high = low ≤ high
-AreRising number low (row ∷ rows) high = (low ≤ number row) × AreRising number (number row + 1) rows high
+-- no two rows are alike, by this test
+abbrev pub AreUnlike : {A : Type 0} → (A → A → Bool) → List A → Type 0
+AreUnlike alike [] = Unit {0}
+AreUnlike alike (row ∷ rows) = (list_any (alike row) rows ≡ false) × AreUnlike alike rows
 
--- the server's number of a channel, the gateway's own of a link
-abbrev pub sid_of : Channel → ℕ
-sid_of c = c.sid
+-- a channel of the same session under the same number
+abbrev pub is_same_channel : Channel → Channel → Bool
+is_same_channel c other = is_channel c.session c.sid other
 
-abbrev pub cid_of : Link → ℕ
-cid_of link = link.cid
+-- a link of the same number
+abbrev pub is_same_link : Link → Link → Bool
+is_same_link link other = is_of_cid link.cid other
 
-abbrev pub is_below : ℕ → Option Subscription → Bool
-is_below next None = true
-is_below next (Some sub) = nat_lt sub.id next
+-- a write to the same server under the same ID
+abbrev pub is_same_write : WaitingWrite → WaitingWrite → Bool
+is_same_write write other = is_write write.server write.id other
 
-abbrev pub are_below : ℕ → Subscriptions → Bool
-are_below next subs = is_below next subs.values && is_below next subs.properties
+-- a link of which a subscription to this server has the ID of this one
+abbrev pub is_sharing : ℕ → Option Subscription → Link → Bool
+is_sharing server None other = false
+is_sharing server (Some sub) other = has_subscription server sub.id other
 
--- the link's subscriptions have IDs below this one
-abbrev pub has_id_below : ℕ → Link → Bool
-has_id_below next link = are_below next link.subscriptions
+-- a link of the same server that has a subscription under the ID of one of this link's
+abbrev pub shares_id : Link → Link → Bool
+shares_id link other =
+    is_sharing link.server link.subscriptions.values other || is_sharing link.server link.subscriptions.properties other
 
--- channels stand in the order of their numbers, each number once and below the counter
-abbrev pub HasSidsInOrder : Gateway → Type 0
-HasSidsInOrder w = AreRising sid_of 0 w.clients.channels w.upstream.counters.sid
+-- the link's own subscriptions have different IDs
+abbrev pub has_two_ids : Link → Bool
+has_two_ids link = not (is_same_id link.subscriptions.values link.subscriptions.properties)
 
--- the same of links
-abbrev pub HasCidsInOrder : Gateway → Type 0
-HasCidsInOrder w = AreRising cid_of 0 w.upstream.links w.upstream.counters.cid
+abbrev pub has_sid_below : ℕ → Channel → Bool
+has_sid_below next c = nat_lt c.sid next
 
--- each subscription upstream has an ID below the counter
-abbrev pub HasIdsBelow : Gateway → Type 0
-HasIdsBelow w = list_all (has_id_below w.upstream.counters.subscription) w.upstream.links ≡ true
+-- no channel of a session has the number of another
+pub record AreSidsApart (again : Bool) (next : ℕ) (channels : List Channel) : Type 0 where
+  pub apart : AreUnlike is_same_channel channels
+  pub below : AreBelow again (has_sid_below next) channels
 
--- numbers are in order
-pub record AreInOrder (w : Gateway) : Type 0 where
-  pub channels : HasSidsInOrder w
-  pub links : HasCidsInOrder w
-  pub ids : HasIdsBelow w
+abbrev pub HasSidsApart : Gateway → Type 0
+HasSidsApart w = AreSidsApart w.upstream.counters.again.sid w.upstream.counters.sid w.clients.channels
+
+-- no link has the number of another
+pub record AreCidsApart (again : Bool) (next : ℕ) (links : List Link) : Type 0 where
+  pub apart : AreUnlike is_same_link links
+  pub below : AreBelow again (has_cid_below next) links
+
+abbrev pub HasCidsApart : Gateway → Type 0
+HasCidsApart w = AreCidsApart w.upstream.counters.again.cid w.upstream.counters.cid w.upstream.links
+
+-- no subscription to a server has the ID of another
+pub record AreSubIdsApart (again : Bool) (next : ℕ) (links : List Link) : Type 0 where
+  pub own : list_all has_two_ids links ≡ true
+  pub apart : AreUnlike shares_id links
+  pub below : AreBelow again (has_id_below next) links
+
+abbrev pub HasSubIdsApart : Gateway → Type 0
+HasSubIdsApart w = AreSubIdsApart w.upstream.counters.again.subscription w.upstream.counters.subscription w.upstream.links
+
+-- no write to a server has the ID of another
+pub record AreWriteIdsApart (again : Bool) (next : ℕ) (writes : List WaitingWrite) : Type 0 where
+  pub apart : AreUnlike is_same_write writes
+  pub below : AreBelow again (has_write_id_below next) writes
+
+abbrev pub HasWriteIdsApart : Gateway → Type 0
+HasWriteIdsApart w = AreWriteIdsApart w.upstream.counters.again.write w.upstream.counters.write w.upstream.writes
+
+-- numbers tell rows apart
+pub record AreNumbersApart (w : Gateway) : Type 0 where
+  pub channels : HasSidsApart w
+  pub links : HasCidsApart w
+  pub subscriptions : HasSubIdsApart w
+  pub writes : HasWriteIdsApart w
 
 -- no name has two links
 abbrev pub HasLinksApart : Gateway → Type 0
@@ -89,6 +125,14 @@ is_on_server w link = stands w (dests.Upstream link.server)
 -- each link belongs to a server that stands
 abbrev pub HasLinksOnServers : Gateway → Type 0
 HasLinksOnServers w = list_all (is_on_server w) w.upstream.links ≡ true
+
+-- the link's server has a row
+abbrev pub has_server_row : Gateway → Link → Bool
+has_server_row w link = has_server link.server w.upstream
+
+-- each link's server has a row
+abbrev pub HasServersOfLinks : Gateway → Type 0
+HasServersOfLinks w = list_all (has_server_row w) w.upstream.links ≡ true
 
 -- the session has a connection
 abbrev pub is_session_connected : Gateway → Session → Bool
@@ -148,14 +192,6 @@ is_write_on_link w write = is_of_server write.server (link_under w (channel_of w
 
 abbrev pub HasWritesOnLinks : Gateway → Type 0
 HasWritesOnLinks w = list_all (is_write_on_link w) w.upstream.writes ≡ true
-
--- the write has an ID below this one
-abbrev pub has_write_id_below : ℕ → WaitingWrite → Bool
-has_write_id_below next write = nat_lt write.id next
-
--- each waiting write has an ID below the counter
-abbrev pub HasWriteIdsBelow : Gateway → Type 0
-HasWriteIdsBelow w = list_all (has_write_id_below w.upstream.counters.write) w.upstream.writes ≡ true
 
 -- a channel is served, and has the rights that its client was last told
 pub record IsUpToDate (w : Gateway) (c : Channel) : Type 0 where

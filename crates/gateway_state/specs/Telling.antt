@@ -9,7 +9,7 @@ use Rattle.rows.specs.Rows.{change_first}
 use Rattle.gateway_state.specs.declared.event.Dest.{Dest}
 use Rattle.gateway_state.specs.declared.event.Dest.TheVariants.{Session, Upstream}
 use Rattle.fanout.specs.declared.outbox.Out.{Out}
-use Rattle.gateway_state.specs.Connections.{is_to, given, marked_now}
+use Rattle.gateway_state.specs.Connections.{is_to, given, marked_now, most_for}
 use Rattle.gateway_state.specs.Gateway.{Gateway}
 
 -- a message to a client as it goes out: its wire form
@@ -22,7 +22,7 @@ outgoing_upstream said = record { head = canonical_header (server_head said); pa
 
 -- a connection is given a message, where it stands and isn't marked
 unfoldable pub sent : Dest → Out → Gateway → Gateway
-sent dest out w = record w { connections = change_first (is_to dest) (given out) w.connections }
+sent dest out w = record w { connections = change_first (is_to dest) (given (most_for w.limits dest) out) w.connections }
 
 -- a client is told something
 abbrev pub told : ℕ → ToClient → Gateway → Gateway

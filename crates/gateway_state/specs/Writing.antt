@@ -1,5 +1,5 @@
 -- What clients write, and what servers say of it.
-use Rattle.std.specs.Prelude.{ℕ, ◌+◌, List, [], ◌∷◌, ◌++◌, filter, Bool, ◌==◌, nat_le, bit_and, if◌then◌else◌, Option, Some, None, Result, Ok, Err}
+use Rattle.std.specs.Prelude.{ℕ, List, [], ◌∷◌, ◌++◌, filter, Bool, ◌==◌, nat_le, bit_and, if◌then◌else◌, Option, Some, None, Result, Ok, Err}
 use Rattle.std.specs.List.{find}
 use Rattle.ca_header.specs.declared.header.Header.{Header}
 use Rattle.ca_message.specs.declared.codes.TheConstants.{ECA_NOWTACCESS, ECA_PUTFAIL}
@@ -11,6 +11,9 @@ use Rattle.ca_message.specs.Written.{Written, refusal_code, written}
 use Rattle.channel_table.specs.declared.channels.Channel.{Channel}
 use Rattle.link_table.specs.declared.writes.WaitingWrite.{WaitingWrite}
 use Rattle.link_table.specs.LinkRows.{write_count}
+use Rattle.link_table.specs.declared.counter.Counter.TheVariants.{Write as CountsWrites}
+use Rattle.link_table.specs.Counters.{given_out}
+use Rattle.link_table.specs.Numbers.{next_write_id as next_write_id_in}
 use Rattle.link_table.specs.Writes.{is_write, is_not_write}
 use Rattle.gateway_state.specs.declared.notice.WriteVerdict.{WriteVerdict}
 use Rattle.gateway_state.specs.declared.notice.WriteVerdict.TheVariants.{NoChannel, Ignored, Refused, Accepted}
@@ -67,11 +70,15 @@ write_asked number sid dtype count payload head w =
 abbrev pub write_answered : SessionNumber → Ioid → Dtype → Count → Code → Gateway → Gateway
 write_answered number ioid dtype count status w = told number (replies.WriteNotify ioid dtype count status) w
 
+-- the ID of the next write to a server: one that no other write to it has
+abbrev pub next_write_id : Gateway → ServerNumber → ℕ
+next_write_id w server = next_write_id_in w.limits.reuses_numbers w.config.first server w.upstream
+
 -- a write under the next ID, until its server says how it ended
 abbrev pub new_write : Gateway → ServerNumber → SessionNumber → Sid → Dtype → Count → Ioid → WaitingWrite
 new_write w server number sid dtype count ioid = record {
   server = server;
-  id = w.upstream.counters.write;
+  id = next_write_id w server;
   session = number;
   sid = sid;
   dtype = dtype;
@@ -84,7 +91,7 @@ abbrev pub with_write : WaitingWrite → Gateway → Gateway
 with_write write w = record w {
   upstream = record w.upstream {
     writes = w.upstream.writes ++ write ∷ [];
-    counters = record w.upstream.counters { write = w.upstream.counters.write + 1 };
+    counters = given_out CountsWrites w.limits.reuses_numbers write.id w.upstream.counters;
   };
 }
 

@@ -1,8 +1,11 @@
 //! Numbers that the gateway sets for its peers, and how much it takes on.
 ghost use Rattle.std.specs.Prelude.{◌≡◌};
+ghost use Rattle.gateway_state.specs.Connections.{most_for};
 ghost use Rattle.gateway_state.specs.Gateway.{usual_limits};
 
+use crate::event::Dest;
 use channel_table::{CHANNEL_LIMIT, READ_LIMIT, SESSION_LIMIT, SUB_LIMIT};
+use fanout::OUTBOX_LIMIT;
 use link_table::{LINK_LIMIT, SERVER_LIMIT, WRITE_LIMIT};
 
 /// The lowest minor version that a client may speak.
@@ -42,13 +45,16 @@ pub struct Limits {
     pub reads: usize,
     /// Writes of a session that wait for what their server says.
     pub writes: usize,
+    /// Messages that wait for a session: it must end where one more would wait.
+    pub messages: u32,
     /// Bytes that wait for a session: it is given updates while fewer wait.
     pub update_bytes: u64,
     /// Whether an old search goes where one more is remembered: the oldest of its own host where that has
     /// its share, else the oldest of all where there are as many as may be. So does a search whose host
     /// opens a channel on its name. Otherwise no search is remembered that has no room, and none goes.
     pub makes_room: bool,
-    /// Whether a number that was given out comes again once nothing has it. Kept, and not heeded yet.
+    /// Whether a number that was given out comes again once nothing has it: after the last number the first
+    /// one follows, and numbers that rows have are passed over. Else no number follows the last one.
     pub reuses_numbers: bool,
     /// Whether a request on a number that was given out, and that names no channel of the client, is passed
     /// over. Else it is refused, as one on a number that never was.
@@ -73,11 +79,22 @@ impl Limits {
             subs: SUB_LIMIT,
             reads: READ_LIMIT,
             writes: WRITE_LIMIT,
+            messages: OUTBOX_LIMIT as u32,
             update_bytes: UPDATE_BYTES,
             makes_room: false,
             reuses_numbers: false,
             passes_over_gone: false,
             tells_unreadable: false,
+        }
+    }
+
+    /// How many messages may wait for a connection at most.
+    pub fn most_for(&self, dest: Dest) -> u32
+        ensures { result ≡ most_for self.now dest }
+    {
+        match dest {
+            Dest::Session(_) => self.messages,
+            Dest::Upstream(_) => OUTBOX_LIMIT as u32,
         }
     }
 }

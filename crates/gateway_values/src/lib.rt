@@ -9,6 +9,7 @@
 
 mod interest;
 mod links;
+mod numbers;
 mod reads;
 mod refusals;
 mod rights;
@@ -17,6 +18,7 @@ mod updates;
 
 pub use interest::{is_for, property_want, sent_for, type_for};
 pub use links::{ConnectedVariable, connected, is_connected, is_creating, is_usable, native_in};
+pub use numbers::is_older;
 pub use reads::{cached_as, reach_with};
 pub use refusals::{read_refusal, value_refusal};
 pub use rights::{may_read, may_write};

@@ -8,3 +8,7 @@ pub mod NameLemmas
 pub mod OwnerLemmas
 pub mod WriteLemmas
 pub mod CidLemmas
+pub mod HadLemmas
+pub mod NamedLemmas
+pub mod SearchLemmas
+pub mod ServerLemmas

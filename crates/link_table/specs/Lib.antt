@@ -2,6 +2,7 @@ pub mod Keyed
 pub mod WriteIndex
 pub mod Counters
 pub mod LinkRows
+pub mod Numbers
 pub mod Links
 pub mod Servers
 pub mod Writes

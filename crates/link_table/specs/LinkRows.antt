@@ -8,12 +8,20 @@ use Rattle.link_table.specs.Links.{is_link}
 use Rattle.link_table.specs.Servers.{is_server}
 use Rattle.link_table.specs.Writes.{is_write_of}
 
+-- whether each counter went past the last number, and began again at the first
+pub record Again : Type 0 where
+  pub sid : Bool
+  pub cid : Bool
+  pub subscription : Bool
+  pub write : Bool
+
 -- the next number of each counter
 pub record Counters : Type 0 where
   pub sid : ℕ
   pub cid : ℕ
   pub subscription : ℕ
   pub write : ℕ
+  pub again : Again
 
 -- the rows, each list in the order in which they were added, and the numbers
 pub record LinkRows : Type 0 where

@@ -30,6 +30,10 @@ is_not_link server cid row = not (is_link server cid row)
 abbrev pub is_named : List ℕ → Link → Bool
 is_named name row = bytes_eq row.name name
 
+-- a link for one of these
+abbrev pub is_named_any : List (List ℕ) → Link → Bool
+is_named_any names row = list_any (λ name. bytes_eq name row.name) names
+
 -- a subscription of this ID
 abbrev pub has_id : ℕ → Option Subscription → Bool
 has_id id (Some subscription) = subscription.id == id

@@ -1,5 +1,7 @@
 -- The rows of servers.
-use Rattle.std.specs.Prelude.{ℕ, Bool, not, ◌==◌}
+use Rattle.std.specs.Prelude.{◌≡◌, ℕ, List, Bool, true, not, ◌==◌}
+use Rattle.std.specs.List.{list_all, list_any}
+use Rattle.link_table.specs.declared.links.Link.{Link}
 use Rattle.link_table.specs.declared.servers.Server.{Server}
 
 -- the row of this server
@@ -13,3 +15,11 @@ is_not_server number row = not (is_server number row)
 -- with the minor version that the server said
 abbrev pub with_minor : ℕ → Server → Server
 with_minor minor row = record row { minor = minor }
+
+-- the link's server stands
+abbrev pub is_on_one : List Server → Link → Bool
+is_on_one servers row = list_any (is_server row.server) servers
+
+-- each link's server stands
+abbrev pub HaveServers : List Server → List Link → Type 0
+HaveServers servers links = list_all (is_on_one servers) links ≡ true

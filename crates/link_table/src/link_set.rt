@@ -1,9 +1,10 @@
 //! Links, found by their IDs, names and subscriptions.
-ghost use Rattle.std.specs.Prelude.{◌≡◌, [], ◌∷◌, ◌++◌, length, map, true, false, slice_get, OnOk, OnErr, IfOk, IfSome, IsNone};
+ghost use Rattle.std.specs.Prelude.{◌≡◌, [], ◌∷◌, ◌++◌, length, map, filter_map, true, false, slice_get, OnOk, OnErr, IfOk, IfSome, IsNone};
 ghost use Rattle.std.specs.List.{filter, find, list_any};
 ghost use Rattle.std.specs.Option.{option_copied};
 ghost use Rattle.rows.specs.Rows.{change_first};
-ghost use Rattle.link_table.specs.Links.{is_link, is_not_link, is_of, is_not_of, is_named, has_other_sub, has_subscription, new_link, with_state, with_subscription, HasIdsApart};
+ghost use Rattle.link_table.specs.Links.{is_link, is_not_link, is_of, is_not_of, is_named, is_named_any, has_other_sub, has_subscription, new_link, with_state, with_subscription, HasIdsApart};
+ghost use Rattle.link_table.specs.LinkIndex.{first_of};
 
 use crate::links::{Link, LinkState, Subject, Subscription, Subscriptions};
 use crate::sub_leads::SubLeads;
@@ -103,6 +104,13 @@ impl LinkSet {
         ensures { IfOk result (λ links. map (λ link. link.now) links.items ≡ self.now) }
     {
         self.rows.rows(alloc)
+    }
+
+    pub(crate) fn named(&self, alloc: Global, names: &[Name]) -> Result<Vec<&Link>, AllocError>
+        ensures { IfOk result (λ links. map (λ link. link.now) links.items ≡ filter (is_named_any names.now) self.now) }
+    {
+        let keys = keys_named(&self.by_name, alloc, names)?;
+        self.rows.in_order(alloc, &keys)
     }
 
     pub(crate) fn count_of(&self, server: u32) -> usize
@@ -228,6 +236,25 @@ impl LinkSet {
             None => None,
         }
     }
+}
+
+// The keys of the links for these names.
+fn keys_named(by_name: &NameLists, alloc: Global, names: &[Name]) -> Result<Vec<Key>, AllocError>
+    ensures { IfOk result (λ keys. keys.items ≡ filter_map (first_of by_name.now) names.now) }
+{
+    let mut keys = Vec::new(alloc);
+    for name in names {
+        if let Some(key) = key_named(by_name, name) {
+            keys.push(key)?;
+        }
+    }
+    Ok(keys)
+}
+
+fn key_named(by_name: &NameLists, name: &Name) -> Option<Key>
+    ensures { result ≡ first_of by_name.now name.now }
+{
+    by_name.of(name).first().copied()
 }
 
 // A link of which the server is just asked for the channel.

@@ -1,16 +1,17 @@
 //! The table of servers, links and waiting writes.
-ghost use Rattle.std.specs.Prelude.{◌≡◌, ◌≢◌, ◌≤◌, ◌<◌, ◌↔◌, [], ◌∷◌, ◌++◌, length, map, true, false, Err, slice_get, OnOk, OnErr, OnSome, IfOk, IsErrOf, IsNone, IfSome, IfNone};
+ghost use Rattle.std.specs.Prelude.{◌≡◌, ◌≢◌, ◌≤◌, ◌<◌, ◌↔◌, [], ◌∷◌, ◌++◌, length, map, true, false, Err, slice_get, OnOk, OnErr, IfOk, IsErrOf, IfSome};
 ghost use Rattle.std.specs.List.{filter, find, list_any};
 ghost use Rattle.std.specs.Option.{option_copied};
 ghost use Rattle.rows.specs.Rows.{change_first};
-ghost use Rattle.link_table.specs.declared.counter.TheConstants.{LAST_NUMBER};
 ghost use Rattle.link_table.specs.LinkRows.{has_server, has_link, write_count};
-ghost use Rattle.link_table.specs.Servers.{is_server, is_not_server, with_minor};
-ghost use Rattle.link_table.specs.Links.{is_link, is_not_link, is_of, is_not_of, is_named, has_other_sub, has_subscription, new_link, nth_by_cid, with_state, with_subscription, CidsRiseFrom, HasIdsApart};
+ghost use Rattle.link_table.specs.Servers.{is_server, is_not_server, with_minor, HaveServers};
+ghost use Rattle.link_table.specs.Links.{is_link, is_not_link, is_of, is_not_of, is_named, is_named_any, has_other_sub, has_subscription, new_link, nth_by_cid, with_state, with_subscription, CidsRiseFrom, HasIdsApart};
 ghost use Rattle.link_table.specs.Writes.{is_write, is_not_write, is_not_write_of, is_not_write_on, is_not_write_to};
-ghost use Rattle.link_table.specs.Counters.{all_at, are_over, counter_of, raised};
+ghost use Rattle.link_table.specs.Counters.{all_at, are_over};
 
-use crate::counter::{Counter, NextNumbers};
+mod numbers;
+
+use crate::counter::NextNumbers;
 use crate::link_set::LinkSet;
 use crate::links::{Link, LinkState, Subject, Subscription};
 use crate::servers::{self, Server};
@@ -60,6 +61,10 @@ impl Model for Links {
       writes = l.writes;
       counters = l.next;
     } };
+
+    ghost use Rattle.link_table.specs.Servers.{HaveServers};
+
+    ghost invariant = { λ l. HaveServers l.servers.items l.links };
 }
 
 impl Links {
@@ -129,11 +134,15 @@ impl Links {
         self.links.len()
     }
 
-    /// The number that is given out next.
-    pub fn next(&self, counter: Counter) -> u32
-        ensures { result ≡ counter_of counter self.now.counters }
+    /// The links for these names, each once, in the order of adding.
+    ///
+    /// # Errors
+    ///
+    /// Memory for the list was refused.
+    pub fn links_named(&self, alloc: Global, names: &[Name]) -> Result<Vec<&Link>, AllocError>
+        ensures { IfOk result (λ links. map (λ link. link.now) links.items ≡ filter (is_named_any names.now) self.now.links) }
     {
-        self.next.next(counter)
+        self.links.named(alloc, names)
     }
 
     /// How many servers stand.
@@ -342,6 +351,13 @@ impl Links {
         self.links.has_ids_apart();
     }
 
+    /// Does nothing. Its contract is a law: each link's server stands.
+    pub fn have_servers(&self)
+        ensures { HaveServers self.now.servers self.now.links }
+    {
+        let _ = &self.servers;
+    }
+
     /// Removes a server with its links and the writes to it.
     pub fn remove_server(&mut self, number: u32)
         ensures { self.new ≡ record self.old {
@@ -388,17 +404,5 @@ impl Links {
         ensures { are_over self.now.counters ≡ false }
     {
         self.next.are_in_range();
-    }
-
-    /// Gives out the next number of a counter. There is none past `LAST_NUMBER`, and then nothing
-    /// changes.
-    pub fn give_out(&mut self, counter: Counter) -> Option<u32>
-        ensures found { IfSome result (λ number. number ≡ counter_of counter self.old.counters) }
-        ensures raised { OnSome result (self.new ≡ record self.old { counters = raised counter self.old.counters }) }
-        ensures none { IsNone result ↔ (LAST_NUMBER < counter_of counter self.old.counters) }
-        ensures same { IfNone result (self.new ≡ self.old) }
-        ensures used_up { IsNone result → are_over (raised counter self.old.counters) ≡ true }
-    {
-        self.next.give_out(counter)
     }
 }

@@ -73,6 +73,13 @@ impl Writes {
         self.by_session.of(session).len()
     }
 
+    /// How many writes to the server there are.
+    pub(crate) fn count_to(&self, server: u32) -> usize
+        ensures { result ≡ length (filter (is_write_to server) self.now) }
+    {
+        self.rows.count_of(server)
+    }
+
     /// How many writes wait.
     pub(crate) fn len(&self) -> usize
         ensures { result ≡ length self.now }

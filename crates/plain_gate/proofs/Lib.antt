@@ -1,2 +1,3 @@
 pub mod LedTo
 pub mod PutRows
+pub mod TakenNumbers

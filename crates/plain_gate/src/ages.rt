@@ -8,7 +8,7 @@ use crate::state::Rows;
 use crate::update::fail_reads;
 use crate::upstream::{MessageOf, copy_link};
 use gateway_state::LastAge;
-use gateway_values::{is_connected, is_creating, native_in};
+use gateway_values::{is_connected, is_creating, is_older, native_in};
 use link_table::{Counter, Link, Subject, Subscription};
 use std::alloc::AllocError;
 
@@ -29,7 +29,10 @@ fn is_asked_before(rows: &Rows, subscription: Option<Subscription>) -> bool
     ensures { result ≡ is_asked_before rows.now subscription }
 {
     match subscription {
-        Some(subscription) => subscription.id < rows.last_age.subscription,
+        Some(subscription) => {
+            let next = rows.numbers.next(Counter::Subscription);
+            is_older(rows.last_age.subscription, next, subscription.id)
+        }
         None => false,
     }
 }
@@ -89,7 +92,8 @@ fn give_up_properties(rows: &mut Rows) -> Result<(), AllocError>
 fn is_link_overdue(rows: &Rows, link: &Link) -> bool
     ensures { result ≡ is_link_overdue rows.now link.now }
 {
-    is_creating(link.state) && link.cid < rows.last_age.cid
+    let next = rows.numbers.next(Counter::Cid);
+    is_creating(link.state) && is_older(rows.last_age.cid, next, link.cid)
 }
 
 fn overdue_links(rows: &Rows) -> Result<Vec<Link>, AllocError>

@@ -33,14 +33,14 @@ impl Key<Connection> for ConnectionTo {
     }
 }
 
-/// Gives a message to a connection, where it stands and isn't marked.
+/// Gives a message to a connection where at most so many may wait, if it stands and isn't marked.
 #[tactic(auto, using(rows::proofs::RowLemmas::set_is_change_first, rows::proofs::RowLemmas::change_first_none))]
-fn give(rows: &mut Vec<Connection>, dest: Dest, out: Out) -> Result<(), AllocError>
-    ensures { OnOk result (rows.new.items ≡ change_first (is_to dest) (given out) rows.old.items) }
+fn give(rows: &mut Vec<Connection>, most: u32, dest: Dest, out: Out) -> Result<(), AllocError>
+    ensures { OnOk result (rows.new.items ≡ change_first (is_to dest) (given most out) rows.old.items) }
 {
     if let Some(place) = place_of(rows, ConnectionTo { dest }) {
         let row = &mut rows[place];
-        match row.outbox.append(out) {
+        match row.outbox.append_within(most, out) {
             Ok(()) | Err(AppendFault::Marked(_)) => Ok(()),
             Err(AppendFault::OutOfMemory(_)) => Err(AllocError),
         }
@@ -132,7 +132,8 @@ impl Rows {
         let payload = said.payload(self.alloc)?;
         let head = write_head(&said.head());
         let out = Out { head, payload };
-        give(&mut self.connections, Dest::Session(number), out)
+        let dest = Dest::Session(number);
+        give(&mut self.connections, self.limits.most_for(dest), dest, out)
     }
 
     /// Tells a subscription that its channel may not be read.
@@ -155,7 +156,8 @@ impl Rows {
         let payload = said.payload(self.alloc)?;
         let head = write_head(&said.head());
         let out = Out { head, payload };
-        give(&mut self.connections, Dest::Upstream(number), out)
+        let dest = Dest::Upstream(number);
+        give(&mut self.connections, self.limits.most_for(dest), dest, out)
     }
 
     /// Refuses a client's request about a channel, by the ID that the client gave it.

@@ -36,7 +36,7 @@ fn create_on(
     ensures ok { OnOk result (rows.new ≡ created_with number cid asked.now real.now rights native rows.old) }
     ensures used_up { IsErrOf result Refusal.NumbersUsedUp → is_past_numbers (created_with number cid asked.now real.now rights native rows.old) ≡ true }
 {
-    let Some(sid) = rows.numbers.give_out(Counter::Sid) else {
+    let Some(sid) = rows.give_out(Counter::Sid, number) else {
         return Err(Refusal::NumbersUsedUp);
     };
     let asked = asked.copy()?;

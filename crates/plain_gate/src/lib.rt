@@ -11,7 +11,8 @@
 //! same events and comparing.
 //!
 //! The layers: lists of any rows, looked through from the front by keys (`lists`); the rows and their
-//! keys (`state`, `searches`, `clients`, `upstream`, `connections`, `numbers`); what is asked of them (`names`,
+//! keys (`state`, `searches`, `clients`, `upstream`, `connections`, `numbers`,
+//! `taken`); what is asked of them (`names`,
 //! `values`, `interest`); what an event does by itself (`opening`, `client`, `server`, `ages`); the passes;
 //! `step`, and the gate itself.
 #![tactic(auto)]
@@ -36,6 +37,7 @@ mod server;
 mod state;
 mod step;
 mod subscribe;
+mod taken;
 mod update;
 mod updates_pass;
 mod upstream;

@@ -117,7 +117,7 @@ fn subscribe(
     ensures ok { OnOk result (rows.new ≡ subscribed_to subject server cid sid dtype want sent rows.old) }
     ensures used_up { IsErrOf result Refusal.NumbersUsedUp → is_past_numbers (subscribed_to subject server cid sid dtype want sent rows.old) ≡ true }
 {
-    let Some(id) = rows.numbers.give_out(Counter::Subscription) else {
+    let Some(id) = rows.give_out(Counter::Subscription, server) else {
         return Err(Refusal::NumbersUsedUp);
     };
     let Want { mask, count } = want;

@@ -1,10 +1,10 @@
 //! The numbers that are given out, and why a change of the rows is refused.
-ghost use Rattle.std.specs.Prelude.{◌≡◌, ◌+◌, ◌<◌, ◌↔◌, ◌&&◌, nat_le, nat_lt, true, false, IfSome, IfNone, IsNone, OnSome};
-ghost use Rattle.link_table.specs.Counters.{AreBounded, all_at, are_over, counter_of, raised};
+ghost use Rattle.std.specs.Prelude.{◌≡◌, ◌+◌, ◌≤◌, ◌&&◌, ◌||◌, nat_le, nat_lt, false};
+ghost use Rattle.link_table.specs.Counters.{all_at, are_over, began_again, begins_again, counter_of, given_out};
 ghost use Rattle.link_table.specs.declared.counter.TheConstants.{LAST_NUMBER};
 ghost use Rattle.plain_gate.specs.declared.numbers.Refusal.TheVariants.{OutOfMemory};
 
-use link_table::{Counter, LAST_NUMBER};
+use link_table::{Counter, LAST_NUMBER, begins_again};
 use std::alloc::AllocError;
 use std::marker::Model;
 
@@ -25,13 +25,20 @@ impl From<AllocError> for Refusal {
     }
 }
 
+/// The next number of a counter, and whether it began again at the first.
+#[derive(Clone, Copy)]
+struct Next {
+    number: u32,
+    again: bool,
+}
+
 /// The next number of each counter.
 #[derive(Drop)]
 pub(crate) struct Numbers {
-    sid: u32,
-    cid: u32,
-    subscription: u32,
-    write: u32,
+    sid: Next,
+    cid: Next,
+    subscription: Next,
+    write: Next,
 }
 
 impl Model for Numbers {
@@ -40,9 +47,21 @@ impl Model for Numbers {
 
     ghost Value = { Counters };
 
-    ghost view = { λ n. record { sid = n.sid; cid = n.cid; subscription = n.subscription; write = n.write } };
+    ghost view = { λ n. record {
+      sid = n.sid.number;
+      cid = n.cid.number;
+      subscription = n.subscription.number;
+      write = n.write.number;
+      again = record { sid = n.sid.again; cid = n.cid.again; subscription = n.subscription.again; write = n.write.again };
+    } };
 
-    ghost invariant = { λ n. AreBounded (record { sid = n.sid; cid = n.cid; subscription = n.subscription; write = n.write }) };
+    ghost invariant = { λ n. AreBounded (record {
+      sid = n.sid.number;
+      cid = n.cid.number;
+      subscription = n.subscription.number;
+      write = n.write.number;
+      again = record { sid = n.sid.again; cid = n.cid.again; subscription = n.subscription.again; write = n.write.again };
+    }) };
 }
 
 impl Numbers {
@@ -50,11 +69,15 @@ impl Numbers {
     pub(crate) fn new(first: u32) -> Numbers
         ensures { result ≡ all_at first }
     {
+        let next = Next {
+            number: first,
+            again: false,
+        };
         Numbers {
-            sid: first,
-            cid: first,
-            subscription: first,
-            write: first,
+            sid: next,
+            cid: next,
+            subscription: next,
+            write: next,
         }
     }
 
@@ -65,9 +88,8 @@ impl Numbers {
         let _ = &self.sid;
     }
 
-    /// The next number of a counter.
-    pub(crate) fn next(&self, counter: Counter) -> u32
-        ensures { result ≡ counter_of counter self.now }
+    fn of(&self, counter: Counter) -> Next
+        ensures { (result.number ≡ counter_of counter self.now) × (result.again ≡ began_again counter self.now) }
     {
         match counter {
             Counter::Sid => self.sid,
@@ -77,38 +99,49 @@ impl Numbers {
         }
     }
 
-    /// Whether a counter gave out the number, of those that it gives out from `first` on.
-    pub(crate) fn gave_out(&self, counter: Counter, first: u32, number: u32) -> bool
-        ensures { result ≡ (nat_le first number && nat_lt number (counter_of counter self.now)) }
+    /// Where a counter stands: one behind the number that it gave out last.
+    pub(crate) fn next(&self, counter: Counter) -> u32
+        ensures { result ≡ counter_of counter self.now }
     {
-        first <= number && number < self.next(counter)
+        self.of(counter).number
     }
 
-    /// Gives out the next number of a counter. There is none past the last.
-    pub(crate) fn give_out(&mut self, counter: Counter) -> Option<u32>
-        ensures found { IfSome result (λ number. number ≡ counter_of counter self.old) }
-        ensures raised { OnSome result (self.new ≡ raised counter self.old) }
-        ensures used_up { IsNone result → are_over (raised counter self.old) ≡ true }
+    /// Whether a counter went past the last number, and began again at the first.
+    pub(crate) fn began_again(&self, counter: Counter) -> bool
+        ensures { result ≡ began_again counter self.now }
+    {
+        self.of(counter).again
+    }
+
+    /// Whether a counter gave out the number, of those that it gives out from `first` on.
+    pub(crate) fn gave_out(&self, counter: Counter, first: u32, number: u32) -> bool
+        ensures { result ≡ (nat_le first number && (nat_lt number (counter_of counter self.now) || began_again counter self.now && nat_le number LAST_NUMBER)) }
+    {
+        let next = self.of(counter);
+        first <= number && (number < next.number || next.again && number <= LAST_NUMBER)
+    }
+
+    /// A number of a counter is given out: it goes on behind that.
+    pub(crate) fn give(&mut self, counter: Counter, reuses: bool, number: u32)
+        requires { number ≤ LAST_NUMBER }
+        ensures { self.new ≡ given_out counter reuses number self.old }
     {
         match counter {
-            Counter::Sid => next_of(&mut self.sid),
-            Counter::Cid => next_of(&mut self.cid),
-            Counter::Subscription => next_of(&mut self.subscription),
-            Counter::Write => next_of(&mut self.write),
+            Counter::Sid => self.sid = behind(self.sid, reuses, number),
+            Counter::Cid => self.cid = behind(self.cid, reuses, number),
+            Counter::Subscription => self.subscription = behind(self.subscription, reuses, number),
+            Counter::Write => self.write = behind(self.write, reuses, number),
         }
     }
 }
 
-/// The next number, with its counter raised by one. There is none past the last.
-fn next_of(counter: &mut u32) -> Option<u32>
-    ensures found { IfSome result (λ number. (number ≡ counter.old) × (counter.new ≡ counter.old + 1)) }
-    ensures none { IsNone result ↔ (LAST_NUMBER < counter.old) }
-    ensures same { IfNone result (counter.new ≡ counter.old) }
+/// Where a counter goes on behind a number. Whether it began again for it is noted.
+fn behind(next: Next, reuses: bool, number: u32) -> Next
+    requires { number ≤ LAST_NUMBER }
+    ensures { (result.number ≡ number + 1) × (result.again ≡ (next.again || begins_again reuses next.number)) }
 {
-    let number = *counter;
-    if number > LAST_NUMBER {
-        return None;
+    Next {
+        number: number + 1,
+        again: next.again || begins_again(reuses, next.number),
     }
-    *counter = number + 1;
-    Some(number)
 }

@@ -143,7 +143,7 @@ fn make_link(rows: &mut Rows, server: u32, name: &Name) -> Result<(), Refusal>
     ensures ok { OnOk result (rows.new ≡ linked rows.old server name.now) }
     ensures used_up { IsErrOf result Refusal.NumbersUsedUp → is_past_numbers (linked rows.old server name.now) ≡ true }
 {
-    let Some(cid) = rows.numbers.give_out(Counter::Cid) else {
+    let Some(cid) = rows.give_out(Counter::Cid, server) else {
         return Err(Refusal::NumbersUsedUp);
     };
     let link = Link {

@@ -2,6 +2,7 @@
 ghost use Rattle.std.specs.Prelude.{◌≡◌, ◌==◌, IfOk, IsOk, OnOk};
 ghost use Rattle.rows.specs.Rows.{change_first};
 ghost use Rattle.link_table.specs.Links.{has_id, has_subscription, is_link, is_of, with_state, with_subscription};
+ghost use Rattle.link_table.specs.Numbers.{is_of_cid};
 ghost use Rattle.link_table.specs.Servers.{is_server, with_minor};
 ghost use Rattle.link_table.specs.Writes.{is_write, is_write_of, is_write_on, is_write_to};
 ghost use Rattle.dbr_layout.specs.View.{shown};
@@ -57,6 +58,20 @@ impl Key<Link> for LinkAt {
 
     fn picks(&self, row: &Link) -> bool {
         row.server == self.server && row.cid == self.cid
+    }
+}
+
+/// The link of this ID, whichever its server is.
+#[derive(Clone, Copy)]
+pub(crate) struct LinkNumbered {
+    pub cid: u32,
+}
+
+impl Key<Link> for LinkNumbered {
+    ghost picks = { λ key. is_of_cid key.cid };
+
+    fn picks(&self, row: &Link) -> bool {
+        row.cid == self.cid
     }
 }
 

@@ -1,7 +1,7 @@
 //! WRITE and WRITE_NOTIFY, from clients and from servers.
 ghost use Rattle.std.specs.Prelude.{◌≡◌, true, IfOk, IsErrOf, OnOk};
 ghost use Rattle.gateway_state.specs.Numbers.{is_past_numbers};
-ghost use Rattle.gateway_state.specs.Writing.{new_write, with_write, write_answered, write_asked, write_ended, write_handed_on, write_judged, write_notify_asked, write_verdict};
+ghost use Rattle.gateway_state.specs.Writing.{new_write, next_write_id, with_write, write_answered, write_asked, write_ended, write_handed_on, write_judged, write_notify_asked, write_verdict};
 
 use crate::lists::{count, find, remove};
 use crate::numbers::Refusal;
@@ -117,10 +117,10 @@ fn answer_write(
 #[tactic(auto, unfolding(gateway_state::specs::Numbers::is_past_numbers))]
 fn add_write(rows: &mut Rows, write: ClientWrite, ioid: u32, server: u32) -> Result<u32, Refusal>
     ensures ok { OnOk result (rows.new ≡ with_write (new_write rows.old server write.session write.sid write.dtype write.count ioid) rows.old) }
-    ensures id { IfOk result (λ id. id ≡ rows.old.upstream.counters.write) }
+    ensures id { IfOk result (λ id. id ≡ next_write_id rows.old server) }
     ensures used_up { IsErrOf result Refusal.NumbersUsedUp → is_past_numbers (with_write (new_write rows.old server write.session write.sid write.dtype write.count ioid) rows.old) ≡ true }
 {
-    let Some(id) = rows.numbers.give_out(Counter::Write) else {
+    let Some(id) = rows.give_out(Counter::Write, server) else {
         return Err(Refusal::NumbersUsedUp);
     };
     let waiting = WaitingWrite {

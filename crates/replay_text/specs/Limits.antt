@@ -2,7 +2,7 @@
 use Rattle.std.specs.Prelude.{ℕ, Bool, if◌then◌else◌, List, codes, bytes_eq, Option, Some, None, option_map, option_and_then}
 use Rattle.gateway_state.specs.declared.limits.Limits.{Limits}
 use Rattle.replay_text.specs.declared.limit.NewLimit.{NewLimit}
-use Rattle.replay_text.specs.declared.limit.NewLimit.TheVariants.{Sessions, Servers, Links, Searches, Share, Channels, Subscriptions, Reads, Writes, UpdateBytes, MakesRoom, ReusesNumbers, PassesOverGone, TellsUnreadable}
+use Rattle.replay_text.specs.declared.limit.NewLimit.TheVariants.{Sessions, Servers, Links, Searches, Share, Channels, Subscriptions, Reads, Writes, Messages, UpdateBytes, MakesRoom, ReusesNumbers, PassesOverGone, TellsUnreadable}
 use Rattle.replay_text.specs.Values.{flag_of, number_of}
 
 -- a limit that holds or doesn't, by its name
@@ -21,6 +21,7 @@ session_limit name value =
     else if bytes_eq name (codes "subscriptions") then option_map Subscriptions (number_of 64 value)
     else if bytes_eq name (codes "reads") then option_map Reads (number_of 64 value)
     else if bytes_eq name (codes "writes") then option_map Writes (number_of 64 value)
+    else if bytes_eq name (codes "messages") then option_map Messages (number_of 32 value)
     else if bytes_eq name (codes "update-bytes") then option_map UpdateBytes (number_of 64 value)
     else option_and_then (flag_limit name) (flag_of value)
 
@@ -45,6 +46,7 @@ with_limit (Channels n) limits = record limits { channels = n }
 with_limit (Subscriptions n) limits = record limits { subs = n }
 with_limit (Reads n) limits = record limits { reads = n }
 with_limit (Writes n) limits = record limits { writes = n }
+with_limit (Messages n) limits = record limits { messages = n }
 with_limit (UpdateBytes n) limits = record limits { update_bytes = n }
 with_limit (MakesRoom holds) limits = record limits { makes_room = holds }
 with_limit (ReusesNumbers holds) limits = record limits { reuses_numbers = holds }

@@ -3,7 +3,7 @@ ghost use Rattle.std.specs.Prelude.{◌≡◌};
 ghost use Rattle.replay_text.specs.Limits.{flag_limit, limit_named, session_limit, with_limit};
 ghost use Rattle.replay_text.specs.Values.{flag_of};
 
-use crate::values::{count, flag, long_number};
+use crate::values::{count, flag, long_number, number};
 use gateway_state::Limits;
 
 /// A limit, and what it is from now on.
@@ -18,6 +18,7 @@ pub enum NewLimit {
     Subscriptions(usize),
     Reads(usize),
     Writes(usize),
+    Messages(u32),
     UpdateBytes(u64),
     MakesRoom(bool),
     ReusesNumbers(bool),
@@ -40,6 +41,7 @@ impl NewLimit {
             NewLimit::Subscriptions(subs) => Limits { subs, ..limits },
             NewLimit::Reads(reads) => Limits { reads, ..limits },
             NewLimit::Writes(writes) => Limits { writes, ..limits },
+            NewLimit::Messages(messages) => Limits { messages, ..limits },
             NewLimit::UpdateBytes(update_bytes) => Limits {
                 update_bytes,
                 ..limits
@@ -95,6 +97,8 @@ fn session_limit(name: &[u8], value: &[u8]) -> Option<NewLimit>
         Some(NewLimit::Reads(count(value)?))
     } else if name == b"writes".as_slice() {
         Some(NewLimit::Writes(count(value)?))
+    } else if name == b"messages".as_slice() {
+        Some(NewLimit::Messages(number(value)?))
     } else if name == b"update-bytes".as_slice() {
         Some(NewLimit::UpdateBytes(long_number(value)?))
     } else {

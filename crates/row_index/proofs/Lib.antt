@@ -1,4 +1,5 @@
 pub mod Agreeing
+pub mod InOrder
 pub mod InPieces
 pub mod Keys
 pub mod Known

@@ -1,6 +1,6 @@
 -- Rows in the order of adding, each with the key under which it is found.
 use Rattle.std.specs.Prelude.{◌≡◌, ℕ, List, [], ◌∷◌, Bool, not, ◌&&◌, ◌==◌, Option, None}
-use Rattle.std.specs.List.{find}
+use Rattle.std.specs.List.{find, list_any}
 use Rattle.std.specs.Option.{option_map}
 use Rattle.rows.specs.Rows.{change_first}
 use Rattle.row_index.specs.declared.key.Key.{Key}
@@ -25,6 +25,10 @@ module _ {V : Type 0} where
   -- another
   abbrev pub lacks_key : Key → Key × V → Bool
   lacks_key key entry = not (has_key key entry)
+
+  -- an entry of one of these keys
+  abbrev pub has_one_of : List Key → Key × V → Bool
+  has_one_of keys entry = list_any (λ key. same_key entry.0 key) keys
 
   -- an entry of this owner
   abbrev pub is_owned_by : ℕ → Key × V → Bool

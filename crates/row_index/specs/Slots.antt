@@ -1,7 +1,7 @@
 -- Slots, each with a row or empty, and the places where rows stand.
-use Rattle.std.specs.Prelude.{◌≡◌, ◌+◌, ◌*◌, ◌≤◌, ℕ, suc, List, [], ◌∷◌, length, Bool, true, false, Option, Some, None, if◌then◌else◌}
+use Rattle.std.specs.Prelude.{slice_get, filter_map, ◌≡◌, ◌+◌, ◌*◌, ◌≤◌, ℕ, suc, List, [], ◌∷◌, length, Bool, true, false, Option, Some, None, if◌then◌else◌}
 use Rattle.std.specs.Map.{lookup}
-use Rattle.std.specs.Option.{option_map}
+use Rattle.std.specs.Option.{option_and_then, option_map}
 use Rattle.row_index.specs.declared.key.Key.{Key}
 use Rattle.row_index.specs.declared.slot.Slot.{Slot}
 use Rattle.row_index.specs.declared.slot.Slot.TheVariants.{Empty, Full}
@@ -38,6 +38,18 @@ module _ {V : Type 0} where
   abbrev pub place_of : Key → List (Slot V) → Option ℕ
   place_of key [] = None
   place_of key (slot ∷ slots) = if slot_has_key key slot then Some 0 else option_map suc (place_of key slots)
+
+  -- the same, asked of the slots
+  abbrev pub place_in : List (Slot V) → Key → Option ℕ
+  place_in slots key = place_of key slots
+
+  -- where the rows of these keys stand, in the order of the keys
+  abbrev pub places_of : List Key → List (Slot V) → List ℕ
+  places_of keys slots = filter_map (place_in slots) keys
+
+  -- the value at a place, if a row stands there
+  abbrev pub value_there : List (Slot V) → ℕ → Option V
+  value_there slots place = option_and_then value_in (slice_get slots place)
 
   -- each key has the place of its row, and rows have keys of their own
   pub record Agrees (slots : List (Slot V)) (places : List (Key × ℕ)) : Type 0 where

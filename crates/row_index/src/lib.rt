@@ -4,6 +4,7 @@
 //!   is, and its ID there. `get`, `get_mut` and `contains` find a row by its key, `count_of` and `of`
 //!   the rows of one owner, and `row` and `rows` any of all of them. Finding a row, adding one, and the
 //!   n-th of an owner cost the same however many there are; `remove` may walk the IDs of the one owner.
+//!   `in_order` gives the rows under several keys, each once, in the order of adding, and looks at no others.
 //! - A [`NameLists`] has a list of keys for each name, in the order of adding. A name with no key takes
 //!   no memory. A key that goes moves those behind it.
 //! - A [`NameKeys`] is the same for keys that each stand once under their name, of which any goes at little

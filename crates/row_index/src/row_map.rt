@@ -3,7 +3,7 @@ ghost use Rattle.std.specs.Prelude.{◌≡◌, [], ◌∷◌, ◌++◌, None, is
 ghost use Rattle.std.specs.List.{filter, find, count_by};
 ghost use Rattle.std.specs.Option.{option_copied, option_copied_mut};
 ghost use Rattle.std.specs.Borrow.{sem};
-ghost use Rattle.row_index.specs.Rows.{has_key, lacks_key, is_owned_by, value_at, row_of, HasKeysApart};
+ghost use Rattle.row_index.specs.Rows.{has_key, has_one_of, lacks_key, is_owned_by, value_at, row_of, HasKeysApart};
 
 use crate::key::Key;
 use crate::owner_ids::OwnerIds;
@@ -141,6 +141,13 @@ impl<V> RowMap<V> {
         ensures { IfOk result (λ rows. map (λ row. row.now) rows.items ≡ map row_of self.now) }
     {
         self.rows.rows(alloc)
+    }
+
+    /// The rows under these keys, each once, in the order of adding.
+    pub fn in_order(&self, alloc: Global, keys: &[Key]) -> Result<Vec<&V>, AllocError>
+        ensures { IfOk result (λ rows. map (λ row. row.now) rows.items ≡ map row_of (filter (has_one_of keys.now) self.now)) }
+    {
+        self.rows.in_order(alloc, keys)
     }
 
     /// Does nothing. Its contract is a law: no two rows have the same key.

@@ -1,13 +1,13 @@
 //! Rows in slots, with the place of each.
-ghost use Rattle.std.specs.Prelude.{◌≡◌, ◌+◌, ◌<◌, ◌≤◌, [], ◌∷◌, ◌++◌, Some, None, if◌then◌else◌, IfOk, OnOk, OnErr, length, map, slice_get};
+ghost use Rattle.std.specs.Prelude.{◌≡◌, ◌+◌, ◌<◌, ◌≤◌, [], ◌∷◌, ◌++◌, Some, None, if◌then◌else◌, IfOk, OnOk, OnErr, length, map, filter_map, slice_get};
 ghost use Rattle.std.specs.Bool.{OnTrue};
 ghost use Rattle.std.specs.List.{filter};
 ghost use Rattle.std.specs.Option.{option_copied, option_copied_mut};
 ghost use Rattle.std.specs.Borrow.{sem};
 ghost use Rattle.indexmap.specs.IndexMap.{get, index_map_len, spare};
 ghost use Rattle.row_index.specs.declared.key.Key.{Key as RowKey};
-ghost use Rattle.row_index.specs.Rows.{same_key, lacks_key, value_at, row_of, HasKeysApart};
-ghost use Rattle.row_index.specs.Slots.{is_full, filled, place_of, Agrees};
+ghost use Rattle.row_index.specs.Rows.{same_key, has_one_of, lacks_key, value_at, row_of, HasKeysApart};
+ghost use Rattle.row_index.specs.Slots.{is_full, filled, place_of, places_of, value_there, Agrees};
 
 use crate::hints::Hints;
 use crate::key::Key;
@@ -137,6 +137,16 @@ impl<V> Slots<V> {
         Ok(rows)
     }
 
+    /// The rows under these keys, each once, in the order of adding, which is that of their places.
+    pub(crate) fn in_order(&self, alloc: Global, keys: &[Key]) -> Result<Vec<&V>, AllocError>
+        ensures { IfOk result (λ rows. map (λ row. row.now) rows.items ≡ map row_of (filter (has_one_of keys.now) self.now)) }
+    {
+        let mut places = places_of(&self.slots, &self.places, &self.hints, alloc, keys)?;
+        places.sort_unstable();
+        places.dedup();
+        values_at(&self.slots, alloc, &places)
+    }
+
     pub(crate) fn has_keys_apart(&self)
         ensures { HasKeysApart self.now }
     {
@@ -190,6 +200,52 @@ fn stands_at<V>(slots: &[Slot<V>], key: Key, place: usize) -> bool
     match slots.get(place) {
         Some(slot) => slot.has_key(key),
         None => false,
+    }
+}
+
+// The places of the rows under these keys, in the order of the keys.
+fn places_of<V>(
+    slots: &[Slot<V>],
+    places: &IndexMap<Key, usize>,
+    hints: &Hints,
+    alloc: Global,
+    keys: &[Key],
+) -> Result<Vec<usize>, AllocError>
+    requires agree { Agrees slots.now places.now.entries }
+    ensures { IfOk result (λ found. found.items ≡ places_of keys.now slots.now) }
+{
+    let mut found = Vec::new(alloc);
+    for key in keys {
+        if let Some(place) = find_place(slots, places, hints, *key) {
+            found.push(place)?;
+        }
+    }
+    Ok(found)
+}
+
+// The rows at these places.
+fn values_at<'a, V>(
+    slots: &'a [Slot<V>],
+    alloc: Global,
+    places: &[usize],
+) -> Result<Vec<&'a V>, AllocError>
+    ensures { IfOk result (λ values. map (λ value. value.now) values.items ≡ filter_map (value_there slots.now) places.now) }
+{
+    let mut values = Vec::new(alloc);
+    for place in places {
+        if let Some(value) = value_there(slots, *place) {
+            values.push(value)?;
+        }
+    }
+    Ok(values)
+}
+
+fn value_there<V>(slots: &[Slot<V>], place: usize) -> Option<&V>
+    ensures { option_copied result ≡ value_there slots.now place }
+{
+    match slots.get(place) {
+        Some(slot) => slot.value(),
+        None => None,
     }
 }
 

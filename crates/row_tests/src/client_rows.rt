@@ -18,6 +18,7 @@
 //! - `reads NAME`: the reads that wait on the variable;
 //! - `on NAME`: whether a channel is on the variable, how many channels, subscriptions and reads are,
 //!   and these one by one. Channels 50 to 99 are on B:SP, others on A:SP;
+//! - `any NAME NAME`: the channels on either of two variables, in the order of adding;
 //! - `want NAME NATIVE`: the events and the count that its rows want together where its native count is
 //!   this, or `none`;
 //! - `props NAME`, `props NAME states`: whether its rows need properties, where its elements are no
@@ -136,6 +137,7 @@ fn call(alloc: Global, rows: &mut VisitedRows, line: &str, last: u32, told: &mut
         "count" => count(&rows.table, number(line, 1), told),
         "show" => show(alloc, rows, told),
         "on" | "want" | "props" | "reads" => show_name(alloc, rows, line, told),
+        "any" => show_any(alloc, rows, line, told),
         "of" => show_of(rows, number(line, 1), told),
         "within" => add_within(alloc, rows, line, told),
         "typed" => refused(add_sub(rows, typed_sub(line)), told),
@@ -416,6 +418,20 @@ fn show_name(alloc: Global, rows: &mut VisitedRows, line: &str, told: &mut Told)
         },
         (Ok(name), _) => show_want(&rows.table, &name, number(line, 2), told),
         (Err(fault), _) => told.line(&fault),
+    }
+}
+
+/// The channels on two variables.
+fn show_any(alloc: Global, rows: &mut VisitedRows, line: &str, told: &mut Told) {
+    let first = Name::read(alloc, word(line, 1).as_bytes());
+    let second = Name::read(alloc, word(line, 2).as_bytes());
+    let names = match (first, second) {
+        (Ok(first), Ok(second)) => [first, second],
+        _ => return told.line(&"out of memory"),
+    };
+    match rows.table.channels_on_any(&mut rows.visits, alloc, &names) {
+        Ok(channels) => show_channels(&channels, told),
+        Err(_) => told.line(&"out of memory"),
     }
 }
 

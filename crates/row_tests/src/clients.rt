@@ -117,6 +117,39 @@ visits
 }
 
 #[test]
+fn channels_on_several_variables_come_in_the_order_of_adding(rt: HostRuntime) {
+    tells(
+        &rt,
+        rt.alloc(),
+        TWO_CLIENTS,
+        "\
+channel 1 50
+channel 2 22
+visits
+> 10
+any B:SP A:SP
+> channel 1 11 A:SP reach 0 rights 3
+> channel 1 12 A:SP reach 0 rights 3
+> channel 2 21 A:SP reach 0 rights 3
+> channel 1 50 B:SP reach 0 rights 3
+> channel 2 22 A:SP reach 0 rights 3
+visits
+> 15
+remove channel 1 11
+any A:SP A:SP
+> channel 1 12 A:SP reach 0 rights 3
+> channel 2 21 A:SP reach 0 rights 3
+> channel 2 22 A:SP reach 0 rights 3
+visits
+> 21
+any C:SP B:SP
+> channel 1 50 B:SP reach 0 rights 3
+any C:SP D:SP
+",
+    );
+}
+
+#[test]
 fn a_row_that_is_put_is_changed(rt: HostRuntime) {
     tells(
         &rt,

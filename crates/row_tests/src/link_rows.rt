@@ -20,12 +20,15 @@
 //!   `show write SERVER ID`: the write; or `None`;
 //! - `count links`, `count of SERVER`: its links, `count writes SESSION`; `all links`: how many are in the
 //!   list of all;
-//! - `give COUNTER`: its next number.
+//! - `named N M`: the CIDs of the links for two names, of which 7 is T7, in the order of adding;
+//! - `give COUNTER`: its next number, for a row of server 1; `again COUNTER SERVER FIRST`: the one for a row of
+//!   this server, where numbers come again from FIRST on.
 use crate::seen;
 use crate::seen::Kept;
 use crate::words::{Call, Told};
 use link_table::{
-    Counter, LinkState, Links, Server, Subject, Subscription, TableFault, WaitingWrite,
+    Counter, LAST_NUMBER, Link, LinkState, Links, Server, Subject, Subscription, TableFault,
+    WaitingWrite, turned,
 };
 use pv_name::Name;
 use std::alloc::Global;
@@ -127,7 +130,9 @@ fn call(alloc: Global, links: &mut Links, line: &str, number: u32, told: &mut To
             Ok(links) => told.line(&links.len()),
             Err(_) => told.line(&"out of memory"),
         },
-        _ => give(links, &call, told),
+        "named" => named(alloc, links, &call, told),
+        "again" => give(links, &call, true, told),
+        _ => give(links, &call, false, told),
     }
 }
 
@@ -319,15 +324,45 @@ fn show(links: &Links, call: &Call<'_>, told: &mut Told) {
     told.end();
 }
 
-fn give(links: &mut Links, call: &Call<'_>, told: &mut Told) {
-    let counter = match call.what {
-        "sid" => Counter::Sid,
-        "cid" => Counter::Cid,
-        "subscription" => Counter::Subscription,
-        _ => Counter::Write,
+fn give(links: &mut Links, call: &Call<'_>, reuses: bool, told: &mut Told) {
+    let [server, first, ..] = call.numbers;
+    let server = if reuses { server } else { 1 };
+    let given = match call.what {
+        "sid" => give_sid(links, reuses, first),
+        "cid" => links.new_cid(reuses, first),
+        "subscription" => links.new_sub_id(reuses, first, server),
+        _ => links.new_write_id(reuses, first, server),
     };
-    match links.give_out(counter) {
+    match given {
         Some(number) => told.line(&number),
         None => told.line(&"none"),
+    }
+}
+
+/// The next number of a channel, where none stands.
+fn give_sid(links: &mut Links, reuses: bool, first: u32) -> Option<u32> {
+    let number = turned(reuses, first, links.next(Counter::Sid));
+    if number > LAST_NUMBER {
+        return None;
+    }
+    links.give(Counter::Sid, reuses, number);
+    Some(number)
+}
+
+fn named(alloc: Global, links: &Links, call: &Call<'_>, told: &mut Told) {
+    let first = call.what.parse().unwrap_or(0);
+    let names = match (name_of(alloc, first), name_of(alloc, call.numbers[0])) {
+        (Some(first), Some(second)) => [first, second],
+        _ => return told.line(&"out of memory"),
+    };
+    match links.links_named(alloc, &names) {
+        Ok(links) => list_cids(&links, told),
+        Err(_) => told.line(&"out of memory"),
+    }
+}
+
+fn list_cids(links: &[&Link], told: &mut Told) {
+    for link in links {
+        told.line(&link.cid);
     }
 }

@@ -23,7 +23,7 @@ with_names None limits = limits
 with_names (Some names) limits = record limits { searches = names; share = share_of names; makes_room = true }
 
 -- on a site there are 262,144 links, 65,536 channels and as many subscriptions of a client, 8,192 reads and as many writes of it
--- that wait, and updates while less than 256 KiB waits; requests on what is gone are passed over, numbers come again, and who
+-- that wait, 262,144 messages that wait for it, and updates while less than 256 KiB waits; requests on what is gone are passed over, numbers come again, and who
 -- may not read is told so
 abbrev pub site_limits : Limits
 site_limits = record usual_limits {
@@ -32,6 +32,7 @@ site_limits = record usual_limits {
   subs = 65536;
   reads = 8192;
   writes = 8192;
+  messages = 262144;
   update_bytes = 262144;
   passes_over_gone = true;
   reuses_numbers = true;

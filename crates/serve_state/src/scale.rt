@@ -29,6 +29,10 @@ const SITE_CHANNELS: usize = 65_536;
 /// How many reads of a client may wait on a site, and how many writes.
 const SITE_WAITING: usize = 8_192;
 
+/// How many messages may wait for a client on a site: what it is told as a server goes on which it has all its channels
+/// and subscriptions, and more.
+const SITE_MESSAGES: u32 = 262_144;
+
 /// While fewer bytes wait for a client it is given updates on a site: so what a slow one is given is no older
 /// than so many bytes, and what its socket holds.
 const SITE_BYTES: u64 = 0x4_0000;
@@ -89,6 +93,7 @@ fn limits_for(site: bool) -> Limits
         limits.subs = SITE_CHANNELS;
         limits.reads = SITE_WAITING;
         limits.writes = SITE_WAITING;
+        limits.messages = SITE_MESSAGES;
         limits.update_bytes = SITE_BYTES;
         limits.passes_over_gone = true;
         limits.reuses_numbers = true;

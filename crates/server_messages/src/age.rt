@@ -9,8 +9,8 @@ ghost use Rattle.server_messages.specs.Overdue.{given_up_on, looks_at, overdue_o
 use crate::update::fail_reads;
 use channel_table::Visits;
 use gateway_rows::Rows;
-use gateway_values::{is_connected, native_in};
-use link_table::{Link, LinkState, Subject, Subscription};
+use gateway_values::{is_connected, is_older, native_in};
+use link_table::{Counter, Link, LinkState, Subject, Subscription};
 use pv_name::Name;
 use std::alloc::AllocError;
 
@@ -26,7 +26,10 @@ fn is_asked_before(rows: &Rows, subscription: Option<Subscription>) -> bool
     ensures { result ≡ is_asked_before rows.now.state subscription }
 {
     match subscription {
-        Some(subscription) => subscription.id < rows.last_age.subscription,
+        Some(subscription) => {
+            let next = rows.upstream.next(Counter::Subscription);
+            is_older(rows.last_age.subscription, next, subscription.id)
+        }
         None => false,
     }
 }

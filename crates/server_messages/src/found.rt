@@ -2,18 +2,17 @@
 ghost use Rattle.std.specs.Prelude.{◌≡◌, true, false, OnOk, IsErrOf};
 ghost use Rattle.gateway_state.specs.Numbers.{is_past_numbers};
 ghost use Rattle.gateway_state.specs.Servers.{found, linked};
-ghost use Rattle.gateway_state.specs.Settled.{HasCidsInOrder};
+ghost use Rattle.gateway_state.specs.Settled.{HasCidsApart};
 ghost use Rattle.gateway_state.specs.Variables.{is_linked};
 
 use ca_message::{NameText, ToServer};
 use gateway_rows::{Refusal, Rows};
 use gateway_state::{Dest, Limit};
-use link_table::Counter;
 use pv_name::Name;
 
 /// A server has a variable.
 pub fn find_at(rows: &mut Rows, name: Name, server: u32) -> Result<(), Refusal>
-    requires order { HasCidsInOrder rows.old.state }
+    requires order { HasCidsApart rows.old.state }
     ensures ok { OnOk result (rows.new.state ≡ found rows.old.state name server) }
     ensures used_up { IsErrOf result Refusal.NumbersUsedUp → is_past_numbers (found rows.old.state name server) ≡ true }
     ensures brand { rows.new.brand ≡ rows.old.brand }
@@ -31,13 +30,14 @@ pub fn find_at(rows: &mut Rows, name: Name, server: u32) -> Result<(), Refusal>
 /// Makes a link, and asks the server for a channel.
 #[tactic(auto, using(gateway_state::proofs::NewNumbers::new_cid, gateway_state::proofs::NewNumbers::unlinked), unfolding(gateway_state::specs::Telling::sent, gateway_state::specs::Numbers::is_past_numbers))]
 fn make_link(rows: &mut Rows, server: u32, name: Name) -> Result<(), Refusal>
-    requires order { HasCidsInOrder rows.old.state }
+    requires order { HasCidsApart rows.old.state }
     requires unlinked { is_linked rows.old.state name ≡ false }
     ensures ok { OnOk result (rows.new.state ≡ linked rows.old.state server name) }
     ensures used_up { IsErrOf result Refusal.NumbersUsedUp → is_past_numbers (linked rows.old.state server name) ≡ true }
     ensures brand { rows.new.brand ≡ rows.old.brand }
 {
-    let Some(cid) = rows.upstream.give_out(Counter::Cid) else {
+    let (reuses, first) = (rows.limits.reuses_numbers, rows.config.first);
+    let Some(cid) = rows.upstream.new_cid(reuses, first) else {
         return Err(Refusal::NumbersUsedUp);
     };
     let asked = name.copy()?;

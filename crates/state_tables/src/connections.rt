@@ -138,12 +138,12 @@ impl Connections {
         self.rows.remove(key_of(dest));
     }
 
-    /// Gives a message to a connection, where it stands and isn't marked.
-    pub fn give(&mut self, dest: Dest, out: Out) -> Result<(), AllocError>
-        ensures ok { OnOk result (self.new ≡ change_first (is_to dest) (given out) self.old) }
+    /// Gives a message to a connection where at most so many may wait, if it stands and isn't marked.
+    pub fn give(&mut self, most: u32, dest: Dest, out: Out) -> Result<(), AllocError>
+        ensures ok { OnOk result (self.new ≡ change_first (is_to dest) (given most out) self.old) }
         ensures err { OnErr result (self.new ≡ self.old) }
     {
-        give(&mut self.rows, key_of(dest), out, &mut self.full)
+        give(&mut self.rows, key_of(dest), most, out, &mut self.full)
     }
 
     /// How often a message found an outbox full since the start, which marked it.
@@ -186,15 +186,21 @@ fn key_of(dest: Dest) -> Key
 }
 
 #[tactic(auto, using(crate::proofs::ConnectionRows::written_is_changed, crate::proofs::ConnectionRows::written_again, crate::proofs::ConnectionRows::unfound_unchanged))]
-fn give(rows: &mut RowMap<Connection>, key: Key, out: Out, full: &mut u64) -> Result<(), AllocError>
-    ensures ok { OnOk result (rows.new ≡ change_first (has_key key) (changed_by (given out)) rows.old) }
+fn give(
+    rows: &mut RowMap<Connection>,
+    key: Key,
+    most: u32,
+    out: Out,
+    full: &mut u64,
+) -> Result<(), AllocError>
+    ensures ok { OnOk result (rows.new ≡ change_first (has_key key) (changed_by (given most out)) rows.old) }
     ensures err { OnErr result (rows.new ≡ rows.old) }
 {
     let Some(row) = rows.get_mut(key) else {
         return Ok(());
     };
     let was_marked = row.outbox.marked();
-    match row.outbox.append(out) {
+    match row.outbox.append_within(most, out) {
         Ok(()) => Ok(()),
         Err(AppendFault::Marked(_)) => {
             if !was_marked {

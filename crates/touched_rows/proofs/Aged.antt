@@ -1,6 +1,6 @@
 -- Time passed: what is given up with a server concerns nobody else, and searches that are forgotten are told as searches
 -- that are.
-use Rattle.std.proofs.Common.{◌≡◌, ℕ, List, [], ◌∷◌, Bool, true, false, cond, eqb, ltb, not, ◌&&◌, ◌||◌, Option, Some, None, refl, sym, ap, subst, ◌∙◌}
+use Rattle.std.proofs.Common.{◌≡◌, ℕ, List, [], ◌∷◌, Bool, true, false, cond, eqb, not, ◌&&◌, ◌||◌, Option, Some, None, refl, sym, ap, subst, ◌∙◌}
 use Rattle.std.specs.Prelude.{filter, map}
 use Rattle.std.specs.List.{All, find, fold, list_any}
 use Rattle.std.proofs.lemmas.Bool.{and_parts, eqb-true}
@@ -10,17 +10,17 @@ use Rattle.link_table.specs.declared.links.Link.{Link}
 use Rattle.link_table.specs.declared.links.Subject.TheVariants.{Properties}
 use Rattle.link_table.specs.Links.{is_link, is_not_link}
 use Rattle.gateway_state.specs.declared.search.Search.{Search}
-use Rattle.gateway_state.specs.Aged.{age_told, aged, are_properties_overdue, is_link_overdue, link_given_up, links_given_up, properties_given_up, properties_given_up_on}
+use Rattle.gateway_state.specs.Aged.{age_told, aged, are_properties_overdue, is_link_overdue, is_older, link_given_up, links_given_up, properties_given_up, properties_given_up_on}
 use Rattle.gateway_state.specs.Answer.{native_in}
 use Rattle.gateway_state.specs.Gateway.{Gateway}
 use Rattle.gateway_state.specs.Searches.{grown_stale, is_fresh, is_stale, leads_to}
 use Rattle.gateway_state.specs.Servers.{fails_without, read_failed, waits_for, without_link}
-use Rattle.gateway_state.specs.Settled.{AreInOrder, HasLinksApart, IsSettled}
+use Rattle.gateway_state.specs.Settled.{AreNumbersApart, HasLinksApart, IsSettled}
 use Rattle.gateway_state.specs.Step.{consequences}
 use Rattle.gateway_state.specs.Telling.{sent}
 use Rattle.gateway_state.specs.Updates.{update_notice}
 use Rattle.gateway_state.specs.Variables.{is_connected, is_creating, search_names, without_cached}
-use Rattle.gateway_state.proofs.InOrder.{in_order_kept}
+use Rattle.gateway_state.proofs.NumbersApart.{numbers_apart_kept}
 use Rattle.gateway_state.proofs.KeptByServers.{kept_all_failed}
 use Rattle.gateway_state.proofs.LinksApart.{links_apart_kept}
 use Rattle.gateway_state.proofs.SearchedNames.{searched_is_among}
@@ -29,9 +29,10 @@ use Rattle.touched_rows.proofs.Cleared.{left_have}
 use Rattle.touched_rows.proofs.Connecting.{creating_unconnected}
 use Rattle.touched_rows.proofs.Failed.{settled_uncached, settled_without}
 use Rattle.touched_rows.proofs.Nothing.{settled_all_failed}
+use Rattle.touched_rows.proofs.Numbered.{each_alone}
 use Rattle.touched_rows.proofs.Swept.{told_after_forgetting}
 use Rattle.touched_rows.proofs.TouchedAlone.{found_holds, found_passes}
-use Rattle.touched_rows.proofs.WantedLinks.{each_alone, neither}
+use Rattle.touched_rows.proofs.WantedLinks.{neither}
 
 -- ---- what is given up leaves
 
@@ -42,7 +43,7 @@ stale_names w = search_names w.policy (filter is_stale w.searches)
 -- nobody is owed anything, and the searches are those that there were
 record IsLeftBy (w v : Gateway) : Type 0 where
   settled : IsSettled v
-  order : AreInOrder v
+  order : AreNumbersApart v
   apart : HasLinksApart v
   names : stale_names v ≡ stale_names w
 
@@ -59,7 +60,7 @@ left_by_failures w (link ∷ links) v left =
     let reads : List WaitingRead = filter (λ read. waits_for v link.name read && fails_without Properties (native_in link.state) read) v.clients.reads in
     left_by_failures w links (properties_given_up_on v link) (record {
       settled = settled_all_failed reads v left.settled;
-      order = kept_all_failed AreInOrder in_order_kept.rows reads v left.order;
+      order = kept_all_failed AreNumbersApart numbers_apart_kept.rows reads v left.order;
       apart = kept_all_failed HasLinksApart links_apart_kept.rows reads v left.apart;
       names = names_after_failures reads v ∙ left.names;
     })
@@ -80,7 +81,7 @@ none_goes {A = A} test (row ∷ rows) none = by (test row) none (λ rest. none_g
 abbrev IsUnconnected : List Link → Link → Type 0
 IsUnconnected rows link = All (λ (row : Link). is_link link.server link.cid row ≡ true → is_connected row.state ≡ false) rows
 
-settled_given_up : (v : Gateway) (link : Link) → IsSettled v → AreInOrder v → HasLinksApart v → IsUnconnected v.upstream.links link → IsSettled (link_given_up v link)
+settled_given_up : (v : Gateway) (link : Link) → IsSettled v → AreNumbersApart v → HasLinksApart v → IsUnconnected v.upstream.links link → IsSettled (link_given_up v link)
 settled_given_up v link settled order apart unconnected = by (find (is_link link.server link.cid) v.upstream.links) refl
   where
     by : (found : Option Link) → find (is_link link.server link.cid) v.upstream.links ≡ found → IsSettled (without_link link.server link.cid v)
@@ -103,23 +104,23 @@ left_by_links w (link ∷ links) v unconnected left =
     links (All-tail (IsUnconnected v.upstream.links) link links unconnected))
     (record {
       settled = settled_given_up v link left.settled left.order left.apart (All-head (IsUnconnected v.upstream.links) link links unconnected);
-      order = in_order_kept.rows.link_removed link.server link.cid v left.order;
+      order = numbers_apart_kept.rows.link_removed link.server link.cid v left.order;
       apart = links_apart_kept.rows.link_removed link.server link.cid v left.apart;
       names = left.names;
     })
 
 -- links that a server hasn't answered yet aren't connected, and their numbers are theirs alone
-all_overdue : (v : Gateway) → AreInOrder v → All (IsUnconnected v.upstream.links) (filter (is_link_overdue v) v.upstream.links)
+all_overdue : (v : Gateway) → AreNumbersApart v → All (IsUnconnected v.upstream.links) (filter (is_link_overdue v) v.upstream.links)
 all_overdue v order =
     left_have (λ (link : Link). All (λ (row : Link). row.cid ≡ link.cid → row ≡ link) v.upstream.links) (IsUnconnected v.upstream.links) (is_link_overdue v)
     (λ link overdue alone.
-    let creating = and_parts (is_creating link.state) (ltb link.cid v.last_age.cid) overdue in
+    let creating = and_parts (is_creating link.state) (is_older v.last_age.cid v.upstream.counters.cid link.cid) overdue in
     All-weaker (λ (row : Link). row.cid ≡ link.cid → row ≡ link) (λ (row : Link). is_link link.server link.cid row ≡ true → is_connected row.state ≡ false)
     (λ row one is.
     let key = and_parts (eqb row.server link.server) (eqb row.cid link.cid) is in
     ap (λ (l : Link). is_connected l.state) (one (eqb-true row.cid link.cid key.1)) ∙ creating_unconnected link.state creating.0)
     v.upstream.links alone)
-    v.upstream.links (each_alone 0 v.upstream.counters.cid v.upstream.links order.links)
+    v.upstream.links (each_alone v.upstream.links order.links.apart)
 
 -- ---- searches
 
@@ -150,7 +151,7 @@ settled_age_told v settled = record {
 
 -- ---- what follows
 
-module _ (w : Gateway) (settled : IsSettled w) (order : AreInOrder w) (apart : HasLinksApart w) where
+module _ (w : Gateway) (settled : IsSettled w) (order : AreNumbersApart w) (apart : HasLinksApart w) where
   abbrev first : Gateway
   first = properties_given_up w
 

@@ -296,7 +296,7 @@ beside_one : (w y : Gateway) (links : List Link) (name : List ℕ) (notice : Cha
 unfolding sent
 beside_one w y links name (Disconnected session sid cid) on beside =
     let said : Out = outgoing (replies.ServerDisconnect cid) in
-    beside_gone w y links name beside session sid on (change_first (is_to (ToSession session)) (given said) y.connections) (no_more_room_given (ToSession session) said y.connections)
+    beside_gone w y links name beside session sid on (change_first (is_to (ToSession session)) (given y.limits.messages said) y.connections) (no_more_room_given y.limits.messages (ToSession session) said y.connections)
 beside_one w y links name (RightsChanged session sid cid reach rights) on beside =
     let said : Out = outgoing (replies.AccessRights cid rights) in
     let ends : Bool = loses_reading y rights (channel_of y session sid) in
@@ -304,7 +304,7 @@ beside_one w y links name (RightsChanged session sid cid reach rights) on beside
     let last : Gateway = reading_ended session sid ends told_rights in
     subst (λ (v : Gateway). IsBeside w v links name) (sym (reading_ended_shape session sid ends told_rights))
     (beside_changed w y links name beside session sid on last.connections
-    (no_more_room_then y.connections told_rights.connections last.connections (no_more_room_given (ToSession session) said y.connections) (no_more_room_ended session sid ends told_rights))
+    (no_more_room_then y.connections told_rights.connections last.connections (no_more_room_given y.limits.messages (ToSession session) said y.connections) (no_more_room_ended session sid ends told_rights))
     reach rights)
 
 pub beside_told : (w : Gateway) (links : List Link) (name : List ℕ) (notices : List ChannelNotice) (y : Gateway) → list_all (is_notice_on w name) notices ≡ true → IsBeside w y links name

@@ -123,7 +123,7 @@ left_one : (w v : Gateway) (names : List (List ℕ)) (c : Channel) → is_found_
 unfolding sent
 left_one w v names c on left =
     let said : Out = outgoing (replies.ServerDisconnect c.cid) in
-    left_without w v names left c.session c.sid on (change_first (is_to (ToSession c.session)) (given said) v.connections) (no_more_room_given (ToSession c.session) said v.connections)
+    left_without w v names left c.session c.sid on (change_first (is_to (ToSession c.session)) (given v.limits.messages said) v.connections) (no_more_room_given v.limits.messages (ToSession c.session) said v.connections)
 
 pub left_told : (w : Gateway) (names : List (List ℕ)) (rows : List Channel) (v : Gateway) → All (λ (c : Channel). is_found_among names (channel_of w c.session c.sid) ≡ true) rows → IsLeftOf w names v
     → IsLeftOf w names (fold channel_told v (map disconnected rows))

@@ -19,13 +19,13 @@ use Rattle.gateway_state.specs.declared.connections.Connection.{Connection}
 use Rattle.gateway_state.specs.declared.event.Dest.{Dest}
 use Rattle.gateway_state.specs.declared.notice.LinkNotice.{LinkNotice}
 use Rattle.gateway_state.specs.Clients.{without_channel}
-use Rattle.gateway_state.specs.Connections.{given, is_to}
+use Rattle.gateway_state.specs.Connections.{given, is_to, most_for}
 use Rattle.gateway_state.specs.Gateway.{Gateway}
 use Rattle.gateway_state.specs.Interest.{is_read_through, is_reader, is_subscriber, reader_ask}
 use Rattle.gateway_state.specs.Notices.{channel_notice, channel_notices, notice_on, read_notice, read_notices, reads_told}
 use Rattle.gateway_state.specs.Rights.{channel_of, may_read, rights_of}
 use Rattle.gateway_state.specs.Searches.{leads_to}
-use Rattle.gateway_state.specs.Settled.{AreInOrder, HasLinksApart, IsSettled, sid_of}
+use Rattle.gateway_state.specs.Settled.{AreNumbersApart, HasLinksApart, IsSettled}
 use Rattle.gateway_state.specs.Step.{consequences}
 use Rattle.gateway_state.specs.Telling.{sent}
 use Rattle.gateway_state.specs.Updates.{is_unreadable, is_withheld, update_notice, update_notices, update_on, updates_told, withheld}
@@ -35,7 +35,7 @@ use Rattle.gateway_state.proofs.SettledSteps.{found_is_on, reads_stay, updates_s
 use Rattle.touched_rows.specs.Touched.{link_notices_over, link_told_on}
 use Rattle.touched_rows.proofs.Connections.{HasNoMoreRoom, no_more_room_given}
 use Rattle.touched_rows.proofs.LessGiven.{read_on-stays, update_if_open, update_on-stays}
-use Rattle.touched_rows.proofs.Numbered.{one_of_number}
+use Rattle.touched_rows.proofs.Numbered.{one_of_sid}
 use Rattle.touched_rows.proofs.OneLink.{IsBesideOthers, is_name, link_told_clients, links_alone}
 use Rattle.touched_rows.proofs.Passes.{from_links}
 use Rattle.touched_rows.proofs.ReadersOf.{any_left, found_left, none_of_left, not_not, other_name, passing_left, passing_of_left}
@@ -76,7 +76,7 @@ found_without session sid channels number of differ =
           | false ↦ λ is. refl
         ] refl
 
-module _ (w : Gateway) (settled : IsSettled w) (order : AreInOrder w) (links_apart : HasLinksApart w) (session sid : ℕ) (c : Channel)
+module _ (w : Gateway) (settled : IsSettled w) (order : AreNumbersApart w) (links_apart : HasLinksApart w) (session sid : ℕ) (c : Channel)
     (on : channel_of w session sid ≡ Some c) (connections : List Connection) (room : HasNoMoreRoom w.connections connections) where
   abbrev fewer : Gateway
   fewer = record (without_channel session sid w) { connections = connections }
@@ -85,12 +85,14 @@ module _ (w : Gateway) (settled : IsSettled w) (order : AreInOrder w) (links_apa
 
   one_channel : All (λ (row : Channel). is_not_channel session sid row ≡ false → row ≡ c) w.clients.channels
   one_channel =
-      All-weaker (λ (row : Channel). sid_of row ≡ sid_of c → row ≡ c) (λ (row : Channel). is_not_channel session sid row ≡ false → row ≡ c)
+      All-weaker (λ (row : Channel). is_channel c.session c.sid row ≡ true → row ≡ c) (λ (row : Channel). is_not_channel session sid row ≡ false → row ≡ c)
       (λ row one gone.
       let here = and_parts (eqb row.session session) (eqb row.sid sid) (not_not (is_channel session sid row) gone) in
       let there = and_parts (eqb c.session session) (eqb c.sid sid) (found_passes (is_channel session sid) w.clients.channels c on) in
-      one (eqb-true row.sid sid here.1 ∙ sym (eqb-true c.sid sid there.1)))
-      w.clients.channels (one_of_number sid_of 0 w.upstream.counters.sid (is_channel session sid) w.clients.channels c order.channels on)
+      one
+      (and_from (eqb row.session c.session) (eqb row.sid c.sid) (eq-eqb row.session c.session (eqb-true row.session session here.0 ∙ sym (eqb-true c.session session there.0)))
+      (eq-eqb row.sid c.sid (eqb-true row.sid sid here.1 ∙ sym (eqb-true c.sid sid there.1)))))
+      w.clients.channels (one_of_sid (is_channel session sid) w.clients.channels c order.channels.apart on)
 
   found_same : (number of : ℕ) → (eqb number session && eqb of sid) ≡ false → channel_of fewer number of ≡ channel_of w number of
   found_same number of differ = found_without session sid w.clients.channels number of differ
@@ -152,7 +154,7 @@ module _ (w : Gateway) (settled : IsSettled w) (order : AreInOrder w) (links_apa
   after = link_told_on c.real fewer
 
   spares : SparesWanted fewer notices
-  spares = one_spares fewer w.upstream.counters.cid order.links c.real
+  spares = one_spares fewer order.links.apart c.real
 
   clients_same : after.clients ≡ fewer.clients
   clients_same = link_told_clients fewer c.real
@@ -214,8 +216,8 @@ module _ (w : Gateway) (settled : IsSettled w) (order : AreInOrder w) (links_apa
       ∙ ap updates_told (reads_stay after reads_quiet)
       ∙ updates_stay after updates_quiet
 
-pub told_after_clearing : (w : Gateway) → IsSettled w → AreInOrder w → HasLinksApart w → (session sid : ℕ) (c : Channel) → channel_of w session sid ≡ Some c → (dest : Dest) (said : Out)
+pub told_after_clearing : (w : Gateway) → IsSettled w → AreNumbersApart w → HasLinksApart w → (session sid : ℕ) (c : Channel) → channel_of w session sid ≡ Some c → (dest : Dest) (said : Out)
     → consequences (sent dest said (without_channel session sid w)) ≡ link_told_on c.real (sent dest said (without_channel session sid w))
 unfolding sent
 told_after_clearing w settled order links_apart session sid c on dest said =
-    told_after w settled order links_apart session sid c on (change_first (is_to dest) (given said) w.connections) (no_more_room_given dest said w.connections)
+    told_after w settled order links_apart session sid c on (change_first (is_to dest) (given (most_for w.limits dest) said) w.connections) (no_more_room_given (most_for w.limits dest) dest said w.connections)

@@ -16,7 +16,7 @@ use Rattle.gateway_state.specs.declared.connections.Connection.{Connection}
 use Rattle.gateway_state.specs.declared.notice.LinkNotice.{LinkNotice}
 use Rattle.gateway_state.specs.Gateway.{Gateway}
 use Rattle.gateway_state.specs.Notices.{link_notices, link_notices_of, link_told, read_notice, read_notices, reads_told}
-use Rattle.gateway_state.specs.Settled.{AreInOrder, HasLinksApart, IsInUse, IsSettled}
+use Rattle.gateway_state.specs.Settled.{AreNumbersApart, HasLinksApart, IsInUse, IsSettled}
 use Rattle.gateway_state.specs.Step.{consequences}
 use Rattle.gateway_state.specs.Updates.{update_notice, update_notices, updates_told}
 use Rattle.gateway_state.specs.Variables.{is_connected, is_creating, is_wanted, link_of}
@@ -42,7 +42,7 @@ creating_unconnected Unusable creating = refl
 
 -- ---- the link of a channel that was asked for
 
-module _ (w : Gateway) (settled : IsSettled w) (order : AreInOrder w) (links_apart : HasLinksApart w) (server cid : ℕ) (link : Link)
+module _ (w : Gateway) (settled : IsSettled w) (order : AreNumbersApart w) (links_apart : HasLinksApart w) (server cid : ℕ) (link : Link)
     (found : find (is_link server cid) w.upstream.links ≡ Some link) (creating : is_creating link.state ≡ true) (state : LinkState) (rights : ℕ)
     (connections : List Connection) (room : HasNoMoreRoom w.connections connections) where
   abbrev links : List Link

@@ -51,9 +51,9 @@ module _ (limits : Limits) (number : ℕ) (dest : Dest) (change : Connection →
           rest (ap (λ (t : Bool). takes_updates limits (outbox_in (cond t (Some row) (find (is_to (ToSession number)) (change_first (is_to dest) change rows))))) (sym is_sought) ∙ e)
 
 -- a message that is put last
-pub no_more_room_given : (dest : Dest) (out : Out) (rows : List Connection) → HasNoMoreRoom rows (change_first (is_to dest) (given out) rows)
-no_more_room_given dest out rows limits number e =
-    taking_before limits number dest (given out) (λ row. refl) (λ row here sought taking. box_taking limits row.outbox out taking) rows e
+pub no_more_room_given : (most : ℕ) (dest : Dest) (out : Out) (rows : List Connection) → HasNoMoreRoom rows (change_first (is_to dest) (given most out) rows)
+no_more_room_given most dest out rows limits number e =
+    taking_before limits number dest (given most out) (λ row. refl) (λ row here sought taking. box_taking limits most row.outbox out taking) rows e
 
 -- one change after another
 pub no_more_room_then : (first second third : List Connection) → HasNoMoreRoom first second → HasNoMoreRoom second third → HasNoMoreRoom first third
@@ -64,7 +64,7 @@ all_less_room : (subs : List ClientSub) (w : Gateway) → HasNoMoreRoom w.connec
 unfolding sent
 all_less_room [] w limits number e = e
 all_less_room (sub ∷ subs) w limits number e =
-    no_more_room_given (ToSession sub.session) (outgoing (replies.UpdateRefused sub.id sub.dtype ECA_NORDACCESS)) w.connections limits number
+    no_more_room_given w.limits.messages (ToSession sub.session) (outgoing (replies.UpdateRefused sub.id sub.dtype ECA_NORDACCESS)) w.connections limits number
     (all_less_room subs (unreadable_told w sub) limits number e)
 
 pub no_more_room_ended : (session sid : ℕ) (ends : Bool) (w : Gateway) → HasNoMoreRoom w.connections (reading_ended session sid ends w).connections

@@ -20,20 +20,22 @@ use Rattle.channel_table.specs.Demand.{own_ask}
 use Rattle.link_table.specs.declared.links.Link.{Link}
 use Rattle.link_table.specs.declared.links.LinkState.{LinkState}
 use Rattle.link_table.specs.declared.links.LinkState.TheVariants.{Creating, Connected, Unusable}
+use Rattle.link_table.specs.declared.counter.Counter.TheVariants.{Sid as CountsSids}
+use Rattle.link_table.specs.Counters.{given_out}
 use Rattle.link_table.specs.LinkRows.{Counters}
 use Rattle.pv_alias.specs.declared.lead.Lead.{Lead}
 use Rattle.gateway_state.specs.declared.event.Dest.TheVariants.{Session as ToSession}
 use Rattle.gateway_state.specs.declared.notice.ChannelNotice.{ChannelNotice}
 use Rattle.gateway_state.specs.declared.reading.Native.{Native}
 use Rattle.gateway_state.specs.declared.search.Search.{Search}
-use Rattle.gateway_state.specs.Clients.{channel_asked, created, created_as, created_over, creation_failed, fixed, no_reach, remembered_by, rights_on, search_left_by, with_channel, with_host_fixed, without_search_for}
+use Rattle.gateway_state.specs.Clients.{channel_asked, created, created_as, created_over, creation_failed, fixed, next_sid, no_reach, remembered_by, rights_on, search_left_by, with_channel, with_host_fixed, without_search_for}
 use Rattle.gateway_state.specs.Gateway.{Gateway}
 use Rattle.gateway_state.specs.Interest.{is_read_through, is_reader, is_subscriber, reader_ask, readers}
 use Rattle.gateway_state.specs.Notices.{channel_notice, channel_notices, notice_on, read_notice, read_notices}
 use Rattle.gateway_state.specs.Resolution.{is_real, rights_left}
 use Rattle.gateway_state.specs.Rights.{channel_of, is_served, lead_in, link_connected, link_rights, may_read, rights_of}
 use Rattle.gateway_state.specs.Searches.{leads_to}
-use Rattle.gateway_state.specs.Settled.{HasCidsInOrder, HasReadsOnChannels, HasSubsOnChannels, IsSettled, is_on_channel, is_sub_on_channel}
+use Rattle.gateway_state.specs.Settled.{HasCidsApart, HasReadsOnChannels, HasSubsOnChannels, IsSettled, is_on_channel, is_sub_on_channel}
 use Rattle.gateway_state.specs.Step.{consequences}
 use Rattle.gateway_state.specs.Telling.{outgoing, sent}
 use Rattle.gateway_state.specs.Updates.{is_open_to, is_unreadable, is_withheld, update_notice, update_notices, update_on, withheld}
@@ -167,7 +169,7 @@ found_fixed number (row ∷ rows) = by (is_numbered number row) refl (found_fixe
     by false is rest = ap (λ (t : Bool). cond t (Some row) (find (is_numbered number) (change_first (is_numbered number) fixed rows))) is ∙ rest
 
 -- no connected variable was found: what is told rests on the search alone, which may be one more
-module _ (v : Gateway) (settled : IsSettled v) (order : HasCidsInOrder v) (number cid : ℕ) (name : List ℕ) where
+module _ (v : Gateway) (settled : IsSettled v) (order : HasCidsApart v) (number cid : ℕ) (name : List ℕ) where
   abbrev unmade : Option Session → Gateway
   unmade session = creation_failed number cid (remembered_by session name v)
 
@@ -181,7 +183,7 @@ left_is_one : (session : Option Session) (name : List ℕ) (w : Gateway) (row : 
 left_is_one None name w row is = absurd cc
 left_is_one (Some session) name w row is = left_by_channel_is_one w.limits session.peer name w.searches row is
 
-module _ (w : Gateway) (settled : IsSettled w) (order : HasCidsInOrder w) (subs_on : HasSubsOnChannels w) (reads_on : HasReadsOnChannels w) (number cid : ℕ) (name : List ℕ) where
+module _ (w : Gateway) (settled : IsSettled w) (order : HasCidsApart w) (subs_on : HasSubsOnChannels w) (reads_on : HasReadsOnChannels w) (number cid : ℕ) (name : List ℕ) where
   abbrev session : Option Session
   session = find (is_numbered number) w.clients.sessions
 
@@ -205,12 +207,12 @@ module _ (w : Gateway) (settled : IsSettled w) (order : HasCidsInOrder w) (subs_
     settled_created link native over known =
         let made : Gateway = with_channel number cid name lead.real (rights_on v lead link) v in
         let first : Gateway = sent (ToSession number) (outgoing (replies.AccessRights cid (rights_on v lead link))) made in
-        settled_sent (ToSession number) (outgoing (replies.CreateChannel cid v.upstream.counters.sid native.dtype native.count)) first
+        settled_sent (ToSession number) (outgoing (replies.CreateChannel cid (next_sid v number) native.dtype native.count)) first
         (settled_sent (ToSession number) (outgoing (replies.AccessRights cid (rights_on v lead link))) made
-        (settled_channel_added v settled_v subs_on reads_on new (record v.upstream.counters { sid = v.upstream.counters.sid + 1 }) refl quiet))
+        (settled_channel_added v settled_v subs_on reads_on new (given_out CountsSids v.limits.reuses_numbers (next_sid v number) v.upstream.counters) refl quiet))
       where
         new : Channel
-        new = record { session = number; sid = v.upstream.counters.sid; cid = cid; asked = name; real = lead.real; reach = no_reach; rights_told = rights_on v lead link }
+        new = record { session = number; sid = next_sid v number; cid = cid; asked = name; real = lead.real; reach = no_reach; rights_told = rights_on v lead link }
 
         served : is_served v new ≡ true
         served =

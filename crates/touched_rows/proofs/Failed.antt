@@ -9,7 +9,7 @@ use Rattle.link_table.specs.Links.{is_link, is_named, is_not_link}
 use Rattle.gateway_state.specs.Gateway.{Gateway}
 use Rattle.gateway_state.specs.Notices.{link_notices, link_notices_of}
 use Rattle.gateway_state.specs.Servers.{creation_refused, failed_for, without_link}
-use Rattle.gateway_state.specs.Settled.{AreInOrder, HasLinksApart, IsSettled}
+use Rattle.gateway_state.specs.Settled.{AreNumbersApart, HasLinksApart, IsSettled}
 use Rattle.gateway_state.specs.Step.{consequences}
 use Rattle.gateway_state.specs.Variables.{is_connected, is_creating, without_cached}
 use Rattle.gateway_state.proofs.SettledMeaning.{all_in_use, nothing_told}
@@ -33,7 +33,7 @@ settled_uncached cid w settled = record {
   updates = no_updates w (without_cached cid w) (less_without_cached cid w) w.clients.subs settled.updates;
 }
 
-module _ (w : Gateway) (settled : IsSettled w) (order : AreInOrder w) (links_apart : HasLinksApart w) (server cid : ℕ) where
+module _ (w : Gateway) (settled : IsSettled w) (order : AreNumbersApart w) (links_apart : HasLinksApart w) (server cid : ℕ) where
   module _ (link : Link) (found : find (is_link server cid) w.upstream.links ≡ Some link) (unconnected : is_connected link.state ≡ false) where
     abbrev v : Gateway
     v = without_cached cid w

@@ -1,5 +1,5 @@
 -- A variable that a server has concerns no client until its link is connected.
-use Rattle.std.proofs.Common.{◌≡◌, ℕ, ◌+◌, List, [], ◌∷◌, ◌++◌, Bool, true, false, cond, ltb, not, ◌&&◌, Option, Some, None, refl, sym, ◌∙◌}
+use Rattle.std.proofs.Common.{◌≡◌, ℕ, List, [], ◌∷◌, ◌++◌, Bool, true, false, cond, ltb, not, ◌&&◌, Option, Some, None, refl, sym, ◌∙◌}
 use Rattle.std.specs.Prelude.{length}
 use Rattle.std.specs.List.{All, find}
 use Rattle.std.specs.Option.{option_or}
@@ -11,17 +11,19 @@ use Rattle.rows.specs.Rows.{change_first}
 use Rattle.ca_message.specs.declared.to_server.ToServer.TheVariants as requests
 use Rattle.link_table.specs.declared.links.Link.{Link}
 use Rattle.link_table.specs.declared.links.LinkState.TheVariants.{Creating}
+use Rattle.link_table.specs.declared.counter.Counter.TheVariants.{Cid as CountsCids}
+use Rattle.link_table.specs.Counters.{given_out}
 use Rattle.link_table.specs.LinkRows.{Counters}
 use Rattle.link_table.specs.Links.{is_named, new_link}
 use Rattle.gateway_state.specs.declared.connections.Connection.{Connection}
 use Rattle.gateway_state.specs.declared.event.Dest.TheVariants.{Upstream}
 use Rattle.gateway_state.specs.Asked.{acts}
-use Rattle.gateway_state.specs.Connections.{given, is_to}
+use Rattle.gateway_state.specs.Connections.{given, is_to, most_for}
 use Rattle.gateway_state.specs.Gateway.{Gateway}
 use Rattle.gateway_state.specs.Notices.{link_notices_of}
 use Rattle.gateway_state.specs.Rights.{lead_in, link_connected}
 use Rattle.gateway_state.specs.Resolution.{is_real}
-use Rattle.gateway_state.specs.Servers.{found, linked}
+use Rattle.gateway_state.specs.Servers.{found, linked, next_cid}
 use Rattle.gateway_state.specs.Settled.{IsSettled, IsUpToDate}
 use Rattle.gateway_state.specs.Step.{consequences}
 use Rattle.gateway_state.specs.Telling.{outgoing_upstream, sent}
@@ -66,11 +68,11 @@ module _ (w : Gateway) (settled : IsSettled w) (new : Link) (state : new.state �
 settled_linked : (w : Gateway) → IsSettled w → (server : ℕ) (name : List ℕ) → is_wanted w name ≡ true → IsSettled (linked w server name)
 unfolding sent
 settled_linked w settled server name wanted =
-    let new : Link = new_link server w.upstream.counters.cid name in
+    let new : Link = new_link server (next_cid w) name in
     settled_link_added w settled new refl wanted
-    (change_first (is_to (Upstream server)) (given (outgoing_upstream (requests.CreateChannel w.upstream.counters.cid name))) w.connections)
-    (no_more_room_given (Upstream server) (outgoing_upstream (requests.CreateChannel w.upstream.counters.cid name)) w.connections)
-    (record w.upstream.counters { cid = w.upstream.counters.cid + 1 })
+    (change_first (is_to (Upstream server)) (given (most_for w.limits (Upstream server)) (outgoing_upstream (requests.CreateChannel (next_cid w) name))) w.connections)
+    (no_more_room_given (most_for w.limits (Upstream server)) (Upstream server) (outgoing_upstream (requests.CreateChannel (next_cid w) name)) w.connections)
+    (given_out CountsCids w.limits.reuses_numbers (next_cid w) w.upstream.counters)
 
 pub nothing_after_found : (w : Gateway) (name : List ℕ) (server : ℕ) → IsSettled w → consequences (found w name server) ≡ found w name server
 nothing_after_found w name server settled = settled_stays (found w name server) (by (is_missing w name && acts w (Upstream server) && ltb (length w.upstream.links) w.limits.links) refl)

@@ -12,7 +12,7 @@ use Rattle.gateway_state.specs.Notices.{link_notices_of}
 use Rattle.gateway_state.specs.Servers.{channel_dropped, gone_for, with_link_state, without_link}
 use Rattle.gateway_state.specs.Step.{consequences}
 use Rattle.gateway_state.specs.Variables.{is_connected, link_of}
-use Rattle.gateway_state.proofs.InOrder.{in_order_kept}
+use Rattle.gateway_state.proofs.NumbersApart.{numbers_apart_kept}
 use Rattle.gateway_state.proofs.LinksApart.{links_apart_kept}
 use Rattle.gateway_state.proofs.SettledMeaning.{nothing_told}
 use Rattle.gateway_state.proofs.SettledSteps.{settled_stays}
@@ -61,7 +61,7 @@ module _ (w : Gateway) (tidy : IsTidy w) (server cid : ℕ) (link : Link) (found
     pub told_after_rights : consequences (with_link_state server cid link.state rights w) ≡ variable_told link.name (with_link_state server cid link.state rights w)
     told_after_rights =
         told_on_variable w tidy changed.upstream.links w.cache link.name others_as_before (λ of native dtype count none. none) quiet_beside
-        (links_apart_kept.rows.link_changed server cid link.state rights w tidy.links_apart link.name) (in_order_kept.rows.link_changed server cid link.state rights w tidy.order).links
+        (links_apart_kept.rows.link_changed server cid link.state rights w tidy.links_apart link.name) (numbers_apart_kept.rows.link_changed server cid link.state rights w tidy.order).links.apart
 
   -- ---- gone
 
@@ -78,7 +78,7 @@ module _ (w : Gateway) (tidy : IsTidy w) (server cid : ℕ) (link : Link) (found
   told_without =
       told_on_variable w tidy fewer.upstream.links fewer.cache link.name others_left (less_without_cached cid w).values
       (All-filter (is_not_link server cid) (λ (row : Link). is_named link.name row ≡ false → link_notices_of w row ≡ []) w.upstream.links none_before)
-      (links_apart_kept.rows.link_removed server cid w tidy.links_apart link.name) (in_order_kept.rows.link_removed server cid w tidy.order).links
+      (links_apart_kept.rows.link_removed server cid w tidy.links_apart link.name) (numbers_apart_kept.rows.link_removed server cid w tidy.order).links.apart
 
 pub told_after_dropping : (w : Gateway) → IsTidy w → (server cid : ℕ) → consequences (channel_dropped w server cid) ≡ follows (gone_touches w server cid) (channel_dropped w server cid)
 told_after_dropping w tidy server cid = by (find (is_link server cid) w.upstream.links) refl

@@ -28,7 +28,7 @@ use Rattle.gateway_state.specs.Resolution.{is_real, rights_left}
 use Rattle.gateway_state.specs.Rights.{channel_of, is_served, lead_for, lead_in, link_connected, link_rights, may_read, rights_of}
 use Rattle.gateway_state.specs.Searches.{leads_to}
 use Rattle.gateway_state.specs.Sessions.{lost}
-use Rattle.gateway_state.specs.Settled.{AreInOrder, IsSettled}
+use Rattle.gateway_state.specs.Settled.{AreNumbersApart, IsSettled}
 use Rattle.gateway_state.specs.Step.{consequences}
 use Rattle.gateway_state.specs.Updates.{is_unreadable, is_withheld, paused_in, takes_updates, update_notice, update_notices, update_on, update_over, updates_told, withheld}
 use Rattle.gateway_state.specs.Variables.{channel_names, connected, is_among, is_wanted, link_of}
@@ -61,7 +61,7 @@ among_none test name (row ∷ rows) none = by (test row) refl none (λ later. am
         All-cons (λ (c : Channel). test c ≡ true → is_on name c ≡ false) row rows (λ _. parts.0) (rest parts.1)
     by false is none rest = All-cons (λ (c : Channel). test c ≡ true → is_on name c ≡ false) row rows (λ passes. absurd (true≢false (sym passes ∙ is))) (rest none)
 
-module _ (w : Gateway) (settled : IsSettled w) (order : AreInOrder w) (number : ℕ) where
+module _ (w : Gateway) (settled : IsSettled w) (order : AreNumbersApart w) (number : ℕ) where
   abbrev x : Gateway
   x = lost w number
 
@@ -193,7 +193,7 @@ module _ (w : Gateway) (settled : IsSettled w) (order : AreInOrder w) (number : 
   after = links_told_among names x
 
   spares : SparesWanted x notices
-  spares = some_spare x w.upstream.counters.cid order.links (is_link_among names)
+  spares = some_spare x order.links.apart (is_link_among names)
 
   clients_same : after.clients ≡ x.clients
   clients_same = ap (λ (v : Gateway). v.clients) (links_told_shape notices x)

@@ -10,7 +10,7 @@ use Rattle.fanout.specs.declared.outbox.Out.{Out}
 use Rattle.gateway_state.specs.declared.connections.Connection.{Connection}
 use Rattle.gateway_state.specs.declared.event.Dest.{Dest}
 use Rattle.gateway_state.specs.declared.event.Dest.TheVariants.{Session as ToSession}
-use Rattle.gateway_state.specs.Connections.{given, is_to, marked_now}
+use Rattle.gateway_state.specs.Connections.{given, is_to, marked_now, most_for}
 use Rattle.rows.specs.Rows.{change_first, remove_first}
 use Rattle.gateway_state.specs.Gateway.{Gateway}
 use Rattle.gateway_state.specs.Notices.{read_notice, without_read}
@@ -45,7 +45,7 @@ settled_connections w connections settled room = settled_taking w connections se
 
 pub settled_sent : (dest : Dest) (out : Out) (w : Gateway) → IsSettled w → IsSettled (sent dest out w)
 unfolding sent
-settled_sent dest out w settled = settled_connections w (change_first (is_to dest) (given out) w.connections) settled (no_more_room_given dest out w.connections)
+settled_sent dest out w settled = settled_connections w (change_first (is_to dest) (given (most_for w.limits dest) out) w.connections) settled (no_more_room_given (most_for w.limits dest) dest out w.connections)
 
 pub settled_marked : (dest : Dest) (w : Gateway) → IsSettled w → IsSettled (marked dest w)
 settled_marked dest w settled = settled_connections w (change_first (is_to dest) marked_now w.connections) settled (no_more_room_marked dest w.connections)

@@ -1,67 +1,75 @@
--- Rows of rising numbers that have the same number are the same.
-use Rattle.std.proofs.Common.{◌≡◌, ℕ, ◌+◌, ◌≤◌, List, [], ◌∷◌, Bool, true, false, cond, Some, ap, arith}
-use Rattle.std.specs.List.{All, find}
+-- Rows that are unlike each other are the same where they are alike.
+use Rattle.std.proofs.Common.{◌≡◌, List, [], ◌∷◌, Bool, true, false, eqb, get_or, Some, refl, sym, ◌∙◌}
+use Rattle.std.specs.List.{All, find, list_any}
+use Rattle.std.proofs.lemmas.Bool.{and_from, eq-eqb, or_parts, true≢false}
 use Rattle.std.proofs.lemmas.List.Elements.{All-cons, All-nil, All-weaker}
-use Rattle.gateway_state.specs.Settled.{AreRising}
+use Rattle.channel_table.specs.declared.channels.Channel.{Channel}
+use Rattle.channel_table.specs.Channels.{is_channel}
+use Rattle.link_table.specs.declared.links.Link.{Link}
+use Rattle.gateway_state.specs.Settled.{AreUnlike, is_same_channel, is_same_link}
+use Rattle.gateway_state.proofs.RowTests.{found_passes}
+use Rattle.gateway_state.proofs.UnlikeRows.{both_swapped, eqb_swapped}
 
-pub found_above : {A : Type 0} (number : A → ℕ) (low high : ℕ) (test : A → Bool) (rows : List A) (row : A) → AreRising number low rows high → find test rows ≡ Some row → low ≤ number row
-found_above number low high test [] row rising is = absurd cc
-found_above number low high test (first ∷ rows) row rising is =
-    by (test first) is (λ later. found_above number (number first + 1) high test rows row rising.1 later)
-  where
-    by : (passes : Bool) → cond passes (Some first) (find test rows) ≡ Some row → (find test rows ≡ Some row → number first + 1 ≤ number row) → low ≤ number row
-    by true is rest =
-        let same : first ≡ row = cc in
-        let numbers : number first ≡ number row = ap number same in
-        omega (arith, rising.0)
-    by false is rest =
-        let above = rest is in
-        omega (arith, rising.0)
+all_fail : {A : Type 0} (test : A → Bool) (rows : List A) → list_any test rows ≡ false → All (λ (row : A). test row ≡ false) rows
+all_fail {A = A} test [] none = All-nil (λ (row : A). test row ≡ false)
+all_fail {A = A} test (row ∷ rows) none =
+    let parts = or_parts (test row) (list_any test rows) none in
+    All-cons (λ (x : A). test x ≡ false) row rows parts.0 (all_fail test rows parts.1)
 
-pub same_number : {A : Type 0} (number : A → ℕ) (low high : ℕ) (one other : A → Bool) (rows : List A) (a b : A) → AreRising number low rows high
-    → find one rows ≡ Some a → find other rows ≡ Some b → number a ≡ number b → a ≡ b
-same_number number low high one other [] a b rising is_a is_b numbers = absurd cc
-same_number number low high one other (row ∷ rows) a b rising is_a is_b numbers =
-    by (one row) (other row) is_a is_b (λ later_a later_b. same_number number (number row + 1) high one other rows a b rising.1 later_a later_b numbers)
-    (λ later. found_above number (number row + 1) high one rows a rising.1 later) (λ later. found_above number (number row + 1) high other rows b rising.1 later)
-  where
-    by : (first second : Bool) → cond first (Some row) (find one rows) ≡ Some a → cond second (Some row) (find other rows) ≡ Some b
-        → (find one rows ≡ Some a → find other rows ≡ Some b → a ≡ b)
-        → (find one rows ≡ Some a → number row + 1 ≤ number a) → (find other rows ≡ Some b → number row + 1 ≤ number b) → a ≡ b
-    by true true is_a is_b rest above_a above_b = cc
-    by true false is_a is_b rest above_a above_b =
-        let same : row ≡ a = cc in
-        let here : number row ≡ number a = ap number same in
-        let above = above_b is_b in
-        absurd (omega arith)
-    by false true is_a is_b rest above_a above_b =
-        let same : row ≡ b = cc in
-        let here : number row ≡ number b = ap number same in
-        let above = above_a is_a in
-        absurd (omega arith)
-    by false false is_a is_b rest above_a above_b = rest is_a is_b
+-- no other row is like a row
+abbrev IsOne : {A : Type 0} → (A → A → Bool) → List A → A → Type 0
+IsOne alike rows x = All (λ row. alike x row ≡ true → row ≡ x) rows
 
-pub all_above : {A : Type 0} (number : A → ℕ) (low high : ℕ) (rows : List A) → AreRising number low rows high → All (λ (row : A). low ≤ number row) rows
-all_above {A = A} number low high [] rising = All-nil (λ (row : A). low ≤ number row)
-all_above {A = A} number low high (row ∷ rows) rising =
-    All-cons (λ (x : A). low ≤ number x) row rows rising.0
-    (All-weaker (λ (x : A). number row + 1 ≤ number x) (λ (x : A). low ≤ number x) (λ x above. omega (arith, rising.0)) rows (all_above number (number row + 1) high rows rising.1))
+module _ {A : Type 0} (alike : A → A → Bool) (swapped : (a b : A) → alike a b ≡ alike b a) where
+  each_one : (rows : List A) → AreUnlike alike rows → All (IsOne alike rows) rows
+  each_one [] apart = All-nil (IsOne alike [])
+  each_one (first ∷ rows) apart =
+      All-cons (IsOne alike (first ∷ rows)) first rows
+      (All-cons (λ (row : A). alike first row ≡ true → row ≡ first) first rows (λ _. refl)
+      (All-weaker (λ (row : A). alike first row ≡ false) (λ (row : A). alike first row ≡ true → row ≡ first) (λ row differs is. absurd (true≢false (sym is ∙ differs))) rows others))
+      (λ k d within.
+      let x : A = get_or rows k d in
+      All-cons (λ (row : A). alike x row ≡ true → row ≡ x) first rows (λ is. absurd (true≢false (sym is ∙ swapped x first ∙ others k d within))) (each_one rows apart.1 k d within))
+    where
+      others : All (λ (row : A). alike first row ≡ false) rows
+      others = all_fail (alike first) rows apart.0
 
--- no other row has the number of one that is found
-pub one_of_number : {A : Type 0} (number : A → ℕ) (low high : ℕ) (test : A → Bool) (rows : List A) (a : A) → AreRising number low rows high → find test rows ≡ Some a
-    → All (λ (row : A). number row ≡ number a → row ≡ a) rows
-one_of_number number low high test [] a rising found = absurd cc
-one_of_number {A = A} number low high test (row ∷ rows) a rising found =
-    by (test row) found (λ later. one_of_number number (number row + 1) high test rows a rising.1 later) (λ later. found_above number (number row + 1) high test rows a rising.1 later)
-  where
-    by : (is : Bool) → cond is (Some row) (find test rows) ≡ Some a → (find test rows ≡ Some a → All (λ (x : A). number x ≡ number a → x ≡ a) rows)
-        → (find test rows ≡ Some a → number row + 1 ≤ number a) → All (λ (x : A). number x ≡ number a → x ≡ a) (row ∷ rows)
-    by true is rest above =
-        let same : row ≡ a = cc in
-        let here : number row ≡ number a = ap number same in
-        All-cons (λ (x : A). number x ≡ number a → x ≡ a) row rows (λ _. same)
-        (All-weaker (λ (x : A). number row + 1 ≤ number x) (λ (x : A). number x ≡ number a → x ≡ a) (λ x after alike. absurd (omega arith)) rows
-        (all_above number (number row + 1) high rows rising.1))
-    by false is rest above =
-        let later = above is in
-        All-cons (λ (x : A). number x ≡ number a → x ≡ a) row rows (λ alike. absurd (omega arith)) (rest is)
+-- LINKS
+
+link_swapped : (a b : Link) → is_same_link a b ≡ is_same_link b a
+link_swapped a b = eqb_swapped b.cid a.cid
+
+-- no other link has the number of a link
+pub each_alone : (rows : List Link) → AreUnlike is_same_link rows → All (λ (link : Link). All (λ (row : Link). row.cid ≡ link.cid → row ≡ link) rows) rows
+each_alone rows apart =
+    All-weaker (IsOne is_same_link rows) (λ (link : Link). All (λ (row : Link). row.cid ≡ link.cid → row ≡ link) rows)
+    (λ link one.
+    All-weaker (λ (row : Link). is_same_link link row ≡ true → row ≡ link) (λ (row : Link). row.cid ≡ link.cid → row ≡ link)
+    (λ row alike same. alike (eq-eqb row.cid link.cid same)) rows one) rows (each_one is_same_link link_swapped rows apart)
+
+-- nor that of one that is found
+pub one_of_cid : (test : Link → Bool) (rows : List Link) (a : Link) → AreUnlike is_same_link rows → find test rows ≡ Some a → All (λ (row : Link). row.cid ≡ a.cid → row ≡ a) rows
+one_of_cid test rows a apart found = found_passes (λ (link : Link). All (λ (row : Link). row.cid ≡ link.cid → row ≡ link) rows) test rows a (each_alone rows apart) found
+
+pub same_number : (one other : Link → Bool) (rows : List Link) (a b : Link) → AreUnlike is_same_link rows → find one rows ≡ Some a → find other rows ≡ Some b → a.cid ≡ b.cid → a ≡ b
+same_number one other rows a b apart is_a is_b numbers = found_passes (λ (row : Link). row.cid ≡ b.cid → row ≡ b) one rows a (one_of_cid other rows b apart is_b) is_a numbers
+
+-- CHANNELS
+
+channel_swapped : (a b : Channel) → is_same_channel a b ≡ is_same_channel b a
+channel_swapped a b = both_swapped b.session a.session b.sid a.sid
+
+-- no other channel of a session has the number of one that is found
+pub one_of_sid : (test : Channel → Bool) (rows : List Channel) (a : Channel) → AreUnlike is_same_channel rows → find test rows ≡ Some a
+    → All (λ (row : Channel). is_channel a.session a.sid row ≡ true → row ≡ a) rows
+one_of_sid test rows a apart found = found_passes (IsOne is_same_channel rows) test rows a (each_one is_same_channel channel_swapped rows apart) found
+
+-- each channel is the one that is found under its number
+pub each_found : (rows : List Channel) → AreUnlike is_same_channel rows → All (λ (c : Channel). find (is_channel c.session c.sid) rows ≡ Some c) rows
+each_found [] apart = All-nil (λ (c : Channel). find (is_channel c.session c.sid) [] ≡ Some c)
+each_found (first ∷ rows) apart =
+    All-cons (λ (c : Channel). find (is_channel c.session c.sid) (first ∷ rows) ≡ Some c) first rows
+    (rw (and_from (eqb first.session first.session) (eqb first.sid first.sid) (eq-eqb first.session first.session refl) (eq-eqb first.sid first.sid refl)) refl)
+    (λ k d within.
+    let c : Channel = get_or rows k d in
+    rw (both_swapped first.session c.session first.sid c.sid ∙ all_fail (is_same_channel first) rows apart.0 k d within) (each_found rows apart.1 k d within))

@@ -1,9 +1,9 @@
 -- Where a settled state was changed on one variable alone, what follows is told on that variable alone.
-use Rattle.std.proofs.Common.{◌≡◌, ℕ, ◌+◌, ◌≤◌, List, [], ◌∷◌, Bool, true, false, cond, eqb, ltb, ◌&&◌, ◌||◌, length, Option, Some, None, refl, sym, ap, subst, ◌∙◌, arith}
-use Rattle.std.specs.Prelude.{bit_and, bytes_eq, filter, filter_map, map, get_or}
+use Rattle.std.proofs.Common.{◌≡◌, ℕ, ◌≤◌, List, [], ◌∷◌, Bool, true, false, cond, eqb, ltb, ◌&&◌, ◌||◌, length, Option, Some, None, refl, sym, ap, subst, ◌∙◌}
+use Rattle.std.specs.Prelude.{bit_and, bytes_eq, filter, filter_map, map}
 use Rattle.std.specs.List.{All, cons_option, find, fold, list_all, list_any}
 use Rattle.std.specs.Option.{option_map}
-use Rattle.std.proofs.lemmas.Bool.{and_from, and_right, eq-eqb, ne_eqb}
+use Rattle.std.proofs.lemmas.Bool.{and_from}
 use Rattle.std.proofs.lemmas.List.Elements.{All-cons, All-head, All-nil, All-tail, All-weaker}
 use Rattle.channel_table.specs.ClientRows.{ClientRows, is_read_for, is_sub_to as is_sub_in}
 use Rattle.channel_table.specs.declared.channels.Channel.{Channel}
@@ -27,7 +27,7 @@ use Rattle.gateway_state.specs.Resolution.{is_real, rights_left}
 use Rattle.gateway_state.specs.Rights.{channel_of, is_served, lead_in, link_connected, link_rights, may_read, rights_of}
 use Rattle.gateway_state.specs.Searches.{leads_to}
 use Rattle.gateway_state.specs.Servers.{waits_for}
-use Rattle.gateway_state.specs.Settled.{AreApart, AreRising, HasSubsApart, cid_of, sid_of}
+use Rattle.gateway_state.specs.Settled.{AreApart, AreUnlike, HasSubsApart, is_same_link}
 use Rattle.gateway_state.specs.Step.{consequences}
 use Rattle.gateway_state.specs.Updates.{is_sub_to, is_withheld, owed_to_all, update_notice, update_on, update_told, updates_told, updates_withheld, withheld}
 use Rattle.gateway_state.specs.Variables.{is_wanted, link_of}
@@ -40,7 +40,7 @@ use Rattle.gateway_state.proofs.SubsApart.{subs_apart_kept}
 use Rattle.touched_rows.specs.Touched.{channel_notices_on, channels_told_on, link_notices_over, link_told_on, owed_where, read_notices_on, reads_told_on, updates_told_on, updates_withheld_on, variable_told, withheld_on}
 use Rattle.touched_rows.proofs.Beside.{IsBeside, IsQuiet, beside_owed, beside_told, is_notice_on, links_beside, not_on, reads_beside, updates_beside, withheld_beside}
 use Rattle.touched_rows.proofs.LessGiven.{bare, read_on-stays, update_if_open, update_on-stays, update_stays}
-use Rattle.touched_rows.proofs.Numbered.{all_above}
+use Rattle.touched_rows.proofs.Numbered.{each_found}
 use Rattle.touched_rows.proofs.OneLink.{link_told_clients, one_link_of}
 use Rattle.touched_rows.proofs.Owing.{owing_each}
 use Rattle.touched_rows.proofs.ReadersOf.{passing_left}
@@ -49,18 +49,6 @@ use Rattle.touched_rows.proofs.Tellings.{less_reads_told}
 use Rattle.touched_rows.proofs.Tidy.{IsTidy}
 use Rattle.touched_rows.proofs.TouchedAlone.{touched_alone}
 use Rattle.touched_rows.proofs.WantedLinks.{SparesWanted, one_spares, open_no_more, values_no_more, wanted_link_kept, wanted_rights_kept}
-
--- ---- each channel is the one of its numbers
-
-pub each_found : (low high : ℕ) (rows : List Channel) → AreRising sid_of low rows high → All (λ (c : Channel). find (is_channel c.session c.sid) rows ≡ Some c) rows
-each_found low high [] rising = All-nil (λ (c : Channel). find (is_channel c.session c.sid) [] ≡ Some c)
-each_found low high (first ∷ rows) rising =
-    All-cons (λ (c : Channel). find (is_channel c.session c.sid) (first ∷ rows) ≡ Some c) first rows
-    (rw (and_from (eqb first.session first.session) (eqb first.sid first.sid) (eq-eqb first.session first.session refl) (eq-eqb first.sid first.sid refl)) refl)
-    (λ k d within.
-    let c : Channel = get_or rows k d in
-    let above : first.sid + 1 ≤ c.sid = all_above sid_of (first.sid + 1) high rows rising.1 k d within in
-    rw (and_right (eqb first.session c.session) (eqb first.sid c.sid) (ne_eqb first.sid c.sid (λ same. omega (arith, above, same)))) (each_found (first.sid + 1) high rows rising.1 k d within))
 
 -- none of the rows passes
 pub none_pass : {A : Type 0} (test : A → Bool) (rows : List A) → filter test rows ≡ [] → All (λ (row : A). test row ≡ false) rows
@@ -112,7 +100,7 @@ module _ (w y : Gateway) (links : List Link) (name : List ℕ) (beside : IsBesid
   beside_held : AreApart y.clients.subs → IsBeside w (updates_withheld_on name y) links name
   beside_held apart = subst (λ (v : Gateway). IsBeside w v links name) (sym (held_shape apart)) (beside_owed w y links name beside)
 
-  module _ (high : ℕ) (order : AreRising cid_of 0 links high) (one : length (filter (is_named name) links) ≤ 1)
+  module _ (order : AreUnlike is_same_link links) (one : length (filter (is_named name) links) ≤ 1)
       (quiet : All (λ (link : Link). is_named name link ≡ false → link_notices_of w link ≡ []) links) where
     links_alone : links_told y ≡ link_told_on name y
     links_alone =
@@ -126,7 +114,7 @@ module _ (w y : Gateway) (links : List Link) (name : List ℕ) (beside : IsBesid
     after = link_told_on name y
 
     spares : SparesWanted y notices
-    spares = one_spares y high (subst (λ (rows : List Link). AreRising cid_of 0 rows high) (sym beside.upstream) order) name
+    spares = one_spares y (subst (λ (rows : List Link). AreUnlike is_same_link rows) (sym beside.upstream) order) name
 
     clients_same : after.clients ≡ y.clients
     clients_same = link_told_clients y name
@@ -202,7 +190,7 @@ module _ (w : Gateway) (tidy : IsTidy w) (links : List Link) (cache : List LastM
     (others : (other : List ℕ) → bytes_eq other name ≡ false → find (is_named other) links ≡ link_of w other)
     (values : (cid native dtype count : ℕ) → cached_value w cid native dtype count ≡ None → cached_as native dtype count (find (is_cached_of cid) cache) ≡ None)
     (quiet : All (λ (link : Link). is_named name link ≡ false → link_notices_of w link ≡ []) links)
-    (one : length (filter (is_named name) links) ≤ 1) (order : AreRising cid_of 0 links w.upstream.counters.cid) where
+    (one : length (filter (is_named name) links) ≤ 1) (order : AreUnlike is_same_link links) where
   abbrev x : Gateway
   x = record w { cache = cache; upstream = record w.upstream { links = links } }
 
@@ -210,7 +198,7 @@ module _ (w : Gateway) (tidy : IsTidy w) (links : List Link) (cache : List LastM
   rights_same c off = ap (λ (over : Option Link). bit_and (link_rights over) (rights_left w.policy (lead_in w c.session c.asked))) (others c.real off)
 
   each_there : All (λ (c : Channel). channel_of w c.session c.sid ≡ Some c) w.clients.channels
-  each_there = each_found 0 w.upstream.counters.sid w.clients.channels tidy.order.channels
+  each_there = each_found w.clients.channels tidy.order.channels.apart
 
   -- readers of another variable
   reader_same : (other : List ℕ) → bytes_eq other name ≡ false → (c : Channel) → is_reader x other c ≡ is_reader w other c
@@ -281,4 +269,4 @@ module _ (w : Gateway) (tidy : IsTidy w) (links : List Link) (cache : List LastM
   told_on_variable =
       ap (λ (v : Gateway). updates_told (reads_told (links_told (updates_withheld v)))) channels_alone
       ∙ ap (λ (v : Gateway). updates_told (reads_told (links_told v))) (held_alone w told links name beside_channels)
-      ∙ told_from_links w (updates_withheld_on name told) links name (beside_held w told links name beside_channels apart_after) w.upstream.counters.cid order one quiet
+      ∙ told_from_links w (updates_withheld_on name told) links name (beside_held w told links name beside_channels apart_after) order one quiet

@@ -16,14 +16,14 @@ use Rattle.gateway_state.specs.Notices.{link_told, read_notice, read_told}
 use Rattle.gateway_state.specs.Reached.{IsReached}
 use Rattle.gateway_state.specs.Rights.{rights_of}
 use Rattle.gateway_state.specs.Searches.{leads_to}
-use Rattle.gateway_state.specs.Settled.{AreInOrder, HasLinksApart}
+use Rattle.gateway_state.specs.Settled.{AreNumbersApart, HasLinksApart}
 use Rattle.gateway_state.specs.Step.{step}
 use Rattle.gateway_state.specs.Telling.{sent, told}
 use Rattle.gateway_state.specs.Told.{KnowRights, KnowsRights}
 use Rattle.gateway_state.specs.Updates.{is_taking, owed_to_all, update_notice, update_told, with_owed_of}
 use Rattle.channel_table.specs.Channels.{is_on}
 use Rattle.gateway_state.specs.Variables.{is_wanted, link_of}
-use Rattle.gateway_state.proofs.OrderKept.{order_after_effect}
+use Rattle.gateway_state.proofs.NumbersKept.{numbers_after_effect}
 use Rattle.gateway_state.proofs.ReachedStates.{reached_step}
 use Rattle.gateway_state.proofs.ToldRights.{reached_told}
 use Rattle.touched_rows.specs.declared.touched.Touched.{Touched}
@@ -39,7 +39,7 @@ use Rattle.channel_table.specs.declared.subs.ClientSub.{ClientSub}
 use Rattle.gateway_state.proofs.SettledWithheld.{owing_changed}
 use Rattle.gateway_state.proofs.Kept.{kept_owed_to_all}
 use Rattle.gateway_state.proofs.KeptByRuns.{kept_channels, kept_direct_effect}
-use Rattle.gateway_state.proofs.InOrder.{in_order_kept}
+use Rattle.gateway_state.proofs.NumbersApart.{numbers_apart_kept}
 use Rattle.gateway_state.proofs.LinksApart.{links_apart_kept, links_apart_with_links}
 
 -- ---- the same channels, with the same rights
@@ -145,13 +145,13 @@ alike_held subs w = record {
   rights = λ c. ap (λ (v : Gateway). rights_of v c) (owing_changed subs w);
 }
 
--- numbers are in order where a variable's link is told
-pub order_before_link : (name : List ℕ) (x : Gateway) → AreInOrder x → AreInOrder (updates_withheld_on name (channels_told_on name x))
+-- numbers tell rows apart where a variable's link is told
+pub order_before_link : (name : List ℕ) (x : Gateway) → AreNumbersApart x → AreNumbersApart (updates_withheld_on name (channels_told_on name x))
 order_before_link name x order =
     let told : Gateway = channels_told_on name x in
-    kept_owed_to_all AreInOrder in_order_kept.rows (withheld_on name told) told (kept_channels AreInOrder in_order_kept.rows (channel_notices_on name x) x order)
+    kept_owed_to_all AreNumbersApart numbers_apart_kept.rows (withheld_on name told) told (kept_channels AreNumbersApart numbers_apart_kept.rows (channel_notices_on name x) x order)
 
-back : (touched : Touched) (x : Gateway) → AreInOrder x → HasLinksApart x → KnowRights (follows touched x) → IsReady touched x
+back : (touched : Touched) (x : Gateway) → AreNumbersApart x → HasLinksApart x → KnowRights (follows touched x) → IsReady touched x
 back Everything x order apart told = record {}
 back Nothing x order apart told = record {}
 back (Session number) x order apart told = told_back x (follows (Session number) x) (alike_updates (update_notices_to number x) x) told
@@ -162,7 +162,7 @@ back (Variable name) x order apart told =
     let read : Gateway = reads_told_on name linked in
     let end : Gateway = updates_told_on name read in
     told_back first held (alike_held (withheld_on name first) first)
-    (links_back held (link_notices_over held (link_of held name)) (one_spares held held.upstream.counters.cid (order_before_link name x order).links name)
+    (links_back held (link_notices_over held (link_of held name)) (one_spares held (order_before_link name x order).links.apart name)
     (told_back linked end (alike_after linked read end (alike_reads (read_notices_on name linked) linked) (alike_updates (update_notices_on name read) read)) told))
 back (Value name) x order apart told =
     let read : Gateway = reads_told_on name x in
@@ -170,9 +170,9 @@ back (Value name) x order apart told =
     (alike_after x read (follows (Value name) x) (alike_reads (read_notices_on name x) x) (alike_updates (update_notices_on name read) read)) told
 back (Interest name) x order apart told = told_back x (interest_told name x) (alike_interest name x) told
 back (LinkOf name) x order apart told =
-    links_back x (link_notices_over x (link_of x name)) (one_spares x x.upstream.counters.cid order.links name) told
+    links_back x (link_notices_over x (link_of x name)) (one_spares x order.links.apart name) told
 back (Links names) x order apart told = record {
-  told = links_back x (link_notices_among names x) (some_spare x x.upstream.counters.cid order.links (is_link_among names)) told;
+  told = links_back x (link_notices_among names x) (some_spare x order.links.apart (is_link_among names)) told;
   apart = apart;
 }
 back (Gone names) x order apart told = record {}
@@ -190,7 +190,7 @@ apart_after_effect w event reached = kept_direct_effect HasLinksApart links_apar
 -- after an event's direct effect clients know their rights, where what follows rests on that
 pub ready_after_effect : (w : Gateway) (event : Event) → IsReached w → IsReady (event_touches w event) (direct_effect w event)
 ready_after_effect w event reached =
-    back (event_touches w event) (direct_effect w event) (order_after_effect w event reached) (apart_after_effect w event reached)
+    back (event_touches w event) (direct_effect w event) (numbers_after_effect w event reached) (apart_after_effect w event reached)
     (subst KnowRights (step_alone w event reached) (reached_told (step w event) (reached_step w event reached)))
 
 -- the same of what it is said to touch and to leave
@@ -208,5 +208,5 @@ told_after_interest name x told = told_on x (interest_told name x) (alike_intere
 pub told_after_withheld : (name : List ℕ) (x : Gateway) → KnowRights x → KnowRights (updates_withheld_on name x)
 told_after_withheld name x told = told_on x (updates_withheld_on name x) (alike_held (withheld_on name x) x) told
 
-pub told_after_link : (name : List ℕ) (x : Gateway) → AreInOrder x → KnowRights x → KnowRights (link_told_on name x)
-told_after_link name x order told = links_on x (link_notices_over x (link_of x name)) (one_spares x x.upstream.counters.cid order.links name) told
+pub told_after_link : (name : List ℕ) (x : Gateway) → AreNumbersApart x → KnowRights x → KnowRights (link_told_on name x)
+told_after_link name x order told = links_on x (link_notices_over x (link_of x name)) (one_spares x order.links.apart name) told

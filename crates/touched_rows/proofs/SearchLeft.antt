@@ -13,7 +13,7 @@ use Rattle.gateway_state.specs.declared.limits.Limits.{Limits}
 use Rattle.gateway_state.specs.declared.search.Search.{Search}
 use Rattle.gateway_state.specs.Gateway.{Gateway}
 use Rattle.gateway_state.specs.Searches.{has_its_share, is_from, leads_to, left_by_channel, outworn, same_search, without_search}
-use Rattle.gateway_state.specs.Settled.{HasCidsInOrder, IsSettled}
+use Rattle.gateway_state.specs.Settled.{HasCidsApart, IsSettled}
 use Rattle.gateway_state.specs.Step.{consequences}
 use Rattle.gateway_state.specs.Variables.{is_among, search_names}
 use Rattle.gateway_state.proofs.SearchedNames.{searched_is_among}
@@ -114,7 +114,7 @@ leads_without policy name rows row one none =
 
 -- ---- what follows
 
-module _ (w : Gateway) (settled : IsSettled w) (order : HasCidsInOrder w) where
+module _ (w : Gateway) (settled : IsSettled w) (order : HasCidsApart w) where
   -- a search goes
   pub told_after_leaving : (gone : Option Search) → ((row : Search) → gone ≡ Some row → IsOneOf w.searches row)
       → consequences (record w { searches = without_search gone w.searches }) ≡ follows (left_touches w.policy gone) (record w { searches = without_search gone w.searches })
@@ -124,7 +124,7 @@ module _ (w : Gateway) (settled : IsSettled w) (order : HasCidsInOrder w) where
       (λ name none. leads_without w.policy name w.searches row (one row refl) none)
 
 -- it goes for another, which is there already
-pub told_after_replacing : (w : Gateway) (rows : List Search) (new : Search) → IsSettled (record w { searches = rows ++ new ∷ [] }) → HasCidsInOrder w
+pub told_after_replacing : (w : Gateway) (rows : List Search) (new : Search) → IsSettled (record w { searches = rows ++ new ∷ [] }) → HasCidsApart w
     → (gone : Option Search) → ((row : Search) → gone ≡ Some row → IsOneOf rows row)
     → consequences (record w { searches = without_search gone rows ++ new ∷ [] }) ≡ follows (left_touches w.policy gone) (record w { searches = without_search gone rows ++ new ∷ [] })
 told_after_replacing w rows new settled order None one = settled_stays (record w { searches = rows ++ new ∷ [] }) settled

@@ -13,7 +13,7 @@ use Rattle.gateway_state.specs.Gateway.{Gateway}
 use Rattle.gateway_state.specs.Resolution.{lead_of}
 use Rattle.gateway_state.specs.Searches.{leads_to, left_by_search, made_now, outworn, refreshed, same_search, without_search}
 use Rattle.gateway_state.specs.Servers.{server_versioned}
-use Rattle.gateway_state.specs.Settled.{HasCidsInOrder, IsSettled}
+use Rattle.gateway_state.specs.Settled.{HasCidsApart, IsSettled}
 use Rattle.gateway_state.specs.Step.{consequences}
 use Rattle.gateway_state.specs.Updates.{update_notice}
 use Rattle.channel_table.specs.Channels.{is_on}
@@ -74,7 +74,7 @@ any_moved {A = A} test sought change (row ∷ rows) unseen = by (sought row) (an
         ∙ swapped (list_any test rows) (test row)
     by false rest = ap (λ (t : Bool). test row || t) rest
 
-module _ (w : Gateway) (settled : IsSettled w) (order : HasCidsInOrder w) (host name : List ℕ) where
+module _ (w : Gateway) (settled : IsSettled w) (order : HasCidsApart w) (host name : List ℕ) where
   abbrev looked_for : Search → Bool
   looked_for = same_search host name
 
@@ -113,7 +113,7 @@ module _ (w : Gateway) (settled : IsSettled w) (order : HasCidsInOrder w) (host 
           told_after_replacing w w.searches (made_now host name) (one_search_more (made_now host name) w settled) order (outworn w.limits host w.searches)
           (outworn_is_one w.limits host w.searches)
 
-pub told_after_search : (host name : List ℕ) (w : Gateway) → IsSettled w → HasCidsInOrder w → consequences (searched host name w) ≡ follows (searched_touches w host name) (searched host name w)
+pub told_after_search : (host name : List ℕ) (w : Gateway) → IsSettled w → HasCidsApart w → consequences (searched host name w) ≡ follows (searched_touches w host name) (searched host name w)
 told_after_search host name w settled order =
     elim (is_some (lead_of w.policy host name))
     as (λ t. consequences (cond t (remembered host name w) w)

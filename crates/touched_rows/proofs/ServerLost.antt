@@ -45,7 +45,8 @@ use Rattle.touched_rows.proofs.Connections.{HasNoMoreRoom}
 use Rattle.touched_rows.proofs.LessGiven.{bare, is_open, read_on-stays, update_if_open, update_on-stays}
 use Rattle.touched_rows.proofs.LinksQuiet.{link_quiet}
 use Rattle.touched_rows.proofs.OneLink.{none_passing}
-use Rattle.touched_rows.proofs.OneVariable.{each_found, none_pass}
+use Rattle.touched_rows.proofs.Numbered.{each_found}
+use Rattle.touched_rows.proofs.OneVariable.{none_pass}
 use Rattle.touched_rows.proofs.ReadersOf.{filtered_alike, found_left, not_not}
 use Rattle.touched_rows.proofs.Shapes.{channels_told_shape, with_channels}
 use Rattle.touched_rows.proofs.Tellings.{less_connections}
@@ -228,7 +229,7 @@ module _ (w : Gateway) (tidy : IsTidy w) (number : ℕ) where
   -- ---- what it leaves
 
   each_there : All (λ (c : Channel). channel_of w c.session c.sid ≡ Some c) w.clients.channels
-  each_there = each_found 0 w.upstream.counters.sid w.clients.channels tidy.order.channels
+  each_there = each_found w.clients.channels tidy.order.channels.apart
 
   quiet_subs : All (IsQuiet w) w.clients.subs
   quiet_subs k d within = record {

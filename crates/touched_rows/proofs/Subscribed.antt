@@ -103,6 +103,6 @@ told_after_subscribing w settled links_apart sub owed c on = by (w.limits.tells_
 
     by : (tells : Bool) → consequences (cond tells (unreadable_told added sub) added) ≡ one_update_told sub (interest_told c.real (cond tells (unreadable_told added sub) added))
     by true =
-        told_after_added w settled links_apart sub owed c on (change_first (is_to (ToSession sub.session)) (given said) w.connections)
-        (no_more_room_given (ToSession sub.session) said w.connections)
+        told_after_added w settled links_apart sub owed c on (change_first (is_to (ToSession sub.session)) (given w.limits.messages said) w.connections)
+        (no_more_room_given w.limits.messages (ToSession sub.session) said w.connections)
     by false = told_after_added w settled links_apart sub owed c on w.connections (λ limits number e. e)

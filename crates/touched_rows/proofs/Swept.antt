@@ -15,7 +15,7 @@ use Rattle.gateway_state.specs.Gateway.{Gateway}
 use Rattle.gateway_state.specs.Notices.{link_told, notice_on, read_notice, read_notices, reads_told}
 use Rattle.gateway_state.specs.Rights.{channel_of}
 use Rattle.gateway_state.specs.Searches.{leads_to}
-use Rattle.gateway_state.specs.Settled.{HasCidsInOrder, IsSettled}
+use Rattle.gateway_state.specs.Settled.{HasCidsApart, IsSettled}
 use Rattle.gateway_state.specs.Step.{consequences}
 use Rattle.gateway_state.specs.Updates.{update_notice, update_notices, update_on, updates_told}
 use Rattle.gateway_state.specs.Variables.{is_among, is_wanted, search_names}
@@ -31,7 +31,7 @@ use Rattle.touched_rows.proofs.TouchedAlone.{none_planned}
 use Rattle.touched_rows.proofs.WantedLinks.{SparesWanted, open_no_more, some_spare, values_no_more, wanted_link_kept, wanted_rights_kept}
 
 -- only these rows of searches are left, and other variables are led to as before
-module _ (w : Gateway) (settled : IsSettled w) (order : HasCidsInOrder w) (left : List Search) (names : List (List ℕ))
+module _ (w : Gateway) (settled : IsSettled w) (order : HasCidsApart w) (left : List Search) (names : List (List ℕ))
     (less : (name : List ℕ) → is_among names name ≡ false → list_any (leads_to w.policy name) left ≡ list_any (leads_to w.policy name) w.searches) where
   abbrev x : Gateway
   x = record w { searches = left }
@@ -52,7 +52,7 @@ module _ (w : Gateway) (settled : IsSettled w) (order : HasCidsInOrder w) (left 
   after = links_told_among names x
 
   spares : SparesWanted x notices
-  spares = some_spare x w.upstream.counters.cid order (is_link_among names)
+  spares = some_spare x order.apart (is_link_among names)
 
   clients_same : after.clients ≡ w.clients
   clients_same = ap (λ (v : Gateway). v.clients) (links_told_shape notices x)
@@ -108,6 +108,6 @@ module _ (w : Gateway) (settled : IsSettled w) (order : HasCidsInOrder w) (left 
       ∙ updates_stay after updates_quiet
 
 -- all are forgotten
-pub told_after_sweep : (w : Gateway) → IsSettled w → HasCidsInOrder w → consequences (swept w) ≡ links_told_among (search_names w.policy w.searches) (swept w)
+pub told_after_sweep : (w : Gateway) → IsSettled w → HasCidsApart w → consequences (swept w) ≡ links_told_among (search_names w.policy w.searches) (swept w)
 told_after_sweep w settled order =
     told_after_forgetting w settled order [] (search_names w.policy w.searches) (λ name none. sym (searched_is_among w.policy name w.searches ∙ none))

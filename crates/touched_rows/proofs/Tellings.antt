@@ -13,6 +13,8 @@ use Rattle.channel_table.specs.Reads.{same_read}
 use Rattle.channel_table.specs.Subs.{is_sub, with_owed}
 use Rattle.link_table.specs.declared.links.Subject.TheVariants.{Properties, Values}
 use Rattle.link_table.specs.declared.links.Subject.{Subject}
+use Rattle.link_table.specs.declared.counter.Counter.TheVariants.{Subscription as CountsSubscriptions}
+use Rattle.link_table.specs.Counters.{given_out}
 use Rattle.link_table.specs.LinkRows.{Counters}
 use Rattle.fanout.specs.declared.outbox.Out.{Out}
 use Rattle.link_table.specs.declared.links.Link.{Link}
@@ -32,10 +34,10 @@ use Rattle.gateway_state.specs.declared.notice.ReadNotice.TheVariants.{Refused, 
 use Rattle.gateway_state.specs.declared.notice.UpdateNotice.{UpdateNotice}
 use Rattle.gateway_state.specs.Answer.{cached_as}
 use Rattle.gateway_state.specs.CachedRows.{is_cached_elsewhere, is_cached_of}
-use Rattle.gateway_state.specs.Connections.{given, is_to, marked_now}
+use Rattle.gateway_state.specs.Connections.{given, is_to, marked_now, most_for}
 use Rattle.gateway_state.specs.Gateway.{Gateway}
 use Rattle.gateway_state.specs.Interest.{is_for, minor_of, wanted_for}
-use Rattle.gateway_state.specs.Notices.{cancelled, forgotten, interest_notices, link_told, notices_between, read_told, subject_notices, subscribed, with_subscription_of, without_read}
+use Rattle.gateway_state.specs.Notices.{cancelled, forgotten, interest_notices, link_told, next_sub_id, notices_between, read_told, subject_notices, subscribed, with_subscription_of, without_read}
 use Rattle.gateway_state.specs.Resolution.{rights_left}
 use Rattle.gateway_state.specs.Rights.{lead_in, link_rights}
 use Rattle.gateway_state.specs.Telling.{marked, outgoing, outgoing_upstream, sent}
@@ -65,7 +67,7 @@ less_connections w connections room = less_taking w connections (room w.limits)
 
 pub less_sent : (dest : Dest) (out : Out) (w : Gateway) → GivesNoMore w (sent dest out w)
 unfolding sent
-less_sent dest out w = less_connections w (change_first (is_to dest) (given out) w.connections) (no_more_room_given dest out w.connections)
+less_sent dest out w = less_connections w (change_first (is_to dest) (given (most_for w.limits dest) out) w.connections) (no_more_room_given (most_for w.limits dest) dest out w.connections)
 
 pub less_marked : (dest : Dest) (w : Gateway) → GivesNoMore w (marked dest w)
 less_marked dest w = less_connections w (change_first (is_to dest) marked_now w.connections) (no_more_room_marked dest w.connections)
@@ -196,12 +198,13 @@ less_link_told w (Cancelled subject server cid sid dtype sub) keeps =
     less_then_sent w (with_subscription_of subject server cid None w) (Upstream server) (outgoing_upstream (requests.EventCancel sid sub.id dtype sub.sent)) (less_subscription subject server cid None w)
 less_link_told w (Unread subject cid) keeps = less_forgotten subject cid w
 less_link_told w (Subscribed subject server cid sid dtype want asked) keeps =
-    let id : ℕ = w.upstream.counters.subscription in
+    let id : ℕ = next_sub_id w server in
     let sub : Option Subscription = Some (record { id = id; mask = want.mask; count = want.count; sent = asked }) in
-    let counted : Gateway = record w { upstream = record w.upstream { counters = record w.upstream.counters { subscription = id + 1 } } } in
+    let counters : Counters = given_out CountsSubscriptions w.limits.reuses_numbers id w.upstream.counters in
+    let counted : Gateway = record w { upstream = record w.upstream { counters = counters } } in
     less_then_sent w (with_subscription_of subject server cid sub counted) (Upstream server) (outgoing_upstream (requests.EventAdd sid id dtype asked want.mask))
     (gives_no_more w counted (with_subscription_of subject server cid sub counted)
-    (less_beside w w.clients.subs w.clients.reads (record w.upstream.counters { subscription = id + 1 })) (less_subscription subject server cid sub counted))
+    (less_beside w w.clients.subs w.clients.reads counters) (less_subscription subject server cid sub counted))
 less_link_told w (Dropped server cid state) keeps = absurd (true≢false (sym keeps))
 
 pub less_links_told : (notices : List LinkNotice) (w : Gateway) → list_all keeps_links notices ≡ true → GivesNoMore w (fold link_told w notices)

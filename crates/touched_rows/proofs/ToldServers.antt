@@ -19,7 +19,7 @@ use Rattle.value_cache.specs.Held.{Held}
 use Rattle.gateway_state.specs.Answer.{native_in}
 use Rattle.gateway_state.specs.CachedRows.{put_row}
 use Rattle.gateway_state.specs.Gateway.{Gateway}
-use Rattle.gateway_state.specs.Connections.{given, is_to}
+use Rattle.gateway_state.specs.Connections.{given, is_to, most_for}
 use Rattle.gateway_state.specs.Servers.{answered_creating, channel_made, channel_returned, concerned_owed, concerns, created_for, fails_without, held_with, is_heard, is_usable, reads_failed, replied, rights_given, rights_said, subject_of, updated, updated_by, updated_link, updated_under, with_held, with_link_state}
 use Rattle.gateway_state.specs.Step.{consequences}
 use Rattle.gateway_state.specs.Telling.{outgoing_upstream, sent}
@@ -94,8 +94,8 @@ module _ (w : Gateway) (tidy : IsTidy w) where
   unfolding sent
   told_returned server cid sid link found creating =
       let said : Out = outgoing_upstream (requests.ClearChannel sid cid) in
-      told_after_connecting w tidy.settled tidy.order tidy.links_apart server cid link found creating Unusable link.rights (change_first (is_to (Upstream server)) (given said) w.connections)
-      (no_more_room_given (Upstream server) said w.connections)
+      told_after_connecting w tidy.settled tidy.order tidy.links_apart server cid link found creating Unusable link.rights (change_first (is_to (Upstream server)) (given (most_for w.limits (Upstream server)) said) w.connections)
+      (no_more_room_given (most_for w.limits (Upstream server)) (Upstream server) said w.connections)
 
   told_made : (server cid sid dtype count : ℕ) → consequences (channel_made w server cid sid dtype count) ≡ follows (created_touches w server cid) (channel_made w server cid sid dtype count)
   told_made server cid sid dtype count = by (find (is_link server cid) w.upstream.links) refl

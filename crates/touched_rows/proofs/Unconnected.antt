@@ -10,10 +10,10 @@ use Rattle.link_table.specs.Links.{is_link, is_named}
 use Rattle.gateway_state.specs.Gateway.{Gateway}
 use Rattle.gateway_state.specs.Resolution.{is_real}
 use Rattle.gateway_state.specs.Rights.{lead_in, link_connected}
-use Rattle.gateway_state.specs.Settled.{AreInOrder, HasLinksApart, IsSettled, IsUpToDate, cid_of}
+use Rattle.gateway_state.specs.Settled.{AreNumbersApart, HasLinksApart, IsSettled, IsUpToDate}
 use Rattle.gateway_state.specs.Variables.{is_connected, link_of}
 use Rattle.gateway_state.proofs.SettledMeaning.{all_up_to_date}
-use Rattle.touched_rows.proofs.Numbered.{one_of_number}
+use Rattle.touched_rows.proofs.Numbered.{one_of_cid}
 use Rattle.touched_rows.proofs.TouchedAlone.{found_passes}
 
 -- ---- one row alone passes
@@ -43,15 +43,15 @@ only_one {A = A} test other (row ∷ rows) a b one is_a is_b passes =
 
 -- ---- the link of a channel that a server was asked for
 
-module _ (w : Gateway) (order : AreInOrder w) (server cid : ℕ) (link : Link) (found : find (is_link server cid) w.upstream.links ≡ Some link) where
+module _ (w : Gateway) (order : AreNumbersApart w) (server cid : ℕ) (link : Link) (found : find (is_link server cid) w.upstream.links ≡ Some link) where
   pub the_link : All (λ (row : Link). is_link server cid row ≡ true → row ≡ link) w.upstream.links
   the_link =
-      All-weaker (λ (row : Link). cid_of row ≡ cid_of link → row ≡ link) (λ (row : Link). is_link server cid row ≡ true → row ≡ link)
+      All-weaker (λ (row : Link). row.cid ≡ link.cid → row ≡ link) (λ (row : Link). is_link server cid row ≡ true → row ≡ link)
       (λ row one is.
       let here = and_parts (eqb row.server server) (eqb row.cid cid) is in
       let there = and_parts (eqb link.server server) (eqb link.cid cid) (found_passes (is_link server cid) w.upstream.links link found) in
       one (eqb-true row.cid cid here.1 ∙ sym (eqb-true link.cid cid there.1)))
-      w.upstream.links (one_of_number cid_of 0 w.upstream.counters.cid (is_link server cid) w.upstream.links link order.links found)
+      w.upstream.links (one_of_cid (is_link server cid) w.upstream.links link order.links.apart found)
 
   module _ (settled : IsSettled w) (links_apart : HasLinksApart w) (unconnected : is_connected link.state ≡ false) where
     unnamed : (c : Channel) → link_connected (link_of w c.real) ≡ true → is_named c.real link ≡ false

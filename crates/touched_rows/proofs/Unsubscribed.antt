@@ -13,7 +13,7 @@ use Rattle.channel_table.specs.Demand.{own_ask}
 use Rattle.fanout.specs.declared.outbox.Out.{Out}
 use Rattle.gateway_state.specs.declared.connections.Connection.{Connection}
 use Rattle.gateway_state.specs.declared.event.Dest.{Dest}
-use Rattle.gateway_state.specs.Connections.{given, is_to}
+use Rattle.gateway_state.specs.Connections.{given, is_to, most_for}
 use Rattle.gateway_state.specs.Gateway.{Gateway}
 use Rattle.gateway_state.specs.Interest.{is_read_through, is_reader, is_subscriber, reader_ask}
 use Rattle.gateway_state.specs.Notices.{read_notice, read_notices, reads_told}
@@ -130,4 +130,4 @@ pub told_after_unsubscribing : (w : Gateway) → IsSettled w → HasLinksApart w
     → consequences (sent dest said (without_sub session id w)) ≡ interest_told c.real (sent dest said (without_sub session id w))
 unfolding sent
 told_after_unsubscribing w settled links_apart subs_apart session id sub found c on dest said =
-    told_after w settled links_apart subs_apart session id sub found c on (change_first (is_to dest) (given said) w.connections) (no_more_room_given dest said w.connections)
+    told_after w settled links_apart subs_apart session id sub found c on (change_first (is_to dest) (given (most_for w.limits dest) said) w.connections) (no_more_room_given (most_for w.limits dest) dest said w.connections)

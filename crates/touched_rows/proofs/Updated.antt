@@ -27,7 +27,7 @@ use Rattle.gateway_state.specs.Interest.{is_reader, reader_ask, readers}
 use Rattle.gateway_state.specs.Notices.{answered_by, answered_over, link_notices, notice_on, read_notice, read_told, reads_told}
 use Rattle.gateway_state.specs.Rights.{channel_of, may_read, rights_of}
 use Rattle.gateway_state.specs.Servers.{concerned_owed, waits_for}
-use Rattle.gateway_state.specs.Settled.{AreInOrder, HasSubsApart, IsSettled, cid_of}
+use Rattle.gateway_state.specs.Settled.{AreNumbersApart, HasSubsApart, IsSettled}
 use Rattle.gateway_state.specs.Step.{consequences}
 use Rattle.gateway_state.specs.Updates.{concerned, is_open_to, is_sub_to, update_by, update_notice, update_notices, update_on, update_over, update_told, updates_told}
 use Rattle.channel_table.specs.Channels.{is_channel_on}
@@ -90,7 +90,7 @@ module _ (w : Gateway) (test : ClientSub → Bool) (change : List LastMessage �
 
 -- ---- the update
 
-module _ (w : Gateway) (settled : IsSettled w) (order : AreInOrder w) (apart : HasSubsApart w) (server id : ℕ) (link : Link)
+module _ (w : Gateway) (settled : IsSettled w) (order : AreNumbersApart w) (apart : HasSubsApart w) (server id : ℕ) (link : Link)
     (found : find (has_subscription server id) w.upstream.links ≡ Some link) (change : List LastMessage → List LastMessage)
     (others : (other : ℕ) → eqb other link.cid ≡ false → find (is_cached_of other) (change w.cache) ≡ find (is_cached_of other) w.cache) (passes : ClientSub → Bool) where
   abbrev test : ClientSub → Bool
@@ -107,7 +107,7 @@ module _ (w : Gateway) (settled : IsSettled w) (order : AreInOrder w) (apart : H
       by None is = tt
       by (Some l) is = elim (eqb l.cid link.cid) as (λ t. eqb l.cid link.cid ≡ t → t ≡ false) [
         | true ↦ λ same.
-            let one : l ≡ link = same_number cid_of 0 w.upstream.counters.cid (is_named name) (has_subscription server id) w.upstream.links l link order.links is found (eqb-true l.cid link.cid same) in
+            let one : l ≡ link = same_number (is_named name) (has_subscription server id) w.upstream.links l link order.links.apart is found (eqb-true l.cid link.cid same) in
             let named : l.name ≡ name = (bytes_eq-Decides l.name name).0 (found_passes (is_named name) w.upstream.links l is) in
             absurd (true≢false (sym ((bytes_eq-Decides name link.name).1 (sym named ∙ ap (λ (k : Link). k.name) one)) ∙ other))
         | false ↦ λ same. refl

@@ -1,9 +1,9 @@
 -- What is told about links leaves the links of variables that are wanted.
-use Rattle.std.proofs.Common.{◌≡◌, ℕ, ◌+◌, ◌≤◌, List, [], ◌∷◌, ◌++◌, Bool, true, false, cond, eqb, ◌&&◌, ◌||◌, Option, Some, None, get_or, refl, sym, ap, subst, ◌∙◌, arith}
+use Rattle.std.proofs.Common.{◌≡◌, ℕ, ◌+◌, List, [], ◌∷◌, ◌++◌, Bool, true, false, cond, eqb, ◌&&◌, ◌||◌, Option, Some, None, get_or, refl, sym, ap, subst, ◌∙◌}
 use Rattle.std.specs.Prelude.{bit_and, filter, flat_map, option_map}
 use Rattle.std.specs.List.{All, find, fold, list_all, list_any}
 use Rattle.std.proofs.lemmas.Bool.{and_parts, eqb-true, true≢false}
-use Rattle.std.proofs.lemmas.List.Elements.{All-cons, All-filter, All-head, All-nil, All-tail, All-weaker}
+use Rattle.std.proofs.lemmas.List.Elements.{All-filter, All-head, All-tail, All-weaker}
 use Rattle.std.proofs.lemmas.List.Folds.{list_any-append}
 use Rattle.std.proofs.lemmas.Slice.Eq.{bytes_eq-Decides}
 use Rattle.ca_message.specs.declared.to_server.ToServer.TheVariants as requests
@@ -22,16 +22,16 @@ use Rattle.gateway_state.specs.declared.notice.LinkNotice.TheVariants.{Cancelled
 use Rattle.gateway_state.specs.Answer.{cached_as, cached_value}
 use Rattle.gateway_state.specs.CachedRows.{is_cached_elsewhere, is_cached_of}
 use Rattle.gateway_state.specs.Gateway.{Gateway}
-use Rattle.gateway_state.specs.Notices.{dropped, interest_notices, link_notices_of, link_told}
+use Rattle.gateway_state.specs.Notices.{dropped, interest_notices, link_notices_of, link_told, next_sub_id}
 use Rattle.gateway_state.specs.Resolution.{rights_left}
 use Rattle.gateway_state.specs.Rights.{lead_in, link_rights, rights_of}
 use Rattle.gateway_state.specs.Servers.{without_link}
-use Rattle.gateway_state.specs.Settled.{AreRising, cid_of}
+use Rattle.gateway_state.specs.Settled.{AreUnlike, is_same_link}
 use Rattle.gateway_state.specs.Telling.{outgoing_upstream, sent}
 use Rattle.gateway_state.specs.Variables.{is_wanted, link_of}
 use Rattle.touched_rows.specs.Touched.{link_notices_over}
 use Rattle.touched_rows.proofs.LessGiven.{bare, is_open}
-use Rattle.touched_rows.proofs.Numbered.{all_above, one_of_number}
+use Rattle.touched_rows.proofs.Numbered.{each_alone, one_of_cid}
 use Rattle.touched_rows.proofs.ReadersOf.{found_left, not_not}
 use Rattle.touched_rows.proofs.Shapes.{links_told_shape, with_links}
 use Rattle.touched_rows.proofs.Tellings.{interest_keeps, keeps_links, less_link_told, less_sent, less_without_cached, rights_bare}
@@ -113,7 +113,7 @@ module _ (name : List ℕ) (notices : List LinkNotice) where
       (later (Cancelled subject server cid sid dtype sub) v.upstream.links all) (λ row found holds. holds)
   spared_after v (Unread subject cid) all = later (Unread subject cid) v.upstream.links all
   spared_after v (Subscribed subject server cid sid dtype want asked) all =
-      let sub : Option Subscription = Some (record { id = v.upstream.counters.subscription; mask = want.mask; count = want.count; sent = asked }) in
+      let sub : Option Subscription = Some (record { id = next_sub_id v server; mask = want.mask; count = want.count; sent = asked }) in
       all_with_changed (IsSpared name notices) (is_link server cid) (with_subscription subject sub) v.upstream.links
       (later (Subscribed subject server cid sid dtype want asked) v.upstream.links all) (λ row found holds. holds)
   spared_after v (Dropped server cid state) all =
@@ -209,40 +209,24 @@ module _ (x : Gateway) where
       (spared_each name wanted link rows (All-head (IsAlone rows) link links alone)) (spared_all name wanted links rows (All-tail (IsAlone rows) link links alone))
 
 -- those on one variable's link
-pub one_spares : (x : Gateway) (high : ℕ) → AreRising cid_of 0 x.upstream.links high → (name : List ℕ) → SparesWanted x (link_notices_over x (link_of x name))
-one_spares x high order name other wanted = by (link_of x name) refl
+pub one_spares : (x : Gateway) → AreUnlike is_same_link x.upstream.links → (name : List ℕ) → SparesWanted x (link_notices_over x (link_of x name))
+one_spares x order name other wanted = by (link_of x name) refl
   where
     by : (found : Option Link) → link_of x name ≡ found → All (IsSpared other (link_notices_over x found)) x.upstream.links
     by None is = λ k d within. λ named. refl
     by (Some link) is =
         spared_each x other wanted link x.upstream.links
-        (All-weaker (λ (row : Link). cid_of row ≡ cid_of link → row ≡ link) (λ (row : Link). is_link link.server link.cid row ≡ true → row ≡ link)
+        (All-weaker (λ (row : Link). row.cid ≡ link.cid → row ≡ link) (λ (row : Link). is_link link.server link.cid row ≡ true → row ≡ link)
         (λ row one same. one (eqb-true row.cid link.cid (and_parts (eqb row.server link.server) (eqb row.cid link.cid) same).1))
-        x.upstream.links (one_of_number cid_of 0 high (is_named name) x.upstream.links link order is))
-
--- ---- links of rising numbers
-
-pub each_alone : (low high : ℕ) (rows : List Link) → AreRising cid_of low rows high → All (λ (link : Link). All (λ (row : Link). row.cid ≡ link.cid → row ≡ link) rows) rows
-each_alone low high [] rising = All-nil (λ (link : Link). All (λ (row : Link). row.cid ≡ link.cid → row ≡ link) [])
-each_alone low high (first ∷ rows) rising =
-    All-cons (λ (link : Link). All (λ (row : Link). row.cid ≡ link.cid → row ≡ link) (first ∷ rows)) first rows
-    (All-cons (λ (row : Link). row.cid ≡ first.cid → row ≡ first) first rows (λ _. refl)
-    (All-weaker (λ (row : Link). first.cid + 1 ≤ row.cid) (λ (row : Link). row.cid ≡ first.cid → row ≡ first) (λ row above same. absurd (omega arith)) rows above_first))
-    (λ k d within.
-    let link : Link = get_or rows k d in
-    let above : first.cid + 1 ≤ link.cid = above_first k d within in
-    All-cons (λ (row : Link). row.cid ≡ link.cid → row ≡ link) first rows (λ same. absurd (omega arith)) (each_alone (first.cid + 1) high rows rising.1 k d within))
-  where
-    above_first : All (λ (row : Link). first.cid + 1 ≤ row.cid) rows
-    above_first = all_above cid_of (first.cid + 1) high rows rising.1
+        x.upstream.links (one_of_cid (is_named name) x.upstream.links link order is))
 
 -- those on any of the links
-pub some_spare : (x : Gateway) (high : ℕ) → AreRising cid_of 0 x.upstream.links high → (touched : Link → Bool) → SparesWanted x (flat_map (link_notices_of x) (filter touched x.upstream.links))
-some_spare x high order touched name wanted =
+pub some_spare : (x : Gateway) → AreUnlike is_same_link x.upstream.links → (touched : Link → Bool) → SparesWanted x (flat_map (link_notices_of x) (filter touched x.upstream.links))
+some_spare x order touched name wanted =
     let rows : List Link = x.upstream.links in
     spared_all x name wanted (filter touched rows) rows
     (All-filter touched (IsAlone rows) rows
     (All-weaker (λ (link : Link). All (λ (row : Link). row.cid ≡ link.cid → row ≡ link) rows) (IsAlone rows)
     (λ link one. All-weaker (λ (row : Link). row.cid ≡ link.cid → row ≡ link) (λ (row : Link). is_link link.server link.cid row ≡ true → row ≡ link)
     (λ row same is. same (eqb-true row.cid link.cid (and_parts (eqb row.server link.server) (eqb row.cid link.cid) is).1)) rows one)
-    rows (each_alone 0 high rows order)))
+    rows (each_alone rows order)))

@@ -7,7 +7,7 @@ use Rattle.ca_message.specs.declared.to_client.ToClient.TheVariants as replies
 use Rattle.ca_message.specs.declared.to_server.ToServer.TheVariants as requests
 use Rattle.ca_message.specs.Written.{Written}
 use Rattle.link_table.specs.declared.writes.WaitingWrite.{WaitingWrite}
-use Rattle.link_table.specs.LinkRows.{write_count}
+use Rattle.link_table.specs.LinkRows.{Counters, write_count}
 use Rattle.gateway_state.specs.declared.event.Dest.TheVariants.{Session as ToSession, Upstream}
 use Rattle.gateway_state.specs.declared.notice.WriteVerdict.{WriteVerdict}
 use Rattle.gateway_state.specs.declared.notice.WriteVerdict.TheVariants.{NoChannel, Ignored, Refused, Accepted}
@@ -19,13 +19,13 @@ use Rattle.gateway_state.specs.Updates.{update_notice}
 use Rattle.gateway_state.specs.Writing.{new_write, notified_by, with_write, without_write, write_answered, write_ended_for, write_handed_on, write_waits, written_by}
 use Rattle.touched_rows.proofs.Nothing.{settled_sent}
 
--- waiting writes, and their next ID, matter to nobody else
-abbrev with_writes : List WaitingWrite → ℕ → Gateway → Gateway
-with_writes writes next w = record w { upstream = record w.upstream { writes = writes; counters = record w.upstream.counters { write = next } } }
+-- waiting writes, and the next numbers, matter to nobody else
+abbrev with_writes : List WaitingWrite → Counters → Gateway → Gateway
+with_writes writes counters w = record w { upstream = record w.upstream { writes = writes; counters = counters } }
 
-settled_writes : (writes : List WaitingWrite) (next : ℕ) (w : Gateway) → IsSettled w → IsSettled (with_writes writes next w)
+settled_writes : (writes : List WaitingWrite) (counters : Counters) (w : Gateway) → IsSettled w → IsSettled (with_writes writes counters w)
 unfolding update_notice
-settled_writes writes next w settled = record {
+settled_writes writes counters w settled = record {
   channels = settled.channels;
   held_back = settled.held_back;
   links = settled.links;
@@ -53,7 +53,7 @@ module _ (w : Gateway) (settled : IsSettled w) where
         | true ↦ settled_sent (ToSession number) (outgoing (replies.WriteNotify ioid dtype count ECA_PUTFAIL)) w settled
         | false ↦
             settled_sent (Upstream server) (outgoing_upstream (requests.WriteNotify upstream_sid write.id value)) (with_write write w)
-            (settled_writes (with_write write w).upstream.writes (with_write write w).upstream.counters.write w settled)
+            (settled_writes (with_write write w).upstream.writes (with_write write w).upstream.counters w settled)
       ]
 
   pub settled_notified : (number sid ioid dtype count : ℕ) (head : Header) (verdict : WriteVerdict) → IsSettled (notified_by number sid ioid dtype count head verdict w)
@@ -66,4 +66,4 @@ module _ (w : Gateway) (settled : IsSettled w) where
   settled_ended server id status None = settled
   settled_ended server id status (Some write) =
       settled_sent (ToSession write.session) (outgoing (replies.WriteNotify write.ioid write.dtype write.count status)) (without_write server id w)
-      (settled_writes (without_write server id w).upstream.writes w.upstream.counters.write w settled)
+      (settled_writes (without_write server id w).upstream.writes w.upstream.counters w settled)

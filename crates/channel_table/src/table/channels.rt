@@ -4,7 +4,7 @@ ghost use Rattle.std.specs.Io.Iter.{u64_saturate};
 ghost use Rattle.std.specs.List.{filter, find, list_any};
 ghost use Rattle.std.specs.Option.{option_copied};
 ghost use Rattle.rows.specs.Rows.{change_first};
-ghost use Rattle.channel_table.specs.Channels.{is_channel, is_channel_of, is_on, with_reach_and_rights};
+ghost use Rattle.channel_table.specs.Channels.{count_on_each, is_channel, is_channel_of, is_on, is_on_any, with_reach_and_rights};
 ghost use Rattle.channel_table.specs.ClientRows.{has_session, has_channel, channel_count};
 
 use super::{CHANNEL_LIMIT, Table, TableFault};
@@ -43,6 +43,13 @@ impl Table {
     {
         visits.count(1);
         self.channels.get(session, sid)
+    }
+
+    /// Whether the session has a channel of this ID. It hands out none.
+    pub fn has_channel(&self, session: u32, sid: u32) -> bool
+        ensures { result ≡ has_channel session sid self.now.rows }
+    {
+        self.channels.contains(session, sid)
     }
 
     /// How many channels of the session stand.
@@ -107,6 +114,26 @@ impl Table {
     {
         visits.count(1);
         self.channels.nth_on(name, n)
+    }
+
+    /// The channels on any of these real names, each once, in the order in which they were added. As many are
+    /// counted as looked at as are on each of the names.
+    pub fn channels_on_any<'a>(
+        &'a self,
+        visits: &mut Visits,
+        alloc: Global,
+        names: &[Name],
+    ) -> Result<Vec<&'a Channel>, AllocError>
+        requires own { visits.old.brand ≡ self.now.brand }
+        ensures found { IfOk result (λ rows. map (λ row. row.now) rows.items ≡ filter (is_on_any names.now) self.now.rows.channels) }
+        ensures visits { OnOk result (visits.new.looks ≡ u64_saturate (visits.old.looks + count_on_each names.now self.now.rows.channels)) }
+        ensures bound { visits.new.looks ≤ visits.old.looks + count_on_each names.now self.now.rows.channels }
+        ensures no_less { visits.old.looks ≤ visits.new.looks }
+        ensures own { visits.new.brand ≡ visits.old.brand }
+    {
+        let keys = self.channels.keys_on_each(alloc, names)?;
+        visits.count(keys.len());
+        self.channels.on_any(alloc, names, &keys)
     }
 
     /// Adds a channel to the session that it names. The caller sees to it that none of its ID stands

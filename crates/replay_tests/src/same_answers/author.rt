@@ -1,10 +1,12 @@
 //! How a list is drawn.
-ghost use Rattle.std.specs.Prelude.{◌<◌};
+ghost use Rattle.std.specs.Prelude.{◌<◌, ◌≤◌};
+ghost use Rattle.gateway_state.specs.declared.config.TheConstants.{LAST_FIRST};
 
 use crate::same_answers::events::{
     BEGINNING, CHANGES, EDITS, ODDITIES, QUESTIONS, REPLIES, REQUESTS, UPKEEP, words,
 };
-use replay::replay;
+use gateway_state::LAST_FIRST;
+use replay::replay_from;
 use std::alloc::{AllocError, Global};
 
 /// The tables, as often as they are drawn.
@@ -20,6 +22,13 @@ const EVENTS: usize = 8;
 const EDITED: u64 = 20;
 
 const KEPT_UP: u64 = 4;
+
+/// One list of so many begins so many numbers before the last one, and they come again.
+const NEAR_THE_END: u64 = 8;
+
+const NUMBERS: u32 = 12;
+
+const AGAIN: &[u8] = b"limit reuses-numbers 1\n";
 
 /// The beginning of a line of a message: its connection, and sixteen bytes as digits.
 type Source = [u8; 35];
@@ -120,6 +129,22 @@ struct Beside {
     upkeep: bool,
 }
 
+/// Whether numbers come again in a list.
+pub(crate) fn is_near_the_end(seed: u64) -> bool {
+    seed % NEAR_THE_END == 3
+}
+
+/// The first number that is given out in a list.
+pub(crate) fn first_number(seed: u64) -> u32
+    ensures { (0 < result) × (result ≤ LAST_FIRST) }
+{
+    if is_near_the_end(seed) {
+        LAST_FIRST - NUMBERS + 1
+    } else {
+        1
+    }
+}
+
 /// Draws a list, and gives it to the engine. Says with which status that ends.
 pub(crate) fn draw(
     alloc: Global,
@@ -132,16 +157,20 @@ pub(crate) fn draw(
         edits: seed % EDITED == 0,
         upkeep: seed % KEPT_UP == 1,
     };
+    let first = first_number(seed);
+    if is_near_the_end(seed) {
+        script.extend_from_slice(AGAIN)?;
+    }
     fill(&mut chance, BEGINNING, &NOWHERE, script)?;
     for _ in 0..PARTS {
         printed.clear();
-        replay(alloc, script.as_slice(), printed);
+        replay_from(alloc, first, script.as_slice(), printed);
         for _ in 0..EVENTS {
             add_event(&mut chance, beside, script, printed)?;
         }
     }
     printed.clear();
-    Ok(replay(alloc, script.as_slice(), printed))
+    Ok(replay_from(alloc, first, script.as_slice(), printed))
 }
 
 /// Adds an event to a list, of which this was printed.

@@ -99,6 +99,8 @@ s? 0012|client s$d 000c000000000000$q$p$/client s$d 00040008$W$K$q00000000$V$V$/
 |limit $O $y
 |limit update-bytes $w
 |limit update-bytes 18446744073709551615
+|limit messages 9
+|limit messages 16384
 |age
 |age
 |age$/age

@@ -143,6 +143,8 @@ limit reads 1
 > Ok(Limit(Reads(1)))
 limit writes 18446744073709551615
 > Ok(Limit(Writes(18446744073709551615)))
+limit messages 4294967295
+> Ok(Limit(Messages(4294967295)))
 limit update-bytes 18446744073709551615
 > Ok(Limit(UpdateBytes(18446744073709551615)))
 limit makes-room 1
@@ -185,6 +187,7 @@ limit update_bytes 1
 limit sessions -1
 limit sessions +1
 limit sessions 18446744073709551616
+limit messages 4294967296
 limit update-bytes 18446744073709551616
 limit makes-room
 limit makes-room 2

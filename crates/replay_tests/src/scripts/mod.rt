@@ -1,9 +1,10 @@
 //! Tests of scripts: which lines there are, what is printed, and how a replay ends where a stream fails.
 //!
 //! Lines are told as tables of lines (`lines`), streams as tables of streams (`streams`), and used up
-//! numbers as stories of gateways that have few (`used_up`). Worked runs are in
+//! numbers, and those that come again, as stories of gateways that have few (`used_up`, `again`). Worked runs are in
 //! `stories`.
 
+mod again;
 mod engine;
 mod lines;
 mod output;

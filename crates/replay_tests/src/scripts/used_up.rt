@@ -144,7 +144,7 @@ fn ended(alloc: Global, script: &[u8], out: &mut Vec<u8>) -> Option<u8> {
 }
 
 /// Asserts that a story comes out as it is told, and ends with this status.
-fn ends(rt: &impl Abort, alloc: Global, story: &str, status: u8) {
+pub(crate) fn ends(rt: &impl Abort, alloc: Global, story: &str, status: u8) {
     let mut script = Vec::new(alloc);
     let mut printed = Vec::new(alloc);
     let mut out = Vec::new(alloc);
@@ -155,7 +155,7 @@ fn ends(rt: &impl Abort, alloc: Global, story: &str, status: u8) {
 }
 
 /// The same with the status of a gateway that failed.
-fn fails(rt: &impl Abort, alloc: Global, story: &str) {
+pub(crate) fn fails(rt: &impl Abort, alloc: Global, story: &str) {
     ends(rt, alloc, story, 4);
 }
 

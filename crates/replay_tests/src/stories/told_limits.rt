@@ -252,6 +252,35 @@ limit update-bytes 1
     )
 }
 
+// Three messages may wait for each client, and as many as ever for a server: the fourth ends the client. What waits already
+// stays, where fewer may wait from now on.
+#[test]
+fn as_many_messages_wait_as_is_said(rt: HostRuntime) -> Result<(), Fail> {
+    tells(
+        &rt,
+        rt.alloc(),
+        b"@served
+open s2 h
+> s2 000000000000000d0000000000000000
+limit messages 3
+hold s1
+hold s2
+hold u1
+client s1 [3 from 0:00170000000000000000000000000000]
+client s2 [2 from 0:00170000000000000000000000000000]
+server u1 [4 from 0:00120000000500010000000900000070]
+limit messages 2
+client s1 00170000000000000000000000000000
+> end s1
+client s2 00170000000000000000000000000000
+> end s2
+limit messages 0
+open s3 h
+> end s3
+",
+    )
+}
+
 // Each subscription is told so, with no value, as its channel may be read no longer; a new one at once. Once more where
 // the channel could be read in between. None is unless that is said.
 #[test]

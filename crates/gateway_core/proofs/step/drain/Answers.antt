@@ -2,8 +2,8 @@ use Rattle.std.proofs.Common.{sym, ap, subst, ◌∙◌}
 use Rattle.std.proofs.lemmas.Result.{err_from_is_err_and}
 use Rattle.gateway_state.specs.declared.event.Event.TheVariants.{Drain}
 use Rattle.gateway_state.specs.Numbers.{is_past_numbers}
-use Rattle.gateway_state.specs.Settled.{AreInOrder}
-use Rattle.gateway_state.proofs.OrderKept.{order_after_effect}
+use Rattle.gateway_state.specs.Settled.{AreNumbersApart}
+use Rattle.gateway_state.proofs.NumbersKept.{numbers_after_effect}
 use Rattle.touched_rows.specs.Touches.{follows, with_touched}
 use Rattle.touched_rows.proofs.KeptLate.{drain_keeps_none}
 use Rattle.touched_rows.proofs.NoneFound.{none_found_drained}
@@ -34,12 +34,12 @@ returns-clause-ok c =
     ∙ (λ i. follows (same i) (c.in_ok-outs.ensures.ok i))
     ∙ sym (step_alone c.args.rows.now.state (Drain c.args.dest c.args.count) c.requires.reached)
 
--- numbers are in order after a drain, and clients know their rights
+-- numbers are apart after a drain, and clients know their rights
 pub follow-requires : goal.follow-requires
 follow-requires c =
     let same = c.alone-effect.ensures.touched ∙ c.drain_touches.ensures in
     record {
-      order = subst AreInOrder (sym c.in_ok-outs.ensures.ok) (order_after_effect c.args.rows.now.state (Drain c.args.dest c.args.count) c.requires.reached);
+      order = subst AreNumbersApart (sym c.in_ok-outs.ensures.ok) (numbers_after_effect c.args.rows.now.state (Drain c.args.dest c.args.count) c.requires.reached);
       told = ready_as c.args.rows.now.state (Drain c.args.dest c.args.count) c.requires.reached _ _ same c.in_ok-outs.ensures.ok;
       found = none_found_drained c.take.new.self.state c.alone-effect.result.subs.items c.alone-effect.result.touched c.args.rows.now.state c.args.dest same;
       own = c.requires.own ∙ sym c.in_ok-outs.ensures.brand;

@@ -1,6 +1,6 @@
 use Rattle.std.proofs.Common.{sym, subst, ◌∙◌}
-use Rattle.gateway_state.specs.Settled.{AreInOrder}
-use Rattle.gateway_state.proofs.OrderKept.{order_after_effect}
+use Rattle.gateway_state.specs.Settled.{AreNumbersApart}
+use Rattle.gateway_state.proofs.NumbersKept.{numbers_after_effect}
 use Rattle.touched_rows.proofs.Ready.{ready_as}
 use Rattle.gateway_core.proofs.BeforeReads.{order_without, ready_without}
 use Rattle.gateway_core.proofs.ReadyStates.{reached_is_ready}
@@ -10,12 +10,12 @@ use Rattle.gateway_core.proofs.step.step.Goals as goal
 pub perform-requires : goal.perform-requires
 perform-requires c = record { ready = reached_is_ready c.args.rows.now.state c.requires.reached; own = c.requires.own }
 
--- numbers are in order after an event's direct effect, and clients know their rights
+-- numbers are apart after an event's direct effect, and clients know their rights
 pub follow-requires : goal.follow-requires
 follow-requires c = record {
   order =
       order_without c.in_ok-effect.effect.touched c.perform.new.rows.state
-      (subst AreInOrder (sym c.in_ok-effect.ensures.ok) (order_after_effect c.args.rows.now.state c.args.event c.requires.reached));
+      (subst AreNumbersApart (sym c.in_ok-effect.ensures.ok) (numbers_after_effect c.args.rows.now.state c.args.event c.requires.reached));
   told =
       ready_without c.in_ok-effect.effect.touched c.perform.new.rows.state
       (ready_as c.args.rows.now.state c.args.event c.requires.reached _ _ c.in_ok-effect.ensures.touched c.in_ok-effect.ensures.ok);

@@ -1,22 +1,22 @@
 use Rattle.std.proofs.Common.{sym, ap, subst, ◌∙◌}
-use Rattle.gateway_state.specs.Settled.{AreInOrder}
+use Rattle.gateway_state.specs.Settled.{AreNumbersApart}
 use Rattle.gateway_state.specs.Told.{KnowRights}
 use Rattle.touched_rows.specs.Touched.{updates_withheld_on}
 use Rattle.touched_rows.proofs.Ready.{order_before_link, told_after_link, told_after_withheld}
 use Rattle.gateway_notices.proofs.consequences.follow_variable.Goals as goal
 
--- the passes before leave numbers in order
+-- the passes before leave numbers apart
 pub tell_link_on-requires-clause-order : goal.tell_link_on-requires-clause-order
 tell_link_on-requires-clause-order c =
     let before = c.in_ok-withhold_updates_on.ensures.ok ∙ ap (updates_withheld_on c.args.name.now) c.in_ok-tell_channels_on.ensures.ok in
-    subst AreInOrder (sym before) (order_before_link c.args.name.now c.args.rows.now.state c.requires.order)
+    subst AreNumbersApart (sym before) (order_before_link c.args.name.now c.args.rows.now.state c.requires.order)
 
 -- and clients know their rights from the pass over channels on
 pub tell_value-requires-clause-told : goal.tell_value-requires-clause-told
 tell_value-requires-clause-told c =
     let name = c.args.name.now in
     let before = c.in_ok-withhold_updates_on.ensures.ok ∙ ap (updates_withheld_on name) c.in_ok-tell_channels_on.ensures.ok in
-    let order = subst AreInOrder (sym before) (order_before_link name c.args.rows.now.state c.requires.order) in
+    let order = subst AreNumbersApart (sym before) (order_before_link name c.args.rows.now.state c.requires.order) in
     let first = subst KnowRights (sym c.in_ok-tell_channels_on.ensures.ok) c.requires.told in
     let held = subst KnowRights (sym c.in_ok-withhold_updates_on.ensures.ok) (told_after_withheld name _ first) in
     subst KnowRights (sym c.in_ok-tell_link_on.ensures.ok) (told_after_link name _ order held)

@@ -1,16 +1,20 @@
-use Rattle.std.proofs.Common.{◌==◌, map, ap, ◌∙◌, rules}
-use Rattle.std.specs.List.Sorted.{IsNonDecreasingBy}
-use Rattle.std.proofs.lemmas.Fn.{dedup_same}
-use Rattle.std.proofs.lemmas.List.Sorted.{IsNonDecreasingBy-from_sort_by_key}
-use Rattle.gateway_notices.proofs.ChannelsByName.{channels_by_name}
+use Rattle.std.proofs.Common.{◌≡◌, map, ap, ◌∙◌}
+use Rattle.std.specs.Prelude.{filter}
+use Rattle.std.proofs.lemmas.Result.{IfOk-weaker}
+use Rattle.channel_table.specs.Channels.{is_on_any}
+use Rattle.gateway_rows.specs.BrandedState.{BrandedState}
+use Rattle.touched_rows.specs.Touched.{is_channel_among}
 use Rattle.gateway_notices.proofs.gone.channels_among.Goals as goal
 
--- sorted by their SIDs, and each SID once
+-- the table's channels on these names
 pub returns-clause-found : goal.returns-clause-found
 returns-clause-found c =
-    let up : IsNonDecreasingBy (λ x. x.now.sid) c.sort_unstable_by_key.new.self.items =
-    IsNonDecreasingBy-from_sort_by_key (λ x. x.now.sid) _ c.sort_unstable_by_key.ensures.sorted (λ a r q k. search rules) in
-    let kept = dedup_same _ (λ x y. x.now.sid == y.now.sid) _ (λ x y b f' x' y' k. search rules) _ _ c.dedup_by_key.ensures.filtered in
-    ap (map (λ channel. channel.now)) kept
-    ∙ channels_by_name c.args.rows.now.state c.requires.order (λ channel. channel.now) c.args.names.now c.in_ok-channels.channels.items c.sort_unstable_by_key.new.self.items
-    c.in_ok-channels.ensures.found c.sort_unstable_by_key.ensures.permutation up
+    let names = c.args.names.now in
+    let channels = c.rows.inside.clients.rows.channels in
+    IfOk-weaker c.channels_on_any.result
+    (λ found. map (λ channel. channel.now) found.items ≡ filter (is_on_any c.as_slice.result.now) channels)
+    (λ found. map (λ channel. channel.now) found.items ≡ filter (is_channel_among names) c.args.rows.now.state.clients.channels)
+    (λ found is.
+    is ∙ ap (λ asked. filter (is_on_any asked) channels) c.as_slice.ensures
+    ∙ ap (λ (s : BrandedState). filter (is_channel_among names) s.state.clients.channels) c.rows.view_is)
+    c.channels_on_any.ensures.found

@@ -1,16 +1,20 @@
-use Rattle.std.proofs.Common.{◌==◌, map, ap, ◌∙◌, rules}
-use Rattle.std.specs.List.Sorted.{IsNonDecreasingBy}
-use Rattle.std.proofs.lemmas.Fn.{dedup_same}
-use Rattle.std.proofs.lemmas.List.Sorted.{IsNonDecreasingBy-from_sort_by_key}
-use Rattle.gateway_notices.proofs.LinksByName.{links_by_name}
+use Rattle.std.proofs.Common.{◌≡◌, map, ap, ◌∙◌}
+use Rattle.std.specs.Prelude.{filter}
+use Rattle.std.proofs.lemmas.Result.{IfOk-weaker}
+use Rattle.link_table.specs.Links.{is_named_any}
+use Rattle.gateway_rows.specs.BrandedState.{BrandedState}
+use Rattle.touched_rows.specs.Touched.{is_link_among}
 use Rattle.gateway_notices.proofs.links.links_among.Goals as goal
 
--- sorted by their CIDs, and each CID once
+-- the table's links for these names
 pub returns : goal.returns
 returns c =
-    let up : IsNonDecreasingBy (λ x. x.now.cid) c.sort_unstable_by_key.new.self.items =
-    IsNonDecreasingBy-from_sort_by_key (λ x. x.now.cid) _ c.sort_unstable_by_key.ensures.sorted (λ a r q k. search rules) in
-    let kept = dedup_same _ (λ x y. x.now.cid == y.now.cid) _ (λ x y b f' x' y' k. search rules) _ _ c.dedup_by_key.ensures.filtered in
-    ap (map (λ link. link.now)) kept
-    ∙ links_by_name c.args.rows.now.state c.requires.order c.requires.apart (λ link. link.now) c.args.names.now c.in_ok-links.links.items c.sort_unstable_by_key.new.self.items
-    c.in_ok-links.ensures c.sort_unstable_by_key.ensures.permutation up
+    let names = c.args.names.now in
+    let links = c.rows.inside.upstream.links in
+    IfOk-weaker c.links_named.result
+    (λ found. map (λ link. link.now) found.items ≡ filter (is_named_any c.as_slice.result.now) links)
+    (λ found. map (λ link. link.now) found.items ≡ filter (is_link_among names) c.args.rows.now.state.upstream.links)
+    (λ found is.
+    is ∙ ap (λ asked. filter (is_named_any asked) links) c.as_slice.ensures
+    ∙ ap (λ (s : BrandedState). filter (is_link_among names) s.state.upstream.links) c.rows.view_is)
+    c.links_named.ensures

@@ -1,8 +1,8 @@
 use Rattle.std.proofs.Common.{sym, subst, arith, ◌∙◌}
 use Rattle.std.proofs.lemmas.Result.{err_from_is_err_and}
-use Rattle.gateway_state.specs.Settled.{AreInOrder}
+use Rattle.gateway_state.specs.Settled.{AreNumbersApart}
 use Rattle.gateway_state.proofs.NumberLemmas.{notices_told_past_at}
-use Rattle.gateway_state.proofs.OrderKept.{order_told}
+use Rattle.gateway_state.proofs.NumbersKept.{numbers_told}
 use Rattle.gateway_state.specs.Notices.{link_told}
 use Rattle.gateway_notices.proofs.NextNotice.{told_next}
 use Rattle.gateway_notices.proofs.links.tell_each.Goals as goal
@@ -16,10 +16,10 @@ returns-in_err-tell_link-clause-used_up c = λ e.
     let was = c.in_err-tell_link.was in
     notices_told_past_at c.loop-notice.rows.state _ _ c.loop-notice.notice-index _ (omega (arith, c.loop-notice-test.true)) c.loop-notice.invariant.rest (c.tell_link.ensures.used_up cc)
 
--- a notice that is told leaves numbers in order
+-- a notice that is told leaves numbers apart
 pub loop-notice-preserved : goal.loop-notice-preserved
 loop-notice-preserved c = record {
-  order = subst AreInOrder (sym c.in_ok-tell_link.ensures.ok) (order_told c.loop-notice.rows.state _ c.loop-notice.invariant.order);
+  order = subst AreNumbersApart (sym c.in_ok-tell_link.ensures.ok) (numbers_told c.loop-notice.rows.state _ c.loop-notice.invariant.order);
   rest = told_next link_told c.tell_link.new.rows.state c.loop-notice.rows.state _ c.args.notices.now c.loop-notice.notice-index _ (omega (arith, c.loop-notice-test.true)) c.in_ok-tell_link.ensures.ok c.loop-notice.invariant.rest;
   brand = c.in_ok-tell_link.ensures.brand ∙ c.loop-notice.invariant.brand;
 }

@@ -1,5 +1,5 @@
 use Rattle.std.proofs.Common.{◌≡◌, ◌≤◌, ◌++◌, filter, map}
-use Rattle.gateway_notices.specs.InTurn.{is_owed}
+use Rattle.gateway_rows.specs.Own.{is_owed}
 use Rattle.gateway_notices.proofs.updates.owed.Given as goal
 
 -- those found so far and those among the subscriptions that are left are all
