@@ -1,7 +1,9 @@
 mod BudgetLemmas
+mod HeadLemmas
 mod InAllLemmas
 mod LimitLemmas
 mod LogQueueLemmas
 mod NumberLemmas
 mod RhythmLemmas
+mod VersionLemmas
 mod VigilLemmas

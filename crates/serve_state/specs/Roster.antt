@@ -1,18 +1,19 @@
 -- The rows of connections.
 use Rattle.std.specs.Prelude.{◌≡◌, ℕ, ◌-◌, ◌==◌, ◌≤◌, ◌<◌, List, [], ◌∷◌, ◌++◌, length, filter, Bool, true, false, Option, Some, None}
-use Rattle.std.specs.List.{list_any}
+use Rattle.std.specs.List.{find, list_any}
 use Rattle.std.specs.Option.{option_or}
 use Rattle.rows.specs.Rows.{change_first, remove_first}
 use Rattle.gateway_state.specs.Connections.{same_dest}
 use Rattle.gateway_state.specs.declared.event.Dest.{Dest}
-use Rattle.gateway_state.specs.declared.event.Dest.TheVariants.{Session}
+use Rattle.gateway_state.specs.declared.event.Dest.TheVariants.{Session, Upstream}
 use Rattle.serve_state.specs.declared.notice.Cut.{Cut}
 use Rattle.serve_state.specs.declared.notice.Cut.TheVariants.{TooSlow}
 
--- a connection: how many of its workers have not ended, whether it was made and waits for them, why it is
+-- a connection: whether it has its socket, how many of its workers have not ended, whether it was made and waits for them, why it is
 -- cut off, and the number of the host as one of whose clients it was admitted
 pub record RowState : Type 0 where
   pub dest : Dest
+  pub link : Bool
   pub workers : ℕ
   pub reached : Bool
   pub cut : Option Cut
@@ -32,19 +33,28 @@ is_row dest row = same_dest row.dest dest
 abbrev pub holds : Dest → List RowState → Bool
 holds dest rows = list_any (is_row dest) rows
 
+-- a client's connection comes with its socket; one to a server gets it once it is made
+abbrev pub comes_made : Dest → Bool
+comes_made (Session n) = true
+comes_made (Upstream n) = false
+
 -- a connection has two workers
 abbrev pub new_row : Dest → RowState
-new_row dest = record { dest = dest; workers = 2; reached = false; cut = None; host = None }
+new_row dest = record { dest = dest; link = comes_made dest; workers = 2; reached = false; cut = None; host = None }
 
 -- the same of a client that is admitted as one of a host's
 abbrev pub row_of : Option ℕ → Dest → RowState
 row_of host dest = record (new_row dest) { host = host }
 
+-- a row comes last
+abbrev pub with_new : RowState → RosterState → RosterState
+with_new row roster = record roster { rows = roster.rows ++ row ∷ [] }
+
 abbrev pub with_row : Dest → RosterState → RosterState
-with_row dest roster = record roster { rows = roster.rows ++ new_row dest ∷ [] }
+with_row dest roster = with_new (new_row dest) roster
 
 abbrev pub with_row_of : Option ℕ → Dest → RosterState → RosterState
-with_row_of host dest roster = record roster { rows = roster.rows ++ row_of host dest ∷ [] }
+with_row_of host dest roster = with_new (row_of host dest) roster
 
 abbrev pub has_host : ℕ → Option ℕ → Bool
 has_host host (Some own) = own == host
@@ -83,8 +93,9 @@ with_cut why row = record row { cut = cut_after row.cut why }
 abbrev pub with_left : RowState → RowState
 with_left row = record row { workers = row.workers - 1 }
 
+-- it was made, and has its socket from now on
 abbrev pub with_reached : RowState → RowState
-with_reached row = record row { reached = true }
+with_reached row = record row { link = true; reached = true }
 
 abbrev pub with_served : RowState → RowState
 with_served row = record row { reached = false }
@@ -101,3 +112,11 @@ is_reached row = row.reached
 
 abbrev pub has_ended : RowState → Bool
 has_ended row = row.workers == 0
+
+-- of a connection that there is, the worker that ends is the last one
+abbrev pub ends_with : Option RowState → Bool
+ends_with None = false
+ends_with (Some row) = has_ended (with_left row)
+
+abbrev pub is_last : Dest → List RowState → Bool
+is_last dest rows = ends_with (find (is_row dest) rows)

@@ -1,5 +1,5 @@
 //! What is read of a file.
-ghost use Rattle.std.specs.Prelude.{◌≡◌};
+ghost use Rattle.std.specs.Prelude.{◌≡◌, string_bytes};
 ghost use Rattle.serve_state.specs.FileText.{same_text};
 
 use std::marker::Model;
@@ -23,11 +23,15 @@ impl Model for FileText {
 
 impl FileText {
     /// The text of a file that was last written so many nanoseconds after some moment.
-    pub fn new(text: String, stamp: u128) -> FileText {
+    pub fn new(text: String, stamp: u128) -> FileText
+        ensures { result ≡ record { text = string_bytes text; stamp = stamp } }
+    {
         FileText { text, stamp }
     }
 
-    pub fn into_text(self) -> String {
+    pub fn into_text(self) -> String
+        ensures { string_bytes result ≡ self.text }
+    {
         let FileText { text, stamp: _ } = self;
         text
     }

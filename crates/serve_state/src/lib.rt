@@ -74,7 +74,7 @@ pub use roster::{Refusal, Roster, Row};
 pub use scale::{CLIENTS, MOST_CLIENTS, MOST_NAMES, MOST_SERVERS, SERVERS, Scale, read_up_to};
 pub use spare::{OTHERS, is_kept_back};
 pub use steady::{READINGS, Reading, Steady};
-pub use versions::Versions;
+pub use versions::{Versions, versions_are_heard_by_headers};
 pub use vigil::{
     Counts, Patience, Verdict, Vigil, vigils_ask_before_they_cut, vigils_go_by_silence,
     vigils_spare_who_speaks,

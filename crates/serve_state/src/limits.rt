@@ -1,5 +1,6 @@
 //! Which limits were met, and when that is told.
 ghost use Rattle.std.specs.Prelude.{◌≡◌, ◌+◌, ◌≤◌, ℕ, List, length};
+ghost use Rattle.serve_state.specs.LimitText.{key_of};
 ghost use Rattle.serve_state.specs.Limits.{WatchState, told_now, after_look, after_looks, told_in, IsSilentFor, IsToldOnce, met_of, most_under, unwatched, used_of};
 
 use gateway_state::{Fullest, Limits, LimitsMet, RowCounts};
@@ -100,7 +101,9 @@ impl Limit {
     }
 
     /// What it is called in what the gateway tells of itself.
-    pub fn key(self) -> &'static str {
+    pub fn key(self) -> &'static str
+        ensures { result.now ≡ key_of self }
+    {
         match self {
             Limit::Names => "names_remembered",
             Limit::Channels => "channels_of_a_client",
@@ -123,6 +126,11 @@ pub struct Bound {
 }
 
 impl fmt::Display for Bound {
+    ghost use Rattle.std.specs.Prelude.{Some};
+    ghost use Rattle.serve_state.specs.LimitText.{bound_text};
+
+    ghost output = { λ bound. Some (bound_text bound) };
+
     fn fmt<W: fmt::Write>(&self, f: &mut fmt::Formatter<W>) -> fmt::Result {
         let most = self.most;
         match self.limit {
@@ -161,6 +169,7 @@ pub struct LimitWatch {
 }
 
 impl Model for LimitWatch {
+    ghost use Rattle.serve_state.specs.LimitText.{key_of};
     ghost use Rattle.serve_state.specs.Limits.{WatchState};
 
     ghost Value = { WatchState };

@@ -1,5 +1,5 @@
 //! The lines of the log that wait to be written.
-ghost use Rattle.std.specs.Prelude.{◌≡◌, ◌↔◌, [], OnOk, OnErr, IsErrOf, false, true, replicate, length};
+ghost use Rattle.std.specs.Prelude.{◌≡◌, ◌↔◌, [], OnOk, OnErr, IsErrOf, false, true, replicate, length, string_bytes};
 ghost use Rattle.serve_state.specs.LogQueue.{LogState, is_over, has_room, with_line, with_drop, next_told, after_next, is_idle, after_second};
 
 use std::alloc::Global;
@@ -33,7 +33,9 @@ impl Model for LogLine {
 }
 
 impl LogLine {
-    pub fn new(text: String) -> LogLine {
+    pub fn new(text: String) -> LogLine
+        ensures { result ≡ string_bytes text }
+    {
         LogLine { text }
     }
 

@@ -1,6 +1,7 @@
 //! What is logged.
 ghost use Rattle.std.specs.Prelude.{◌≡◌};
 ghost use Rattle.serve_state.specs.Levels.{kind_of, level_of};
+ghost use Rattle.serve_state.specs.NoticeText.{file_cause_text};
 
 use crate::limits::Bound;
 use log::Level;
@@ -33,33 +34,36 @@ pub enum Cut {
 }
 
 impl fmt::Display for Cut {
+    ghost use Rattle.std.specs.Prelude.{Some};
+    ghost use Rattle.serve_state.specs.NoticeText.{cut_text};
+
+    ghost output = { λ why. Some (cut_text why) };
+
     fn fmt<W: fmt::Write>(&self, f: &mut fmt::Formatter<W>) -> fmt::Result {
-        let why = match self {
-            Cut::Misaligned =>
+        match self {
+            Cut::Misaligned => f.write_str(
                 "it sent bytes that are no message (a length that is no multiple of 8)",
-            Cut::TooLarge => "it sent bytes that are no message (a length over 16777216)",
-            Cut::TooOld => "its protocol version is below 9",
-            Cut::TooSlow => "16384 messages waited for it",
-            Cut::TooMuch(mib) => return write!(f, "more than {mib} MiB waited for it"),
-            Cut::TooMuchInAll(bytes, mib) => {
-                return write!(
-                    f,
-                    "{bytes} bytes waited for it, and more than {mib} MiB for all clients"
-                );
-            }
-            Cut::Unanswering(seconds) => {
-                return write!(
-                    f,
-                    "it said nothing for {seconds} s, and nothing when it was asked"
-                );
-            }
-            Cut::Silent(seconds) => {
-                return write!(f, "nothing came from it or went to it for {seconds} s");
-            }
-            Cut::Replaced => "it said nothing when it was asked, and is connected to again",
-            Cut::OutOfMemory => "out of memory",
-        };
-        f.write_str(why)
+            ),
+            Cut::TooLarge => f.write_str(
+                "it sent bytes that are no message (a length over 16777216)",
+            ),
+            Cut::TooOld => f.write_str("its protocol version is below 9"),
+            Cut::TooSlow => f.write_str("16384 messages waited for it"),
+            Cut::TooMuch(mib) => write!(f, "more than {mib} MiB waited for it"),
+            Cut::TooMuchInAll(bytes, mib) => write!(
+                f,
+                "{bytes} bytes waited for it, and more than {mib} MiB for all clients"
+            ),
+            Cut::Unanswering(seconds) => write!(
+                f,
+                "it said nothing for {seconds} s, and nothing when it was asked"
+            ),
+            Cut::Silent(seconds) => write!(f, "nothing came from it or went to it for {seconds} s"),
+            Cut::Replaced => f.write_str(
+                "it said nothing when it was asked, and is connected to again",
+            ),
+            Cut::OutOfMemory => f.write_str("out of memory"),
+        }
     }
 }
 
@@ -76,7 +80,9 @@ pub enum FileCause {
 
 impl FileCause {
     /// What is said of the file.
-    pub fn words(&self) -> &'static str {
+    pub fn words(&self) -> &'static str
+        ensures { result.now ≡ file_cause_text self.now }
+    {
         match self {
             FileCause::NoFile => "is no regular file",
             FileCause::TooLarge => "has more than 16777216 bytes",
@@ -87,6 +93,11 @@ impl FileCause {
 }
 
 impl fmt::Display for FileCause {
+    ghost use Rattle.std.specs.Prelude.{Some};
+    ghost use Rattle.serve_state.specs.NoticeText.{file_cause_text};
+
+    ghost output = { λ cause. Some (file_cause_text cause) };
+
     fn fmt<W: fmt::Write>(&self, f: &mut fmt::Formatter<W>) -> fmt::Result {
         f.write_str(self.words())
     }
@@ -224,6 +235,11 @@ impl<'a> Notice<'a> {
 }
 
 impl<'a> fmt::Display for Notice<'a> {
+    ghost use Rattle.std.specs.Prelude.{Some};
+    ghost use Rattle.serve_state.specs.NoticeText.{notice_text};
+
+    ghost output = { λ notice. Some (notice_text notice) };
+
     fn fmt<W: fmt::Write>(&self, f: &mut fmt::Formatter<W>) -> fmt::Result {
         match self {
             Notice::RulesRead(rows) => write!(f, "rules read: {rows} rows"),
@@ -235,8 +251,13 @@ impl<'a> fmt::Display for Notice<'a> {
             ),
             Notice::FileUnread(path) => write!(f, "rules refused: {path} can't be read"),
             Notice::FileRefused(path, cause) => write!(f, "rules refused: {path} {cause}"),
-            Notice::LimitMet(limit, 1) => write!(f, "limit met: {limit}"),
-            Notice::LimitMet(limit, times) => write!(f, "limit met {times} times: {limit}"),
+            Notice::LimitMet(limit, times) => {
+                let met = Met {
+                    limit: *limit,
+                    times: *times,
+                };
+                write!(f, "{met}")
+            }
             Notice::LinesDropped(lines) => write!(f, "{lines} lines dropped"),
             Notice::Reloaded => f.write_str("reload: the new rules hold"),
             Notice::ReportsAt(address) => write!(f, "status at {address}"),
@@ -307,6 +328,29 @@ impl<'a> fmt::Display for Notice<'a> {
             Notice::OutOfMemory => f.write_str("out of memory"),
             Notice::Failed => f.write_str("the gateway ran out of memory or numbers, and ends"),
             Notice::Closing => f.write_str("closing"),
+        }
+    }
+}
+
+/// A limit was met so often.
+#[derive(Clone, Copy)]
+struct Met {
+    limit: Bound,
+    times: u64,
+}
+
+impl fmt::Display for Met {
+    ghost use Rattle.std.specs.Prelude.{Some};
+    ghost use Rattle.serve_state.specs.NoticeText.{met_times};
+
+    ghost output = { λ met. Some (met_times met.limit met.times) };
+
+    fn fmt<W: fmt::Write>(&self, f: &mut fmt::Formatter<W>) -> fmt::Result {
+        let Met { limit, times } = *self;
+        if times == 1 {
+            write!(f, "limit met: {limit}")
+        } else {
+            write!(f, "limit met {times} times: {limit}")
         }
     }
 }

@@ -1,4 +1,7 @@
 //! What the gateway tells of itself.
+ghost use Rattle.std.specs.Prelude.{◌≡◌, ◌++◌, codes, IfOk, string_bytes};
+ghost use Rattle.serve_state.specs.ReportText.{report_text};
+
 use crate::in_all::MostInAll;
 use crate::limits::Limit;
 use gateway_state::{Fullest, Limits, LimitsMet, RowCounts};
@@ -16,6 +19,12 @@ pub struct ServerReport {
 }
 
 impl fmt::Display for ServerReport {
+    ghost use Rattle.std.specs.Prelude.{Some};
+    ghost use Rattle.serve_state.specs.ReportText.{server_text};
+
+    ghost output = { λ server. Some (server_text server) };
+
+    #[tactic(auto, unfolding(crate::specs::ReportText::server_text))]
     fn fmt<W: fmt::Write>(&self, f: &mut fmt::Formatter<W>) -> fmt::Result {
         let ServerReport {
             number,
@@ -40,12 +49,48 @@ pub struct InAllReport {
 }
 
 impl fmt::Display for InAllReport {
+    ghost use Rattle.std.specs.Prelude.{Some};
+    ghost use Rattle.serve_state.specs.ReportText.{in_all_text};
+
+    ghost output = { λ in_all. Some (in_all_text in_all) };
+
     fn fmt<W: fmt::Write>(&self, f: &mut fmt::Formatter<W>) -> fmt::Result {
-        let InAllReport { most, bytes, cut } = self;
-        let most = most.bytes();
+        let used = Use {
+            key: "bytes_of_all_clients",
+            used: self.bytes,
+            most: self.most.bytes(),
+            met: self.cut,
+        };
+        write!(f, "{used}")
+    }
+}
+
+/// How much is used of something, how much there may be, and how often that was met.
+#[derive(Clone, Copy)]
+struct Use<'a> {
+    key: &'a str,
+    used: u64,
+    most: u64,
+    met: u64,
+}
+
+impl<'a> fmt::Display for Use<'a> {
+    ghost use Rattle.std.specs.Prelude.{Some};
+    ghost use Rattle.serve_state.specs.ReportText.{use_text};
+
+    ghost output = { λ u. Some (use_text u.key.now u.used u.most u.met) };
+
+    #[tactic(auto, unfolding(crate::specs::ReportText::use_text))]
+    fn fmt<W: fmt::Write>(&self, f: &mut fmt::Formatter<W>) -> fmt::Result {
+        let Use {
+            key,
+            used,
+            most,
+            met,
+        } = self;
         write!(
             f,
-            "\"bytes_of_all_clients\":{{\"used\":{bytes},\"most\":{most},\"met\":{cut}}}"
+            "\"{key}\":{{\"used\":{used},\"most\":{most},\"met\":{met}}}"
         )
     }
 }
@@ -81,7 +126,9 @@ impl<'a> Report<'a> {
     /// # Errors
     ///
     /// Memory was refused.
-    pub fn line(&self, alloc: Global) -> Result<String, fmt::Error> {
+    pub fn line(&self, alloc: Global) -> Result<String, fmt::Error>
+        ensures { IfOk result (λ line. string_bytes line ≡ report_text self.now ++ codes "\n") }
+    {
         let mut line = String::new(alloc);
         writeln!(line, "{self}")?;
         Ok(line)
@@ -89,50 +136,285 @@ impl<'a> Report<'a> {
 }
 
 impl<'a> fmt::Display for Report<'a> {
+    ghost use Rattle.std.specs.Prelude.{Some};
+    ghost use Rattle.serve_state.specs.ReportText.{report_text};
+
+    ghost output = { λ report. Some (report_text report) };
+
+    #[tactic(auto, unfolding(crate::specs::ReportText::report_text))]
     fn fmt<W: fmt::Write>(&self, f: &mut fmt::Formatter<W>) -> fmt::Result {
-        write!(f, "{{\"clients\":{},\"upstreams\":[", self.rows.sessions)?;
-        let mut comma = "";
-        for server in self.servers {
-            write!(f, "{comma}{server}")?;
-            comma = ",";
+        let clients = Clients { report: self };
+        let rows = RowTotals { rows: &self.rows };
+        let waiting = WaitingTotals { rows: &self.rows };
+        let traffic = Traffic { report: self };
+        let limits = LimitsPart { report: self };
+        write!(f, "{{{clients},{rows},{waiting},{traffic},{limits}}}")
+    }
+}
+
+/// How many clients there are, and the servers.
+#[derive(Clone, Copy)]
+struct Clients<'a, 'b> {
+    report: &'b Report<'a>,
+}
+
+impl<'a, 'b> fmt::Display for Clients<'a, 'b> {
+    ghost use Rattle.std.specs.Prelude.{Some};
+    ghost use Rattle.serve_state.specs.ReportText.{clients_text};
+
+    ghost output = { λ c. Some (clients_text c.report.now) };
+
+    #[tactic(auto, unfolding(crate::specs::ReportText::clients_text))]
+    fn fmt<W: fmt::Write>(&self, f: &mut fmt::Formatter<W>) -> fmt::Result {
+        let clients = self.report.rows.sessions;
+        let servers = ServerList {
+            servers: self.report.servers,
+        };
+        write!(f, "\"clients\":{clients},\"upstreams\":[{servers}]")
+    }
+}
+
+/// The servers, with commas between them.
+#[derive(Clone, Copy)]
+struct ServerList<'a> {
+    servers: &'a [ServerReport],
+}
+
+impl<'a> fmt::Display for ServerList<'a> {
+    ghost use Rattle.std.specs.Prelude.{Some};
+    ghost use Rattle.serve_state.specs.ReportText.{server_text, with_commas};
+
+    ghost output = { λ list. Some (with_commas server_text list.servers.now) };
+
+    fn fmt<W: fmt::Write>(&self, f: &mut fmt::Formatter<W>) -> fmt::Result {
+        match self.servers {
+            [] => Ok(()),
+            [first, rest @ ..] => {
+                let others = OtherServers { servers: rest };
+                write!(f, "{first}{others}")
+            }
         }
+    }
+}
+
+/// Servers, each behind a comma.
+#[derive(Clone, Copy)]
+struct OtherServers<'a> {
+    servers: &'a [ServerReport],
+}
+
+impl<'a> fmt::Display for OtherServers<'a> {
+    ghost use Rattle.std.specs.Prelude.{Some};
+    ghost use Rattle.serve_state.specs.ReportText.{behind_commas, server_text};
+
+    ghost output = { λ list. Some (behind_commas server_text list.servers.now) };
+
+    fn fmt<W: fmt::Write>(&self, f: &mut fmt::Formatter<W>) -> fmt::Result {
+        for server in self.servers {
+            write!(f, ",{server}")?;
+        }
+        Ok(())
+    }
+}
+
+/// How much there is of what clients and servers have.
+#[derive(Clone, Copy)]
+struct RowTotals<'a> {
+    rows: &'a RowCounts,
+}
+
+impl<'a> fmt::Display for RowTotals<'a> {
+    ghost use Rattle.std.specs.Prelude.{Some};
+    ghost use Rattle.serve_state.specs.ReportText.{rows_text};
+
+    ghost output = { λ r. Some (rows_text r.rows.now) };
+
+    #[tactic(auto, unfolding(crate::specs::ReportText::rows_text))]
+    fn fmt<W: fmt::Write>(&self, f: &mut fmt::Formatter<W>) -> fmt::Result {
         let RowCounts {
             channels,
             links,
             subs,
-            reads,
-            writes,
-            searches,
-            sessions: _,
-            servers: _,
+            ..
         } = self.rows;
         write!(
             f,
-            "],\"channels\":{channels},\"links\":{links},\"subscriptions\":{subs}"
-        )?;
+            "\"channels\":{channels},\"links\":{links},\"subscriptions\":{subs}"
+        )
+    }
+}
+
+/// How much waits for an answer, or to be found.
+#[derive(Clone, Copy)]
+struct WaitingTotals<'a> {
+    rows: &'a RowCounts,
+}
+
+impl<'a> fmt::Display for WaitingTotals<'a> {
+    ghost use Rattle.std.specs.Prelude.{Some};
+    ghost use Rattle.serve_state.specs.ReportText.{waiting_text};
+
+    ghost output = { λ r. Some (waiting_text r.rows.now) };
+
+    #[tactic(auto, unfolding(crate::specs::ReportText::waiting_text))]
+    fn fmt<W: fmt::Write>(&self, f: &mut fmt::Formatter<W>) -> fmt::Result {
+        let RowCounts {
+            reads,
+            writes,
+            searches,
+            ..
+        } = self.rows;
         write!(
             f,
-            ",\"reads_waiting\":{reads},\"writes_waiting\":{writes},\"names_remembered\":{searches}"
-        )?;
+            "\"reads_waiting\":{reads},\"writes_waiting\":{writes},\"names_remembered\":{searches}"
+        )
+    }
+}
+
+/// What was done since the start, and the most bytes that wait.
+#[derive(Clone, Copy)]
+struct Traffic<'a, 'b> {
+    report: &'b Report<'a>,
+}
+
+impl<'a, 'b> fmt::Display for Traffic<'a, 'b> {
+    ghost use Rattle.std.specs.Prelude.{Some};
+    ghost use Rattle.serve_state.specs.ReportText.{traffic_text};
+
+    ghost output = { λ t. Some (traffic_text t.report.now) };
+
+    #[tactic(auto, unfolding(crate::specs::ReportText::traffic_text))]
+    fn fmt<W: fmt::Write>(&self, f: &mut fmt::Formatter<W>) -> fmt::Result {
+        let edits = self.report.edits;
+        let (received, sent) = (self.report.received, self.report.sent);
+        let largest = self.report.largest_outbox;
         write!(
             f,
-            ",\"edits\":{},\"messages_in\":{},\"messages_out\":{},\"largest_outbox_bytes\":{},\"limits\":{{",
-            self.edits, self.received, self.sent, self.largest_outbox
-        )?;
-        let mut comma = "";
-        for limit in &Limit::ALL {
-            let used = limit.used(&self.rows, &self.fullest);
-            let met = limit.met(&self.met, self.refused);
-            let (key, most) = (limit.key(), limit.most(&self.limits));
-            write!(
-                f,
-                "{comma}\"{key}\":{{\"used\":{used},\"most\":{most},\"met\":{met}}}"
-            )?;
-            comma = ",";
+            "\"edits\":{edits},\"messages_in\":{received},\"messages_out\":{sent},\"largest_outbox_bytes\":{largest}"
+        )
+    }
+}
+
+/// All limits, with commas between them.
+#[derive(Clone, Copy)]
+struct LimitList<'a, 'b> {
+    report: &'b Report<'a>,
+}
+
+impl<'a, 'b> fmt::Display for LimitList<'a, 'b> {
+    ghost use Rattle.std.specs.Prelude.{Some};
+    ghost use Rattle.serve_state.specs.ReportText.{limit_list};
+
+    ghost output = { λ list. Some (limit_list list.report.now) };
+
+    #[tactic(auto, unfolding(crate::specs::ReportText::limit_list))]
+    fn fmt<W: fmt::Write>(&self, f: &mut fmt::Formatter<W>) -> fmt::Result {
+        let report = self.report;
+        let [first, rest @ ..] = Limit::ALL.as_slice() else {
+            return Ok(());
+        };
+        let first = LimitUse {
+            report,
+            limit: *first,
+        };
+        let others = OtherLimits {
+            report,
+            limits: rest,
+        };
+        write!(f, "{first}{others}")
+    }
+}
+
+/// Limits, each behind a comma.
+#[derive(Clone, Copy)]
+struct OtherLimits<'a, 'b> {
+    report: &'b Report<'a>,
+    limits: &'b [Limit],
+}
+
+impl<'a, 'b> fmt::Display for OtherLimits<'a, 'b> {
+    ghost use Rattle.std.specs.Prelude.{Some};
+    ghost use Rattle.serve_state.specs.ReportText.{behind_commas, limit_text};
+
+    ghost output = { λ list. Some (behind_commas (limit_text list.report.now) list.limits.now) };
+
+    fn fmt<W: fmt::Write>(&self, f: &mut fmt::Formatter<W>) -> fmt::Result {
+        for limit in self.limits {
+            let used = LimitUse {
+                report: self.report,
+                limit: *limit,
+            };
+            write!(f, ",{used}")?;
         }
-        if let Some(in_all) = &self.in_all {
-            write!(f, ",{in_all}")?;
+        Ok(())
+    }
+}
+
+/// A limit, and how much of it is used.
+#[derive(Clone, Copy)]
+struct LimitUse<'a, 'b> {
+    report: &'b Report<'a>,
+    limit: Limit,
+}
+
+impl<'a, 'b> fmt::Display for LimitUse<'a, 'b> {
+    ghost use Rattle.std.specs.Prelude.{Some};
+    ghost use Rattle.serve_state.specs.ReportText.{limit_text};
+
+    ghost output = { λ u. Some (limit_text u.report.now u.limit) };
+
+    fn fmt<W: fmt::Write>(&self, f: &mut fmt::Formatter<W>) -> fmt::Result {
+        let report = self.report;
+        let used = Use {
+            key: self.limit.key(),
+            used: self.limit.used(&report.rows, &report.fullest),
+            most: self.limit.most(&report.limits),
+            met: self.limit.met(&report.met, report.refused),
+        };
+        write!(f, "{used}")
+    }
+}
+
+/// All limits, and what waits for all clients together, where that is told.
+#[derive(Clone, Copy)]
+struct LimitsPart<'a, 'b> {
+    report: &'b Report<'a>,
+}
+
+impl<'a, 'b> fmt::Display for LimitsPart<'a, 'b> {
+    ghost use Rattle.std.specs.Prelude.{Some};
+    ghost use Rattle.serve_state.specs.ReportText.{limits_text};
+
+    ghost output = { λ part. Some (limits_text part.report.now) };
+
+    #[tactic(auto, unfolding(crate::specs::ReportText::limits_text))]
+    fn fmt<W: fmt::Write>(&self, f: &mut fmt::Formatter<W>) -> fmt::Result {
+        let limits = LimitList {
+            report: self.report,
+        };
+        let in_all = InAllPart {
+            in_all: self.report.in_all,
+        };
+        write!(f, "\"limits\":{{{limits}{in_all}}}")
+    }
+}
+
+/// What waits for all clients together, behind a comma, where that is told.
+#[derive(Clone, Copy)]
+struct InAllPart {
+    in_all: Option<InAllReport>,
+}
+
+impl fmt::Display for InAllPart {
+    ghost use Rattle.std.specs.Prelude.{Some};
+    ghost use Rattle.serve_state.specs.ReportText.{in_all_part};
+
+    ghost output = { λ part. Some (in_all_part part.in_all) };
+
+    fn fmt<W: fmt::Write>(&self, f: &mut fmt::Formatter<W>) -> fmt::Result {
+        match &self.in_all {
+            Some(in_all) => write!(f, ",{in_all}"),
+            None => Ok(()),
         }
-        f.write_str("}}")
     }
 }

@@ -1,9 +1,9 @@
 //! The connections.
-ghost use Rattle.std.specs.Prelude.{◌≡◌, ◌↔◌, ◌++◌, [], ◌∷◌, ◌<◌, ◌≤◌, None, Some, IsSome, IsNone, IsTrue, IfOk, OnOk, OnErr, IsErrOf, IfSome, IfNone, true, false, length, option_copied, get_or, ℕ};
+ghost use Rattle.std.specs.Prelude.{◌≡◌, ◌↔◌, ◌++◌, [], ◌∷◌, ◌<◌, ◌≤◌, None, Some, IsSome, IsNone, IsTrue, IfOk, OnOk, OnErr, IsErrOf, IfSome, IfNone, true, false, is_some, length, option_copied, get_or, ℕ};
 ghost use Rattle.std.specs.List.{find, list_any, position};
 ghost use Rattle.rows.specs.Rows.{change_first, remove_first};
 ghost use Rattle.gateway_state.specs.declared.event.Dest.TheVariants.{Session, Upstream};
-ghost use Rattle.serve_state.specs.Roster.{RowState, RosterState, is_row, holds, with_row, with_row_of, row_of, is_of_host, clients_of, IsLeastFree, IsFull, closed_with, with_cut, with_left, with_reached, with_served, changed, without, is_reached, has_ended};
+ghost use Rattle.serve_state.specs.Roster.{RowState, RosterState, is_row, holds, with_row, with_row_of, row_of, is_of_host, clients_of, IsLeastFree, IsFull, closed_with, with_cut, with_left, with_reached, with_served, changed, with_new, without, is_reached, has_ended, is_last};
 
 use crate::notice::Cut;
 use gateway_state::Dest;
@@ -27,7 +27,7 @@ pub enum Refusal {
     OutOfMemory,
 }
 
-/// A connection. `L` is its socket, and `P` its peer, of which contracts don't speak.
+/// A connection. `L` is its socket, of which contracts say whether it is there, and `P` its peer, of which they don't speak.
 #[derive(Drop)]
 pub struct Row<L, P> {
     dest: Dest,
@@ -44,12 +44,14 @@ pub struct Row<L, P> {
 }
 
 impl<L, P> Model for Row<L, P> {
+    ghost use Rattle.std.specs.Prelude.{is_some};
     ghost use Rattle.serve_state.specs.Roster.{RowState};
 
     ghost Value = { RowState };
 
     ghost view = { λ r. record {
       dest = r.dest;
+      link = is_some r.link;
       workers = r.workers;
       reached = r.is_reached;
       cut = r.cut;
@@ -59,7 +61,7 @@ impl<L, P> Model for Row<L, P> {
 
 impl<L: Drop, P: Drop> Row<L, P> {
     fn new(dest: Dest, link: Option<L>, peer: P, host: Option<u128>) -> Row<L, P>
-        ensures { result ≡ row_of host dest }
+        ensures { result ≡ record (row_of host dest) { link = is_some link } }
     {
         Row {
             dest,
@@ -83,7 +85,9 @@ impl<L: Drop, P: Drop> Row<L, P> {
     }
 
     /// The connection's socket, once it is made.
-    pub fn link(&self) -> Option<&L> {
+    pub fn link(&self) -> Option<&L>
+        ensures { is_some result ≡ self.now.link }
+    {
         self.link.as_ref()
     }
 
@@ -223,7 +227,7 @@ impl<L: Drop, P: Drop> Roster<L, P> {
         let Some(number) = least_free(&self.rows, self.clients) else {
             return Err(Refusal::Full);
         };
-        self.add(Dest::Session(number), Some(link), peer, None)?;
+        self.add(Row::new(Dest::Session(number), Some(link), peer, None))?;
         Ok(number)
     }
 
@@ -251,7 +255,7 @@ impl<L: Drop, P: Drop> Roster<L, P> {
         let Some(number) = least_free(&self.rows, self.clients) else {
             return Err(Refusal::Full);
         };
-        self.add(Dest::Session(number), Some(link), peer, Some(host))?;
+        self.add(Row::new(Dest::Session(number), Some(link), peer, Some(host)))?;
         Ok(number)
     }
 
@@ -267,17 +271,11 @@ impl<L: Drop, P: Drop> Roster<L, P> {
         if holds(&self.rows, Dest::Upstream(number)) {
             return Err(Refusal::Held);
         }
-        self.add(Dest::Upstream(number), None, peer, None)
+        self.add(Row::new(Dest::Upstream(number), None, peer, None))
     }
 
-    fn add(
-        &mut self,
-        dest: Dest,
-        link: Option<L>,
-        peer: P,
-        host: Option<u128>,
-    ) -> Result<(), Refusal>
-        ensures ok { OnOk result (self.new ≡ with_row_of host dest self.old) }
+    fn add(&mut self, row: Row<L, P>) -> Result<(), Refusal>
+        ensures ok { OnOk result (self.new ≡ with_new row self.old) }
         ensures open { OnOk result (self.old.closing ≡ None) }
         ensures err { OnErr result (self.new ≡ self.old) }
         ensures closing { IsErrOf result Refusal.Closing → IsSome self.old.closing }
@@ -288,7 +286,7 @@ impl<L: Drop, P: Drop> Roster<L, P> {
         if self.closing.is_some() {
             return Err(Refusal::Closing);
         }
-        match self.rows.push(Row::new(dest, link, peer, host)) {
+        match self.rows.push(row) {
             Ok(()) => Ok(()),
             Err(_) => Err(Refusal::OutOfMemory),
         }
@@ -312,10 +310,10 @@ impl<L: Drop, P: Drop> Roster<L, P> {
         cut(&mut self.rows, dest, why);
     }
 
-    /// A worker of the connection has ended. True where none is left.
+    /// A worker of the connection has ended. True exactly where there is such a connection and none is left.
     pub fn left(&mut self, dest: Dest) -> bool
         ensures new { self.new ≡ changed dest with_left self.old }
-        ensures last { IsTrue result → IfSome (find (is_row dest) self.old.rows) (λ row. has_ended (with_left row) ≡ true) }
+        ensures last { result ≡ is_last dest self.old.rows }
     {
         leave(&mut self.rows, dest)
     }
@@ -411,7 +409,7 @@ fn cut<L: Drop, P: Drop>(rows: &mut Vec<Row<L, P>>, dest: Dest, why: Cut)
 #[tactic(auto, using(rows::proofs::RowLemmas::set_is_change_first, rows::proofs::RowLemmas::change_first_none, rows::proofs::RowLemmas::find_is_there, rows::proofs::RowLemmas::find_none))]
 fn leave<L: Drop, P: Drop>(rows: &mut Vec<Row<L, P>>, dest: Dest) -> bool
     ensures new { rows.new.items ≡ change_first (is_row dest) with_left rows.old.items }
-    ensures last { IsTrue result → IfSome (find (is_row dest) rows.old.items) (λ row. has_ended (with_left row) ≡ true) }
+    ensures last { result ≡ is_last dest rows.old.items }
 {
     match place_of(rows, dest) {
         Some(place) => {

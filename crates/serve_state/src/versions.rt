@@ -1,7 +1,9 @@
 //! Which version of the protocol a client has.
-ghost use Rattle.std.specs.Prelude.{◌≡◌, ◌≤◌, true, false};
+ghost use Rattle.std.specs.Prelude.{◌≡◌, ℕ, List};
+ghost use Rattle.serve_state.specs.Versions.{IsByHeaders, after_byte, after_bytes, is_too_old, unheard};
 
-use ca_header::{Head, read_head};
+use ca_header::{Head, Header, read_head};
+use std::marker::Model;
 
 /// The command of VERSION, whose count is the minor version.
 const VERSION: u16 = 0;
@@ -16,30 +18,50 @@ const HEAD_SIZE: usize = 24;
 /// alone: the gateway itself looks at the messages.
 #[derive(Drop)]
 pub struct Versions {
-    // The first bytes of the message that comes; full where no message comes any more.
-    head: [u8; 24],
+    // The first bytes of the message that comes.
+    head: [u8; HEAD_SIZE],
     held: usize,
     // How many bytes of the payload are to come.
     skip: u32,
+    // What came is no message: none comes any more.
+    is_lost: bool,
     is_too_old: bool,
-    ghost within: { held ≤ 24 },
+}
+
+impl Model for Versions {
+    ghost use Rattle.std.specs.Prelude.{◌<◌, take};
+    ghost use Rattle.serve_state.specs.Versions.{VersionState};
+
+    ghost Value = { VersionState };
+
+    ghost view = { λ v. record {
+      held = take v.held v.head;
+      skip = v.skip;
+      lost = v.is_lost;
+      too_old = v.is_too_old;
+    } };
+
+    ghost invariant = { λ v. v.held < 24 };
 }
 
 impl Versions {
     /// Nothing came.
     pub fn new() -> Versions
-        ensures { result.is_too_old ≡ false }
+        ensures { result ≡ unheard }
     {
         Versions {
-            head: [0u8; 24],
+            head: [0u8; HEAD_SIZE],
             held: 0,
             skip: 0,
+            is_lost: false,
             is_too_old: false,
         }
     }
 
     /// The next bytes came.
-    pub fn hear(&mut self, piece: &[u8]) {
+    pub fn hear(&mut self, piece: &[u8])
+        ensures { self.new ≡ after_bytes piece.now self.old }
+    {
         for byte in piece {
             self.hear_byte(*byte);
         }
@@ -47,36 +69,47 @@ impl Versions {
 
     /// Whether a VERSION below 9 came.
     pub fn is_too_old(&self) -> bool
-        ensures { result ≡ self.now.is_too_old }
+        ensures { result ≡ self.now.too_old }
     {
         self.is_too_old
     }
 
+    #[tactic(auto, using(crate::proofs::HeadLemmas::needed_is_short))]
     fn hear_byte(&mut self, byte: u8)
-        ensures { self.old.is_too_old ≡ true → self.new.is_too_old ≡ true }
+        ensures { self.new ≡ after_byte byte self.old }
     {
+        if self.is_lost {
+            return;
+        }
         if self.skip > 0 {
             self.skip -= 1;
-        } else if self.held < HEAD_SIZE {
-            self.head[self.held] = byte;
-            self.held += 1;
-            self.look();
+            return;
         }
-    }
-
-    fn look(&mut self)
-        ensures { self.old.is_too_old ≡ true → self.new.is_too_old ≡ true }
-    {
+        self.head[self.held] = byte;
+        self.held += 1;
         match read_head(&self.head[..self.held]) {
+            Head::Need => (),
             Head::Got(head, _) => {
                 self.held = 0;
                 self.skip = head.size;
-                if head.command == VERSION && head.count < LEAST_VERSION {
-                    self.is_too_old = true;
-                }
+                self.is_too_old = self.is_too_old || is_too_old(&head);
             }
-            Head::Need => (),
-            Head::Misaligned | Head::TooLarge => self.held = HEAD_SIZE,
+            Head::Misaligned | Head::TooLarge => {
+                self.held = 0;
+                self.is_lost = true;
+            }
         }
     }
 }
+
+fn is_too_old(head: &Header) -> bool
+    ensures { result ≡ is_too_old head.now }
+{
+    head.command == VERSION && head.count < LEAST_VERSION
+}
+
+/// However the bytes of a client come in pieces, a version below 9 was heard exactly where they have the header of a
+/// VERSION that says so, at the place where a message begins.
+pub fn versions_are_heard_by_headers()
+    ensures { (pieces : List (List ℕ)) → IsByHeaders pieces }
+{}
