@@ -10,7 +10,7 @@ use Rattle.gateway_state.specs.Step.{taken}
 use Rattle.gateway_state.specs.declared.event.Dest.{Dest}
 use Rattle.gateway_state.specs.declared.event.Event.TheVariants.{Drain}
 use Rattle.board_rings.proofs.AttachmentChanges.{rings_changed, rings_with_free, rings_with_pushed, rings_with_received}
-use Rattle.board_rings.specs.Attachments.{have_full, is_attachment_of, attachment_of, rings_of, with_free, with_full, with_pushed, with_received}
+use Rattle.board_rings.specs.Attachments.{have_full, is_attached, is_attachment_of, rings_of, with_free, with_full, with_look_in, with_pushed, with_received}
 use Rattle.board_rings.specs.Rings.{AttachmentState}
 use Rattle.board_rings.specs.declared.inbound.Inbound.{Inbound}
 use Rattle.board_history.specs.Calls.{with_sent}
@@ -46,15 +46,20 @@ looked_dests dest found attachments left is = ap dests_of is ∙ dests_kept (is_
 pub pushed_dests : (dest : Dest) (outs : List Out) (attachments left : List AttachmentState) → left ≡ change_first (is_attachment_of dest) (with_pushed outs) attachments → dests_of left ≡ dests_of attachments
 pushed_dests dest outs attachments left is = ap dests_of is ∙ dests_kept (is_attachment_of dest) (with_pushed outs) (λ attachment. refl) attachments
 
--- where no place is found, none was known
-pub none_free : (dest : Dest) (attachments : List AttachmentState) → ((attachment : AttachmentState) → attachment_of dest attachments ≡ Some attachment → attachment.free ≤ 0) → change_first (is_attachment_of dest) (with_free 0) attachments ≡ attachments
-none_free dest [] none = refl
-none_free dest (attachment ∷ attachments) none =
+-- a ring in that was looked into
+pub peeked_dests : (dest : Dest) (attachments left : List AttachmentState) → left ≡ change_first (is_attachment_of dest) with_look_in attachments → dests_of left ≡ dests_of attachments
+peeked_dests dest attachments left is = ap dests_of is ∙ dests_kept (is_attachment_of dest) with_look_in (λ attachment. refl) attachments
+
+pub peeked_full : (dest : Dest) (attachments left : List AttachmentState) → left ≡ change_first (is_attachment_of dest) with_look_in attachments → have_full left ≡ have_full attachments
+peeked_full dest attachments left is = ap have_full is ∙ full_kept (is_attachment_of dest) with_look_in (λ attachment. refl) attachments
+
+-- where a connection isn't attached none is changed
+pub none_changed : (dest : Dest) (f : AttachmentState → AttachmentState) (attachments : List AttachmentState) → is_attached dest attachments ≡ false → change_first (is_attachment_of dest) f attachments ≡ attachments
+none_changed dest f [] none = refl
+none_changed dest f (attachment ∷ attachments) none =
     elim (is_attachment_of dest attachment) as
-    (λ b. ((l : AttachmentState) → (if b then Some attachment else attachment_of dest attachments) ≡ Some l → l.free ≤ 0) → (if b then with_free 0 attachment ∷ attachments else attachment ∷ change_first (is_attachment_of dest) (with_free 0) attachments) ≡ attachment ∷ attachments) [
-      | true ↦ λ h. let free : attachment.free ≡ 0 = omega (arith, h attachment refl) in ap (λ (n : ℕ). record attachment { free = n } ∷ attachments) (sym free)
-      | false ↦ λ h. ap (λ (ls : List AttachmentState). attachment ∷ ls) (none_free dest attachments h)
-    ] none
+    (λ b. (b || is_attached dest attachments) ≡ false → (if b then f attachment ∷ attachments else attachment ∷ change_first (is_attachment_of dest) f attachments) ≡ attachment ∷ attachments)
+    [ true ↦ λ h. absurd cc | false ↦ λ h. ap (λ (ls : List AttachmentState). attachment ∷ ls) (none_changed dest f attachments h) ] none
 
 -- places that were found, and messages that were pushed
 pub found_and_pushed : (dest : Dest) (found : ℕ) (outs : List Out) (attachments : List AttachmentState)
@@ -86,6 +91,9 @@ no_more_taken dest count (Some w) outs is =
 
 pub received_rings : (dest : Dest) (item : Inbound) (seen : ℕ) (attachments left : List AttachmentState) → left ≡ change_first (is_attachment_of dest) (with_received item seen) attachments → KeepsRings attachments left
 received_rings dest item seen attachments left is other = rings_with_received dest other attachments left (Some (item, seen)) is (λ none. absurd cc)
+
+pub peeked_rings : (dest : Dest) (attachments left : List AttachmentState) → left ≡ change_first (is_attachment_of dest) with_look_in attachments → KeepsRings attachments left
+peeked_rings dest attachments left is other = ap (rings_of other) is ∙ rings_changed dest other with_look_in (λ _. refl) (λ _. refl) attachments
 
 pub looked_rings : (dest : Dest) (found : ℕ) (attachments left : List AttachmentState) → left ≡ change_first (is_attachment_of dest) (with_free found) attachments → KeepsRings attachments left
 looked_rings dest found attachments left is other = ap (rings_of other) is ∙ rings_with_free dest other found attachments

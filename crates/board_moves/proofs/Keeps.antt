@@ -9,7 +9,7 @@ use Rattle.gateway_state.specs.Gateway.{Gateway}
 use Rattle.gateway_state.specs.declared.event.Dest.{Dest}
 use Rattle.gateway_state.specs.declared.event.Dest.TheVariants.{Session, Upstream}
 use Rattle.gateway_state.specs.declared.event.Event.{Event}
-use Rattle.board_rings.specs.Attachments.{is_attached, is_attachment_of, is_not_attachment_of, new_attachment, with_full, with_leaving, IsWith}
+use Rattle.board_rings.specs.Attachments.{is_attached, is_attachment_of, is_not_attachment_of, new_attachment, with_full, with_leaving, with_look_in, IsWith}
 use Rattle.board_rings.specs.Rings.{InletState, AttachmentState, OutletState}
 use Rattle.board_rings.specs.declared.attachment.TheConstants.{RING_SIZE}
 use Rattle.board_history.specs.Board.{BoardState}
@@ -25,7 +25,7 @@ use Rattle.board_moves.specs.declared.fault.BoardFault.TheVariants.{OutOfMemory,
 
 pub pump_keeps : (dest : Dest) (old : BoardState) (result : Result Bool BoardFault) (new : BoardState) → IsPump dest old result new → HasHistory old → HasHistory new
 pump_keeps dest old (Ok true) new p h = pumped_has_history dest p.0 old new h p.1
-pump_keeps dest old (Ok false) new p h = subst HasHistory (sym p.0) h
+pump_keeps dest old (Ok false) new p h = beside_has_history with_look_in (λ _. refl) (λ _. refl) dest old new h p.0 p.1.0
 pump_keeps dest old (Err (Step steps.OutOfMemory)) new p h = pump_failed_has_history dest p.0 old new h p.1
 pump_keeps dest old (Err (Step steps.NumbersUsedUp)) new p h = pump_failed_has_history dest p.0 old new h p.1.0
 pump_keeps dest old (Err (Step steps.Failed)) new p h = subst HasHistory (sym p.0) h
@@ -44,8 +44,9 @@ desk_keeps event old (Err Attached) new p h = absurd p
 
 pub send_out_keeps : (dest : Dest) (old : BoardState) (result : Result ℕ BoardFault) (new : BoardState) → IsSendOut dest old result new → HasHistory old → HasHistory new
 send_out_keeps dest old (Ok count) new (inl p) h = subst HasHistory (sym p.1.same) h
-send_out_keeps dest old (Ok count) new (inr (inl p)) h = looked_has_history dest p.1.0 old new h p.1.1.rows p.1.1.attachments
-send_out_keeps dest old (Ok count) new (inr (inr p)) h = sent_has_history dest p.0 p.1.0 p.1.1.0 old new h p.1.1.1.1.1
+send_out_keeps dest old (Ok count) new (inr (inl p)) h = looked_has_history dest 0 old new h p.1.rows p.1.attachments
+send_out_keeps dest old (Ok count) new (inr (inr (inl p))) h = looked_has_history dest p.1.0 old new h p.1.1.rows p.1.1.attachments
+send_out_keeps dest old (Ok count) new (inr (inr (inr p))) h = sent_has_history dest p.0 p.1.0 p.1.1.0 old new h p.1.1.1.1.1
 send_out_keeps dest old (Err (Step steps.OutOfMemory)) new p h = send_failed_has_history dest p.0 old new h p.1
 send_out_keeps dest old (Err (Step steps.NumbersUsedUp)) new p h = send_failed_has_history dest p.0 old new h p.1.1.0
 send_out_keeps dest old (Err (Step steps.Failed)) new p h = subst HasHistory (sym p.0) h

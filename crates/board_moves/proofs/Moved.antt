@@ -11,7 +11,7 @@ use Rattle.gateway_state.specs.Gateway.{Gateway}
 use Rattle.gateway_state.specs.Step.{step, taken}
 use Rattle.gateway_state.specs.declared.event.Dest.{Dest}
 use Rattle.gateway_state.specs.declared.event.Event.TheVariants.{Drain}
-use Rattle.board_rings.specs.Attachments.{is_attached, is_attachment_of, attachment_of, with_free, with_pushed, with_received, SeesNothing}
+use Rattle.board_rings.specs.Attachments.{is_attached, is_attachment_of, attachment_of, with_free, with_look_in, with_pushed, with_received}
 use Rattle.board_rings.proofs.AttachmentChanges.{attachment_of_changed}
 use Rattle.board_rings.specs.OnTheWay.{bytes_known_to, bytes_on_the_way, bytes_or_none, bytes_to}
 use Rattle.board_rings.specs.Rings.{AttachmentState}
@@ -19,7 +19,7 @@ use Rattle.board_rings.specs.declared.inbound.Inbound.{Inbound}
 use Rattle.board_history.specs.Calls.{uses_up}
 use Rattle.board_history.specs.History.{item_event}
 use Rattle.board_history.specs.declared.entry.TheConstants.{MOST_SENT}
-use Rattle.board_moves.proofs.Changed.{found_and_pushed, none_free}
+use Rattle.board_moves.proofs.Changed.{found_and_pushed, none_changed}
 use Rattle.board_moves.specs.Answers.{board_of, IsPump, IsSendOut, IsWaiting}
 use Rattle.board_moves.specs.Share.{sent_at_once, share}
 use Rattle.board_moves.specs.declared.share.TheConstants.{RING_BYTES}
@@ -47,10 +47,11 @@ pub pump_used_up : (dest : Dest) (item : Inbound) (seen : ℕ) (rows after : Opt
 pump_used_up dest item seen rows after attachments left stands on none moved past =
     (item, (record { stands = stands; attached = on; rows = none; seen = seen; attachments = moved }, past))
 
--- nothing was seen
-pub pumped_nothing : (dest : Dest) (rows : Option Gateway) (attachments left : List AttachmentState) → IsSome rows → left ≡ attachments → SeesNothing dest attachments
-    → IsPump dest (board_of rows attachments) (Ok false) (board_of rows left)
-pumped_nothing dest rows attachments left stands same nothing = (ap (board_of rows) same, λ _. (stands, nothing))
+-- who isn't attached has no ring
+pub pumped_nobody : (dest : Dest) (rows : Option Gateway) (attachments : List AttachmentState) → is_attached dest attachments ≡ false
+    → IsPump dest (board_of rows attachments) (Ok false) (board_of rows attachments)
+pumped_nobody dest rows attachments none =
+    (refl, (sym (none_changed dest with_look_in attachments none), λ on. absurd (let wrong : true ≡ false = sym on ∙ none in cc)))
 
 -- where it was asked first whether the gateway failed
 pub pumped_asked : (dest : Dest) (rows asked after : Option Gateway) (attachments left : List AttachmentState) (answer : Result Bool BoardFault) → asked ≡ rows
@@ -112,7 +113,7 @@ pub held_back : (dest : Dest) (found asked : ℕ) (rows asked_rows : Option Gate
     → asked_rows ≡ rows → left ≡ change_first (is_attachment_of dest) (with_free found) attachments → share dest found (board_of rows attachments) ≡ Some asked → asked ≡ 0
     → IsSendOut dest (board_of rows attachments) (Ok 0) (board_of asked_rows left)
 held_back dest found asked rows asked_rows attachments left stands on some_free same looked is none =
-    inr (inl (
+    inr (inr (inl (
       refl,
       (
         found,
@@ -125,7 +126,7 @@ held_back dest found asked rows asked_rows attachments left stands on some_free 
           attachments = looked;
         },
       ),
-    ))
+    )))
 
 -- at least one, and at most so many
 at_most : (most fitting : ℕ) → 0 < most → max 1 (min most fitting) ≤ most
@@ -171,23 +172,22 @@ places_of_attached dest found attachments none some = by (is_attached dest attac
 pub sent_none : (dest : Dest) (rows asked : Option Gateway) (attachments : List AttachmentState) → asked ≡ rows → IsSome rows → Some 0 ≡ option_map (λ w. queued w dest) rows
     → IsSendOut dest (board_of rows attachments) (Ok 0) (board_of asked attachments)
 sent_none dest rows asked attachments same stands none =
-    inl (refl, record { same = ap (λ (r : Option Gateway). board_of r attachments) same; stands = λ _. stands; idle = λ _. inr (sym none) })
+    inl (refl, record { same = ap (λ (r : Option Gateway). board_of r attachments) same; stands = λ _. stands; idle = λ _. sym none })
 
--- no place was found, and nothing changed
+-- a look found no place
 pub sent_nothing : (dest : Dest) (found : ℕ) (rows : Option Gateway) (attachments left : List AttachmentState) → IsSome rows → found ≡ 0
     → left ≡ change_first (is_attachment_of dest) (with_free found) attachments → ((attachment : AttachmentState) → attachment_of dest attachments ≡ Some attachment → attachment.free ≤ found)
     → IsSendOut dest (board_of rows attachments) (Ok 0) (board_of rows left)
 sent_nothing dest found rows attachments left stands none looked more =
-    let none_known : (attachment : AttachmentState) → attachment_of dest attachments ≡ Some attachment → attachment.free ≤ 0 = λ attachment there. omega (arith, more attachment there, none) in
-    let kept : left ≡ attachments = looked ∙ ap (λ (n : ℕ). change_first (is_attachment_of dest) (with_free n) attachments) none ∙ none_free dest attachments none_known in
-    inl (
+    inr (inl (
       refl,
       record {
-        same = ap (board_of rows) kept;
-        stands = λ _. stands;
-        idle = λ _. inl (λ attachment there. omega (arith, more attachment there, none));
+        stands = stands;
+        none_known = λ attachment there. omega (arith, more attachment there, none);
+        rows = refl;
+        attachments = looked ∙ ap (λ (n : ℕ). change_first (is_attachment_of dest) (with_free n) attachments) none;
       },
-    )
+    ))
 
 -- places were found, and messages pushed
 pub sent_out : (dest : Dest) (found asked count : ℕ) (outs : List Out) (rows after : Option Gateway) (attachments looked left : List AttachmentState) → IsSome rows
@@ -198,7 +198,7 @@ pub sent_out : (dest : Dest) (found asked count : ℕ) (outs : List Out) (rows a
     → looked ≡ change_first (is_attachment_of dest) (with_free found) attachments → left ≡ change_first (is_attachment_of dest) (with_pushed outs) looked → count ≡ length outs
     → IsSendOut dest (board_of rows attachments) (Ok count) (board_of after left)
 sent_out dest found asked count outs rows after attachments looked left stands on some_free some_asked is fine took more room pushed counted =
-    inr (inr (
+    inr (inr (inr (
       found,
       (
         asked,
@@ -223,7 +223,7 @@ sent_out dest found asked count outs rows after attachments looked left stands o
           ),
         ),
       ),
-    ))
+    )))
 
 -- what waits, once places were looked for
 pub waits_so : (dest : Dest) (places queued_now way bytes : ℕ) (rows asked : Option Gateway) (attachments left : List AttachmentState) → asked ≡ rows → Some queued_now ≡ option_map (λ w. queued_bytes w dest) rows

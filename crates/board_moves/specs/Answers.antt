@@ -12,7 +12,7 @@ use Rattle.gateway_state.specs.declared.event.Dest.{Dest}
 use Rattle.gateway_state.specs.declared.event.Event.{Event}
 use Rattle.gateway_state.specs.declared.event.Event.TheVariants.{Drain}
 use Rattle.rule_desk.specs.declared.policy.Policy.{Policy}
-use Rattle.board_rings.specs.Attachments.{is_attached, is_attachment_of, rings_of, with_free, HasNoPlace, SeesNothing}
+use Rattle.board_rings.specs.Attachments.{is_attached, is_attachment_of, rings_of, with_free, with_look_in, HasNoPlace, SeesNothing}
 use Rattle.board_rings.specs.OnTheWay.{bytes_to}
 use Rattle.board_rings.specs.Rings.{EndsState, AttachmentState}
 use Rattle.board_rings.specs.declared.inbound.Inbound.{Inbound}
@@ -27,11 +27,14 @@ use Rattle.board_moves.specs.declared.fault.BoardFault.TheVariants.{OutOfMemory,
 abbrev pub board_of : Option Gateway → List AttachmentState → BoardState
 board_of rows attachments = record { rows = rows; attachments = attachments }
 
--- an item was received and its event performed; or none was seen, and nothing changed; or the step was
--- refused. A board that has failed receives nothing
+-- an item was received and its event performed; or a look into the ring saw none, and nothing else changed; or the step
+-- was refused. A board that has failed receives nothing
 abbrev pub IsPump : Dest → BoardState → Result Bool BoardFault → BoardState → Type 0
 IsPump dest old (Ok true) new = (item : Inbound) × Pumps dest item old new
-IsPump dest old (Ok false) new = (new ≡ old) × (is_attached dest old.attachments ≡ true → IsSome old.rows × SeesNothing dest old.attachments)
+IsPump dest old (Ok false) new =
+    (new.rows ≡ old.rows)
+    × ((new.attachments ≡ change_first (is_attachment_of dest) with_look_in old.attachments)
+    × (is_attached dest old.attachments ≡ true → IsSome old.rows × SeesNothing dest old.attachments))
 IsPump dest old (Err (Step steps.OutOfMemory)) new = (item : Inbound) × PumpFails dest item old new
 IsPump dest old (Err (Step steps.NumbersUsedUp)) new =
     (item : Inbound) × (PumpFails dest item old new × (uses_up (item_event dest item) old.rows ≡ Some true))
@@ -51,12 +54,18 @@ IsDesk event old (Err (Step steps.Failed)) new = (new ≡ old) × ((is_for_desk 
 IsDesk event old (Err OutOfMemory) new = ⊥
 IsDesk event old (Err Attached) new = ⊥
 
--- no place of the ring out is free, or no message waits, or the connection isn't attached, and nothing
--- changed
+-- no message waits, or the connection isn't attached, and nothing changed
 pub record SendsNothing (dest : Dest) (old new : BoardState) : Type 0 where
   pub same : new ≡ old
   pub stands : is_attached dest old.attachments ≡ true → IsSome old.rows
-  pub idle : is_attached dest old.attachments ≡ true → HasNoPlace dest old.attachments ⊎ (option_map (λ w. queued w dest) old.rows ≡ Some 0)
+  pub idle : is_attached dest old.attachments ≡ true → option_map (λ w. queued w dest) old.rows ≡ Some 0
+
+-- a look into the ring out found no place, and nothing else changed
+pub record FindsNoPlace (dest : Dest) (old new : BoardState) : Type 0 where
+  pub stands : IsSome old.rows
+  pub none_known : HasNoPlace dest old.attachments
+  pub rows : new.rows ≡ old.rows
+  pub attachments : new.attachments ≡ change_first (is_attachment_of dest) (with_free 0) old.attachments
 
 -- some places of the ring out are free, but so much is on its way already that nothing is sent: nothing changed but for
 -- what is known of the places
@@ -68,13 +77,14 @@ pub record HoldsBack (dest : Dest) (found : ℕ) (old new : BoardState) : Type 0
   pub rows : new.rows ≡ old.rows
   pub attachments : new.attachments ≡ change_first (is_attachment_of dest) (with_free found) old.attachments
 
--- the connection's share was taken and pushed, and so many messages there were; or there was no place, or no
--- message, or no share; or the step was refused
+-- the connection's share was taken and pushed, and so many messages there were; or there was no message, or no
+-- place, or no share; or the step was refused
 abbrev pub IsSendOut : Dest → BoardState → Result ℕ BoardFault → BoardState → Type 0
 IsSendOut dest old (Ok count) new =
     ((count ≡ 0) × SendsNothing dest old new)
+    ⊎ (((count ≡ 0) × FindsNoPlace dest old new)
     ⊎ (((count ≡ 0) × ((found : ℕ) × HoldsBack dest found old new))
-    ⊎ ((found : ℕ) × ((asked : ℕ) × ((outs : List Out) × ((count ≡ length outs) × ((share dest found old ≡ Some asked) × Sends dest found asked outs old new))))))
+    ⊎ ((found : ℕ) × ((asked : ℕ) × ((outs : List Out) × ((count ≡ length outs) × ((share dest found old ≡ Some asked) × Sends dest found asked outs old new)))))))
 IsSendOut dest old (Err (Step steps.OutOfMemory)) new = (found : ℕ) × SendFails dest found old new
 IsSendOut dest old (Err (Step steps.NumbersUsedUp)) new =
     (found : ℕ) × ((asked : ℕ) × (SendFails dest found old new × ((share dest found old ≡ Some asked) × (uses_up (Drain dest asked) old.rows ≡ Some true))))

@@ -81,6 +81,7 @@ impl<G: GatewayCalls + Drop> Board<G> {
     pub fn attach(&mut self, dest: Dest) -> Result<(Inlet, Outlet), BoardFault>
         ensures ok { IfOk result (λ r. Attaches dest r.0.ring r.1.ring RING_SIZE self.old self.new) }
         ensures empty { IfOk result (λ r. (r.0.offered ≡ []) × (r.0.free ≡ RING_SIZE) × (r.1.taken ≡ []) × (r.1.seen ≡ [])) }
+        ensures dest { IfOk result (λ r. r.0.dest ≡ dest) }
         ensures attached { IsErrOf result BoardFault.Attached ↔ (is_attached dest self.old.attachments ≡ true) }
         ensures err { OnErr result (self.new ≡ self.old) }
         ensures cause { IsErrOf result BoardFault.Attached ⊎ IsErrOf result BoardFault.OutOfMemory ⊎ IsOk result }

@@ -12,8 +12,8 @@
 //!
 //! Whatever was called, the board has a history (`board_history`): its rows are those of a run of the
 //! events of the history's entries, and what went through each ring is what the history says. A pump that
-//! moves nothing saw nothing in the ring; a send-out that moves nothing found no place, no message, or too many bytes on
-//! their way.
+//! moves nothing looked into the ring and saw nothing; a send-out that moves nothing found no message, or looked into the
+//! ring and found no place, or too many bytes on their way.
 //!
 //! [`Kept`] is what a gate has under its lock: a board, a mark that it is closed and a count of wakes.
 //! [`News`] says whom moves concern, for those that wait; no contract speaks of it.

@@ -74,7 +74,7 @@ fn perform_item<G: GatewayCalls>(
 
 /// Receives one item of a connection and performs its event, on a gateway that hasn't failed. An item
 /// whose event is refused is gone with the gateway. The guess is where the connection's attachment may stand.
-#[tactic(auto, using(crate::proofs::Moved::pumped, crate::proofs::Moved::pump_refused, crate::proofs::Moved::pump_used_up, crate::proofs::Changed::received_dests, crate::proofs::Changed::received_full, crate::proofs::Changed::received_rings))]
+#[tactic(auto, using(crate::proofs::Moved::pumped, crate::proofs::Moved::pump_refused, crate::proofs::Moved::pump_used_up, crate::proofs::Changed::received_dests, crate::proofs::Changed::received_full, crate::proofs::Changed::received_rings, crate::proofs::Changed::peeked_dests, crate::proofs::Changed::peeked_full, crate::proofs::Changed::peeked_rings))]
 pub(crate) fn pump_standing<G: GatewayCalls>(
     gate: &mut G,
     attachments: &mut Attachments,

@@ -8,7 +8,7 @@ use Rattle.gateway_state.specs.declared.event.Dest.{Dest}
 use Rattle.fanout.specs.declared.outbox.Out.{Out}
 use Rattle.board_rings.specs.declared.inbound.Inbound.{Inbound}
 use Rattle.board_rings.specs.Rings.{AttachmentState, Ring}
-use Rattle.board_rings.specs.Attachments.{is_attachment_of, attachment_of, rings_of, with_free, with_pushed, with_received}
+use Rattle.board_rings.specs.Attachments.{is_attachment_of, attachment_of, rings_of, with_free, with_look_in, with_pushed, with_received}
 
 -- where a connection's attachment is after one attachment was changed, but for whose it is
 pub attachment_of_changed : (dest : Dest) (f : AttachmentState → AttachmentState) → ((attachment : AttachmentState) → (f attachment).dest ≡ attachment.dest) → (attachments : List AttachmentState) → attachment_of dest (change_first (is_attachment_of dest) f attachments) ≡ option_map f (attachment_of dest attachments)
@@ -57,6 +57,6 @@ pub rings_with_pushed : (dest other : Dest) (outs : List Out) (attachments : Lis
 rings_with_pushed dest other outs = rings_changed dest other (with_pushed outs) (λ _. refl) (λ _. refl)
 
 -- by the clauses of `receive`
-pub rings_with_received : (dest other : Dest) (old new : List AttachmentState) (r : Option (Inbound × ℕ)) → IfSome r (λ r. new ≡ change_first (is_attachment_of dest) (with_received r.0 r.1) old) → (IsNone r → new ≡ old) → rings_of other new ≡ rings_of other old
+pub rings_with_received : (dest other : Dest) (old new : List AttachmentState) (r : Option (Inbound × ℕ)) → IfSome r (λ r. new ≡ change_first (is_attachment_of dest) (with_received r.0 r.1) old) → (IsNone r → new ≡ change_first (is_attachment_of dest) with_look_in old) → rings_of other new ≡ rings_of other old
 rings_with_received dest other old new (Some (item, seen)) some none = ap (rings_of other) some ∙ rings_changed dest other (with_received item seen) (λ _. refl) (λ _. refl) old
-rings_with_received dest other old new None some none = ap (rings_of other) (none refl)
+rings_with_received dest other old new None some none = ap (rings_of other) (none refl) ∙ rings_changed dest other with_look_in (λ _. refl) (λ _. refl) old

@@ -12,7 +12,7 @@ use Rattle.gateway_state.specs.Connections.{same_dest}
 use Rattle.gateway_state.specs.declared.event.Dest.{Dest}
 use Rattle.board_rings.specs.declared.inbound.Inbound.{Inbound}
 use Rattle.board_rings.specs.Rings.{AttachmentState}
-use Rattle.board_rings.specs.Attachments.{is_attachment_of, is_not_attachment_of, is_attached, is_from, comes_before, are_behind, are_in_order, with_received, IsWith, SeesNothing}
+use Rattle.board_rings.specs.Attachments.{is_attachment_of, is_not_attachment_of, is_attached, is_from, comes_before, are_behind, are_in_order, with_look_in, with_received, IsWith, SeesNothing}
 use Rattle.board_rings.proofs.DestOrder.{same_is_equal, before_trans, before_not_same, after_not_same, before_or_after}
 
 -- each attachment that stands behind
@@ -224,9 +224,9 @@ placed_where_attached dest attachments =
     ] refl
 
 -- what is received from an attachment leaves the attachments in order
-pub received_in_order : (dest : Dest) (old new : List AttachmentState) (r : Option (Inbound × ℕ)) → are_in_order old ≡ true → IfSome r (λ r. new ≡ change_first (is_attachment_of dest) (with_received r.0 r.1) old) → (IsNone r → new ≡ old) → are_in_order new ≡ true
+pub received_in_order : (dest : Dest) (old new : List AttachmentState) (r : Option (Inbound × ℕ)) → are_in_order old ≡ true → IfSome r (λ r. new ≡ change_first (is_attachment_of dest) (with_received r.0 r.1) old) → (IsNone r → new ≡ change_first (is_attachment_of dest) with_look_in old) → are_in_order new ≡ true
 received_in_order dest old new (Some (item, seen)) up some none = ap are_in_order some ∙ changed_in_order (is_attachment_of dest) (with_received item seen) (λ attachment. refl) old ∙ up
-received_in_order dest old new None up some none = ap are_in_order (none refl) ∙ up
+received_in_order dest old new None up some none = ap are_in_order (none refl) ∙ changed_in_order (is_attachment_of dest) with_look_in (λ attachment. refl) old ∙ up
 
 -- nothing is seen in the ring of an attachment that sees nothing
 pub sees_nothing_at : (dest : Dest) (attachments : List AttachmentState) (i : ℕ) (attachment : AttachmentState) → position (is_attachment_of dest) attachments ≡ Some i → attachment ≡ get_or attachments i attachment → attachment.seen ≡ 0 → SeesNothing dest attachments

@@ -1,5 +1,5 @@
 -- The attachments of attached connections.
-use Rattle.std.specs.Prelude.{◌≡◌, ℕ, ◌-◌, ◌==◌, List, [], ◌∷◌, ◌++◌, length, Bool, true, false, not, nat_lt, ◌&&◌, ◌||◌, if◌then◌else◌, Option, Some, None}
+use Rattle.std.specs.Prelude.{◌≡◌, ℕ, ◌+◌, ◌-◌, ◌==◌, List, [], ◌∷◌, ◌++◌, length, Bool, true, false, not, nat_lt, ◌&&◌, ◌||◌, if◌then◌else◌, Option, Some, None}
 use Rattle.std.specs.List.{find, list_any}
 use Rattle.std.specs.Option.{option_map}
 use Rattle.ca_message.specs.declared.commands.TheConstants.{CA_PROTO_WRITE, CA_PROTO_WRITE_NOTIFY}
@@ -71,17 +71,22 @@ sid_or_none (Some attachment) = last_sid attachment
 abbrev pub last_sid_of : Dest → List AttachmentState → Option ℕ
 last_sid_of dest attachments = sid_or_none (attachment_of dest attachments)
 
--- one item more was received, and so many are known to follow
+-- its ring in was looked into once, and nothing was there
+abbrev pub with_look_in : AttachmentState → AttachmentState
+with_look_in attachment = record attachment { in_looks = attachment.in_looks + 1 }
+
+-- one item more was received, and so many are known to follow: by a look for each
 abbrev pub with_received : Inbound → ℕ → AttachmentState → AttachmentState
 with_received item seen attachment = record attachment {
   ends = record attachment.ends { received = attachment.ends.received ++ item ∷ [] };
   seen = seen;
+  in_looks = attachment.in_looks + 1 + 1;
   last = sid_after item attachment.last;
 }
 
--- so many places were found free
+-- its ring out was looked into once, and so many places were found free
 abbrev pub with_free : ℕ → AttachmentState → AttachmentState
-with_free free attachment = record attachment { free = free }
+with_free free attachment = record attachment { free = free; out_looks = attachment.out_looks + 1 }
 
 -- these messages were pushed
 abbrev pub with_pushed : List Out → AttachmentState → AttachmentState
@@ -117,6 +122,8 @@ new_attachment dest in_ring out_ring free = record {
   ends = record { in_ring = in_ring; received = []; out_ring = out_ring; pushed = [] };
   free = free;
   seen = 0;
+  in_looks = 0;
+  out_looks = 0;
   last = None;
   leaving = false;
   full = false;

@@ -19,17 +19,21 @@ pub record Ring : Type 0 where
 abbrev pub ring_of : {T P : Type 0} → End T Global P → Ring
 ring_of end = record { words = end.words; slots = end.slots; names = end.names; heap = end.heap }
 
--- a reader's end: all that was ever offered by it, and how many places are known to be free
+-- a reader's end: whose it is, all that was ever offered by it, how many places are known to be free, and how often it
+-- looked into the ring
 pub record InletState : Type 0 where
   pub ring : Ring
+  pub dest : Dest
   pub offered : List Inbound
   pub free : ℕ
+  pub looks : ℕ
 
--- a writer's end: all that was ever taken by it, and what is known to be in the ring
+-- a writer's end: all that was ever taken by it, what is known to be in the ring, and how often it looked into it
 pub record OutletState : Type 0 where
   pub ring : Ring
   pub taken : List Out
   pub seen : List Out
+  pub looks : ℕ
 
 -- the board's ends of both rings of one attachment: all that was ever received by the one, and pushed
 -- by the other
@@ -40,13 +44,16 @@ pub record EndsState : Type 0 where
   pub pushed : List Out
 
 -- the attachment of a connection that is attached, how many places of its ring out are known to be free, and
--- how many items are known to be in its ring in; the channel that its last request writes to, by its SID, where that is a write;
+-- how many items are known to be in its ring in; how often the board looked into each of them;
+-- the channel that its last request writes to, by its SID, where that is a write;
 -- whether its end was said to come, and whether too much waited for it when it was last weighed
 pub record AttachmentState : Type 0 where
   pub dest : Dest
   pub ends : EndsState
   pub free : ℕ
   pub seen : ℕ
+  pub in_looks : ℕ
+  pub out_looks : ℕ
   pub last : Option ℕ
   pub leaving : Bool
   pub full : Bool

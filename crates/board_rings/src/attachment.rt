@@ -2,16 +2,17 @@
 ghost use Rattle.std.specs.Prelude.{◌≡◌, ◌^◌, ◌≤◌, ◌+◌, ◌-◌, ◌++◌, [], length, map, IfOk, IfSome, IsNone};
 ghost use Rattle.rtrb.specs.Ring.{sent, known_free, SameProducer};
 ghost use Rattle.fanout.specs.Waiting.{out_len};
-ghost use Rattle.board_rings.specs.Attachments.{is_attachment_of, is_write, last_sid, new_attachment, sid_after, with_free, with_full, with_leaving, with_pushed, with_received};
+ghost use Rattle.board_rings.specs.Attachments.{is_attachment_of, is_write, last_sid, new_attachment, sid_after, with_free, with_full, with_leaving, with_look_in, with_pushed, with_received};
 ghost use Rattle.board_rings.specs.OnTheWay.{bytes_on_the_way};
 
+use crate::counted::{CountedConsumer, CountedProducer};
 use crate::ends::{Ends, Inlet, Outlet};
 use crate::inbound::Inbound;
 use crate::lengths::Lengths;
 use ca_message::commands::{CA_PROTO_WRITE, CA_PROTO_WRITE_NOTIFY};
 use fanout::Out;
 use gateway_state::Dest;
-use rtrb::{Consumer, Producer, RingBuffer};
+use rtrb::{Producer, RingBuffer};
 use std::alloc::{AllocError, Global};
 use std::marker::Model;
 
@@ -22,8 +23,8 @@ pub const RING_SIZE: usize = 256;
 #[derive(Drop)]
 pub struct Attachment {
     dest: Dest,
-    read: Consumer<Inbound>,
-    write: Producer<Out>,
+    read: CountedConsumer<Inbound>,
+    write: CountedProducer<Out>,
     /// The lengths of what was pushed and isn't known to be taken.
     lengths: Lengths,
     last: Option<u32>,
@@ -44,23 +45,25 @@ impl Model for Attachment {
     ghost view = { λ l. record {
       dest = l.dest;
       ends = record {
-        in_ring = ring_of l.read.end;
-        received = received l.read;
-        out_ring = ring_of l.write.end;
-        pushed = sent l.write;
+        in_ring = ring_of l.read.end.end;
+        received = received l.read.end;
+        out_ring = ring_of l.write.end.end;
+        pushed = sent l.write.end;
       };
-      free = known_free l.write;
-      seen = length (known_items l.read);
+      free = known_free l.write.end;
+      seen = length (known_items l.read.end);
+      in_looks = l.read.looks;
+      out_looks = l.write.looks;
       last = l.last;
       leaving = l.leaving;
       full = l.full;
     } };
 
     ghost invariant = { λ l. record {
-      places : producer_capacity l.write ≡ RING_SIZE;
-      items : consumer_capacity l.read ≡ RING_SIZE;
-      few : known_free l.write ≤ RING_SIZE;
-      lengths : l.lengths ≡ map out_len (last_of (RING_SIZE - known_free l.write) (sent l.write));
+      places : producer_capacity l.write.end ≡ RING_SIZE;
+      items : consumer_capacity l.read.end ≡ RING_SIZE;
+      few : known_free l.write.end ≤ RING_SIZE;
+      lengths : l.lengths ≡ map out_len (last_of (RING_SIZE - known_free l.write.end) (sent l.write.end));
     } };
 }
 
@@ -68,6 +71,7 @@ impl Attachment {
     /// Makes both rings of a connection.
     pub(crate) fn open(alloc: Global, dest: Dest) -> Result<(Attachment, Inlet, Outlet), AllocError>
         ensures offered { IfOk result (λ r. (r.1.offered ≡ []) × (r.1.free ≡ RING_SIZE)) }
+        ensures dest { IfOk result (λ r. r.1.dest ≡ dest) }
         ensures taken { IfOk result (λ r. (r.2.taken ≡ []) × (r.2.seen ≡ [])) }
         ensures attachment { IfOk result (λ r. r.0 ≡ new_attachment dest r.1.ring r.2.ring RING_SIZE) }
     {
@@ -75,15 +79,21 @@ impl Attachment {
         let (write, outward) = RingBuffer::new(alloc, RING_SIZE)?;
         let attachment = Attachment {
             dest,
-            read,
-            write,
+            read: CountedConsumer::new(read),
+            write: CountedProducer::new(write),
             lengths: Lengths::new(alloc)?,
             last: None,
             leaving: false,
             full: false,
         };
-        let inlet = Inlet { ring: inward, dest };
-        Ok((attachment, inlet, Outlet { ring: outward }))
+        let inlet = Inlet {
+            ring: CountedProducer::new(inward),
+            dest,
+        };
+        let outlet = Outlet {
+            ring: CountedConsumer::new(outward),
+        };
+        Ok((attachment, inlet, outlet))
     }
 
     /// Whose attachment it is.
@@ -100,11 +110,11 @@ impl Attachment {
         self.dest == dest
     }
 
-    /// Receives one item, and tells how many are seen to follow. There is none only where the ring was
-    /// found empty.
+    /// Receives one item, and tells how many are seen to follow. There is none only where it looked into the ring, and
+    /// found it empty.
     pub(crate) fn receive(&mut self) -> Option<(Inbound, usize)>
         ensures some { IfSome result (λ r. self.new ≡ with_received r.0 r.1 self.old) }
-        ensures none { IsNone result → self.new ≡ self.old }
+        ensures none { IsNone result → self.new ≡ with_look_in self.old }
         ensures nothing { IsNone result → self.old.seen ≡ 0 }
     {
         match self.read.pop() {
@@ -117,7 +127,7 @@ impl Attachment {
         }
     }
 
-    /// How many places of the ring out are free now.
+    /// How many places of the ring out are free now, by a look into it.
     pub(crate) fn room(&mut self) -> usize
         ensures found { self.new ≡ with_free result self.old }
         ensures more { self.old.free ≤ result }
@@ -140,7 +150,7 @@ impl Attachment {
         requires { length outs.items ≤ self.old.free }
         ensures { self.new ≡ with_pushed outs.items self.old }
     {
-        push_each(&mut self.write, &mut self.lengths, outs);
+        push_each(&mut self.write.end, &mut self.lengths, outs);
     }
 
     /// Notes that its end comes.
@@ -184,7 +194,10 @@ impl Attachment {
             leaving: _,
             full: _,
         } = self;
-        Ends { read, write }
+        Ends {
+            read: read.into_end(),
+            write: write.into_end(),
+        }
     }
 }
 

@@ -4,7 +4,7 @@ ghost use Rattle.std.specs.List.{filter, position};
 ghost use Rattle.std.specs.Option.{option_map};
 ghost use Rattle.rows.specs.Rows.{change_first};
 ghost use Rattle.board_rings.specs.Rings.{AttachmentState};
-ghost use Rattle.board_rings.specs.Attachments.{are_in_order, have_full, is_attached, is_full, is_attachment_of, is_not_attachment_of, attachment_of, last_sid_of, new_attachment, with_free, with_full, with_leaving, with_pushed, with_received, IsWith, SeesNothing};
+ghost use Rattle.board_rings.specs.Attachments.{are_in_order, have_full, is_attached, is_full, is_attachment_of, is_not_attachment_of, attachment_of, last_sid_of, new_attachment, with_free, with_full, with_leaving, with_look_in, with_pushed, with_received, IsWith, SeesNothing};
 ghost use Rattle.board_rings.specs.OnTheWay.{bytes_known_to};
 
 use crate::attachment::{Attachment, RING_SIZE};
@@ -87,6 +87,7 @@ impl Attachments {
         requires new { is_attached dest self.old ≡ false }
         ensures ok { IfOk result (λ ends. IsWith (new_attachment dest ends.0.ring ends.1.ring RING_SIZE) self.old self.new) }
         ensures offered { IfOk result (λ ends. (ends.0.offered ≡ []) × (ends.0.free ≡ RING_SIZE)) }
+        ensures dest { IfOk result (λ ends. ends.0.dest ≡ dest) }
         ensures taken { IfOk result (λ ends. (ends.1.taken ≡ []) × (ends.1.seen ≡ [])) }
         ensures err { OnErr result (self.new ≡ self.old) }
     {
@@ -97,18 +98,18 @@ impl Attachments {
     }
 
     /// Receives one item that a reader offered, and tells how many are seen to follow. There is none only
-    /// where the ring was found empty, or the connection isn't attached. The guess is where its attachment may
+    /// where it looked into the ring and found it empty, or the connection isn't attached. The guess is where its attachment may
     /// stand: a wrong one costs a search.
     pub fn receive(&mut self, dest: Dest, guess: usize) -> Option<(Inbound, usize)>
         ensures some { IfSome result (λ r. self.new ≡ change_first (is_attachment_of dest) (with_received r.0 r.1) self.old) }
         ensures there { IsSome result → is_attached dest self.old ≡ true }
-        ensures none { IsNone result → self.new ≡ self.old }
+        ensures none { IsNone result → self.new ≡ change_first (is_attachment_of dest) with_look_in self.old }
         ensures nothing { IsNone result → SeesNothing dest self.old }
     {
         receive(&mut self.rows, dest, guess)
     }
 
-    /// How many places of the ring out are free now, 0 where the connection isn't attached.
+    /// How many places of the ring out are free now, by a look into it, 0 where the connection isn't attached.
     pub fn room(&mut self, dest: Dest, guess: usize) -> usize
         ensures found { self.new ≡ change_first (is_attachment_of dest) (with_free result) self.old }
         ensures none { is_attached dest self.old ≡ false → result ≡ 0 }
@@ -190,12 +191,12 @@ fn add(rows: &mut Vec<Attachment>, attachment: Attachment)
     rows.insert(place, attachment).unwrap();
 }
 
-#[tactic(auto, using(rows::proofs::RowLemmas::set_is_change_first, crate::proofs::AttachmentOrder::attached_there, crate::proofs::AttachmentOrder::sees_nothing_at, crate::proofs::AttachmentOrder::sees_nothing_nowhere))]
+#[tactic(auto, using(rows::proofs::RowLemmas::set_is_change_first, rows::proofs::RowLemmas::change_first_none, crate::proofs::AttachmentOrder::attached_there, crate::proofs::AttachmentOrder::sees_nothing_at, crate::proofs::AttachmentOrder::sees_nothing_nowhere))]
 fn receive(rows: &mut Vec<Attachment>, dest: Dest, guess: usize) -> Option<(Inbound, usize)>
     requires { are_in_order rows.old.items ≡ true }
     ensures some { IfSome result (λ r. rows.new.items ≡ change_first (is_attachment_of dest) (with_received r.0 r.1) rows.old.items) }
     ensures there { IsSome result → is_attached dest rows.old.items ≡ true }
-    ensures none { IsNone result → rows.new.items ≡ rows.old.items }
+    ensures none { IsNone result → rows.new.items ≡ change_first (is_attachment_of dest) with_look_in rows.old.items }
     ensures nothing { IsNone result → SeesNothing dest rows.old.items }
 {
     let place = place_near(rows, dest, guess)?;

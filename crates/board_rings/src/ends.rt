@@ -1,6 +1,7 @@
 //! The ends of the rings.
 ghost use Rattle.std.specs.Prelude.{◌≡◌, ◌++◌, ◌∷◌, ◌<◌, ◌≤◌, ◌+◌, [], length, OnOk, OnErr, IfErr, IfSome, IsNone, IsOk, IsSome};
 
+use crate::counted::{CountedConsumer, CountedProducer};
 use crate::inbound::Inbound;
 use fanout::Out;
 use gateway_state::Dest;
@@ -10,8 +11,8 @@ use std::marker::Model;
 /// A reader's end of the ring in. It can move to another thread.
 #[derive(Drop)]
 pub struct Inlet {
-    pub(crate) ring: Producer<Inbound>,
-    // Whose ring it is, for those that wait for a place. No clause speaks of it.
+    pub(crate) ring: CountedProducer<Inbound>,
+    // Whose ring it is, for those that wait for a place.
     pub(crate) dest: Dest,
 }
 
@@ -21,24 +22,34 @@ impl Model for Inlet {
 
     ghost Value = { InletState };
 
-    ghost view = { λ i. record { ring = ring_of i.ring.end; offered = sent i.ring; free = known_free i.ring } };
+    ghost view = { λ i. record {
+      ring = ring_of i.ring.end.end;
+      dest = i.dest;
+      offered = sent i.ring.end;
+      free = known_free i.ring.end;
+      looks = i.ring.looks;
+    } };
 }
 
 impl Inlet {
-    /// For which connection it was attached. No clause speaks of it.
-    pub fn dest(&self) -> Dest {
+    /// For which connection it was attached.
+    pub fn dest(&self) -> Dest
+        ensures { result ≡ self.now.dest }
+    {
         self.dest
     }
 
-    /// Offers what comes from the peer. It comes back only where no place of the ring is free.
+    /// Offers what comes from the peer. It comes back only where it looked into the ring, and no place was free.
     pub fn offer(&mut self, item: Inbound) -> Result<(), Inbound>
         ensures ok { OnOk result (self.new.offered ≡ self.old.offered ++ item ∷ []) }
         ensures places { OnOk result (self.old.free ≤ self.new.free + 1) }
         ensures err { IfErr result (λ back. back ≡ item) }
-        ensures same { OnErr result (self.new ≡ self.old) }
+        ensures same { OnErr result (self.new ≡ record self.old { looks = self.old.looks + 1 }) }
         ensures full { OnErr result (self.new.free ≡ 0) }
         ensures succeeds { 0 < self.old.free → IsOk result }
+        ensures looked { self.new.looks ≡ self.old.looks + 1 }
         ensures ring { self.new.ring ≡ self.old.ring }
+        ensures dest { self.new.dest ≡ self.old.dest }
     {
         match self.ring.push(item) {
             Ok(()) => Ok(()),
@@ -50,7 +61,7 @@ impl Inlet {
 /// A writer's end of the ring out. It can move to another thread.
 #[derive(Drop)]
 pub struct Outlet {
-    pub(crate) ring: Consumer<Out>,
+    pub(crate) ring: CountedConsumer<Out>,
 }
 
 impl Model for Outlet {
@@ -59,16 +70,23 @@ impl Model for Outlet {
 
     ghost Value = { OutletState };
 
-    ghost view = { λ o. record { ring = ring_of o.ring.end; taken = received o.ring; seen = known_items o.ring } };
+    ghost view = { λ o. record {
+      ring = ring_of o.ring.end.end;
+      taken = received o.ring.end;
+      seen = known_items o.ring.end;
+      looks = o.ring.looks;
+    } };
 }
 
 impl Outlet {
-    /// Takes the next message that goes to the peer. There is none only where the ring was found empty.
+    /// Takes the next message that goes to the peer. There is none only where it looked into the ring, and found it
+    /// empty.
     pub fn next(&mut self) -> Option<Out>
         ensures some { IfSome result (λ out. self.new.taken ≡ self.old.taken ++ out ∷ []) }
-        ensures none { IsNone result → self.new ≡ self.old }
+        ensures none { IsNone result → self.new ≡ record self.old { looks = self.old.looks + 1 } }
         ensures nothing { IsNone result → self.new.seen ≡ [] }
         ensures succeeds { 0 < length self.old.seen → IsSome result }
+        ensures looked { self.new.looks ≡ self.old.looks + 1 }
         ensures ring { self.new.ring ≡ self.old.ring }
     {
         match self.ring.pop() {

@@ -13,7 +13,7 @@ pub fn left_in(inlet: &mut Inlet, ends: &mut Ends) -> usize
     ensures same { (inlet.new.offered ≡ inlet.old.offered) × (ends.new ≡ ends.old) }
     ensures ring { inlet.new.ring ≡ inlet.old.ring }
 {
-    ends.read.slots_beside(&mut inlet.ring)
+    ends.read.slots_beside(&mut inlet.ring.end)
 }
 
 /// How much lies between the board and a writer: what was taken is what was pushed, from the front
@@ -25,7 +25,7 @@ pub fn left_out(outlet: &mut Outlet, ends: &mut Ends) -> usize
     ensures same { (outlet.new.taken ≡ outlet.old.taken) × (ends.new ≡ ends.old) }
     ensures ring { outlet.new.ring ≡ outlet.old.ring }
 {
-    outlet.ring.slots_beside(&mut ends.write)
+    outlet.ring.end.slots_beside(&mut ends.write)
 }
 
 /// The number of the crate.

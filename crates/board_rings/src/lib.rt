@@ -12,8 +12,9 @@
 //!   the attachment may stand, so that a walk over all attachments, in order, searches for none.
 //!
 //! A contract sees each end as all that ever went through it: what was offered, received, pushed and
-//! taken, and what is known to be in the ring. An offer comes back only where no place is known to be
-//! free, and nothing is taken or received only where nothing is known to be there. Where both ends of a ring meet, `laws::left_in` and `laws::left_out` say that what went in at
+//! taken, what is known to be in the ring, and how often the end looked at what the other did. An offer comes back
+//! only where no place is known to be free, and nothing is taken or received only where nothing is known to be there,
+//! both after a look: its count has risen, which takes no memory and no time (`counted`). Where both ends of a ring meet, `laws::left_in` and `laws::left_out` say that what went in at
 //! one is what came out at the other and then what lies between, in order, each once.
 //!
 //! ```
@@ -32,10 +33,12 @@
 
 mod attachment;
 mod attachments;
+mod counted;
 mod ends;
 mod inbound;
 pub mod laws;
 mod lengths;
+mod looks;
 mod places;
 
 pub use attachment::{Attachment, RING_SIZE};

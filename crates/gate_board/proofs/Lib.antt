@@ -3,3 +3,4 @@ pub mod PartsCross
 pub mod StateCrosses
 pub mod RingsCross
 pub mod GateCrosses
+mod Looks

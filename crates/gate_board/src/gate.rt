@@ -22,10 +22,10 @@
 //! - Closing and a fault of the gateway notify all.
 //!
 //! Connections that share a seat wake each other for nothing, and look again.
-ghost use Rattle.std.specs.Prelude.{◌≡◌, ◌↔◌, ◌⊎◌, [], ◌∷◌, ◌++◌, OnOk, OnErr, IfOk, IfErr, IfSome, IsErrOf, IsNone, IsOk, false};
+ghost use Rattle.std.specs.Prelude.{◌≡◌, ◌<◌, ◌↔◌, ◌⊎◌, [], ◌∷◌, ◌++◌, OnOk, OnErr, IfOk, IfErr, IfSome, IsErrOf, IsNone, IsOk, false};
 ghost use Rattle.board_rings.specs.declared.attachment.TheConstants.{RING_SIZE};
 ghost use Rattle.board_history.specs.History.{is_for_desk};
-ghost use Rattle.gate_board.specs.Taking.{IsTaken};
+ghost use Rattle.gate_board.specs.Taking.{IsTaken, LooksOnly};
 
 use board_moves::{Board, BoardFault, Kept, News, SEAT_WORDS, SEATS, Traffic, Turn, seat_of};
 use board_rings::{Ends, Inbound, Inlet, Outlet};
@@ -96,6 +96,7 @@ impl<G: GatewayCalls + Drop> GateOver<G> {
     /// Gives a connection two rings, and wakes.
     pub fn attach<R: Wait>(&self, rt: &R, dest: Dest) -> Result<(Inlet, Outlet), BoardFault>
         ensures empty { IfOk result (λ r. (r.0.offered ≡ []) × (r.0.free ≡ RING_SIZE) × (r.1.taken ≡ []) × (r.1.seen ≡ [])) }
+        ensures dest { IfOk result (λ r. r.0.dest ≡ dest) }
         ensures cause { IsErrOf result BoardFault.Attached ⊎ IsErrOf result BoardFault.OutOfMemory ⊎ IsOk result }
     {
         let mut kept = self.kept.lock(rt);
@@ -246,12 +247,15 @@ impl<G: GatewayCalls + Drop> GateOver<G> {
 
     /// Offers an item, and waits for a place where there is none. The item comes back where the gate is
     /// closed or the engine has failed. Before an end it says to the board that it comes.
+    #[tactic(auto, using(crate::proofs::Looks::offered_once, crate::proofs::Looks::offered_again, crate::proofs::Looks::offered_on))]
     pub fn put<R: Wait>(&self, rt: &R, inlet: &mut Inlet, item: Inbound) -> Result<(), Inbound>
         ensures ok { OnOk result (inlet.new.offered ≡ inlet.old.offered ++ item ∷ []) }
         ensures err { IfErr result (λ back. back ≡ item) }
-        ensures same { OnErr result (inlet.new ≡ inlet.old) }
+        ensures same { OnErr result (inlet.new ≡ record inlet.old { looks = inlet.new.looks }) }
+        ensures looked { OnErr result (inlet.old.looks < inlet.new.looks) }
         ensures full { OnErr result (inlet.new.free ≡ 0) }
         ensures ring { inlet.new.ring ≡ inlet.old.ring }
+        ensures dest { inlet.new.dest ≡ inlet.old.dest }
     {
         if matches!(item, Inbound::Gone) {
             self.note_end(rt, inlet.dest());
@@ -296,6 +300,7 @@ impl<G: GatewayCalls + Drop> GateOver<G> {
     }
 
     /// Takes the next message for a connection, and waits for one where there is none.
+    #[tactic(auto, using(crate::proofs::Looks::not_yet, crate::proofs::Looks::taken_on, crate::proofs::Looks::taken_after, crate::proofs::Looks::waited_after))]
     pub fn take<R: Wait>(&self, rt: &R, outlet: &mut Outlet, dest: Dest) -> Taken
         ensures { IsTaken outlet.old result outlet.new }
     {
@@ -314,9 +319,10 @@ impl<G: GatewayCalls + Drop> GateOver<G> {
     // The next message, or that none comes any more. Where neither is so it waits at the connection's seat
     // for a wake, and answers nothing. Messages are pushed under the lock, so none comes between the look and
     // the wait. Where some wait that found no place the core is woken: the ring was full when it looked.
+    #[tactic(auto, using(crate::proofs::Looks::looks_once))]
     fn next_or_wait<R: Wait>(&self, rt: &R, outlet: &mut Outlet, dest: Dest) -> Option<Taken>
         ensures some { IfSome result (λ taken. IsTaken outlet.old taken outlet.new) }
-        ensures none { IsNone result → outlet.new ≡ outlet.old }
+        ensures none { IsNone result → LooksOnly outlet.old outlet.new }
     {
         let mut kept = self.kept.lock(rt);
         if let Some(out) = outlet.next() {

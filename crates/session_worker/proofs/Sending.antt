@@ -14,8 +14,8 @@ use Rattle.session_worker.specs.declared.writer.OutEnd.TheVariants as ends
 -- what a call that waits has taken
 pub takes_so : (taken : Taken) (old new : OutletState) → IsTaken old taken new → Takes taken old.taken new.taken × (new.ring ≡ old.ring)
 takes_so (takes.Item out) old new is = is
-takes_so takes.Closed old new is = (ap (λ (o : OutletState). o.taken) is.0, ap (λ (o : OutletState). o.ring) is.0)
-takes_so takes.Stopped old new is = (ap (λ (o : OutletState). o.taken) is.0, ap (λ (o : OutletState). o.ring) is.0)
+takes_so takes.Closed old new is = (ap (λ (o : OutletState). o.taken) is.0.0, ap (λ (o : OutletState). o.ring) is.0.0)
+takes_so takes.Stopped old new is = (ap (λ (o : OutletState). o.taken) is.0.0, ap (λ (o : OutletState). o.ring) is.0.0)
 
 -- a message's header went well, and then its payload, or a part of it
 pub head_and_payload : (fine : Bool) (out : Out) (held head held_between payload held_now : List ℕ) (old between new : Progress) → head ≡ out.head → payload ≡ out.payload

@@ -10,9 +10,9 @@ use Rattle.board_rings.proofs.attachment.Attachment.room.Goals as goal
 -- the lengths that are kept are those of what is on the way now
 pub invariant_of-self : goal.invariant_of-self
 invariant_of-self c =
-    let old = c.self.inside.write in
-    let new = c.slots-free.new.self in
-    let looked = c.slots-free.ensures.looked in record {
+    let old = c.self.inside.write.end in
+    let new = c.slots-free.new.self.end in
+    let looked = c.slots-free.ensures.seen in record {
       places = looked.0.1 ∙ c.self.invariant.places;
       items = c.self.invariant.items;
       few = grind arith;
