@@ -33,6 +33,13 @@ const PART: usize = 112;
 /// So many of them are lost ones at most, where others wait.
 const LOST_PART: usize = 108;
 
+/// For so many looks after a server came, all of them are lost ones: so names of 1,000 channels are asked for without a
+/// look more.
+const HURRY: u64 = 8;
+
+/// After so many looks the next server that comes has that again.
+const CALM: u64 = 32;
+
 /// Under this number of a host stand names that no host sought just now.
 const NO_HOST: u128 = 0;
 
@@ -52,6 +59,8 @@ struct Asker {
     // Taken from the schedules, and not sent yet.
     asks: Asks,
     had_many: bool,
+    // The look in which lost names began to come before all others.
+    hurried: u64,
     // The time, in milliseconds of the system's clock.
     now: u64,
 }
@@ -67,6 +76,7 @@ impl Asker {
             budget: AskBudget::new(),
             asks: Asks::new(hub.alloc),
             had_many: false,
+            hurried: 0,
             now: 0,
         }
     }
@@ -78,6 +88,24 @@ impl Asker {
     // The look of the schedule.
     fn turn(&self) -> u64 {
         self.now / FIRST_GAP
+    }
+
+    // A server came: what it had may be found now.
+    fn hurry(&mut self) {
+        let (turn, look) = (self.turn(), self.look());
+        self.lost.soon(turn.saturating_sub(1), 0);
+        self.schedule.soon(turn, 0);
+        if look.saturating_sub(self.hurried) >= CALM {
+            self.hurried = look;
+        }
+    }
+
+    fn lost_part(&self) -> usize {
+        if self.look().saturating_sub(self.hurried) < HURRY {
+            PART
+        } else {
+            LOST_PART
+        }
     }
 
     fn has_names(&self) -> bool {
@@ -240,11 +268,8 @@ fn back_off<R: System, H: AsHub>(
     asker: &mut Asker,
     wanted: Wanted,
 ) -> Result<(), NoMemory> {
-    let turn = asker.turn();
     if wanted.soon {
-        // The lost ones are due now.
-        asker.lost.soon(turn.saturating_sub(1), 0);
-        asker.schedule.soon(turn, 0);
+        asker.hurry();
     }
     asker.note_found(wanted.found)?;
     for wish in wanted.wishes {
@@ -266,7 +291,7 @@ fn ask_due<R: System, H: AsHub>(rt: R, hub: &H, asker: &mut Asker) -> Result<usi
         if !asker.budget.may_send(look) {
             break;
         }
-        if asker.asks.is_empty() {
+        if asker.asks.is_short() {
             take_due(rt, hub, asker)?;
         }
         if asker.asks.is_empty() {
@@ -281,8 +306,8 @@ fn ask_due<R: System, H: AsHub>(rt: R, hub: &H, asker: &mut Asker) -> Result<usi
 // Takes names that are due: lost ones first, then as many that were asked for as newcomers. What one kind leaves is the
 // others'.
 fn take_due<R: System, H: AsHub>(rt: R, hub: &H, asker: &mut Asker) -> Result<(), NoMemory> {
-    let turn = asker.turn();
-    let lost = take_from(rt, hub, &mut asker.asks, &mut asker.lost, turn, LOST_PART)?;
+    let (turn, most) = (asker.turn(), asker.lost_part());
+    let lost = take_from(rt, hub, &mut asker.asks, &mut asker.lost, turn, most)?;
     let left = PART.saturating_sub(lost);
     let again = take_from(
         rt,

@@ -28,6 +28,11 @@ impl Asks {
         self.waiting.is_empty()
     }
 
+    /// Whether a datagram might hold more.
+    pub fn is_short(&self) -> bool {
+        self.waiting.len() < BURST
+    }
+
     /// One name more, under the next CID.
     pub fn add<R: System>(&mut self, rt: R, hub: &Hub, name: Name) -> Result<(), NoMemory> {
         let again = name.copy()?;

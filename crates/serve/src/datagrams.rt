@@ -4,6 +4,7 @@ use crate::clients::{host_number, host_of};
 use crate::hub::{AsHub, Hub, Wish};
 use crate::late::{keep_late, note_found};
 use crate::machine::System;
+use crate::pace::Pace;
 use crate::searches::{has_waiting, put_search};
 use ask_schedule::AtOnce;
 use gateway_core::{AskFault, Event};
@@ -29,17 +30,24 @@ const LOOK: u64 = 32;
 /// So many bytes a datagram that waits takes besides its own, or a few more.
 const BESIDE: usize = 256;
 
-/// How many microseconds pass between two parts, so that others get at the gate.
-pub const REST: u64 = 100;
-
 /// An hour, in milliseconds.
 const HOUR: u64 = 3_600_000;
+
+/// How much whoever receives hears at once.
+#[derive(Drop)]
+struct Turns {
+    at_once: AtOnce,
+    pace: Pace,
+}
 
 /// Receives datagrams into the buffer, and hands each in. It sends nothing but a client's reply.
 pub fn receive<R: System, H: AsHub>(rt: R, hub: &H, buffer: Vec<u8>) {
     let mut buffer = buffer;
     let mut clashes = Clashes::new(hub.hub().alloc);
-    let mut at_once = AtOnce::new(hub.hub().alloc);
+    let mut turns = Turns {
+        at_once: AtOnce::new(hub.hub().alloc),
+        pace: Pace::begin(rt),
+    };
     for _ in rt.forever() {
         let received = hub.hub().sockets.datagrams.recv_from(&mut buffer);
         if hub.hub().is_closing(&rt) {
@@ -50,7 +58,7 @@ pub fn receive<R: System, H: AsHub>(rt: R, hub: &H, buffer: Vec<u8>) {
                 let datagram = &buffer[..count];
                 match server_of(hub.hub().servers.as_slice(), &from) {
                     Some(server) => hear_server(rt, hub, &mut clashes, datagram, server),
-                    None => hear_client(rt, hub, &mut at_once, datagram, from),
+                    None => hear_client(rt, hub, &mut turns, datagram, from),
                 }
             }
             Err(_) => thread::sleep(&rt, Duration::from_millis(1)),
@@ -80,8 +88,8 @@ fn hear_server<R: System, H: AsHub>(
             let _ = hub.gate().desk(&rt, Event::Found(name, server));
         }
     }
+    note_found(rt, hub.hub(), names.as_slice());
     hub.hub().note_found(&rt, names);
-    note_found(rt, hub.hub());
 }
 
 // Where memory is refused, it isn't noted.
@@ -120,12 +128,12 @@ fn tell_clash<R: System>(
     }
 }
 
-// What isn't heard at once of a client's datagram waits, and so do those that come behind it from the same host: each host's
-// are heard in the order in which they came.
+// What isn't heard at once of a client's datagram waits, and so do those that come behind it: so each host's are heard in the
+// order in which they came, and the socket is emptied meanwhile.
 fn hear_client<R: System, H: AsHub>(
     rt: R,
     hub: &H,
-    at_once: &mut AtOnce,
+    turns: &mut Turns,
     datagram: &[u8],
     from: SocketAddr,
 ) {
@@ -133,9 +141,9 @@ fn hear_client<R: System, H: AsHub>(
         hub.hub().tell(&rt, Notice::OutOfMemory);
         return;
     };
-    if has_waiting(rt, hub.hub(), search.host()) {
+    if has_waiting(rt, hub.hub()) {
         put_search(rt, hub.hub(), search);
-    } else if let Some(left) = hear_at_once(rt, hub, at_once, search) {
+    } else if let Some(left) = hear_at_once(rt, hub, turns, search) {
         put_search(rt, hub.hub(), left);
     }
 }
@@ -144,17 +152,17 @@ fn hear_client<R: System, H: AsHub>(
 fn hear_at_once<R: System, H: AsHub>(
     rt: R,
     hub: &H,
-    at_once: &mut AtOnce,
+    turns: &mut Turns,
     search: Search,
 ) -> Option<Search> {
     let mut search = search;
     for _ in rt.forever() {
         let look = milliseconds(rt, 0) / LOOK;
-        if !matches!(at_once.hear(look, search.host()), Ok(true)) {
+        if !matches!(turns.at_once.hear(look, search.host()), Ok(true)) {
             break;
         }
         search = hear_part(rt, hub, search)?;
-        thread::sleep(&rt, Duration::from_micros(REST));
+        turns.pace.rest(rt);
     }
     Some(search)
 }

@@ -3,24 +3,28 @@ use crate::asker::milliseconds;
 use crate::clients::{host_number, host_of};
 use crate::hub::{AsHub, Hub};
 use crate::machine::System;
+use crate::pace::Pace;
 use ca_header::{Frame, Frames};
 use ca_message::NameText;
 use ca_message::commands::CA_PROTO_SEARCH;
-use pv_name::NoMemory;
+use pv_name::{Name, NoMemory};
 use pv_search::{Ask, SearchAnswer, ask_datagram, read_found};
 use serve_state::{LATE_LIMIT, Late, LateSearch, Notice};
-use std::alloc::Global;
+use std::alloc::{AllocError, Global};
+use std::collections::{HashSet, VecDeque};
 use std::mem::replace;
 use std::net::SocketAddr;
 use std::sync::CondvarTimeouts;
-use std::thread;
 use std::time::Duration;
 
 /// So many searches are asked of the gate at once.
 const PART: usize = 16;
 
-/// How many microseconds pass between two parts, so that others get at the gate.
-const REST: u64 = 100;
+/// So many parts are asked one after the other; then what came meanwhile is looked at.
+const RUN_LIMIT: usize = 32;
+
+/// So many searches are taken in at once, for the same reason: one that comes in beside 4,096 takes some 40 microseconds.
+const TAKEN: usize = 256;
 
 /// How many milliseconds pass between two rounds over few searches that wait, after a server told of a name.
 const QUICK: u64 = 4;
@@ -34,12 +38,22 @@ const QUICK_FOR: u64 = 512;
 /// How many milliseconds pass between two rounds at other times.
 const SLOW: u64 = 256;
 
+/// So many names that servers told of wait to be noted.
+const FOUND_LIMIT: usize = 16_384;
+
+/// Of so many names it is known that a server had them.
+const KNOWN_LIMIT: usize = 65_536;
+
+type Search = LateSearch<SocketAddr>;
+
 /// What is wanted of whoever answers late.
 #[derive(Drop)]
 pub struct LateInbox {
     /// Searches that couldn't be answered.
-    waiting: Vec<LateSearch<SocketAddr>>,
-    /// A server told of a name, which may be connected soon.
+    waiting: Vec<Search>,
+    /// Names that a server told of, which may be connected soon.
+    found: Vec<Name>,
+    /// A server told of a name.
     has_found: bool,
     pub end: bool,
 }
@@ -48,9 +62,34 @@ impl LateInbox {
     pub fn new(alloc: Global) -> LateInbox {
         LateInbox {
             waiting: Vec::new(alloc),
+            found: Vec::new(alloc),
             has_found: false,
             end: false,
         }
+    }
+
+    // Whether it may rest a while: it isn't to end, and little came.
+    fn has_room(&self) -> bool {
+        !self.end && self.waiting.len() < TAKEN && self.found.len() < TAKEN
+    }
+
+    // No more are put than are kept.
+    fn put_all(&mut self, searches: Vec<Search>) {
+        for search in searches {
+            if self.waiting.len() >= LATE_LIMIT || self.waiting.push(search).is_err() {
+                return;
+            }
+        }
+    }
+
+    fn note_all(&mut self, names: &[Name]) -> Result<(), NoMemory> {
+        self.has_found = true;
+        for name in names {
+            if self.found.len() < FOUND_LIMIT {
+                self.found.push(name.copy()?)?;
+            }
+        }
+        Ok(())
     }
 }
 
@@ -69,21 +108,11 @@ pub fn keep_late<R: System>(
         Ok(searches) if searches.is_empty() => (),
         Ok(searches) => {
             {
-                let mut inbox = hub.late.lock(&rt);
-                put_all(&mut inbox.waiting, searches);
+                hub.late.lock(&rt).put_all(searches);
             }
             hub.late_came.notify_all();
         }
         Err(_) => hub.tell(&rt, Notice::OutOfMemory),
-    }
-}
-
-// No more are put than are kept.
-fn put_all(waiting: &mut Vec<LateSearch<SocketAddr>>, searches: Vec<LateSearch<SocketAddr>>) {
-    for search in searches {
-        if waiting.len() >= LATE_LIMIT || waiting.push(search).is_err() {
-            return;
-        }
     }
 }
 
@@ -93,7 +122,7 @@ fn unanswered<R: System>(
     part: &[u8],
     answer: &SearchAnswer,
     from: SocketAddr,
-) -> Result<Vec<LateSearch<SocketAddr>>, NoMemory> {
+) -> Result<Vec<Search>, NoMemory> {
     let found = read_found(hub.alloc, answer.reply.as_slice())?;
     let mut searches = Vec::new(hub.alloc);
     if found.len() >= answer.asked.as_slice().len() {
@@ -122,95 +151,186 @@ fn unanswered<R: System>(
     Ok(searches)
 }
 
-/// A server told of a name: what waits for it may be answered soon.
-pub fn note_found<R: System>(rt: R, hub: &Hub) {
+/// A server told of these names: what waits for them may be answered soon.
+pub fn note_found<R: System>(rt: R, hub: &Hub, names: &[Name]) {
     if !hub.options.late {
         return;
     }
-    hub.late.lock(&rt).has_found = true;
+    let noted = hub.late.lock(&rt).note_all(names);
+    if noted.is_err() {
+        hub.tell(&rt, Notice::OutOfMemory);
+    }
     hub.late_came.notify_all();
 }
 
-/// What whoever answers late knows.
+/// Searches that wait, and how far the round over them is.
 #[derive(Drop)]
-struct LateKeeper {
+struct Waiting {
+    // Not taken in yet.
+    came: VecDeque<Search>,
     late: Late<SocketAddr>,
-    // The time, in milliseconds of the system's clock.
-    now: u64,
-    // Until then rounds are quick.
-    quick_until: u64,
-    // When the next round is due.
+    // The round goes on at this place. It begins at the first one.
+    place: usize,
+    // When it goes on, in milliseconds of the system's clock.
     next: u64,
 }
 
-impl LateKeeper {
+impl Waiting {
+    fn new(alloc: Global) -> Waiting {
+        Waiting {
+            came: VecDeque::new(alloc),
+            late: Late::new(alloc),
+            place: 0,
+            next: 0,
+        }
+    }
+
+    fn is_empty(&self) -> bool {
+        self.came.is_empty() && self.late.rows().is_empty()
+    }
+
+    // No more come than are kept.
+    fn put(&mut self, search: Search) -> Result<(), NoMemory> {
+        if self.came.len() >= LATE_LIMIT || self.came.push_back(search).is_ok() {
+            Ok(())
+        } else {
+            Err(AllocError)
+        }
+    }
+
+    fn take_some(&mut self) -> Result<(), NoMemory> {
+        for _ in 0..TAKEN {
+            match self.came.pop_front() {
+                Some(search) => self.late.add(search)?,
+                None => break,
+            }
+        }
+        Ok(())
+    }
+
     fn quick(&self) -> u64 {
         QUICK + self.late.rows().len() as u64 / MORE
     }
 
-    fn gap(&self) -> u64 {
-        if self.now < self.quick_until {
-            self.quick()
-        } else {
-            SLOW
+    // A server told of a name.
+    fn hurry(&mut self, now: u64) {
+        self.next = self.next.min(now.saturating_add(self.quick()));
+    }
+
+    // The round is over.
+    fn rest(&mut self, now: u64, is_quick: bool) {
+        let gap = if is_quick { self.quick() } else { SLOW };
+        self.place = 0;
+        self.next = now.saturating_add(gap);
+    }
+}
+
+/// What whoever answers late knows. Searches for names that a server had don't wait behind others, of which there may be many
+/// that nobody answers.
+#[derive(Drop)]
+struct LateKeeper {
+    known: Waiting,
+    others: Waiting,
+    // Names that a server had.
+    found: HashSet<Name>,
+    // The time, in milliseconds of the system's clock.
+    now: u64,
+    // Until then rounds are quick.
+    quick_until: u64,
+}
+
+impl LateKeeper {
+    fn new(alloc: Global) -> LateKeeper {
+        LateKeeper {
+            known: Waiting::new(alloc),
+            others: Waiting::new(alloc),
+            found: HashSet::new(alloc),
+            now: 0,
+            quick_until: 0,
         }
+    }
+
+    fn is_idle(&self) -> bool {
+        self.known.is_empty() && self.others.is_empty()
+    }
+
+    fn is_quick(&self) -> bool {
+        self.now < self.quick_until
+    }
+
+    // How many milliseconds it may wait.
+    fn left(&self) -> u64 {
+        if !self.known.came.is_empty() || !self.others.came.is_empty() {
+            return 1;
+        }
+        let next = self.known.next.min(self.others.next);
+        next.saturating_sub(self.now).max(1)
+    }
+
+    // Where there are too many, it forgets those that it knows.
+    fn note(&mut self, name: Name) -> Result<(), NoMemory> {
+        if self.found.len() >= KNOWN_LIMIT {
+            self.found.clear();
+        }
+        match self.found.insert(name) {
+            Ok(_) => Ok(()),
+            Err(_) => Err(AllocError),
+        }
+    }
+
+    fn take_in(&mut self, inbox: LateInbox) -> Result<(), NoMemory> {
+        if inbox.has_found {
+            self.quick_until = self.now.saturating_add(QUICK_FOR);
+            self.known.hurry(self.now);
+            self.others.hurry(self.now);
+        }
+        for name in inbox.found {
+            self.note(name)?;
+        }
+        for search in inbox.waiting {
+            if self.found.contains(&search.name) {
+                self.known.put(search)?;
+            } else {
+                self.others.put(search)?;
+            }
+        }
+        self.known.take_some()?;
+        self.others.take_some()
     }
 }
 
 /// Answers searches that were kept, once what they look for is connected, until the gateway closes.
 pub fn answer_late<R: System, H: AsHub>(rt: R, hub: &H) {
-    let mut keeper = LateKeeper {
-        late: Late::new(hub.hub().alloc),
-        now: 0,
-        quick_until: 0,
-        next: 0,
-    };
+    let mut keeper = LateKeeper::new(hub.hub().alloc);
     for _ in rt.forever() {
         let Some(inbox) = next_inbox(rt, hub.hub(), &keeper) else {
             return;
         };
         keeper.now = milliseconds(rt, keeper.now);
-        if inbox.has_found {
-            keeper.quick_until = keeper.now.saturating_add(QUICK_FOR);
-            keeper.next = keeper.next.min(keeper.now.saturating_add(keeper.quick()));
-        }
-        if take_in(&mut keeper, inbox.waiting).is_err() {
+        let done = match keeper.take_in(inbox) {
+            Ok(()) => go_on(rt, hub, &mut keeper),
+            Err(fault) => Err(fault),
+        };
+        if done.is_err() {
             hub.hub().tell(&rt, Notice::OutOfMemory);
         }
-        if keeper.now < keeper.next {
-            continue;
-        }
-        keeper.late.expire(keeper.now);
-        if answer_all(rt, hub, &mut keeper).is_err() {
-            hub.hub().tell(&rt, Notice::OutOfMemory);
-        }
-        keeper.now = milliseconds(rt, keeper.now);
-        keeper.next = keeper.now.saturating_add(keeper.gap());
     }
-}
-
-fn take_in(keeper: &mut LateKeeper, waiting: Vec<LateSearch<SocketAddr>>) -> Result<(), NoMemory> {
-    for search in waiting {
-        keeper.late.add(search)?;
-    }
-    Ok(())
 }
 
 // What came, once something is to be done. None where the gateway ends.
 fn next_inbox<R: System>(rt: R, hub: &Hub, keeper: &LateKeeper) -> Option<LateInbox> {
     let inbox = hub.late.lock(&rt);
-    let is_idle = keeper.late.rows().is_empty();
-    let mut inbox = if is_idle {
-        hub.late_came
-            .wait_while(&rt, inbox, |inbox| !inbox.end && inbox.waiting.is_empty())
+    let mut inbox = if keeper.is_idle() {
+        hub.late_came.wait_while(&rt, inbox, |inbox| {
+            inbox.waiting.is_empty() && inbox.has_room()
+        })
     } else {
-        let left = keeper.next.saturating_sub(keeper.now).max(1);
-        let pause = Duration::from_millis(left);
-        let is_quick = keeper.now < keeper.quick_until;
+        let pause = Duration::from_millis(keeper.left());
+        let is_quick = keeper.is_quick();
         let (inbox, _) = hub
             .late_came
             .wait_timeout_while(&rt, inbox, pause, |inbox| {
-                !inbox.end && (is_quick || !inbox.has_found)
+                inbox.has_room() && (is_quick || !inbox.has_found)
             });
         inbox
     };
@@ -218,6 +338,13 @@ fn next_inbox<R: System>(rt: R, hub: &Hub, keeper: &LateKeeper) -> Option<LateIn
         return None;
     }
     Some(replace(&mut *inbox, LateInbox::new(hub.alloc)))
+}
+
+// Goes on with each round that is due.
+fn go_on<R: System, H: AsHub>(rt: R, hub: &H, keeper: &mut LateKeeper) -> Result<(), NoMemory> {
+    let (now, is_quick) = (keeper.now, keeper.is_quick());
+    answer_some(rt, hub, &mut keeper.known, now, is_quick)?;
+    answer_some(rt, hub, &mut keeper.others, now, is_quick)
 }
 
 /// Searches that stand together and came from one address.
@@ -250,22 +377,31 @@ fn run_at(alloc: Global, late: &Late<SocketAddr>, place: usize) -> Result<Option
     Ok(Some(run))
 }
 
-// One round over all searches that wait.
-fn answer_all<R: System, H: AsHub>(
+// A part of a round over all searches that wait, where it is due.
+fn answer_some<R: System, H: AsHub>(
     rt: R,
     hub: &H,
-    keeper: &mut LateKeeper,
+    waiting: &mut Waiting,
+    now: u64,
+    is_quick: bool,
 ) -> Result<(), NoMemory> {
-    let mut place = 0usize;
-    for _ in 0..LATE_LIMIT {
-        let Some(run) = run_at(hub.hub().alloc, &keeper.late, place)? else {
+    if now < waiting.next {
+        return Ok(());
+    }
+    if waiting.place == 0 {
+        waiting.late.expire(now);
+    }
+    let mut pace = Pace::begin(rt);
+    for _ in 0..RUN_LIMIT {
+        let Some(run) = run_at(hub.hub().alloc, &waiting.late, waiting.place)? else {
+            waiting.rest(milliseconds(rt, now), is_quick);
             return Ok(());
         };
-        let before = keeper.late.rows().len();
-        let asked = answer_run(rt, hub, keeper, &run)?;
-        let answered = before.saturating_sub(keeper.late.rows().len());
-        place = place.saturating_add(asked.saturating_sub(answered));
-        thread::sleep(&rt, Duration::from_micros(REST));
+        let before = waiting.late.rows().len();
+        let asked = answer_run(rt, hub, &mut waiting.late, &run)?;
+        let answered = before.saturating_sub(waiting.late.rows().len());
+        waiting.place = waiting.place.saturating_add(asked.saturating_sub(answered));
+        pace.rest(rt);
     }
     Ok(())
 }
@@ -274,7 +410,7 @@ fn answer_all<R: System, H: AsHub>(
 fn answer_run<R: System, H: AsHub>(
     rt: R,
     hub: &H,
-    keeper: &mut LateKeeper,
+    late: &mut Late<SocketAddr>,
     run: &Run,
 ) -> Result<usize, NoMemory> {
     let alloc = hub.hub().alloc;
@@ -290,9 +426,7 @@ fn answer_run<R: System, H: AsHub>(
     if !reply.is_empty() {
         let _ = hub.hub().sockets.datagrams.send_to(reply, run.from);
         let found = read_found(alloc, reply)?;
-        keeper
-            .late
-            .answered(host_number(&run.from), run.from.port(), found.as_slice());
+        late.answered(host_number(&run.from), run.from.port(), found.as_slice());
     }
     Ok(asked)
 }

@@ -33,6 +33,7 @@ mod logging;
 mod machine;
 mod opening;
 mod orders;
+mod pace;
 mod repeating;
 mod reports;
 mod rules;

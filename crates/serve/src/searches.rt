@@ -1,13 +1,12 @@
 //! What isn't heard at once of clients' datagrams: of each host one part is heard in turn.
-use crate::datagrams::{REST, Search, hear_part};
+use crate::datagrams::{Search, hear_part};
 use crate::hub::{AsHub, Hub};
 use crate::machine::System;
+use crate::pace::Pace;
 use pv_name::NoMemory;
 use serve_state::Notice;
 use std::alloc::{AllocError, Global};
 use std::collections::VecDeque;
-use std::thread;
-use std::time::Duration;
 
 /// The datagrams that wait have at most so many bytes. What comes then is lost, as what a socket has no room for.
 const MOST_BYTES: usize = 8_388_608;
@@ -31,8 +30,8 @@ struct OfHost {
 pub struct Searches {
     hosts: VecDeque<OfHost>,
     bytes: usize,
-    // The host of which a part is being heard.
-    heard: Option<u128>,
+    // A part is being heard.
+    is_heard: bool,
     pub end: bool,
 }
 
@@ -42,7 +41,7 @@ impl Searches {
         Searches {
             hosts: VecDeque::new(alloc),
             bytes: 0,
-            heard: None,
+            is_heard: false,
             end: false,
         }
     }
@@ -53,16 +52,16 @@ impl Searches {
         let search = of_host.waiting.pop_front()?;
         of_host.bytes = of_host.bytes.saturating_sub(search.len());
         self.bytes = self.bytes.saturating_sub(search.len());
-        self.heard = Some(of_host.host);
+        self.is_heard = true;
         if !of_host.waiting.is_empty() {
             let _ = self.hosts.push_back(of_host);
         }
         Some(search)
     }
 
-    // Whether some of the host's wait, or one is being heard.
-    fn has_of(&self, host: u128) -> bool {
-        self.heard == Some(host) || self.place_of(host) < self.hosts.len()
+    // Whether some wait, or one is being heard.
+    fn has_any(&self) -> bool {
+        self.is_heard || !self.hosts.is_empty()
     }
 
     // Puts one behind the others of its host. Where too much waits, it is lost.
@@ -128,9 +127,9 @@ impl Searches {
     }
 }
 
-/// Whether some of this host's wait, or one is being heard.
-pub fn has_waiting<R: System>(rt: R, hub: &Hub, host: u128) -> bool {
-    hub.searches.lock(&rt).has_of(host)
+/// Whether some wait, or one is being heard.
+pub fn has_waiting<R: System>(rt: R, hub: &Hub) -> bool {
+    hub.searches.lock(&rt).has_any()
 }
 
 /// Has a datagram heard, or the rest of it, once it is its host's turn.
@@ -144,6 +143,7 @@ pub fn put_search<R: System>(rt: R, hub: &Hub, search: Search) {
 
 /// Hears what waits, a part of each host in turn, until the gateway closes.
 pub fn hear_searches<R: System, H: AsHub>(rt: R, hub: &H) {
+    let mut pace = Pace::begin(rt);
     for _ in rt.forever() {
         let Some(next) = next_search(rt, hub.hub()) else {
             return;
@@ -153,7 +153,7 @@ pub fn hear_searches<R: System, H: AsHub>(rt: R, hub: &H) {
                 put_back(rt, hub.hub(), left);
             }
         }
-        thread::sleep(&rt, Duration::from_micros(REST));
+        pace.rest(rt);
     }
 }
 
@@ -167,7 +167,7 @@ fn put_back<R: System>(rt: R, hub: &Hub, search: Search) {
 // The next one, once one waits. None where the gateway ends.
 fn next_search<R: System>(rt: R, hub: &Hub) -> Option<Option<Search>> {
     let mut searches = hub.searches.lock(&rt);
-    searches.heard = None;
+    searches.is_heard = false;
     let mut searches = hub.searched.wait_while(&rt, searches, |searches| {
         !searches.end && searches.hosts.is_empty()
     });
