@@ -1,0 +1,5 @@
+pub mod FileLemmas
+pub mod NamedLemmas
+pub mod ReadingLemmas
+pub mod WorkedFiles
+pub mod WriterLemmas

@@ -1,0 +1,10 @@
+pub mod Fault
+pub mod File
+pub mod Grammar
+pub mod Groups
+pub mod Keywords
+pub mod Named
+pub mod Naming
+pub mod Scanning
+pub mod Tokens
+pub mod Writing

@@ -1,0 +1,130 @@
+//! Rules of access security groups.
+ghost use Rattle.std.specs.Prelude.{◌≡◌, ◌∷◌, ◌++◌, [], OnOk};
+ghost use Rattle.access_file.specs.Groups.{no_grant, better, covers, rank};
+
+use crate::names::Names;
+use std::alloc::{AllocError, Global};
+use std::marker::Model;
+
+/// The access security level of a variable's field, or the highest that a rule speaks of.
+#[derive(Clone, Copy, Debug, PartialEq, Eq)]
+pub enum Level {
+    Zero,
+    One,
+}
+
+impl Level {
+    /// Whether a rule of this level speaks of fields of the other.
+    pub(crate) fn covers(self, other: Level) -> bool
+        ensures { result ≡ covers self other }
+    {
+        match self {
+            Level::One => true,
+            Level::Zero => match other {
+                Level::Zero => true,
+                Level::One => false,
+            },
+        }
+    }
+}
+
+/// What may be done with a variable.
+#[derive(Clone, Copy, Debug, PartialEq, Eq)]
+pub enum Right {
+    None,
+    Read,
+    /// To write and to read.
+    Write,
+}
+
+impl Right {
+    // Greater rights have greater ranks.
+    fn rank(self) -> u8
+        ensures { result ≡ rank self }
+    {
+        match self {
+            Right::None => 0,
+            Right::Read => 1,
+            Right::Write => 3,
+        }
+    }
+}
+
+/// What is granted: the right, and whether writes are to be recorded.
+#[derive(Clone, Copy, Debug, PartialEq, Eq)]
+pub struct Grant {
+    pub right: Right,
+    pub recorded: bool,
+}
+
+impl Grant {
+    /// Nothing may be done.
+    pub(crate) fn none() -> Grant
+        ensures { result ≡ no_grant }
+    {
+        Grant {
+            right: Right::None,
+            recorded: false,
+        }
+    }
+
+    /// The other one where its right is greater.
+    pub(crate) fn or_better(self, other: Grant) -> Grant
+        ensures { result ≡ better self other }
+    {
+        if self.right.rank() < other.right.rank() {
+            other
+        } else {
+            self
+        }
+    }
+}
+
+/// A rule: what it grants, up to which level, and to whom. Where it names no groups of users it
+/// speaks to every user, where it names no groups of hosts, to every host.
+#[derive(Drop)]
+pub(crate) struct Rule {
+    pub(crate) level: Level,
+    pub(crate) grant: Grant,
+    pub(crate) users: Names,
+    pub(crate) hosts: Names,
+}
+
+/// The rules of a group, in the order of the file. A contract sees the list.
+#[derive(Drop)]
+pub(crate) struct Rules {
+    rules: Vec<Rule>,
+}
+
+impl Model for Rules {
+    ghost use Rattle.std.specs.Prelude.{List};
+    ghost use Rattle.access_file.specs.declared.rule.Rule.{Rule};
+
+    ghost Value = { List Rule };
+
+    ghost view = { λ r. r.rules.items };
+}
+
+impl Rules {
+    /// No rule. This takes no memory.
+    pub(crate) fn new(alloc: Global) -> Rules
+        ensures { result ≡ [] }
+    {
+        Rules {
+            rules: Vec::new(alloc),
+        }
+    }
+
+    pub(crate) fn as_slice(&self) -> &[Rule]
+        ensures { result.now ≡ self.now }
+    {
+        self.rules.as_slice()
+    }
+
+    pub(crate) fn push(&mut self, rule: Rule) -> Result<(), AllocError>
+        ensures { OnOk result (self.new ≡ self.old ++ rule ∷ []) }
+    {
+        self.rules.push(rule)?;
+        Ok(())
+    }
+}
