@@ -36,7 +36,8 @@ FORMS = {
     b"edit": [(number(SIZE), number(SIZE))], b"hold": [(EITHER,)], b"flow": [(EITHER,)], b"drain": [(EITHER, number(SIZE))],
     b"asks": [()], b"read": [(CLIENT, number(NUMBER32), number(NUMBER16), number(NUMBER32))], b"sub": [(NAME,)],
     b"props": [(NAME,)], b"rights": [(CLIENT, number(NUMBER32))],
-    b"limit": [(one_of(LIMITS), number(SIZE)), (one_of(FLAGS), one_of({b"0", b"1"}))], b"age": [()], b"probe": [(number(NUMBER32),)],
+    b"limit": [(one_of(LIMITS), number(SIZE)), (one_of({b"messages"}), number(NUMBER32)), (one_of(FLAGS), one_of({b"0", b"1"}))],
+    b"age": [()], b"probe": [(number(NUMBER32),)],
 }
 
 
