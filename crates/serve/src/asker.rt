@@ -33,8 +33,8 @@ const PART: usize = 112;
 /// So many of them are lost ones at most, where others wait.
 const LOST_PART: usize = 108;
 
-/// For so many looks after a server came, all of them are lost ones: so names of 1,000 channels are asked for without a
-/// look more.
+/// For so many looks after a server came, all of them are lost ones, and the first of these looks has its datagrams anew: so
+/// 1,000 names that the server had are asked for as soon as if nobody looked for others.
 const HURRY: u64 = 8;
 
 /// After so many looks the next server that comes has that again.
@@ -91,13 +91,16 @@ impl Asker {
     }
 
     // A server came: what it had may be found now.
-    fn hurry(&mut self) {
+    fn hurry(&mut self) -> Result<(), NoMemory> {
         let (turn, look) = (self.turn(), self.look());
         self.lost.soon(turn.saturating_sub(1), 0);
         self.schedule.soon(turn, 0);
         if look.saturating_sub(self.hurried) >= CALM {
             self.hurried = look;
+            self.budget = AskBudget::new();
+            self.asks.put_off()?;
         }
+        Ok(())
     }
 
     fn lost_part(&self) -> usize {
@@ -269,7 +272,7 @@ fn back_off<R: System, H: AsHub>(
     wanted: Wanted,
 ) -> Result<(), NoMemory> {
     if wanted.soon {
-        asker.hurry();
+        asker.hurry()?;
     }
     asker.note_found(wanted.found)?;
     for wish in wanted.wishes {
@@ -303,12 +306,15 @@ fn ask_due<R: System, H: AsHub>(rt: R, hub: &H, asker: &mut Asker) -> Result<usi
     Ok(sent)
 }
 
-// Takes names that are due: lost ones first, then as many that were asked for as newcomers. What one kind leaves is the
-// others'.
+// Takes names that are due: lost ones first, then those that were put off, then as many that were asked for as newcomers.
+// What one kind leaves is the others'.
 fn take_due<R: System, H: AsHub>(rt: R, hub: &H, asker: &mut Asker) -> Result<(), NoMemory> {
     let (turn, most) = (asker.turn(), asker.lost_part());
     let lost = take_from(rt, hub, &mut asker.asks, &mut asker.lost, turn, most)?;
-    let left = PART.saturating_sub(lost);
+    if lost == PART {
+        return Ok(());
+    }
+    let left = PART.saturating_sub(lost.saturating_add(asker.asks.take_up()?));
     let again = take_from(
         rt,
         hub,

@@ -14,6 +14,8 @@ const BURST: usize = 64;
 #[derive(Drop)]
 pub struct Asks {
     waiting: Vec<Ask>,
+    // These wait until somebody takes them up again.
+    put_off: Vec<Ask>,
 }
 
 impl Asks {
@@ -21,11 +23,26 @@ impl Asks {
     pub fn new(alloc: Global) -> Asks {
         Asks {
             waiting: Vec::new(alloc),
+            put_off: Vec::new(alloc),
         }
     }
 
+    /// Whether there is none, put off ones too.
     pub fn is_empty(&self) -> bool {
-        self.waiting.is_empty()
+        self.waiting.is_empty() && self.put_off.is_empty()
+    }
+
+    /// Puts off those that wait: others come before them.
+    pub fn put_off(&mut self) -> Result<(), NoMemory> {
+        self.put_off.append(&mut self.waiting)?;
+        Ok(())
+    }
+
+    /// Has those that were put off wait again, behind the others, and answers how many these are.
+    pub fn take_up(&mut self) -> Result<usize, NoMemory> {
+        let count = self.put_off.len();
+        self.waiting.append(&mut self.put_off)?;
+        Ok(count)
     }
 
     /// Whether a datagram might hold more.
@@ -48,7 +65,7 @@ impl Asks {
         for server in hub.servers.as_slice() {
             let _ = hub
                 .sockets
-                .datagrams
+                .asks()
                 .send_to(datagram.text.as_slice(), *server);
         }
         let asked = datagram.asked.min(self.waiting.len());

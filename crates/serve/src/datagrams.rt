@@ -49,7 +49,7 @@ pub fn receive<R: System, H: AsHub>(rt: R, hub: &H, buffer: Vec<u8>) {
         pace: Pace::begin(rt),
     };
     for _ in rt.forever() {
-        let received = hub.hub().sockets.datagrams.recv_from(&mut buffer);
+        let received = hub.hub().sockets.datagrams.socket.recv_from(&mut buffer);
         if hub.hub().is_closing(&rt) {
             return;
         }
@@ -59,6 +59,26 @@ pub fn receive<R: System, H: AsHub>(rt: R, hub: &H, buffer: Vec<u8>) {
                 match server_of(hub.hub().servers.as_slice(), &from) {
                     Some(server) => hear_server(rt, hub, &mut clashes, datagram, server),
                     None => hear_client(rt, hub, &mut turns, datagram, from),
+                }
+            }
+            Err(_) => thread::sleep(&rt, Duration::from_millis(1)),
+        }
+    }
+}
+
+/// Receives servers' replies into the buffer, where they are asked through a socket of its own. Nobody else is heard there.
+pub fn receive_replies<R: System, H: AsHub>(rt: R, hub: &H, buffer: Vec<u8>) {
+    let mut buffer = buffer;
+    let mut clashes = Clashes::new(hub.hub().alloc);
+    for _ in rt.forever() {
+        let received = hub.hub().sockets.asks().recv_from(&mut buffer);
+        if hub.hub().is_closing(&rt) {
+            return;
+        }
+        match received {
+            Ok((count, from)) => {
+                if let Some(server) = server_of(hub.hub().servers.as_slice(), &from) {
+                    hear_server(rt, hub, &mut clashes, &buffer[..count], server);
                 }
             }
             Err(_) => thread::sleep(&rt, Duration::from_millis(1)),
@@ -309,7 +329,7 @@ fn add_reply(hub: &Hub, sought: &mut Sought, more: &Datagram) -> Result<(), NoMe
 fn send_reply(hub: &Hub, sought: &Sought) {
     let reply = sought.reply.as_slice();
     if !reply.is_empty() {
-        let _ = hub.sockets.datagrams.send_to(reply, sought.from);
+        let _ = hub.sockets.datagrams.socket.send_to(reply, sought.from);
     }
 }
 

@@ -25,13 +25,40 @@ pub type Stream = Arc<TcpStream, Global>;
 /// The rows of connections, each with its peer.
 pub type Rows = Roster<Line, SocketAddr>;
 
-/// The sockets on LISTEN, each with a second handle, by which it is shut.
+/// A socket for datagrams, with a second handle, by which it is shut.
+#[derive(Drop)]
+pub struct Datagrams {
+    pub socket: UdpSocket,
+    pub door: TcpStream,
+}
+
+/// The sockets on LISTEN, and the one through which servers are asked, where that is another one.
 #[derive(Drop)]
 pub struct Sockets {
     pub listener: TcpListener,
-    pub datagrams: UdpSocket,
+    /// By this handle it is shut.
     pub listener_door: TcpStream,
-    pub datagrams_door: TcpStream,
+    pub datagrams: Datagrams,
+    /// On a site. So replies aren't lost where clients search for more than a socket keeps.
+    pub own_asks: Option<Datagrams>,
+}
+
+impl Sockets {
+    /// Through this one servers are asked.
+    pub fn asks(&self) -> &UdpSocket {
+        match &self.own_asks {
+            Some(own) => &own.socket,
+            None => &self.datagrams.socket,
+        }
+    }
+
+    fn shut(&self) {
+        let _ = self.listener_door.shutdown(Shutdown::Both);
+        let _ = self.datagrams.door.shutdown(Shutdown::Both);
+        if let Some(own) = &self.own_asks {
+            let _ = own.door.shutdown(Shutdown::Both);
+        }
+    }
 }
 
 /// What a command line may say of how it serves.
@@ -277,8 +304,7 @@ impl Hub {
                 }
             }
         }
-        let _ = self.sockets.listener_door.shutdown(Shutdown::Both);
-        let _ = self.sockets.datagrams_door.shutdown(Shutdown::Both);
+        self.sockets.shut();
         self.arrivals.lock(rt).end = true;
         self.arrived.notify_all();
         self.wanted.lock(rt).end = true;

@@ -26,6 +26,9 @@ const RUN_LIMIT: usize = 32;
 /// So many searches are taken in at once, for the same reason: one that comes in beside 4,096 takes some 40 microseconds.
 const TAKEN: usize = 256;
 
+/// So many for names that no server had, while rounds are quick: else those for names that one had wait for them.
+const FEW_TAKEN: usize = 16;
+
 /// How many milliseconds pass between two rounds over few searches that wait, after a server told of a name.
 const QUICK: u64 = 4;
 
@@ -186,7 +189,7 @@ impl Waiting {
     }
 
     fn is_empty(&self) -> bool {
-        self.came.is_empty() && self.late.rows().is_empty()
+        self.came.is_empty() && self.late.len() == 0
     }
 
     // No more come than are kept.
@@ -198,8 +201,8 @@ impl Waiting {
         }
     }
 
-    fn take_some(&mut self) -> Result<(), NoMemory> {
-        for _ in 0..TAKEN {
+    fn take_some(&mut self, most: usize) -> Result<(), NoMemory> {
+        for _ in 0..most {
             match self.came.pop_front() {
                 Some(search) => self.late.add(search)?,
                 None => break,
@@ -209,7 +212,7 @@ impl Waiting {
     }
 
     fn quick(&self) -> u64 {
-        QUICK + self.late.rows().len() as u64 / MORE
+        QUICK + self.late.len() as u64 / MORE
     }
 
     // A server told of a name.
@@ -294,8 +297,9 @@ impl LateKeeper {
                 self.others.put(search)?;
             }
         }
-        self.known.take_some()?;
-        self.others.take_some()
+        self.known.take_some(TAKEN)?;
+        let most = if self.is_quick() { FEW_TAKEN } else { TAKEN };
+        self.others.take_some(most)
     }
 }
 
@@ -356,16 +360,17 @@ struct Run {
 
 // The searches from this place on, as many as came from one address and are asked of the gate at once.
 fn run_at(alloc: Global, late: &Late<SocketAddr>, place: usize) -> Result<Option<Run>, NoMemory> {
-    let rows = late.rows();
-    let Some(first) = rows.get(place) else {
+    let Some(first) = late.get(place) else {
         return Ok(None);
     };
     let mut run = Run {
         from: first.from,
         asks: Vec::new(alloc),
     };
-    for at in place..rows.len() {
-        let row = &rows[at];
+    for at in place..late.len() {
+        let Some(row) = late.get(at) else {
+            break;
+        };
         if row.from != run.from || run.asks.len() >= PART {
             break;
         }
@@ -397,9 +402,9 @@ fn answer_some<R: System, H: AsHub>(
             waiting.rest(milliseconds(rt, now), is_quick);
             return Ok(());
         };
-        let before = waiting.late.rows().len();
+        let before = waiting.late.len();
         let asked = answer_run(rt, hub, &mut waiting.late, &run)?;
-        let answered = before.saturating_sub(waiting.late.rows().len());
+        let answered = before.saturating_sub(waiting.late.len());
         waiting.place = waiting.place.saturating_add(asked.saturating_sub(answered));
         pace.rest(rt);
     }
@@ -424,7 +429,7 @@ fn answer_run<R: System, H: AsHub>(
     };
     let reply = answer.reply.as_slice();
     if !reply.is_empty() {
-        let _ = hub.hub().sockets.datagrams.send_to(reply, run.from);
+        let _ = hub.hub().sockets.datagrams.socket.send_to(reply, run.from);
         let found = read_found(alloc, reply)?;
         late.answered(host_number(&run.from), run.from.port(), found.as_slice());
     }

@@ -5,7 +5,7 @@
 //!
 //! - the calling thread moves the board (`serve_core`);
 //! - one accepts clients, one greets them and starts their workers, one receives datagrams, and one hears what is left of
-//!   long ones, of each host a part in turn;
+//!   long ones, of each host a part in turn; where servers are asked through another socket, one receives their replies;
 //! - one asks servers for names: it alone sends asks, as many in a datagram as fit, and rests after 64, or has a
 //!   budget for each look;
 //! - one keeps the connections: it starts the workers of a server that was reached, and takes the rows away of

@@ -1,5 +1,5 @@
 //! What the machine does for the gateway, besides threads and sockets.
-use libc::net::{SO_SNDBUF, SOL_SOCKET, setsockopt};
+use libc::net::{SO_RCVBUF, SO_SNDBUF, SOL_SOCKET, setsockopt};
 use libc::types::rlimit;
 use libc::{RLIMIT_NOFILE, getrlimit};
 use serve_state::FileText;
@@ -7,7 +7,7 @@ use std::alloc::Global;
 use std::fs::{File, Metadata, metadata};
 use std::io;
 use std::io::Read;
-use std::net::TcpListener;
+use std::net::{TcpListener, UdpSocket};
 use std::os::fd::AsRawFd;
 use std::rt::Clock;
 use std::sync::Wait;
@@ -24,13 +24,29 @@ const MOST_BYTES: u64 = 16 * 1_024 * 1_024;
 /// On a site the system is to keep so many bytes for a client, or as many as it lets a program say, where that is less.
 const SEND_BYTES: i32 = 0x4_0000;
 
+/// On a site the system is to keep so many bytes of datagrams until they are received, with some 800 bytes of its own for
+/// each, or as many as it lets a program say.
+const RECEIVE_BYTES: i32 = 0x40_0000;
+
 /// Bounds what the system keeps for each client that the listener accepts. What it has of an update can't give way to a
 /// newer value, so where it has megabytes, a slow client sees old ones.
 pub fn bound_sends(listener: &TcpListener) {
-    let mut value = [0u8; 16];
-    value[..4].copy_from_slice(&SEND_BYTES.to_ne_bytes());
+    let value = size_of_buffer(SEND_BYTES);
     // Where the system refuses that, it keeps what is usual.
     let _ = unsafe { setsockopt(listener.as_raw_fd(), SOL_SOCKET, SO_SNDBUF, &value, 4) };
+}
+
+/// Has the system keep a burst of searches: hundreds of hosts may search at once.
+pub fn widen_receives(datagrams: &UdpSocket) {
+    let value = size_of_buffer(RECEIVE_BYTES);
+    // Where the system refuses that, it keeps what is usual.
+    let _ = unsafe { setsockopt(datagrams.as_raw_fd(), SOL_SOCKET, SO_RCVBUF, &value, 4) };
+}
+
+fn size_of_buffer(bytes: i32) -> [u8; 16] {
+    let mut value = [0u8; 16];
+    value[..4].copy_from_slice(&bytes.to_ne_bytes());
+    value
 }
 
 /// Why a file isn't read.

@@ -1,13 +1,13 @@
 //! From the command line to a gateway that serves.
 use crate::asker::ask_servers;
 use crate::clients::{accept_clients, greet_clients};
-use crate::datagrams::{DATAGRAM_SIZE, receive};
+use crate::datagrams::{DATAGRAM_SIZE, receive, receive_replies};
 use crate::fault::ServeFault;
-use crate::hub::{AsGate, AsHub, AsRest, Hub, Options, Served, Sockets};
+use crate::hub::{AsGate, AsHub, AsRest, Datagrams, Hub, Options, Served, Sockets};
 use crate::keeper::keep_rows;
 use crate::late::answer_late;
 use crate::logging::{LogBook, Teller, write_lines};
-use crate::machine::{Machine, System, bound_sends};
+use crate::machine::{Machine, System, bound_sends, widen_receives};
 use crate::orders::{Orders, read_orders};
 use crate::repeating::{repeat_orders, repeats};
 use crate::reports::tell_reports;
@@ -51,10 +51,9 @@ pub fn open<
     let teller = Teller::AtStart(options.log);
     let texts = read_texts(&rt, alloc, &files, When::AtStart, teller)?;
     let policy = read_policy(&rt, alloc, &mut desk, &texts, teller)?;
-    let (sockets, address) = open_sockets(rt, listen).map_err(ServeFault::Listen)?;
-    if options.scale.site {
-        bound_sends(&sockets.listener);
-    }
+    let (sockets, address) = open_sockets(rt, listen, options.scale.site).map_err(
+        ServeFault::Listen,
+    )?;
     let reports = open_reports(rt, options.status).map_err(ServeFault::Reports)?;
     let gate = gate(alloc, address.port(), options.first, policy)?;
     let Ok(book) = Arc::new(alloc, LogBook::new(alloc, options.log)) else {
@@ -226,6 +225,7 @@ fn start_others<'x, 's: 'x, E: 's, R: System + 's, H: AsHub + Sync + 's>(
     let watcher = Builder::new()
         .stack_size(STACK_SIZE)
         .spawn_scoped(&*scope, move || watch(rt, hub));
+    let hears_replies = hub.hub().sockets.own_asks.is_none() || start_replies(rt, &*scope, &*hub);
     let is_late = !hub.hub().options.late
         || Builder::new()
             .stack_size(RULES_STACK_SIZE)
@@ -236,7 +236,24 @@ fn start_others<'x, 's: 'x, E: 's, R: System + 's, H: AsHub + Sync + 's>(
         && searcher.is_ok()
         && asker.is_ok()
         && watcher.is_ok()
+        && hears_replies
         && is_late
+}
+
+// The thread that hears servers on the socket through which they are asked.
+fn start_replies<'x, 's: 'x, E: 's, R: System + 's, H: AsHub + Sync + 's>(
+    rt: R,
+    scope: &'x Scope<'s, E>,
+    hub: &'s H,
+) -> bool {
+    let mut buffer = Vec::new(hub.hub().alloc);
+    if buffer.resize(DATAGRAM_SIZE, 0u8).is_err() {
+        return false;
+    }
+    Builder::new()
+        .stack_size(RULES_STACK_SIZE)
+        .spawn_scoped(scope, move || receive_replies(rt, hub, buffer))
+        .is_ok()
 }
 
 // Moves the board until the gate is closed or fails, and then has all threads end.
@@ -266,22 +283,39 @@ fn gate(alloc: Global, port: u16, first: FirstNumber, policy: Policy) -> Result<
     Ok(Gate::new(Board::new(alloc, engine)))
 }
 
+// On a site the buffers of sockets suit one, and servers are asked through a socket of its own.
 fn open_sockets<R: System + Net<Listener = TcpListener, Stream = TcpStream>>(
     rt: R,
     listen: SocketAddr,
+    site: bool,
 ) -> io::Result<(Sockets, SocketAddr)> {
     let listener: TcpListener = TcpListener::bind(&rt, listen)?;
     let address = listener.local_addr()?;
-    let datagrams = UdpSocket::bind(&rt, address)?;
     let listener_door = TcpStream::from(OwnedFd::from(listener.try_clone()?));
-    let datagrams_door = TcpStream::from(OwnedFd::from(datagrams.try_clone()?));
+    let datagrams = open_datagrams(rt, address)?;
+    let own_asks = if site {
+        bound_sends(&listener);
+        widen_receives(&datagrams.socket);
+        Some(open_datagrams(rt, SocketAddr::new(address.ip(), 0))?)
+    } else {
+        None
+    };
     let sockets = Sockets {
         listener,
-        datagrams,
         listener_door,
-        datagrams_door,
+        datagrams,
+        own_asks,
     };
     Ok((sockets, address))
+}
+
+fn open_datagrams<R: System + Net<Listener = TcpListener, Stream = TcpStream>>(
+    rt: R,
+    address: SocketAddr,
+) -> io::Result<Datagrams> {
+    let socket = UdpSocket::bind(&rt, address)?;
+    let door = TcpStream::from(OwnedFd::from(socket.try_clone()?));
+    Ok(Datagrams { socket, door })
 }
 
 fn open_reports<R: System + Net<Listener = TcpListener, Stream = TcpStream>>(

@@ -1,11 +1,13 @@
 //! Searches that couldn't be answered when they were made.
-ghost use Rattle.std.specs.Prelude.{◌≡◌, ◌==◌, [], OnOk, OnErr, filter, length};
+ghost use Rattle.std.specs.Prelude.{◌≡◌, ◌==◌, [], OnOk, OnErr, filter, length, slice_get};
 ghost use Rattle.std.specs.List.{list_any, position};
+ghost use Rattle.std.specs.Option.{option_copied};
 ghost use Rattle.rows.specs.Rows.{remove_first};
 ghost use Rattle.serve_state.specs.Late.{is_of_host, is_search, is_unanswered, is_young, late_of, still_young, unanswered, with_late, within, without_older};
 
 use pv_name::{Name, NoMemory};
 use std::alloc::{AllocError, Global};
+use std::collections::VecDeque;
 use std::marker::Model;
 
 /// So many are kept of one host.
@@ -73,7 +75,7 @@ fn has_cid(cids: &[u32], own: u32) -> bool
 /// The searches that are kept until they can be answered, the latest last.
 #[derive(Drop)]
 pub struct Late<A> {
-    rows: Vec<LateSearch<A>>,
+    rows: VecDeque<LateSearch<A>>,
 }
 
 impl<A> Model for Late<A> {
@@ -91,15 +93,22 @@ impl<A: Drop> Late<A> {
         ensures { result ≡ [] }
     {
         Late {
-            rows: Vec::new(alloc),
+            rows: VecDeque::new(alloc),
         }
     }
 
-    /// The searches, in the order in which they were made.
-    pub fn rows(&self) -> &[LateSearch<A>]
-        ensures { result.now ≡ self.now }
+    /// How many searches are kept.
+    pub fn len(&self) -> usize
+        ensures { result ≡ length self.now }
     {
-        self.rows.as_slice()
+        self.rows.len()
+    }
+
+    /// The search of this place in the order in which they were made, counted from 0.
+    pub fn get(&self, place: usize) -> Option<&LateSearch<A>>
+        ensures { option_copied result ≡ slice_get self.now place }
+    {
+        self.rows.get(place)
     }
 
     /// Keeps one more. Where it was made before, from the same address under the same CID, that one goes; and else, where
@@ -109,7 +118,7 @@ impl<A: Drop> Late<A> {
         ensures err { OnErr result (self.new ≡ self.old) }
     {
         let (host, port, cid) = (search.host, search.port, search.cid);
-        if self.rows.push(search).is_err() {
+        if self.rows.push_back(search).is_err() {
             return Err(AllocError);
         }
         drop_older(&mut self.rows, host, port, cid);
@@ -133,7 +142,7 @@ impl<A: Drop> Late<A> {
 }
 
 // Of a search that was made twice the later one stays.
-fn drop_older<A: Drop>(rows: &mut Vec<LateSearch<A>>, host: u128, port: u16, cid: u32)
+fn drop_older<A: Drop>(rows: &mut VecDeque<LateSearch<A>>, host: u128, port: u16, cid: u32)
     ensures { rows.new.items ≡ without_older host port cid rows.old.items }
 {
     if count_of(rows, host, port, cid) > 1 {
@@ -142,7 +151,7 @@ fn drop_older<A: Drop>(rows: &mut Vec<LateSearch<A>>, host: u128, port: u16, cid
 }
 
 #[tactic(auto, using(rows::proofs::RowLemmas::remove_is_remove_first, rows::proofs::RowLemmas::remove_first_none))]
-fn remove_search<A: Drop>(rows: &mut Vec<LateSearch<A>>, host: u128, port: u16, cid: u32)
+fn remove_search<A: Drop>(rows: &mut VecDeque<LateSearch<A>>, host: u128, port: u16, cid: u32)
     ensures { rows.new.items ≡ remove_first (is_search host port cid) rows.old.items }
 {
     if let Some(place) = place_of(rows, host, port, cid) {
@@ -150,33 +159,38 @@ fn remove_search<A: Drop>(rows: &mut Vec<LateSearch<A>>, host: u128, port: u16, 
     }
 }
 
-fn count_of<A: Drop>(rows: &[LateSearch<A>], host: u128, port: u16, cid: u32) -> usize
-    ensures { result ≡ length (filter (is_search host port cid) rows.now) }
+fn count_of<A: Drop>(rows: &VecDeque<LateSearch<A>>, host: u128, port: u16, cid: u32) -> usize
+    ensures { result ≡ length (filter (is_search host port cid) rows.now.items) }
 {
     rows.iter()
         .filter(|row| row.is_search(host, port, cid))
         .count()
 }
 
-fn place_of<A: Drop>(rows: &[LateSearch<A>], host: u128, port: u16, cid: u32) -> Option<usize>
-    ensures { result ≡ position (is_search host port cid) rows.now }
+fn place_of<A: Drop>(
+    rows: &VecDeque<LateSearch<A>>,
+    host: u128,
+    port: u16,
+    cid: u32,
+) -> Option<usize>
+    ensures { result ≡ position (is_search host port cid) rows.now.items }
 {
     rows.iter().position(|row| row.is_search(host, port, cid))
 }
 
 // Where there is one more than may be, the oldest goes.
-fn make_room<A: Drop>(rows: &mut Vec<LateSearch<A>>, host: u128)
+fn make_room<A: Drop>(rows: &mut VecDeque<LateSearch<A>>, host: u128)
     ensures { rows.new.items ≡ within host rows.old.items }
 {
     if late_of(rows, host) > LATE_OF_HOST {
         remove_of_host(rows, host);
     } else if rows.len() > LATE_LIMIT {
-        rows.remove(0);
+        rows.pop_front();
     }
 }
 
 #[tactic(auto, using(rows::proofs::RowLemmas::remove_is_remove_first, rows::proofs::RowLemmas::remove_first_none))]
-fn remove_of_host<A: Drop>(rows: &mut Vec<LateSearch<A>>, host: u128)
+fn remove_of_host<A: Drop>(rows: &mut VecDeque<LateSearch<A>>, host: u128)
     ensures { rows.new.items ≡ remove_first (is_of_host host) rows.old.items }
 {
     if let Some(place) = place_of_host(rows, host) {
@@ -184,25 +198,25 @@ fn remove_of_host<A: Drop>(rows: &mut Vec<LateSearch<A>>, host: u128)
     }
 }
 
-fn late_of<A: Drop>(rows: &[LateSearch<A>], host: u128) -> usize
-    ensures { result ≡ late_of host rows.now }
+fn late_of<A: Drop>(rows: &VecDeque<LateSearch<A>>, host: u128) -> usize
+    ensures { result ≡ late_of host rows.now.items }
 {
     rows.iter().filter(|row| row.is_of_host(host)).count()
 }
 
-fn place_of_host<A: Drop>(rows: &[LateSearch<A>], host: u128) -> Option<usize>
-    ensures { result ≡ position (is_of_host host) rows.now }
+fn place_of_host<A: Drop>(rows: &VecDeque<LateSearch<A>>, host: u128) -> Option<usize>
+    ensures { result ≡ position (is_of_host host) rows.now.items }
 {
     rows.iter().position(|row| row.is_of_host(host))
 }
 
-fn drop_old<A: Drop>(rows: &mut Vec<LateSearch<A>>, now: u64)
+fn drop_old<A: Drop>(rows: &mut VecDeque<LateSearch<A>>, now: u64)
     ensures { rows.new.items ≡ still_young now rows.old.items }
 {
     rows.retain(|row| row.is_young(now));
 }
 
-fn drop_answered<A: Drop>(rows: &mut Vec<LateSearch<A>>, host: u128, port: u16, cids: &[u32])
+fn drop_answered<A: Drop>(rows: &mut VecDeque<LateSearch<A>>, host: u128, port: u16, cids: &[u32])
     ensures { rows.new.items ≡ unanswered host port cids.now rows.old.items }
 {
     rows.retain(|row| row.is_unanswered(host, port, cids));
