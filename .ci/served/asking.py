@@ -183,3 +183,31 @@ def clashing(room):
     both = ["[WARN  pvgate] upstreams {} and {} both have BOTH: the first that answers serves it".format(*it) for it in ((1, 2), (2, 1))]
     room.check("as a warning, with both numbers", told() and told()[0] in both, told())
     room.equal("quit", server.quit(), 0)
+
+
+def own_port(room):
+    """On a site servers are asked from a port of its own, on which nobody but they is heard."""
+    for options in ((), ("--site",)):
+        up = room.upstream(variable("V", values=[3]), variable("W", values=[4]))
+        asked = []
+        up.answer = lambda searches=up.searches: asked.append(searches.recvfrom(1 << 16))
+        server = room.server(up, options=options)
+        client = room.client(server)
+        client.search("V", "W")
+        room.eventually("the server is asked", lambda: asked)
+        datagram, sender = asked[0]
+        room.equal(f"from LISTEN's port, {options}", sender == server.address, not options)
+        cids = [it.p1 for it in ca.Frames().feed(datagram) if it.command == ca.SEARCH]
+        head = ca.message(ca.VERSION, count=ca.MINOR)
+        replies = [head + ca.found(up.address[1], it) for it in cids]
+        with socket.socket(socket.AF_INET, socket.SOCK_DGRAM) as stranger:
+            stranger.sendto(b"".join(replies), sender)
+            time.sleep(0.5)
+        room.check("what another port answers isn't heard", len(up.channels) == 0, up.channels)
+        up.searches.sendto(replies[0], sender)
+        channel = client.open("V")
+        room.equal("what the server answers is", channel and client.values(channel), [3])
+        up.searches.sendto(replies[1], server.address)
+        channel = client.open("W")
+        room.equal("on LISTEN too", channel and client.values(channel), [4])
+        room.equal("quit", server.quit(), 0)
