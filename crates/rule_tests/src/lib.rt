@@ -1,5 +1,6 @@
-//! Tests of names and of rule files, from the words of a line to what a policy answers. They stand
-//! apart so that each crate they test is proved once, and not a second time with its tests.
+//! Tests of names, of rule files and of access security files, from the words of a line to what a
+//! policy answers. They stand apart so that each crate they test is proved once, and not a second time
+//! with its tests.
 //!
 //! A test is a story, which is a text. Its lines are calls, each with one word for what is called and
 //! then a text, and behind `> ` stands what a call answers. A line `| TEXT` is a line of the next
@@ -8,10 +9,12 @@
 //! patterns are of the plain syntax, and elsewhere of the escaped one. `«0d»` is the character with
 //! this number, and `«63*x¶»` is 63 times that, each with the end of a line; so it is in answers, too.
 //!
-//! The calls are said in the files that make them: `names`, `files`, `leads`, `policies`. The files
-//! named `.._stories` have the stories.
+//! The calls are said in the files that make them: `names`, `files`, `leads`, `policies`, `access`,
+//! which has its stories too. The files named `.._stories` have the others.
 #![tactic(auto)]
 
+#[cfg(test)]
+mod access;
 #[cfg(test)]
 mod file_stories;
 #[cfg(test)]

@@ -7,7 +7,8 @@
 //! `.ci/refused_tests.py` refuses each allocation in turn.
 use crate::policies::Texts;
 use crate::words::Told;
-use crate::{files, leads, names, policies};
+use crate::{access, files, leads, names, policies};
+use access_file::Access;
 use pv_name::Group;
 use pvlist::Syntax;
 use rule_desk::{Desk, Policy};
@@ -27,6 +28,7 @@ struct Office {
     policy: Policy,
     /// The one whose rights are listed.
     group: Option<Group>,
+    access: Option<Access>,
 }
 
 /// Asserts that a story comes out as it is told.
@@ -125,6 +127,7 @@ fn new_office(alloc: Global) -> Office {
         desk: Desk::new(alloc),
         policy: Policy::open_to_all(alloc),
         group: Group::read(alloc, b"ops").ok(),
+        access: None,
     }
 }
 
@@ -138,6 +141,7 @@ fn call(alloc: Global, office: &mut Office, verb: &str, told: &mut Told) {
             files::call(alloc, syntax, &mut office.policy, verb, text, told);
         }
         "lead" | "rights" => leads::call(alloc, &office.policy, verb, text, told),
+        "access" | "grant" => access::call(alloc, &mut office.access, verb, text, told),
         "edit" => policies::edit(&mut office.desk, &mut office.policy, &office.texts, told),
         "shown" => policies::show(&office.desk, &office.policy.rules, told),
         _ => policies::call(alloc, syntax, &mut office.texts, verb, text, told),

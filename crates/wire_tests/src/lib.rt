@@ -5,15 +5,15 @@
 //! A test is a story, which is a text. Its lines are calls: one word for what is called, then numbers,
 //! and behind a colon bytes. Behind `> ` stands what a call answers; behind `>16 ` what it answers 16
 //! times, with `; ` between lines. Lines that begin with `# ` are titles, and at each an empty intake,
-//! outbox and schedule stand ready, no name waits, and nothing is held. Bytes are hexadecimal digits with blanks between them, and
+//! outbox and schedule stand ready, no name waits, no server is known, and nothing is held. Bytes are hexadecimal digits with blanks between them, and
 //! `00*24` is 24 times that. An answer of many bytes is told with the last ones in this form.
 //!
 //! The functions that make the calls return no error. What they tell would show one, and each way out
 //! of a function is dear to prove.
 //!
 //! The calls are said in the files that make them: `headers`, `streams`, `messages`, `to_clients`,
-//! `to_servers`, `searches`, `datagrams`, `schedules`, `newcomers`, `layouts`, `caches`,
-//! `outboxes`. The files named `.._stories` have the stories.
+//! `to_servers`, `searches`, `datagrams`, `schedules`, `newcomers`, `servers`, `layouts`,
+//! `caches`, `outboxes`. The files named `.._stories` have the stories.
 #![tactic(auto)]
 
 #[cfg(test)]
@@ -62,6 +62,10 @@ mod search_stories;
 mod searches;
 #[cfg(test)]
 mod sent_stories;
+#[cfg(test)]
+mod server_stories;
+#[cfg(test)]
+mod servers;
 #[cfg(test)]
 mod streams;
 #[cfg(test)]

@@ -9,11 +9,12 @@ use crate::layouts::Viewed;
 use crate::words::{Call, Told, verb};
 use crate::{
     caches, datagrams, headers, layouts, messages, newcomers, outboxes, schedules, searches,
-    streams, to_clients, to_servers,
+    servers, streams, to_clients, to_servers,
 };
 use ask_schedule::{AtOnce, Newcomers, Schedule};
 use ca_header::Intake;
 use fanout::Outbox;
+use server_book::ServerBook;
 use std::alloc::Global;
 use std::process::Abort;
 use std::test::Fail;
@@ -35,6 +36,7 @@ struct Wire {
     schedule: Schedule,
     newcomers: Newcomers,
     at_once: AtOnce,
+    servers: Option<ServerBook>,
 }
 
 impl Wire {
@@ -47,6 +49,7 @@ impl Wire {
             schedule: Schedule::new(alloc, schedules::LIMIT),
             newcomers: Newcomers::new(alloc, newcomers::LIMIT),
             at_once: AtOnce::new(alloc),
+            servers: servers::book(alloc),
         }
     }
 
@@ -84,6 +87,8 @@ impl Wire {
                 newcomers::call(&mut self.newcomers, verb, call, told);
             }
             "at-once" => newcomers::hear(&mut self.at_once, call, told),
+            "net" => servers::net(call, told),
+            "believed" => servers::believe(call, told),
             "asks" | "asks-sizes" | "parts" | "answer-parts" => datagrams::call(verb, call, told),
             _ => layouts::call(&mut self.viewed, verb, call, told),
         }
@@ -91,7 +96,9 @@ impl Wire {
 
     /// Makes the call of a line, and tells what it answers.
     fn tell(&mut self, line: &str, call: &Call, told: &mut Told) {
-        if !send(verb(line), call, told) {
+        if let Some(kind) = verb(line).strip_prefix("book-") {
+            servers::call(&mut self.servers, kind, call, told);
+        } else if !send(verb(line), call, told) {
             self.call(verb(line), call, told);
         }
     }
@@ -104,7 +111,7 @@ impl Wire {
         told.name(&self.outbox);
         told.word(&self.schedule.len());
         told.word(&self.newcomers.len());
-        told.end();
+        servers::list(&self.servers, told);
     }
 }
 
