@@ -195,7 +195,7 @@ def bursts(room):
             beside.stop()
         server.kill()
     print(f"bursts: 1,000 names found again {milliseconds(took[0])} after their server listens, {milliseconds(took[200])} beside 200 hosts with 60 dead names each", flush=True)
-    room.check("as soon as without dead names, within a fifth and 50 ms", took[200] <= 1.2 * took[0] + 0.05, took)
+    room.check("as soon as without dead names, within a fifth", took[200] <= 1.2 * took[0], took)
 
 
 def beside_random_names(room, label, datagrams, each):
