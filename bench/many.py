@@ -177,7 +177,7 @@ def of_many(room, many, each):
     room.equal("all channels are there", counts["channels"], many * each + NAMES)
     room.equal("and all subscriptions", counts["subscriptions"], many * each + NAMES)
     room.check("a channel and its subscription take 2 KiB at most", (subs - base) * 1e6 / many / each <= 2048)
-    room.check("nobody waits for 100 ms while one leaves", leaving <= 100, f"{leaving:.0f} ms")
+    room.check("nobody waits for 100 ms for each that leaves", leaving <= 100 * many, f"{leaving:.0f} ms")
     echoes.end()
     room.equal("quit", server.quit(), 0)
 
