@@ -9,6 +9,7 @@ allocation is refused alone (`alone`) or with all after it (`on`). Then what is 
 with ample memory, in whole lines, perhaps with `failed` behind it where a gateway runs, and the status is 4; or it is all of it, with
 its status, where the program did without. A read or write that fails (`read`, `file`, `write`, alone; `read-on`, .. from there on)
 is status 3, and what was printed is a beginning; reads and writes that come short (`read-1`: at most 1 byte, ..) change nothing.
+A call may be unreached, since how many a run makes isn't promised: that run tried nothing, and few may be so.
 
 --budget is in seconds of a processor, for all jobs together: 45 for each job if not given. --all does everything. Which part is done
 in a budget is chosen by the seed, the commit's hash if not given. --list counts. --only does one and shows it. The last line counts
@@ -33,6 +34,7 @@ from damaged.program import BODIES, BUILT, ROOT, Program  # noqa: E402
 HERE = os.path.dirname(os.path.abspath(__file__))
 EACH_JOB = 45
 FAMILIES = ("memory", "failing", "short")
+UNREACHED = 1 / 500  # of all tries: 7 of 32,583 were seen once, where more ran than there were processors
 
 SCRIPTS = [
     "examples.first", "examples.read", "examples.subscribe", "examples.edit", "hostile.three_searches",
@@ -144,8 +146,13 @@ class Piece:
     def do(self, number):
         """Refuses one call; a text that tells what is wrong, or None."""
         ran, calls = self.shim.run(self.case, self.kind, number + 1)
-        fault = "the call isn't reached" if calls <= number else self.fault(ran)
+        fault = self.unreached(ran, calls) if calls <= number else self.fault(ran)
         return fault and f"{self.name}:{number + 1}: {fault}: {hostile.short(ran)}"
+
+    def unreached(self, ran, calls):
+        """A run that made fewer calls than the first one tried nothing; it is counted, and has to be like the first."""
+        self.notes["unreached"] += 1
+        return None if ran == self.ample else f"the call isn't reached, of {calls}, and it isn't what is printed else"
 
     def fault(self, ran):
         if ran == self.ample:
@@ -217,9 +224,12 @@ def run_all(given, path, library, chosen):
     for fault in done.faults:
         print(fault)
     counts = ", ".join(f"{family} {done.counts[family]:,}" for family in FAMILIES)
-    print(f"refused: {len(chosen)} runs: {counts}; {done.counts['done without']:,} did without the memory; "
+    tried, found, unreached = sum(done.counts[family] for family in FAMILIES), done.counts["faults"], done.counts["unreached"]
+    print(f"refused: {len(chosen)} runs: {counts}; {done.counts['done without']:,} did without the memory; {unreached:,} unreached; "
           f"{done.spent:.0f} s of a processor, {time.monotonic() - began:.0f} s")
-    tried, found = sum(done.counts[family] for family in FAMILIES), done.counts["faults"]
+    if unreached > tried * UNREACHED:
+        print(f"more than one call in {1 / UNREACHED:.0f} isn't reached")
+        found += 1
     print(f"refused: {tried - found} passed, {found} failed")
     return 1 if found else 0
 

@@ -9,7 +9,7 @@ story's values hold is listed, as it was before the call, and the call is made o
 refusal, but for a line `refused CALL as before`. A run is as it must be if its test passes, having done without the memory; if it tells
 such lines, and else what it tells without; or if the memory was the test's own, for its lines and lists. Calls on large values, as those
 that fill a table up to its limit, aren't compared. Anything else is a fault: another answer, a value that changed, a signal, a test that
-doesn't end. Two tests of `replay_tests`, of a board and of workers, say of each answer whether it is one that a refusal leaves.
+doesn't end. Two tests of `board_tests`, of a board and of workers, say of each answer whether it is one that a refusal leaves.
 
 Binaries are those of `rt test` (crates/CRATE/out/CRATE_tests), if not given. Of a test with more than --most allocations (1,000) so
 many are refused: half of them the first, the others evenly spread. --list counts the allocations, --only shows one run, WORDs
@@ -33,7 +33,7 @@ HERE = os.path.dirname(os.path.abspath(__file__))
 ROOT = os.path.dirname(HERE)
 SECONDS = 120
 # The tests of each crate that are meant.
-CRATES = {"wire_tests": "", "row_tests": "", "rule_tests": "", "replay_tests": ("boards::refused::", "workers::refused::")}
+CRATES = {"wire_tests": "", "row_tests": "", "rule_tests": "", "board_tests": ("boards::refused::", "workers::refused::")}
 
 # How a test ends that answers an error, and one that asserts what isn't so.
 ENDS = (101, -signal.SIGABRT)

@@ -282,8 +282,8 @@ def table(args):
     others = args.others
     covered = "client s1 " + message(15, dtype=5, count=1, p1=1, p2=0x21)
     greatest, among = ("client s1 " + made_and_given_up(2, own) for own in (999_999, 5_500))
-    yield "an update, for each of 1,000 subscribers", 1_500, "instructions", lambda: updates(1_000)
-    for asked, dtype, most in (("", 5, 3_000), (", with its time stamp", 19, 3_000), (", as a text", 0, None)):
+    yield "an update, for each of 1,000 subscribers", 880, "instructions", lambda: updates(1_000)
+    for asked, dtype, most in (("", 5, 2_700), (", with its time stamp", 19, 2_700), (", as a text", 0, None)):
         yield f"an update to one subscriber{asked}", most, "instructions", lambda dtype=dtype: updates(1, dtype)
     beside_many = f"beside {others:,} variables"
     yield f"a read that is covered, {beside_many}", 4_000, "instructions", lambda: beside(others, covered, 1, 1)

@@ -7,6 +7,11 @@ _pvgate() {
     check-rules:--groups) files=yes ;;
     check-rules:--name) : ;;
     check-rules:--host) : ;;
+    serve:--listen) : ;;
+    serve:--search) : ;;
+    serve:--from) : ;;
+    serve:--beacons) : ;;
+    serve:--idle) : ;;
     serve:--rules) files=yes ;;
     serve:--groups) files=yes ;;
     serve:--clients) : ;;
@@ -27,7 +32,7 @@ _pvgate() {
         0:*) words="replay check-rules serve help -h --help -V --version" ;;
         1:replay) words="--plain --first -h --help" ;;
         1:check-rules) words="--groups --name --host --plain-groups -h --help" files=yes ;;
-        1:serve) words="--rules --groups --plain-groups --clients --servers --names --alive --forget --late --most-waiting --most-in-all --first --reconnect --sweep --log --status --clients-of-host --back-off --site -h --help" ;;
+        1:serve) words="--listen --search --from --beacons --hear-beacons --idle --rules --groups --plain-groups --clients --servers --names --alive --forget --late --most-waiting --most-in-all --first --reconnect --sweep --log --status --clients-of-host --back-off --site -h --help" ;;
         1:help) words="replay check-rules serve" ;;
         esac
         ;;

@@ -4,7 +4,7 @@
     ./pvgate replay < examples/first.replay | tools/explain.py     a line with bytes becomes a line for each message:
                                                                    s1 CREATE_CHAN cid 7 sid 1 LONG[1]
     tools/explain.py < examples/first.replay                       so do the lines of a script that have bytes
-    tools/explain.py < crates/replay_tests/src/stories/ages.rt     and those of stories, where `> ` stands before what is printed
+    tools/explain.py < crates/story_tests/src/stories/ages.rt     and those of stories, where `> ` stands before what is printed
     tools/explain.py --from client < BYTES                         the bytes that a client sent, as they were captured
     tools/explain.py --from server < BYTES                         those that a server sent, a gateway too
 

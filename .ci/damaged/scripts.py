@@ -1,4 +1,4 @@
-"""The scripts that are damaged: the examples, and those that the stories of `replay_tests` hold.
+"""The scripts that are damaged: the examples, and those that the stories of `story_tests` hold.
 
 Stories stand in Rust sources as byte strings; the first page of `stories/mod.rt` says how they are written. They are taken out
 of the sources here, and whatever isn't understood ends the run: a story that is left out in silence would be tested no more.
@@ -7,7 +7,7 @@ import os
 import re
 
 ROOT = os.path.dirname(os.path.dirname(os.path.dirname(os.path.abspath(__file__))))
-STORIES = os.path.join(ROOT, "crates", "replay_tests", "src", "stories")
+STORIES = os.path.join(ROOT, "crates", "story_tests", "src", "stories")
 # Files of that folder which have no stories.
 WITHOUT = {"mod.rt", "beginnings.rt", "tell.rt", "text.rt"}
 # Tests whose scripts are put together by code, and stand nowhere as a text.

@@ -35,7 +35,7 @@ def served():
 
 def explained():
     """Nothing that a story sends or prints is left in bytes."""
-    for path in (it for it in files(".rt") if it.startswith("crates/replay_tests/src/stories/")):
+    for path in (it for it in files(".rt") if it.startswith("crates/story_tests/src/stories/")):
         left = [it for it in explain.explained(read(path).splitlines()) if BYTES.fullmatch(it.strip())]
         yield f"{path}: tools/explain.py leaves {left[0]!r} as it is" if left else None
 

@@ -12,8 +12,8 @@ use Rattle.access_file.specs.declared.place.Kind.TheVariants as kind
 use Rattle.access_file.specs.declared.place.Naming.TheVariants as naming
 use Rattle.access_file.specs.declared.place.Party.{Party}
 use Rattle.access_file.specs.declared.place.Party.TheVariants.{Users, Hosts}
-use Rattle.access_file.specs.declared.place.Place.{Place}
-use Rattle.access_file.specs.declared.place.Place.TheVariants as place
+use Rattle.access_file.specs.declared.place.Expected.{Expected}
+use Rattle.access_file.specs.declared.place.Expected.TheVariants as place
 use Rattle.access_file.specs.declared.place.Scope.TheVariants as scope
 use Rattle.access_file.specs.declared.place.Setting.TheVariants as setting
 use Rattle.access_file.specs.declared.reader.Reader.{Reader}
@@ -32,7 +32,7 @@ use Rattle.access_file.specs.Naming.{name_of}
 use Rattle.access_file.specs.Tokens.{Token, Word, Sign, End}
 use Rattle.access_file.specs.Writing.{more_names, all_names, list_written, lists_written, spoken_written, level_word, right_word, recording_word, rule_written, rules_written, group_written, groups_written, written, IsNew, AreNames, AreLists, AreDefined, AreRules, AreGroups, members_in, names_in_rules, names_in_groups, rules_in, IsWritable}
 
-abbrev top : Place
+abbrev top : Expected
 top = place.Keyword scope.Top
 
 -- a name that none of those before has goes last

@@ -11,8 +11,8 @@ use Rattle.access_file.specs.declared.place.Naming.{Naming}
 use Rattle.access_file.specs.declared.place.Naming.TheVariants as naming
 use Rattle.access_file.specs.declared.place.Party.{Party}
 use Rattle.access_file.specs.declared.place.Party.TheVariants.{Users, Hosts}
-use Rattle.access_file.specs.declared.place.Place.{Place}
-use Rattle.access_file.specs.declared.place.Place.TheVariants as place
+use Rattle.access_file.specs.declared.place.Expected.{Expected}
+use Rattle.access_file.specs.declared.place.Expected.TheVariants as place
 use Rattle.access_file.specs.declared.place.Scope.{Scope}
 use Rattle.access_file.specs.declared.place.Scope.TheVariants as scope
 use Rattle.access_file.specs.declared.place.Setting.{Setting}
@@ -47,11 +47,11 @@ start = record {
   name_count = 0;
 }
 
-abbrev pub at : Place → Reader → Reader
+abbrev pub at : Expected → Reader → Reader
 at next s = record s { place = next }
 
 -- this sign must stand here
-abbrev pub expected : Reader → ℕ → ℕ → Place → Result Reader AccessCause
+abbrev pub expected : Reader → ℕ → ℕ → Expected → Result Reader AccessCause
 expected s sign wanted next = if sign == wanted then Ok (at next s) else Err Unexpected
 
 -- ---- what was being defined
@@ -198,7 +198,7 @@ set s setting.Recording word = recording_set s (recording_of word)
 -- ---- signs
 
 -- `{` behind the head of a definition
-abbrev pub inside : Kind → Place
+abbrev pub inside : Kind → Expected
 inside (kind.List party) = place.Name (naming.First party)
 inside kind.Rules = place.Keyword scope.Rules
 
@@ -246,7 +246,7 @@ signed_behind s (behind.Spoken party) sign = spoken_signed s party sign
 
 -- ---- tokens
 
-abbrev pub word_at : Reader → Place → List ℕ → Result Reader AccessCause
+abbrev pub word_at : Reader → Expected → List ℕ → Result Reader AccessCause
 word_at s (place.Keyword scope) word = keyword s scope word
 word_at s (place.Name naming) word = named s naming word
 word_at s (place.Setting setting) word = set s setting word
@@ -256,7 +256,7 @@ abbrev pub word_taken : Reader → List ℕ → Result Reader AccessCause
 word_taken s word = word_at s s.place word
 
 -- what stands between quotes is a name and nothing else
-abbrev pub quoted_at : Reader → Place → List ℕ → Result Reader AccessCause
+abbrev pub quoted_at : Reader → Expected → List ℕ → Result Reader AccessCause
 quoted_at s (place.Keyword scope) text = Err Unexpected
 quoted_at s (place.Name naming) text = named s naming text
 quoted_at s (place.Setting setting) text = Err Unexpected
@@ -265,7 +265,7 @@ quoted_at s (place.Sign behind) text = Err Unexpected
 abbrev pub quoted_taken : Reader → List ℕ → Result Reader AccessCause
 quoted_taken s text = quoted_at s s.place text
 
-abbrev pub sign_at : Reader → Place → ℕ → Result Reader AccessCause
+abbrev pub sign_at : Reader → Expected → ℕ → Result Reader AccessCause
 sign_at s (place.Keyword scope) sign = scope_signed s scope sign
 sign_at s (place.Name naming) sign = name_signed s naming sign
 sign_at s (place.Setting setting) sign = Err Unexpected
@@ -281,7 +281,7 @@ scope_ended s scope.Rules = Err Unfinished
 scope_ended s scope.Ruled = Err Unfinished
 scope_ended s scope.Parties = Err Unfinished
 
-abbrev pub ended_at : Reader → Place → Result Reader AccessCause
+abbrev pub ended_at : Reader → Expected → Result Reader AccessCause
 ended_at s (place.Keyword scope) = scope_ended s scope
 ended_at s (place.Name naming) = Err Unfinished
 ended_at s (place.Setting setting) = Err Unfinished

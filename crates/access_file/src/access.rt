@@ -7,9 +7,9 @@ ghost use Rattle.access_file.specs.File.{access_of, line_after, IsFaultOf};
 
 use crate::by_name::ByName;
 use crate::fault::AccessFault;
-use crate::names::Names;
-use crate::reading::Reading;
-use crate::rule::{Grant, Level, Rule, Rules};
+use crate::names::ListedNames;
+use crate::reading::TextReading;
+use crate::rule::{Grant, GroupRules, Level, Rule};
 use pv_name::{Group, Host};
 use std::alloc::Global;
 use std::marker::Model;
@@ -21,9 +21,9 @@ const DEFAULT: &str = "DEFAULT";
 /// contract sees them as `AccessGroups`.
 #[derive(Drop)]
 pub struct Access {
-    users: ByName<Names>,
-    hosts: ByName<Names>,
-    groups: ByName<Rules>,
+    users: ByName<ListedNames>,
+    hosts: ByName<ListedNames>,
+    groups: ByName<GroupRules>,
 }
 
 impl Model for Access {
@@ -41,7 +41,7 @@ impl Access {
         ensures ok { IfOk result (λ access. access_of text.now ≡ Ok access) }
         ensures err { IfErr result (IsFaultOf (access_of text.now)) }
     {
-        let mut reading = Reading::new(alloc);
+        let mut reading = TextReading::new(alloc);
         let mut line = 1;
         for byte in text.as_bytes() {
             if let Err(fault) = reading.take(alloc, *byte) {
@@ -70,7 +70,7 @@ impl Access {
         }
     }
 
-    fn rules_of(&self, group: &str) -> Option<&Rules>
+    fn rules_of(&self, group: &str) -> Option<&GroupRules>
         ensures { option_copied result ≡ rules_of self.now.groups group.now }
     {
         match self.groups.get(group) {
@@ -100,13 +100,13 @@ impl Access {
             && self.speaks_to_host(&rule.hosts, host)
     }
 
-    fn speaks_to_user(&self, groups: &Names, user: &str) -> bool
+    fn speaks_to_user(&self, groups: &ListedNames, user: &str) -> bool
         ensures { result ≡ speaks_to_users self.now user.now groups.now }
     {
         groups.is_empty() || self.is_user_in_any(groups.as_slice(), user)
     }
 
-    fn speaks_to_host(&self, groups: &Names, host: &Host) -> bool
+    fn speaks_to_host(&self, groups: &ListedNames, host: &Host) -> bool
         ensures { result ≡ speaks_to_hosts self.now host.now groups.now }
     {
         groups.is_empty() || self.is_host_in_any(groups.as_slice(), host)

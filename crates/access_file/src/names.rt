@@ -10,11 +10,11 @@ use std::marker::Model;
 /// Names in the order of the file: users or hosts, or groups of them. Each is a word, as
 /// [`pv_name::Group`] reads it. A contract sees the list of their bytes.
 #[derive(Drop)]
-pub(crate) struct Names {
+pub(crate) struct ListedNames {
     names: Vec<Group>,
 }
 
-impl Model for Names {
+impl Model for ListedNames {
     ghost use Rattle.std.specs.Prelude.{ℕ, List};
 
     ghost Value = { List (List ℕ) };
@@ -22,12 +22,12 @@ impl Model for Names {
     ghost view = { λ n. n.names.items };
 }
 
-impl Names {
+impl ListedNames {
     /// No name. This takes no memory.
-    pub(crate) fn new(alloc: Global) -> Names
+    pub(crate) fn new(alloc: Global) -> ListedNames
         ensures { result ≡ [] }
     {
-        Names {
+        ListedNames {
             names: Vec::new(alloc),
         }
     }

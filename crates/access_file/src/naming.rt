@@ -7,7 +7,7 @@ ghost use Rattle.access_file.specs.Naming.{name_of};
 
 use crate::fault::{AccessCause, TokenFault};
 use crate::keyword::{level_of, recording_of, right_of};
-use crate::place::{Behind, Kind, Naming, Party, Place, Setting};
+use crate::place::{Behind, Expected, Kind, Naming, Party, Setting};
 use crate::reader::{GROUPS_LIMIT, NAMES_LIMIT, Reader};
 use crate::rule::Grant;
 use pv_name::{Group, NameFault};
@@ -44,7 +44,7 @@ impl Reader {
             return Err(TokenFault::Cause(AccessCause::TooMany));
         }
         self.name = Some(name);
-        self.place = Place::Sign(Behind::Group(kind));
+        self.place = Expected::Sign(Behind::Group(kind));
         Ok(())
     }
 
@@ -59,7 +59,7 @@ impl Reader {
         }
         self.name_count += 1;
         self.members.push(name)?;
-        self.place = Place::Sign(Behind::Member(party));
+        self.place = Expected::Sign(Behind::Member(party));
         Ok(())
     }
 
@@ -76,7 +76,7 @@ impl Reader {
             return Err(TokenFault::Cause(AccessCause::TooMany));
         }
         self.name_count += 1;
-        self.place = Place::Sign(Behind::Spoken(party));
+        self.place = Expected::Sign(Behind::Spoken(party));
         self.speak_of(party, name)?;
         Ok(())
     }
@@ -127,7 +127,7 @@ impl Reader {
         ensures err { IfErr result (IsCauseOf (level_set self.old (level_of word.now))) }
     {
         self.level = level_of(word).ok_or(AccessCause::BadLevel)?;
-        self.place = Place::Sign(Behind::Level);
+        self.place = Expected::Sign(Behind::Level);
         Ok(())
     }
 
@@ -140,7 +140,7 @@ impl Reader {
             right,
             recorded: false,
         };
-        self.place = Place::Sign(Behind::Right);
+        self.place = Expected::Sign(Behind::Right);
         Ok(())
     }
 
@@ -149,7 +149,7 @@ impl Reader {
         ensures err { IfErr result (IsCauseOf (recording_set self.old (recording_of word.now))) }
     {
         self.grant.recorded = recording_of(word).ok_or(AccessCause::BadRight)?;
-        self.place = Place::Sign(Behind::Recording);
+        self.place = Expected::Sign(Behind::Recording);
         Ok(())
     }
 }

@@ -18,7 +18,7 @@ pub(crate) enum Kind {
 
 /// What must stand next, and where.
 #[derive(Clone, Copy)]
-pub(crate) enum Place {
+pub(crate) enum Expected {
     Keyword(Scope),
     Name(Naming),
     Setting(Setting),

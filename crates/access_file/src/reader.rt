@@ -6,9 +6,9 @@ ghost use Rattle.access_file.specs.Grammar.{start, closed, with_group, with_list
 use crate::by_name::ByName;
 use crate::fault::{AccessCause, TokenFault};
 use crate::keyword::{is_rule, kind_of, no_keyword, party_of};
-use crate::names::Names;
-use crate::place::{Behind, Kind, Party, Place, Scope};
-use crate::rule::{Grant, Level, Rule, Rules};
+use crate::names::ListedNames;
+use crate::place::{Behind, Expected, Kind, Party, Scope};
+use crate::rule::{Grant, GroupRules, Level, Rule};
 use pv_name::Group;
 use std::alloc::{AllocError, Global};
 use std::mem;
@@ -22,25 +22,25 @@ pub const RULES_LIMIT: usize = 4_096;
 /// How many names a file has at most in its lists and rules.
 pub const NAMES_LIMIT: usize = 65_536;
 
-const TOP: Place = Place::Keyword(Scope::Top);
+const TOP: Expected = Expected::Keyword(Scope::Top);
 
 /// What was read so far: the groups that are defined, then what is being defined, and which token
 /// must stand next.
 #[derive(Drop)]
 pub(crate) struct Reader {
-    pub(crate) users: ByName<Names>,
-    pub(crate) hosts: ByName<Names>,
-    pub(crate) groups: ByName<Rules>,
-    pub(crate) place: Place,
+    pub(crate) users: ByName<ListedNames>,
+    pub(crate) hosts: ByName<ListedNames>,
+    pub(crate) groups: ByName<GroupRules>,
+    pub(crate) place: Expected,
     // The group that is being defined, and its members or rules.
     pub(crate) name: Option<Group>,
-    pub(crate) members: Names,
-    rules: Rules,
+    pub(crate) members: ListedNames,
+    rules: GroupRules,
     // The rule that is being read.
     pub(crate) level: Level,
     pub(crate) grant: Grant,
-    pub(crate) spoken_users: Names,
-    pub(crate) spoken_hosts: Names,
+    pub(crate) spoken_users: ListedNames,
+    pub(crate) spoken_hosts: ListedNames,
     // How many there are in all.
     pub(crate) rule_count: usize,
     pub(crate) name_count: usize,
@@ -56,12 +56,12 @@ impl Reader {
             groups: ByName::new(alloc),
             place: TOP,
             name: None,
-            members: Names::new(alloc),
-            rules: Rules::new(alloc),
+            members: ListedNames::new(alloc),
+            rules: GroupRules::new(alloc),
             level: Level::Zero,
             grant: Grant::none(),
-            spoken_users: Names::new(alloc),
-            spoken_hosts: Names::new(alloc),
+            spoken_users: ListedNames::new(alloc),
+            spoken_hosts: ListedNames::new(alloc),
             rule_count: 0,
             name_count: 0,
         }
@@ -73,10 +73,10 @@ impl Reader {
         ensures err { IfErr result (IsCauseOf (word_taken self.old word.now)) }
     {
         match self.place {
-            Place::Keyword(scope) => self.keyword(alloc, scope, word),
-            Place::Name(naming) => self.named(alloc, naming, word),
-            Place::Setting(setting) => self.set(setting, word),
-            Place::Sign(_) => unexpected(),
+            Expected::Keyword(scope) => self.keyword(alloc, scope, word),
+            Expected::Name(naming) => self.named(alloc, naming, word),
+            Expected::Setting(setting) => self.set(setting, word),
+            Expected::Sign(_) => unexpected(),
         }
     }
 
@@ -86,10 +86,10 @@ impl Reader {
         ensures err { IfErr result (IsCauseOf (quoted_taken self.old text.now)) }
     {
         match self.place {
-            Place::Keyword(_) => unexpected(),
-            Place::Name(naming) => self.named(alloc, naming, text),
-            Place::Setting(_) => unexpected(),
-            Place::Sign(_) => unexpected(),
+            Expected::Keyword(_) => unexpected(),
+            Expected::Name(naming) => self.named(alloc, naming, text),
+            Expected::Setting(_) => unexpected(),
+            Expected::Sign(_) => unexpected(),
         }
     }
 
@@ -99,10 +99,10 @@ impl Reader {
         ensures err { IfErr result (IsCauseOf (sign_taken self.old sign)) }
     {
         match self.place {
-            Place::Keyword(scope) => self.scope_signed(alloc, scope, sign),
-            Place::Name(naming) => self.name_signed(alloc, naming, sign),
-            Place::Setting(_) => unexpected(),
-            Place::Sign(behind) => self.signed_behind(alloc, behind, sign),
+            Expected::Keyword(scope) => self.scope_signed(alloc, scope, sign),
+            Expected::Name(naming) => self.name_signed(alloc, naming, sign),
+            Expected::Setting(_) => unexpected(),
+            Expected::Sign(behind) => self.signed_behind(alloc, behind, sign),
         }
     }
 
@@ -112,10 +112,10 @@ impl Reader {
         ensures err { IfErr result (IsCauseOf (ended self.old)) }
     {
         match self.place {
-            Place::Keyword(scope) => self.scope_ended(alloc, scope),
-            Place::Name(_) => unfinished(),
-            Place::Setting(_) => unfinished(),
-            Place::Sign(_) => unfinished(),
+            Expected::Keyword(scope) => self.scope_ended(alloc, scope),
+            Expected::Name(_) => unfinished(),
+            Expected::Setting(_) => unfinished(),
+            Expected::Sign(_) => unfinished(),
         }
     }
 
@@ -153,11 +153,11 @@ impl Reader {
     {
         match kind {
             Kind::List(party) => {
-                let members = mem::replace(&mut self.members, Names::new(alloc));
+                let members = mem::replace(&mut self.members, ListedNames::new(alloc));
                 self.put_list(alloc, party, name, members)
             }
             Kind::Rules => {
-                let rules = mem::replace(&mut self.rules, Rules::new(alloc));
+                let rules = mem::replace(&mut self.rules, GroupRules::new(alloc));
                 self.groups.put(alloc, name.text(), rules)
             }
         }
@@ -168,7 +168,7 @@ impl Reader {
         alloc: Global,
         party: Party,
         name: &Group,
-        members: Names,
+        members: ListedNames,
     ) -> Result<(), AllocError>
         ensures { OnOk result (self.new ≡ with_list party name.now members self.old) }
     {
@@ -182,8 +182,8 @@ impl Reader {
     pub(crate) fn end_rule(&mut self, alloc: Global) -> Result<(), AllocError>
         ensures { OnOk result (self.new ≡ ruled self.old) }
     {
-        let users = mem::replace(&mut self.spoken_users, Names::new(alloc));
-        let hosts = mem::replace(&mut self.spoken_hosts, Names::new(alloc));
+        let users = mem::replace(&mut self.spoken_users, ListedNames::new(alloc));
+        let hosts = mem::replace(&mut self.spoken_hosts, ListedNames::new(alloc));
         self.rules.push(Rule {
             level: self.level,
             grant: self.grant,
@@ -219,7 +219,7 @@ impl Reader {
     {
         match kind_of(word) {
             Some(kind) => {
-                self.place = Place::Sign(Behind::Keyword(kind));
+                self.place = Expected::Sign(Behind::Keyword(kind));
                 Ok(())
             }
             None => Err(TokenFault::Cause(no_keyword(word))),
@@ -237,7 +237,7 @@ impl Reader {
             return Err(TokenFault::Cause(AccessCause::TooMany));
         }
         self.rule_count += 1;
-        self.place = Place::Sign(Behind::Rule);
+        self.place = Expected::Sign(Behind::Rule);
         Ok(())
     }
 
@@ -247,7 +247,7 @@ impl Reader {
     {
         match party_of(word) {
             Some(party) => {
-                self.place = Place::Sign(Behind::Speaking(party));
+                self.place = Expected::Sign(Behind::Speaking(party));
                 Ok(())
             }
             None => Err(TokenFault::Cause(no_keyword(word))),

@@ -21,19 +21,19 @@ pub(crate) enum Mode {
 
 /// A text as far as it is read: what its tokens say, and the token that is begun.
 #[derive(Drop)]
-pub(crate) struct Reading {
+pub(crate) struct TextReading {
     reader: Reader,
     mode: Mode,
     // The bytes of the word or of what stands in quotes.
     begun: Vec<u8>,
 }
 
-impl Reading {
-    pub(crate) fn new(alloc: Global) -> Reading
+impl TextReading {
+    pub(crate) fn new(alloc: Global) -> TextReading
         ensures reader { result.reader ≡ start }
         ensures scan { scan_of result ≡ Between }
     {
-        Reading {
+        TextReading {
             reader: Reader::new(alloc),
             mode: Mode::Between,
             begun: Vec::new(alloc),

@@ -2,7 +2,7 @@
 ghost use Rattle.std.specs.Prelude.{◌≡◌, ◌∷◌, ◌++◌, [], OnOk};
 ghost use Rattle.access_file.specs.Groups.{no_grant, better, covers, rank};
 
-use crate::names::Names;
+use crate::names::ListedNames;
 use std::alloc::{AllocError, Global};
 use std::marker::Model;
 
@@ -86,17 +86,17 @@ impl Grant {
 pub(crate) struct Rule {
     pub(crate) level: Level,
     pub(crate) grant: Grant,
-    pub(crate) users: Names,
-    pub(crate) hosts: Names,
+    pub(crate) users: ListedNames,
+    pub(crate) hosts: ListedNames,
 }
 
 /// The rules of a group, in the order of the file. A contract sees the list.
 #[derive(Drop)]
-pub(crate) struct Rules {
+pub(crate) struct GroupRules {
     rules: Vec<Rule>,
 }
 
-impl Model for Rules {
+impl Model for GroupRules {
     ghost use Rattle.std.specs.Prelude.{List};
     ghost use Rattle.access_file.specs.declared.rule.Rule.{Rule};
 
@@ -105,12 +105,12 @@ impl Model for Rules {
     ghost view = { λ r. r.rules.items };
 }
 
-impl Rules {
+impl GroupRules {
     /// No rule. This takes no memory.
-    pub(crate) fn new(alloc: Global) -> Rules
+    pub(crate) fn new(alloc: Global) -> GroupRules
         ensures { result ≡ [] }
     {
-        Rules {
+        GroupRules {
             rules: Vec::new(alloc),
         }
     }

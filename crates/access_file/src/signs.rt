@@ -4,7 +4,7 @@ ghost use Rattle.access_file.specs.Fault.{IsCauseOf};
 ghost use Rattle.access_file.specs.Grammar.{expected, inside, scope_signed, name_signed, list_signed, member_signed, right_signed, spoken_signed, signed_behind};
 
 use crate::fault::TokenFault;
-use crate::place::{Behind, Kind, Naming, Party, Place, Scope, Setting};
+use crate::place::{Behind, Expected, Kind, Naming, Party, Scope, Setting};
 use crate::reader::{Reader, unexpected};
 use std::alloc::Global;
 
@@ -43,7 +43,7 @@ impl Reader {
         ensures err { IfErr result (IsCauseOf (scope_signed self.old Scope.Ruled sign)) }
     {
         if sign == b'{' {
-            self.place = Place::Keyword(Scope::Parties);
+            self.place = Expected::Keyword(Scope::Parties);
             return Ok(());
         }
         if sign != b'}' {
@@ -62,7 +62,7 @@ impl Reader {
             return unexpected();
         }
         self.end_rule(alloc)?;
-        self.place = Place::Keyword(Scope::Rules);
+        self.place = Expected::Keyword(Scope::Rules);
         Ok(())
     }
 
@@ -99,7 +99,7 @@ impl Reader {
         ensures err { IfErr result (IsCauseOf (member_signed self.old party sign)) }
     {
         if sign == b',' {
-            self.place = Place::Name(Naming::Member(party));
+            self.place = Expected::Name(Naming::Member(party));
             return Ok(());
         }
         self.end_list(alloc, party, sign)
@@ -115,14 +115,18 @@ impl Reader {
         ensures err { IfErr result (IsCauseOf (signed_behind self.old behind sign)) }
     {
         match behind {
-            Behind::Keyword(kind) => self.expect(sign, b'(', Place::Name(Naming::Group(kind))),
-            Behind::Group(kind) => self.expect(sign, b')', Place::Keyword(Scope::Headed(kind))),
+            Behind::Keyword(kind) => self.expect(sign, b'(', Expected::Name(Naming::Group(kind))),
+            Behind::Group(kind) => self.expect(sign, b')', Expected::Keyword(Scope::Headed(kind))),
             Behind::Member(party) => self.member_signed(alloc, party, sign),
-            Behind::Rule => self.expect(sign, b'(', Place::Setting(Setting::Level)),
-            Behind::Level => self.expect(sign, b',', Place::Setting(Setting::Right)),
+            Behind::Rule => self.expect(sign, b'(', Expected::Setting(Setting::Level)),
+            Behind::Level => self.expect(sign, b',', Expected::Setting(Setting::Right)),
             Behind::Right => self.right_signed(sign),
-            Behind::Recording => self.expect(sign, b')', Place::Keyword(Scope::Ruled)),
-            Behind::Speaking(party) => self.expect(sign, b'(', Place::Name(Naming::Spoken(party))),
+            Behind::Recording => self.expect(sign, b')', Expected::Keyword(Scope::Ruled)),
+            Behind::Speaking(party) => self.expect(
+                sign,
+                b'(',
+                Expected::Name(Naming::Spoken(party)),
+            ),
             Behind::Spoken(party) => self.spoken_signed(party, sign),
         }
     }
@@ -132,10 +136,10 @@ impl Reader {
         ensures err { IfErr result (IsCauseOf (right_signed self.old sign)) }
     {
         if sign == b',' {
-            self.place = Place::Setting(Setting::Recording);
+            self.place = Expected::Setting(Setting::Recording);
             return Ok(());
         }
-        self.expect(sign, b')', Place::Keyword(Scope::Ruled))
+        self.expect(sign, b')', Expected::Keyword(Scope::Ruled))
     }
 
     fn spoken_signed(&mut self, party: Party, sign: u8) -> Result<(), TokenFault>
@@ -143,14 +147,14 @@ impl Reader {
         ensures err { IfErr result (IsCauseOf (spoken_signed self.old party sign)) }
     {
         if sign == b',' {
-            self.place = Place::Name(Naming::Spoken(party));
+            self.place = Expected::Name(Naming::Spoken(party));
             return Ok(());
         }
-        self.expect(sign, b')', Place::Keyword(Scope::Parties))
+        self.expect(sign, b')', Expected::Keyword(Scope::Parties))
     }
 
     // This sign must stand here.
-    fn expect(&mut self, sign: u8, wanted: u8, next: Place) -> Result<(), TokenFault>
+    fn expect(&mut self, sign: u8, wanted: u8, next: Expected) -> Result<(), TokenFault>
         ensures ok { OnOk result (expected self.old sign wanted next ≡ Ok self.new) }
         ensures err { IfErr result (IsCauseOf (expected self.old sign wanted next)) }
     {
@@ -163,11 +167,11 @@ impl Reader {
 }
 
 // Behind `{` after the head of a definition.
-fn inside(kind: Kind) -> Place
+fn inside(kind: Kind) -> Expected
     ensures { result ≡ inside kind }
 {
     match kind {
-        Kind::List(party) => Place::Name(Naming::First(party)),
-        Kind::Rules => Place::Keyword(Scope::Rules),
+        Kind::List(party) => Expected::Name(Naming::First(party)),
+        Kind::Rules => Expected::Keyword(Scope::Rules),
     }
 }

@@ -4,7 +4,7 @@ use Rattle.std.specs.List.{count_by, filter, find, list_any}
 use Rattle.std.specs.Option.{option_map, option_or}
 use Rattle.std.proofs.lemmas.List.{take-append-drop}
 use Rattle.std.proofs.lemmas.List.Folds.{find-append}
-use Rattle.ask_schedule.specs.declared.row.Row.{Row}
+use Rattle.ask_schedule.specs.declared.row.ScheduleRow.{ScheduleRow}
 use Rattle.ask_schedule.specs.declared.row.TheConstants.{LAST_LOOK, MOST_TRIES}
 use Rattle.ask_schedule.specs.Laws.{IsAskedFor}
 use Rattle.ask_schedule.specs.Places.{AreApart, InOrder}
@@ -15,18 +15,18 @@ use Rattle.ask_schedule.proofs.Order.{counts_due, due_tells, is_due_by, skips_ot
 
 -- ---- a name that is due
 
-one_of : (name : List ℕ) (row : Row) (rest : List Row) → has_name name row ≡ true → IsAskedFor name (row ∷ rest)
+one_of : (name : List ℕ) (row : ScheduleRow) (rest : List ScheduleRow) → has_name name row ≡ true → IsAskedFor name (row ∷ rest)
 one_of name row rest is = rw is refl
 
 or_later : (b c : Bool) → c ≡ true → (b || c) ≡ true
 or_later true c holds = refl
 or_later false c holds = holds
 
-due_first : (now most : ℕ) (row : Row) (after : List Row) → row.due ≤ now → 0 < most → IsAskedFor row.name (asked now most (row ∷ after))
+due_first : (now most : ℕ) (row : ScheduleRow) (after : List ScheduleRow) → row.due ≤ now → 0 < most → IsAskedFor row.name (asked now most (row ∷ after))
 due_first now zero row after due some = absurd (omega arith)
 due_first now (suc most) row after due some = rw (is_due_by now row due) (one_of row.name row (take most (filter (is_due now) after)) (is_itself row.name))
 
-pub due_is_asked : (now most : ℕ) (before after : List Row) (row : Row) → row.due ≤ now → count_by (is_due now) before < most
+pub due_is_asked : (now most : ℕ) (before after : List ScheduleRow) (row : ScheduleRow) → row.due ≤ now → count_by (is_due now) before < most
     → IsAskedFor row.name (asked now most (before ++ row ∷ after))
 due_is_asked now most [] after row due few = due_first now most row after due few
 due_is_asked now zero (b ∷ before) after row due few = absurd (omega arith)
@@ -43,23 +43,23 @@ due_is_asked now (suc most) (b ∷ before) after row due few =
 -- ---- rows of two lists
 
 -- no row of the one has a name that the other has
-abbrev pub AllAbsent : List Row → List Row → Type 0
+abbrev pub AllAbsent : List ScheduleRow → List ScheduleRow → Type 0
 AllAbsent [] kept = Unit {0}
 AllAbsent (row ∷ rows) kept = (find (has_name row.name) kept ≡ None) × AllAbsent rows kept
 
-none_of_either : (test : Row → Bool) (xs ys : List Row) → find test (xs ++ ys) ≡ None → (find test xs ≡ None) × (find test ys ≡ None)
+none_of_either : (test : ScheduleRow → Bool) (xs ys : List ScheduleRow) → find test (xs ++ ys) ≡ None → (find test xs ≡ None) × (find test ys ≡ None)
 none_of_either test [] ys none = (refl, none)
 none_of_either test (x ∷ xs) ys none =
     let split = none_first test x (xs ++ ys) none in
     let on = none_of_either test xs ys split.1 in
     (none_first_of test x xs split.0 on.0, on.1)
 
-record AreSplit (xs ys : List Row) : Type 0 where
+record AreSplit (xs ys : List ScheduleRow) : Type 0 where
   front : AreApart xs
   absent : AllAbsent xs ys
   back : AreApart ys
 
-split-apart : (xs ys : List Row) → AreApart (xs ++ ys) → AreSplit xs ys
+split-apart : (xs ys : List ScheduleRow) → AreApart (xs ++ ys) → AreSplit xs ys
 split-apart [] ys apart = record { front = tt; absent = tt; back = apart }
 split-apart (x ∷ xs) ys apart =
     let here = none_of_either (has_name x.name) xs ys apart.0 in
@@ -67,7 +67,7 @@ split-apart (x ∷ xs) ys apart =
     record { front = (here.0, on.front); absent = (here.1, on.absent); back = on.back }
 
 -- after one was placed among the others
-absent-on : (now : ℕ) (g : Row) (gone kept : List Row) → find (has_name g.name) gone ≡ None → find (has_name g.name) kept ≡ None → AllAbsent gone kept
+absent-on : (now : ℕ) (g : ScheduleRow) (gone kept : List ScheduleRow) → find (has_name g.name) gone ≡ None → find (has_name g.name) kept ≡ None → AllAbsent gone kept
     → AllAbsent gone (placed (again now g) kept)
 absent-on now g [] kept none there absent = tt
 absent-on now g (h ∷ gone) kept none there absent =
@@ -75,17 +75,17 @@ absent-on now g (h ∷ gone) kept none there absent =
     let fails : has_name h.name g ≡ false = other_way g.name h.name split.0 in
     (find-placed h.name (again now g) kept there ∙ rw fails absent.0, absent-on now g gone kept split.1 there absent.1)
 
-all-apart : (now : ℕ) (gone kept : List Row) → AreApart gone → AllAbsent gone kept → AreApart kept → AreApart (all_placed (map (again now) gone) kept)
+all-apart : (now : ℕ) (gone kept : List ScheduleRow) → AreApart gone → AllAbsent gone kept → AreApart kept → AreApart (all_placed (map (again now) gone) kept)
 all-apart now [] kept apart absent others = others
 all-apart now (g ∷ gone) kept apart absent others =
     all-apart now gone (placed (again now g) kept) apart.1 (absent-on now g gone kept apart.0 absent.0 absent.1) (placed-apart (again now g) kept absent.0 others)
 
-by_asked : (b : Bool) (now : ℕ) (g : Row) (found kept : Option Row) → (b ≡ true → found ≡ None)
+by_asked : (b : Bool) (now : ℕ) (g : ScheduleRow) (found kept : Option ScheduleRow) → (b ≡ true → found ≡ None)
     → option_or (option_map (again now) found) (cond b (Some (again now g)) kept) ≡ option_or (option_map (again now) (cond b (Some g) found)) kept
-by_asked true now g found kept none = ap (λ (f : Option Row). option_or (option_map (again now) f) (Some (again now g))) (none refl)
+by_asked true now g found kept none = ap (λ (f : Option ScheduleRow). option_or (option_map (again now) f) (Some (again now g))) (none refl)
 by_asked false now g found kept none = refl
 
-find-asked : (now : ℕ) (name : List ℕ) (gone kept : List Row) → AreApart gone → AllAbsent gone kept
+find-asked : (now : ℕ) (name : List ℕ) (gone kept : List ScheduleRow) → AreApart gone → AllAbsent gone kept
     → find (has_name name) (all_placed (map (again now) gone) kept) ≡ option_or (option_map (again now) (find (has_name name) gone)) (find (has_name name) kept)
 find-asked now name [] kept apart absent = refl
 find-asked now name (g ∷ gone) kept apart absent =
@@ -96,33 +96,33 @@ find-asked now name (g ∷ gone) kept apart absent =
 
 -- ---- a name that was asked for
 
-find-self : (before after : List Row) (row : Row) → AreApart (before ++ row ∷ after) → find (has_name row.name) (before ++ row ∷ after) ≡ Some row
+find-self : (before after : List ScheduleRow) (row : ScheduleRow) → AreApart (before ++ row ∷ after) → find (has_name row.name) (before ++ row ∷ after) ≡ Some row
 find-self [] after row apart = rw (is_itself row.name) refl
 find-self (b ∷ before) after row apart =
     let split = none_of_either (has_name b.name) before (row ∷ after) apart.0 in
     let fails : has_name row.name b ≡ false = other_way b.name row.name (none_first (has_name b.name) row after split.1).0 in
     rw fails (find-self before after row apart.1)
 
-the_row : (gone kept : Option Row) (row : Row) → is_some gone ≡ true → option_or gone kept ≡ Some row → gone ≡ Some row
+the_row : (gone kept : Option ScheduleRow) (row : ScheduleRow) → is_some gone ≡ true → option_or gone kept ≡ Some row → gone ≡ Some row
 the_row None kept row some e = absurd cc
 the_row (Some g) kept row some e = e
 
-any_one : (b : Bool) (test : Row → Bool) (n : ℕ) (rows : List Row) → (b || list_any test (take n rows)) ≡ true → (list_any test (take n rows) ≡ true → list_any test rows ≡ true)
+any_one : (b : Bool) (test : ScheduleRow → Bool) (n : ℕ) (rows : List ScheduleRow) → (b || list_any test (take n rows)) ≡ true → (list_any test (take n rows) ≡ true → list_any test rows ≡ true)
     → (b || list_any test rows) ≡ true
 any_one true test n rows holds on = refl
 any_one false test n rows holds on = on holds
 
-any_taken : (test : Row → Bool) (n : ℕ) (rows : List Row) → list_any test (take n rows) ≡ true → list_any test rows ≡ true
+any_taken : (test : ScheduleRow → Bool) (n : ℕ) (rows : List ScheduleRow) → list_any test (take n rows) ≡ true → list_any test rows ≡ true
 any_taken test zero rows holds = absurd cc
 any_taken test (suc n) [] holds = absurd cc
 any_taken test (suc n) (row ∷ rows) holds = any_one (test row) test n rows holds (any_taken test n rows)
 
-kept_or_not : (b : Bool) (name : List ℕ) (first : Row) (rows : List Row) → has_name name first ≡ false → list_any (has_name name) rows ≡ false
+kept_or_not : (b : Bool) (name : List ℕ) (first : ScheduleRow) (rows : List ScheduleRow) → has_name name first ≡ false → list_any (has_name name) rows ≡ false
     → list_any (has_name name) (cond b (first ∷ rows) rows) ≡ false
 kept_or_not true name first rows fails none = rw fails none
 kept_or_not false name first rows fails none = none
 
-not_first : (later : ℕ) (name : List ℕ) (first : Row) (rows : List Row) (row : Row) (b : Bool) → has_name name first ≡ b → AreApart (first ∷ rows)
+not_first : (later : ℕ) (name : List ℕ) (first : ScheduleRow) (rows : List ScheduleRow) (row : ScheduleRow) (b : Bool) → has_name name first ≡ b → AreApart (first ∷ rows)
     → find (has_name name) (first ∷ rows) ≡ Some row → later < row.due
     → (find (has_name name) rows ≡ Some row → list_any (has_name name) (filter (is_due later) rows) ≡ false)
     → list_any (has_name name) (filter (is_due later) (first ∷ rows)) ≡ false
@@ -133,7 +133,7 @@ not_first later name first rows row true is apart found less on =
     let others : list_any (has_name name) (filter (is_due later) rows) ≡ false =
     any_found (has_name name) (filter (is_due later) rows) ∙ ap is_some (none-filter (has_name name) (is_due later) rows none) in
     elim (due_tells later first) as (λ _. list_any (has_name name) (filter (is_due later) (first ∷ rows)) ≡ false) [
-      | inl w ↦ let due = ap (λ (r : Row). r.due) same in absurd (omega arith)
+      | inl w ↦ let due = ap (λ (r : ScheduleRow). r.due) same in absurd (omega arith)
       | inr w ↦ rw w.0 others
     ]
 not_first later name first rows row false is apart found less on =
@@ -141,21 +141,21 @@ not_first later name first rows row false is apart found less on =
     kept_or_not (is_due later first) name first (filter (is_due later) rows) is (on there)
 
 -- a name whose row isn't due is not among those that are
-not_among : (later : ℕ) (name : List ℕ) (rows : List Row) (row : Row) → AreApart rows → find (has_name name) rows ≡ Some row → later < row.due
+not_among : (later : ℕ) (name : List ℕ) (rows : List ScheduleRow) (row : ScheduleRow) → AreApart rows → find (has_name name) rows ≡ Some row → later < row.due
     → list_any (has_name name) (filter (is_due later) rows) ≡ false
 not_among later name [] row apart found less = refl
 not_among later name (first ∷ rows) row apart found less =
     not_first later name first rows row (has_name name first) refl apart found less (λ on. not_among later name rows row apart.1 on less)
 
-pub not_again : (now later most more : ℕ) (before after : List Row) (row : Row) → InOrder (before ++ row ∷ after) → AreApart (before ++ row ∷ after)
+pub not_again : (now later most more : ℕ) (before after : List ScheduleRow) (row : ScheduleRow) → InOrder (before ++ row ∷ after) → AreApart (before ++ row ∷ after)
     → IsAskedFor row.name (asked now most (before ++ row ∷ after)) → later < now + 2 ^ min row.tries MOST_TRIES → later < LAST_LOOK
     → IsAskedFor row.name (asked later more (left now most (before ++ row ∷ after))) → ⊥
 not_again now later most more before after row o apart was less last again_asked =
-    let rows : List Row = before ++ row ∷ after in
-    let gone : List Row = asked now most rows in
-    let kept : List Row = drop (length gone) rows in
+    let rows : List ScheduleRow = before ++ row ∷ after in
+    let gone : List ScheduleRow = asked now most rows in
+    let kept : List ScheduleRow = drop (length gone) rows in
     let front : gone ≡ take (length gone) rows = asked-front now most rows o ∙ ap (λ (n : ℕ). take n rows) (sym (asked-long now most rows o)) in
-    let all : rows ≡ gone ++ kept = sym (take-append-drop (length gone) rows) ∙ ap (λ (xs : List Row). xs ++ kept) (sym front) in
+    let all : rows ≡ gone ++ kept = sym (take-append-drop (length gone) rows) ∙ ap (λ (xs : List ScheduleRow). xs ++ kept) (sym front) in
     let split = split-apart gone kept (subst AreApart all apart) in
     let here : option_or (find (has_name row.name) gone) (find (has_name row.name) kept) ≡ Some row =
     sym (find-append (has_name row.name) gone kept) ∙ ap (find (has_name row.name)) (sym all) ∙ find-self before after row apart in
@@ -163,7 +163,7 @@ not_again now later most more before after row o apart was less last again_asked
     the_row (find (has_name row.name) gone) (find (has_name row.name) kept) row (sym (any_found (has_name row.name) gone) ∙ was) here in
     let then_found : find (has_name row.name) (left now most rows) ≡ Some (again now row) =
     find-asked now row.name gone kept split.front split.absent
-    ∙ ap (λ (f : Option Row). option_or (option_map (again now) f) (find (has_name row.name) kept)) found in
+    ∙ ap (λ (f : Option ScheduleRow). option_or (option_map (again now) f) (find (has_name row.name) kept)) found in
     let late : later < due_after now row.tries = omega arith in
     let fails = not_among later row.name (left now most rows) (again now row) (all-apart now gone kept split.front split.absent split.back) then_found late in
     let holds = any_taken (has_name row.name) more (filter (is_due later) (left now most rows)) again_asked in

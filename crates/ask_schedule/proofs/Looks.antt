@@ -6,7 +6,7 @@ use Rattle.std.proofs.lemmas.Bool.{cases_lt}
 use Rattle.std.proofs.Math.Seq.{drop-cons, take-suc}
 use Rattle.std.proofs.lemmas.List.{length-take, length-take-le, map-append, take-take, take_all}
 use Rattle.std.proofs.lemmas.List.Sums.{count_by-le-length}
-use Rattle.ask_schedule.specs.declared.row.Row.{Row}
+use Rattle.ask_schedule.specs.declared.row.ScheduleRow.{ScheduleRow}
 use Rattle.ask_schedule.specs.declared.row.TheConstants.{LAST_LOOK}
 use Rattle.ask_schedule.specs.Places.{AreRows, InOrder, InOrderFrom, due_of, first_asked}
 use Rattle.ask_schedule.specs.Plan.{again, all_placed, asked, due_after, has_name, is_due, left, placed}
@@ -15,7 +15,7 @@ use Rattle.ask_schedule.proofs.Order.{counts_due, due_tells, earlier, front_due,
 
 -- ---- those asked for are the first rows
 
-fewer_of : (rows : List Row) (c most : ℕ) → take most (take c rows) ≡ take (min c most) rows
+fewer_of : (rows : List ScheduleRow) (c most : ℕ) → take most (take c rows) ≡ take (min c most) rows
 fewer_of rows c most =
     elim (cases_lt c most) as (λ _. take most (take c rows) ≡ take (min c most) rows) [
       | inl less ↦
@@ -27,21 +27,21 @@ fewer_of rows c most =
           rw same (take-take most c rows more)
     ]
 
-pub asked-front : (now most : ℕ) (rows : List Row) → InOrder rows → asked now most rows ≡ take (min (count_by (is_due now) rows) most) rows
+pub asked-front : (now most : ℕ) (rows : List ScheduleRow) → InOrder rows → asked now most rows ≡ take (min (count_by (is_due now) rows) most) rows
 asked-front now most rows o = ap (take most) (front_due now 0 rows o) ∙ fewer_of rows (count_by (is_due now) rows) most
 
-pub asked-long : (now most : ℕ) (rows : List Row) → InOrder rows → length (asked now most rows) ≡ min (count_by (is_due now) rows) most
+pub asked-long : (now most : ℕ) (rows : List ScheduleRow) → InOrder rows → length (asked now most rows) ≡ min (count_by (is_due now) rows) most
 asked-long now most rows o =
     let within = count_by-le-length (is_due now) rows in
     ap length (asked-front now most rows o) ∙ length-take-le (min (count_by (is_due now) rows) most) rows (omega arith)
 
-due_at : (now : ℕ) (row : Row) (rows : List Row) (i : ℕ) (d : Row) → row.due ≤ now → ((j : ℕ) → j < count_by (is_due now) rows → (get_or rows j d).due ≤ now)
+due_at : (now : ℕ) (row : ScheduleRow) (rows : List ScheduleRow) (i : ℕ) (d : ScheduleRow) → row.due ≤ now → ((j : ℕ) → j < count_by (is_due now) rows → (get_or rows j d).due ≤ now)
     → i < suc (count_by (is_due now) rows) → (get_or (row ∷ rows) i d).due ≤ now
 due_at now row rows zero d due others less = due
 due_at now row rows (suc i) d due others less = others i (omega arith)
 
 -- the first rows, as many as are due, are due
-pub due_in_front : (now low : ℕ) (rows : List Row) (i : ℕ) (d : Row) → InOrderFrom low rows → i < count_by (is_due now) rows → (get_or rows i d).due ≤ now
+pub due_in_front : (now low : ℕ) (rows : List ScheduleRow) (i : ℕ) (d : ScheduleRow) → InOrderFrom low rows → i < count_by (is_due now) rows → (get_or rows i d).due ≤ now
 due_in_front now low [] i d o less = absurd (omega arith)
 due_in_front now low (row ∷ rows) i d o less =
     elim (due_tells now row) as (λ _. (get_or (row ∷ rows) i d).due ≤ now) [
@@ -52,7 +52,7 @@ due_in_front now low (row ∷ rows) i d o less =
 -- ---- one after the other
 
 -- the rows after so many were asked for, one after the other
-abbrev pub asked_times : ℕ → ℕ → List Row → List Row
+abbrev pub asked_times : ℕ → ℕ → List ScheduleRow → List ScheduleRow
 asked_times now zero rows = rows
 asked_times now (suc n) rows = first_asked now (asked_times now n rows)
 
@@ -60,7 +60,7 @@ pub not_before : (now tries : ℕ) → now ≤ LAST_LOOK → now ≤ due_after n
 not_before now tries within = omega arith
 
 -- a row that is due stands before all that are asked for now
-all-behind : (now : ℕ) (gone : List Row) (row : Row) (rows : List Row) → now ≤ LAST_LOOK → row.due ≤ now
+all-behind : (now : ℕ) (gone : List ScheduleRow) (row : ScheduleRow) (rows : List ScheduleRow) → now ≤ LAST_LOOK → row.due ≤ now
     → all_placed (map (again now) gone) (row ∷ rows) ≡ row ∷ all_placed (map (again now) gone) rows
 all-behind now [] row rows within due = refl
 all-behind now (g ∷ gone) row rows within due =
@@ -72,38 +72,38 @@ all-behind now (g ∷ gone) row rows within due =
           ap (all_placed (map (again now) gone)) behind ∙ all-behind now gone row (placed (again now g) rows) within due
     ]
 
-all-last : (gone : List Row) (row : Row) (rows : List Row) → all_placed (gone ++ row ∷ []) rows ≡ placed row (all_placed gone rows)
+all-last : (gone : List ScheduleRow) (row : ScheduleRow) (rows : List ScheduleRow) → all_placed (gone ++ row ∷ []) rows ≡ placed row (all_placed gone rows)
 all-last [] row rows = refl
 all-last (g ∷ gone) row rows = all-last gone row (placed g rows)
 
-asked_one : (now : ℕ) (rows : List Row) (n : ℕ) (d : Row) → now ≤ LAST_LOOK → n < length rows → (get_or rows n d).due ≤ now
+asked_one : (now : ℕ) (rows : List ScheduleRow) (n : ℕ) (d : ScheduleRow) → now ≤ LAST_LOOK → n < length rows → (get_or rows n d).due ≤ now
     → asked_times now n rows ≡ all_placed (map (again now) (take n rows)) (drop n rows)
     → asked_times now (suc n) rows ≡ all_placed (map (again now) (take (suc n) rows)) (drop (suc n) rows)
 asked_one now rows n d within there due so_far =
-    let row : Row = get_or rows n d in
-    let gone : List Row = map (again now) (take n rows) in
+    let row : ScheduleRow = get_or rows n d in
+    let gone : List ScheduleRow = map (again now) (take n rows) in
     let front : drop n rows ≡ row ∷ drop (suc n) rows = drop-cons rows n d there in
     let more : take (suc n) rows ≡ take n rows ++ row ∷ [] = take-suc rows n d there in
     let stands : asked_times now n rows ≡ row ∷ all_placed gone (drop (suc n) rows) =
     so_far ∙ ap (all_placed gone) front ∙ all-behind now (take n rows) row (drop (suc n) rows) within due in
     let all : all_placed (map (again now) (take (suc n) rows)) (drop (suc n) rows) ≡ placed (again now row) (all_placed gone (drop (suc n) rows)) =
-    ap (λ (xs : List Row). all_placed (map (again now) xs) (drop (suc n) rows)) more
-    ∙ ap (λ (xs : List Row). all_placed xs (drop (suc n) rows)) (map-append (again now) (take n rows) (row ∷ []))
+    ap (λ (xs : List ScheduleRow). all_placed (map (again now) xs) (drop (suc n) rows)) more
+    ∙ ap (λ (xs : List ScheduleRow). all_placed xs (drop (suc n) rows)) (map-append (again now) (take n rows) (row ∷ []))
     ∙ all-last gone (again now row) (drop (suc n) rows) in
     ap (first_asked now) stands ∙ sym all
 
 -- one more
-asked_next : (now : ℕ) (rows : List Row) (n : ℕ) → now ≤ LAST_LOOK → n < length rows → ((d : Row) → (get_or rows n d).due ≤ now)
+asked_next : (now : ℕ) (rows : List ScheduleRow) (n : ℕ) → now ≤ LAST_LOOK → n < length rows → ((d : ScheduleRow) → (get_or rows n d).due ≤ now)
     → asked_times now n rows ≡ all_placed (map (again now) (take n rows)) (drop n rows)
     → asked_times now (suc n) rows ≡ all_placed (map (again now) (take (suc n) rows)) (drop (suc n) rows)
 asked_next now rows n within there due so_far =
-    elim rows as (λ (xs : List Row). xs ≡ rows → asked_times now (suc n) rows ≡ all_placed (map (again now) (take (suc n) rows)) (drop (suc n) rows)) [
+    elim rows as (λ (xs : List ScheduleRow). xs ≡ rows → asked_times now (suc n) rows ≡ all_placed (map (again now) (take (suc n) rows)) (drop (suc n) rows)) [
       | [] ↦ λ e. let none : length rows ≡ 0 = ap length (sym e) in absurd (omega arith)
       | d ∷ others ↦ λ e. asked_one now rows n d within there (due d) so_far
     ] refl
 
 -- asking for the first ones, one after the other, leaves the others, and behind them those
-pub asked-times : (now : ℕ) (rows : List Row) (n : ℕ) → InOrder rows → now ≤ LAST_LOOK → n ≤ count_by (is_due now) rows
+pub asked-times : (now : ℕ) (rows : List ScheduleRow) (n : ℕ) → InOrder rows → now ≤ LAST_LOOK → n ≤ count_by (is_due now) rows
     → asked_times now n rows ≡ all_placed (map (again now) (take n rows)) (drop n rows)
 asked-times now rows zero o within few = refl
 asked-times now rows (suc n) o within few =
@@ -112,16 +112,16 @@ asked-times now rows (suc n) o within few =
     asked_next now rows n within there (λ d. due_in_front now 0 rows n d o (omega arith)) (asked-times now rows n o within (omega arith))
 
 -- a look
-pub left-is : (now most : ℕ) (rows : List Row) → InOrder rows → now ≤ LAST_LOOK → asked_times now (min (count_by (is_due now) rows) most) rows ≡ left now most rows
+pub left-is : (now most : ℕ) (rows : List ScheduleRow) → InOrder rows → now ≤ LAST_LOOK → asked_times now (min (count_by (is_due now) rows) most) rows ≡ left now most rows
 left-is now most rows o within =
     let n : ℕ = min (count_by (is_due now) rows) most in
     asked-times now rows n o within (omega arith)
-    ∙ ap (λ (xs : List Row). all_placed (map (again now) xs) (drop n rows)) (sym (asked-front now most rows o))
+    ∙ ap (λ (xs : List ScheduleRow). all_placed (map (again now) xs) (drop n rows)) (sym (asked-front now most rows o))
     ∙ ap (λ (k : ℕ). all_placed (map (again now) (asked now most rows)) (drop k rows)) (sym (asked-long now most rows o))
 
 -- ---- one row is asked for
 
-pub rows-asked : (limit now : ℕ) (rows : List Row) → AreRows limit rows → AreRows limit (first_asked now rows)
+pub rows-asked : (limit now : ℕ) (rows : List ScheduleRow) → AreRows limit rows → AreRows limit (first_asked now rows)
 rows-asked limit now [] are = are
 rows-asked limit now (row ∷ rows) are =
     let order = are.ordered in
@@ -129,15 +129,15 @@ rows-asked limit now (row ∷ rows) are =
     rows-placed limit (again now row) rows are.apart.0 (omega arith)
     (record { ordered = earlier 0 row.due rows (omega arith) order.1; apart = are.apart.1; within = omega arith })
 
-due_by_name : (b : Bool) (now : ℕ) (row : Row) (found : Option Row)
-    → option_map (λ (r : Row). r.due) (cond b (Some (again now row)) found)
-    ≡ cond b (option_map (λ (old : ℕ). due_after now row.tries) (option_map (λ (r : Row). r.due) (cond b (Some row) found))) (option_map (λ (r : Row). r.due) (cond b (Some row) found))
+due_by_name : (b : Bool) (now : ℕ) (row : ScheduleRow) (found : Option ScheduleRow)
+    → option_map (λ (r : ScheduleRow). r.due) (cond b (Some (again now row)) found)
+    ≡ cond b (option_map (λ (old : ℕ). due_after now row.tries) (option_map (λ (r : ScheduleRow). r.due) (cond b (Some row) found))) (option_map (λ (r : ScheduleRow). r.due) (cond b (Some row) found))
 due_by_name true now row found = refl
 due_by_name false now row found = refl
 
 -- when each name is due then
-pub due-asked : (limit now : ℕ) (row : Row) (rows : List Row) (name : List ℕ) → AreRows limit (row ∷ rows)
+pub due-asked : (limit now : ℕ) (row : ScheduleRow) (rows : List ScheduleRow) (name : List ℕ) → AreRows limit (row ∷ rows)
     → due_of name (first_asked now (row ∷ rows)) ≡ cond (has_name name row) (option_map (λ (old : ℕ). due_after now row.tries) (due_of name (row ∷ rows))) (due_of name (row ∷ rows))
 due-asked limit now row rows name are =
-    ap (option_map (λ (r : Row). r.due)) (find-placed name (again now row) rows are.apart.0)
+    ap (option_map (λ (r : ScheduleRow). r.due)) (find-placed name (again now row) rows are.apart.0)
     ∙ due_by_name (has_name name row) now row (find (has_name name) rows)

@@ -2,12 +2,12 @@
 use Rattle.std.specs.Prelude.{◌≡◌, ℕ, not, true, List}
 use Rattle.std.specs.List.{filter, list_any}
 use Rattle.ask_schedule.specs.declared.row.Newcomer.{Newcomer}
-use Rattle.ask_schedule.specs.declared.row.Row.{Row}
+use Rattle.ask_schedule.specs.declared.row.ScheduleRow.{ScheduleRow}
 use Rattle.ask_schedule.specs.Plan.{has_name}
 use Rattle.ask_schedule.specs.Queue.{is_by}
 
 -- the name is among those of the rows
-abbrev pub IsAskedFor : List ℕ → List Row → Type 0
+abbrev pub IsAskedFor : List ℕ → List ScheduleRow → Type 0
 IsAskedFor name rows = list_any (has_name name) rows ≡ true
 
 -- the rows of this lap and of those before it

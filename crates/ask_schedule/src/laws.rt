@@ -2,7 +2,7 @@
 ghost use Rattle.std.specs.Prelude.{◌≡◌, ℕ, ◌+◌, ◌^◌, ◌<◌, ◌≤◌, List, ◌∷◌, ◌++◌, length, min, None};
 ghost use Rattle.std.specs.List.{count_by};
 ghost use Rattle.ask_schedule.specs.declared.row.Newcomer.{Newcomer};
-ghost use Rattle.ask_schedule.specs.declared.row.Row.{Row};
+ghost use Rattle.ask_schedule.specs.declared.row.ScheduleRow.{ScheduleRow};
 ghost use Rattle.ask_schedule.specs.declared.row.TheConstants.{LAST_LAP, LAST_LOOK, MOST_TRIES};
 ghost use Rattle.ask_schedule.specs.Laws.{IsAskedFor, ahead_of, behind};
 ghost use Rattle.ask_schedule.specs.Places.{AreApart, InOrder};
@@ -19,18 +19,18 @@ pub fn numbers_are_these()
 
 /// No more names are asked for at a look than may be.
 pub fn a_look_asks_for_so_many()
-    ensures { (now most : ℕ) (rows : List Row) → length (asked now most rows) ≤ most }
+    ensures { (now most : ℕ) (rows : List ScheduleRow) → length (asked now most rows) ≤ most }
 {}
 
 /// A name that is due is asked for, where fewer names that are due stand before it than may be asked for.
 pub fn a_due_name_is_asked_for()
-    ensures { (now most : ℕ) (before after : List Row) (row : Row) → row.due ≤ now → count_by (is_due now) before < most
+    ensures { (now most : ℕ) (before after : List ScheduleRow) (row : ScheduleRow) → row.due ≤ now → count_by (is_due now) before < most
         → IsAskedFor row.name (asked now most (before ++ row ∷ after)) }
 {}
 
 /// A name that was asked for is not asked for again before its gap is over.
 pub fn no_name_is_asked_for_within_its_gap()
-    ensures { (now later most more : ℕ) (before after : List Row) (row : Row)
+    ensures { (now later most more : ℕ) (before after : List ScheduleRow) (row : ScheduleRow)
         → InOrder (before ++ row ∷ after) → AreApart (before ++ row ∷ after)
         → IsAskedFor row.name (asked now most (before ++ row ∷ after))
         → later < now + 2 ^ min row.tries MOST_TRIES → later < LAST_LOOK

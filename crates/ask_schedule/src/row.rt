@@ -13,7 +13,7 @@ pub const LAST_LAP: u64 = 0xFFFF_FFFF_FFFF_FFFF;
 
 /// A name that is asked for.
 #[derive(Drop)]
-pub struct Row {
+pub struct ScheduleRow {
     pub(crate) name: Name,
     /// How often it was asked for; 9 where it was more often.
     pub(crate) tries: u32,

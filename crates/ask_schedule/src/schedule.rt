@@ -3,12 +3,12 @@ ghost use Rattle.std.specs.Prelude.{◌≡◌, ℕ, ◌<◌, ◌≤◌, List, []
 ghost use Rattle.std.specs.List.{count_by, filter, list_any};
 ghost use Rattle.std.specs.HashMap.{get};
 ghost use Rattle.std.specs.Option.{option_map};
-ghost use Rattle.ask_schedule.specs.declared.row.Row.{Row as RowValue};
+ghost use Rattle.ask_schedule.specs.declared.row.ScheduleRow.{ScheduleRow as RowValue};
 ghost use Rattle.ask_schedule.specs.Plan.{answer_to, asked, due_after, has_name, is_due, left, lacks_name, name_of, rows_after, sooner};
 ghost use Rattle.ask_schedule.specs.Places.{AreApart, AreRows, IfSomeThere, InOrder, due_of, first_asked};
 
 use crate::NoMemory;
-use crate::row::{MOST_TRIES, Row};
+use crate::row::{MOST_TRIES, ScheduleRow};
 use pv_name::Name;
 use std::alloc::{AllocError, Global};
 use std::collections::{HashMap, VecDeque};
@@ -29,7 +29,7 @@ pub enum Added {
 #[derive(Drop)]
 pub struct Schedule {
     limit: usize,
-    rows: VecDeque<Row>,
+    rows: VecDeque<ScheduleRow>,
     // When each is due. So a name is found among the rows without a walk.
     dues: HashMap<Name, u64>,
     alloc: Global,
@@ -96,7 +96,7 @@ impl Schedule {
         if self.rows.len() >= self.limit {
             return Ok(Added::Full);
         }
-        let row = Row {
+        let row = ScheduleRow {
             name: name.copy()?,
             tries: 0,
             due: 0,
@@ -158,7 +158,7 @@ impl Schedule {
         };
         let due = due_after(now, row.tries);
         set_due(&mut self.dues, &row.name, due);
-        let again = Row {
+        let again = ScheduleRow {
             name: row.name,
             tries: row.tries.saturating_add(1).min(MOST_TRIES),
             due,
@@ -180,7 +180,7 @@ fn due_after(now: u64, tries: u32) -> u64
 }
 
 /// How many rows are due by this look.
-fn due_by(rows: &VecDeque<Row>, look: u64) -> usize
+fn due_by(rows: &VecDeque<ScheduleRow>, look: u64) -> usize
     requires { InOrder rows.now.items }
     ensures count { result ≡ count_by (is_due look) rows.now.items }
     ensures within { result ≤ length rows.now.items }
@@ -189,7 +189,7 @@ fn due_by(rows: &VecDeque<Row>, look: u64) -> usize
 }
 
 /// A place before which all rows are due before this look. The first row that is due at it stands there.
-fn due_before(rows: &VecDeque<Row>, look: u64) -> usize
+fn due_before(rows: &VecDeque<ScheduleRow>, look: u64) -> usize
     requires { InOrder rows.now.items }
     ensures before { (k : ℕ) (d : RowValue) → k < result → (slice_index_or rows.now.items k d).due < look }
     ensures within { result ≤ length rows.now.items }
@@ -201,7 +201,7 @@ fn due_before(rows: &VecDeque<Row>, look: u64) -> usize
 }
 
 /// Where the row of this name stands, which is due at this look.
-fn place_of(rows: &VecDeque<Row>, name: &Name, due: u64) -> Option<usize>
+fn place_of(rows: &VecDeque<ScheduleRow>, name: &Name, due: u64) -> Option<usize>
     requires ordered { InOrder rows.now.items }
     requires apart { AreApart rows.now.items }
     requires there { due_of name.now rows.now.items ≡ Some due }
@@ -218,7 +218,11 @@ fn place_of(rows: &VecDeque<Row>, name: &Name, due: u64) -> Option<usize>
 }
 
 /// The names of the first rows.
-fn first_names(alloc: Global, rows: &VecDeque<Row>, count: usize) -> Result<Vec<Name>, NoMemory>
+fn first_names(
+    alloc: Global,
+    rows: &VecDeque<ScheduleRow>,
+    count: usize,
+) -> Result<Vec<Name>, NoMemory>
     requires { count ≤ length rows.now.items }
     ensures { IfOk result (λ names. names.items ≡ map name_of (take count rows.now.items)) }
 {
@@ -239,7 +243,7 @@ fn set_due(dues: &mut HashMap<Name, u64>, name: &Name, due: u64)
 }
 
 // Each row is taken off the front and put behind the others, and so none is moved among them.
-fn make_rows_sooner(rows: &mut VecDeque<Row>, now: u64, tries: u32)
+fn make_rows_sooner(rows: &mut VecDeque<ScheduleRow>, now: u64, tries: u32)
     ensures { rows.new.items ≡ map (sooner now tries) rows.old.items }
 {
     let latest = due_after(now, tries);
@@ -247,7 +251,7 @@ fn make_rows_sooner(rows: &mut VecDeque<Row>, now: u64, tries: u32)
         let Some(row) = rows.pop_front() else {
             return;
         };
-        let sooner = Row {
+        let sooner = ScheduleRow {
             name: row.name,
             tries: row.tries.min(tries),
             due: row.due.min(latest),

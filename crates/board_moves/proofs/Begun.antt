@@ -2,8 +2,8 @@
 use Rattle.std.proofs.Common.{◌≡◌, List, [], Option, Some, subst, sym}
 use Rattle.gateway_state.specs.Gateway.{Gateway, initial}
 use Rattle.board_rings.specs.Rings.{AttachmentState}
-use Rattle.board_history.proofs.Goes.{new_has_history}
-use Rattle.board_history.specs.History.{HasHistory}
+use Rattle.board_rings.proofs.Goes.{new_has_history}
+use Rattle.board_rings.specs.History.{HasHistory}
 use Rattle.board_moves.specs.Answers.{IsNew}
 
 -- a board for a new engine has a history

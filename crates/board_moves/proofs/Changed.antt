@@ -13,7 +13,7 @@ use Rattle.board_rings.proofs.AttachmentChanges.{rings_changed, rings_with_free,
 use Rattle.board_rings.specs.Attachments.{have_full, is_attached, is_attachment_of, rings_of, with_free, with_full, with_look_in, with_pushed, with_received}
 use Rattle.board_rings.specs.Rings.{AttachmentState}
 use Rattle.board_rings.specs.declared.inbound.Inbound.{Inbound}
-use Rattle.board_history.specs.Calls.{with_sent}
+use Rattle.board_rings.specs.Calls.{with_sent}
 use Rattle.board_moves.specs.Answers.{KeepsRings}
 use Rattle.board_moves.specs.Rounds.{dests_of}
 

@@ -12,13 +12,13 @@ use Rattle.gateway_state.specs.declared.event.Event.{Event}
 use Rattle.board_rings.specs.Attachments.{is_attached, is_attachment_of, is_not_attachment_of, new_attachment, with_full, with_leaving, with_look_in, IsWith}
 use Rattle.board_rings.specs.Rings.{InletState, AttachmentState, OutletState}
 use Rattle.board_rings.specs.declared.attachment.TheConstants.{RING_SIZE}
-use Rattle.board_history.specs.Board.{BoardState}
-use Rattle.board_history.specs.History.{HasHistory}
-use Rattle.board_history.proofs.Goes.{attached_has_history, beside_has_history, desk_failed_has_history, desked_has_history, looked_has_history, pump_failed_has_history, pumped_has_history, send_failed_has_history, retired_has_history, sent_has_history}
+use Rattle.board_rings.specs.Board.{BoardState}
+use Rattle.board_rings.specs.History.{HasHistory}
+use Rattle.board_rings.proofs.Goes.{attached_has_history, beside_has_history, desk_failed_has_history, desked_has_history, looked_has_history, pump_failed_has_history, pumped_has_history, send_failed_has_history, retired_has_history, sent_has_history}
 use Rattle.board_moves.specs.Answers.{IsDesk, IsPump, IsSendOut, IsWaiting}
 use Rattle.board_moves.specs.Held.{is_held, is_over_half}
-use Rattle.board_moves.specs.declared.rounds.Call.{Call}
-use Rattle.board_moves.specs.declared.rounds.Call.TheVariants.{Pump, PumpFree, SendOut, Weigh}
+use Rattle.board_moves.specs.declared.rounds.RoundCall.{RoundCall}
+use Rattle.board_moves.specs.declared.rounds.RoundCall.TheVariants.{Pump, PumpFree, SendOut, Weigh}
 use Rattle.board_moves.specs.Rounds.{dests_of, free_calls, round_calls, AreRounds, IsBatch, IsFreeRound, IsFreeRoundOn, IsRound, IsRoundOn, Performs, PerformsAll, PerformsUpTo, PumpsFree}
 use Rattle.board_moves.specs.declared.fault.BoardFault.{BoardFault}
 use Rattle.board_moves.specs.declared.fault.BoardFault.TheVariants.{OutOfMemory, Attached, NotHere, Step}
@@ -66,7 +66,7 @@ free_keeps : (dest : Dest) (held : Bool) (old : BoardState) (answer : Result ℕ
 free_keeps dest true old answer new p h = subst HasHistory (sym p.1) h
 free_keeps dest false old answer new p h = pump_keeps dest old p.0 new p.1.0 h
 
-performs_keeps : (call : Call) (old : BoardState) (answer : Result ℕ BoardFault) (new : BoardState) → Performs call old answer new → HasHistory old → HasHistory new
+performs_keeps : (call : RoundCall) (old : BoardState) (answer : Result ℕ BoardFault) (new : BoardState) → Performs call old answer new → HasHistory old → HasHistory new
 performs_keeps (Pump dest) old answer new p h = pump_keeps dest old p.0 new p.1.0 h
 performs_keeps (PumpFree dest) old answer new p h = free_keeps dest (is_held dest old) old answer new p h
 performs_keeps (SendOut dest) old answer new p h = send_out_keeps dest old answer new p h
@@ -74,14 +74,14 @@ performs_keeps (Weigh (Session number)) old answer new p h = subst HasHistory (s
 performs_keeps (Weigh (Upstream number)) old answer new p h =
     beside_has_history (with_full (is_over_half (Upstream number) old.rows)) (λ _. refl) (λ _. refl) (Upstream number) old new h p.1.0 p.1.1
 
-all_keep : (calls : List Call) (old : BoardState) (answer : Result ℕ BoardFault) (new : BoardState) → PerformsAll calls old answer new → HasHistory old → HasHistory new
+all_keep : (calls : List RoundCall) (old : BoardState) (answer : Result ℕ BoardFault) (new : BoardState) → PerformsAll calls old answer new → HasHistory old → HasHistory new
 all_keep [] old answer new p h = subst HasHistory (sym p.1) h
 all_keep (call ∷ calls) old answer new (Ok count, (between, (one, rest))) h =
     all_keep calls between rest.0 new rest.1.0 (performs_keeps call old (Ok count) between one h)
 all_keep (call ∷ calls) old answer new (Err fault, (between, (one, rest))) h =
     subst HasHistory (sym rest.1) (performs_keeps call old (Err fault) between one h)
 
-up_to_keeps : (calls : List Call) (old : BoardState) (answer : Result ℕ BoardFault) (new : BoardState) → PerformsUpTo calls old answer new → HasHistory old → HasHistory new
+up_to_keeps : (calls : List RoundCall) (old : BoardState) (answer : Result ℕ BoardFault) (new : BoardState) → PerformsUpTo calls old answer new → HasHistory old → HasHistory new
 up_to_keeps calls old answer new p h = all_keep calls old p.0 new p.1.0 h
 
 round_on_keeps : (rows : Option Gateway) (old : BoardState) (answer : Result ℕ BoardFault) (new : BoardState) → IsRoundOn rows old answer new → HasHistory old → HasHistory new

@@ -5,5 +5,7 @@ mod Keeps
 mod Moved
 mod Performed
 mod RoundCalls
+mod Seats
 mod Shares
+mod Told
 mod Turns

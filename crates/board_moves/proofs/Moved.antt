@@ -1,5 +1,5 @@
 -- What moves items, as calls of the board answer it.
-use Rattle.std.proofs.Common.{◌≡◌, ℕ, ◌<◌, ◌≤◌, List, length, min, true, false, Some, None, Option, is_some, Ok, Err, Result, inl, inr, refl, sym, ap, subst, ◌∙◌, arith}
+use Rattle.std.proofs.Common.{◌≡◌, ℕ, ◌<◌, ◌≤◌, List, length, min, true, false, Some, None, Option, is_some, Ok, Err, inl, inr, refl, sym, ap, subst, ◌∙◌, arith}
 use Rattle.std.specs.Prelude.{◌↔◌, ◌+◌, ◌^◌, ◌-◌, ◌*◌, ◌/◌, max, nat_le, if◌then◌else◌, Bool, IsNone, IsSome, IsTrue}
 use Rattle.std.specs.Option.{option_map}
 use Rattle.rows.specs.Rows.{change_first}
@@ -16,15 +16,14 @@ use Rattle.board_rings.proofs.AttachmentChanges.{attachment_of_changed}
 use Rattle.board_rings.specs.OnTheWay.{bytes_known_to, bytes_on_the_way, bytes_or_none, bytes_to}
 use Rattle.board_rings.specs.Rings.{AttachmentState}
 use Rattle.board_rings.specs.declared.inbound.Inbound.{Inbound}
-use Rattle.board_history.specs.Calls.{uses_up}
-use Rattle.board_history.specs.History.{item_event}
-use Rattle.board_history.specs.declared.entry.TheConstants.{MOST_SENT}
+use Rattle.board_rings.specs.Calls.{uses_up}
+use Rattle.board_rings.specs.History.{item_event}
+use Rattle.board_rings.specs.declared.entry.TheConstants.{MOST_SENT}
 use Rattle.board_moves.proofs.Changed.{found_and_pushed, none_changed}
 use Rattle.board_moves.specs.Answers.{board_of, IsPump, IsSendOut, IsWaiting}
 use Rattle.board_moves.specs.Share.{sent_at_once, share}
 use Rattle.board_moves.specs.declared.share.TheConstants.{RING_BYTES}
-use Rattle.board_history.specs.Board.{BoardState}
-use Rattle.board_moves.specs.declared.fault.BoardFault.{BoardFault}
+use Rattle.board_rings.specs.Board.{BoardState}
 use Rattle.board_moves.specs.declared.fault.BoardFault.TheVariants.{Step}
 
 pub pumped : (dest : Dest) (item : Inbound) (seen : ℕ) (rows after : Option Gateway) (attachments left : List AttachmentState) → IsSome rows → is_attached dest attachments ≡ true
@@ -52,18 +51,6 @@ pub pumped_nobody : (dest : Dest) (rows : Option Gateway) (attachments : List At
     → IsPump dest (board_of rows attachments) (Ok false) (board_of rows attachments)
 pumped_nobody dest rows attachments none =
     (refl, (sym (none_changed dest with_look_in attachments none), λ on. absurd (let wrong : true ≡ false = sym on ∙ none in cc)))
-
--- where it was asked first whether the gateway failed
-pub pumped_asked : (dest : Dest) (rows asked after : Option Gateway) (attachments left : List AttachmentState) (answer : Result Bool BoardFault) → asked ≡ rows
-    → IsPump dest (board_of asked attachments) answer (board_of after left) → IsPump dest (board_of rows attachments) answer (board_of after left)
-pumped_asked dest rows asked after attachments left answer same pump =
-    subst (λ (r : Option Gateway). IsPump dest (board_of r attachments) answer (board_of after left)) same pump
-
--- the same of a send-out
-pub sent_asked : (dest : Dest) (rows asked after : Option Gateway) (attachments left : List AttachmentState) (answer : Result ℕ BoardFault) → asked ≡ rows
-    → IsSendOut dest (board_of asked attachments) answer (board_of after left) → IsSendOut dest (board_of rows attachments) answer (board_of after left)
-sent_asked dest rows asked after attachments left answer same send =
-    subst (λ (r : Option Gateway). IsSendOut dest (board_of r attachments) answer (board_of after left)) same send
 
 pub send_refused : (dest : Dest) (found : ℕ) (rows after : Option Gateway) (attachments left : List AttachmentState) → IsSome rows → is_attached dest attachments ≡ true
     → after ≡ None → left ≡ change_first (is_attachment_of dest) (with_free found) attachments
@@ -155,11 +142,6 @@ pub has_rows : (failed : Bool) (rows : Option Gateway) → (IsTrue failed ↔ Is
 has_rows failed None answer is = sym is ∙ answer.1 refl
 has_rows failed (Some w) answer is = refl
 
--- a step leaves rows where there were some
-pub steps_stand : (rows after : Option Gateway) (f : Gateway → Gateway) → after ≡ option_map f rows → IsSome rows → IsSome after
-steps_stand None after f is some = absurd cc
-steps_stand (Some w) after f is some = ap is_some is
-
 -- only an attached connection has places
 pub places_of_attached : (dest : Dest) (found : ℕ) (attachments : List AttachmentState) → (is_attached dest attachments ≡ false → found ≡ 0) → 0 < found → is_attached dest attachments ≡ true
 places_of_attached dest found attachments none some = by (is_attached dest attachments) refl
@@ -167,12 +149,6 @@ places_of_attached dest found attachments none some = by (is_attached dest attac
     by : (b : Bool) → is_attached dest attachments ≡ b → is_attached dest attachments ≡ true
     by true is = is
     by false is = absurd (let zero_found = none is in omega arith)
-
--- no message waits, and nothing changed
-pub sent_none : (dest : Dest) (rows asked : Option Gateway) (attachments : List AttachmentState) → asked ≡ rows → IsSome rows → Some 0 ≡ option_map (λ w. queued w dest) rows
-    → IsSendOut dest (board_of rows attachments) (Ok 0) (board_of asked attachments)
-sent_none dest rows asked attachments same stands none =
-    inl (refl, record { same = ap (λ (r : Option Gateway). board_of r attachments) same; stands = λ _. stands; idle = λ _. sym none })
 
 -- a look found no place
 pub sent_nothing : (dest : Dest) (found : ℕ) (rows : Option Gateway) (attachments left : List AttachmentState) → IsSome rows → found ≡ 0

@@ -8,16 +8,16 @@ use Rattle.std.proofs.Math.Numerals.{suc-eq-add-one}
 use Rattle.gateway_state.specs.Gateway.{Gateway}
 use Rattle.gateway_state.specs.declared.event.Dest.{Dest}
 use Rattle.board_rings.specs.Rings.{AttachmentState}
-use Rattle.board_history.specs.Board.{BoardState}
+use Rattle.board_rings.specs.Board.{BoardState}
 use Rattle.board_moves.proofs.Performed.{ended_then, one_done, one_refused, performed_then}
 use Rattle.board_moves.specs.Answers.{board_of}
 use Rattle.board_moves.specs.Rounds.{dests_of, free_calls, round_calls, told_count, IsFreeRound, IsFreeRoundOn, IsRound, IsRoundOn, Performs, PerformsAll, PerformsUpTo}
 use Rattle.board_moves.specs.declared.fault.BoardFault.{BoardFault}
-use Rattle.board_moves.specs.declared.rounds.Call.{Call}
-use Rattle.board_moves.specs.declared.rounds.Call.TheVariants.{SendOut}
+use Rattle.board_moves.specs.declared.rounds.RoundCall.{RoundCall}
+use Rattle.board_moves.specs.declared.rounds.RoundCall.TheVariants.{SendOut}
 
 -- the first n calls were performed, and so many items moved, as far as can be told
-pub record IsPerformed (calls : List Call) (n : ℕ) (start now : BoardState) (moved : ℕ) : Type 0 where
+pub record IsPerformed (calls : List RoundCall) (n : ℕ) (start now : BoardState) (moved : ℕ) : Type 0 where
   pub exact : ℕ
   pub done : PerformsAll (take n calls) start (Ok exact) now
   pub told : moved ≡ min exact (2 ^ 64 - 1)
@@ -33,17 +33,14 @@ split_next (y ∷ xs) zero x is = cc
 split_next (y ∷ xs) (suc n) x is = ap (λ ys. y ∷ ys) (split_next xs n x is)
 
 -- the call of a place is for the connection of that place
-call_at : (make : Dest → Call) (attachments start : List AttachmentState) (n : ℕ) (dest : Dest) → dests_of attachments ≡ dests_of start → option_map (λ (attachment : AttachmentState). attachment.dest) (slice_get attachments n) ≡ Some dest
+call_at : (make : Dest → RoundCall) (attachments start : List AttachmentState) (n : ℕ) (dest : Dest) → dests_of attachments ≡ dests_of start → option_map (λ (attachment : AttachmentState). attachment.dest) (slice_get attachments n) ≡ Some dest
     → slice_get (map make (dests_of start)) n ≡ Some (make dest)
 call_at make attachments start n dest same there =
     slice_get-map make (dests_of start) n
     ∙ ap (λ (ds : List Dest). option_map make (slice_get ds n)) (sym same)
     ∙ ap (option_map make) (slice_get-map (λ (attachment : AttachmentState). attachment.dest) attachments n ∙ there)
 
-pub none_performed : (calls : List Call) (start : BoardState) → IsPerformed calls 0 start start 0
-none_performed calls start = record { exact = 0; done = (refl, refl); told = refl }
-
-pub next_performed : (make : Dest → Call) (attachments start_attachments : List AttachmentState) (n : ℕ) (dest : Dest) (start now next : BoardState) (moved count moved_now : ℕ)
+pub next_performed : (make : Dest → RoundCall) (attachments start_attachments : List AttachmentState) (n : ℕ) (dest : Dest) (start now next : BoardState) (moved count moved_now : ℕ)
     → dests_of attachments ≡ dests_of start_attachments → option_map (λ (attachment : AttachmentState). attachment.dest) (slice_get attachments n) ≡ Some dest
     → IsPerformed (map make (dests_of start_attachments)) n start now moved → Performs (make dest) now (Ok count) next → moved_now ≡ min (moved + count) (2 ^ 64 - 1)
     → IsPerformed (map make (dests_of start_attachments)) (n + 1) start next moved_now
@@ -53,11 +50,11 @@ next_performed make attachments start_attachments n dest start now next moved co
     let done : PerformsAll (take n calls ++ make dest ∷ []) start (Ok (so_far.exact + count)) next = performed_then Performs (take n calls) (make dest ∷ []) start now so_far.exact (Ok count) next so_far.done (one_done Performs (make dest) now count next one) in
     record {
       exact = so_far.exact + count;
-      done = subst (λ (cs : List Call). PerformsAll cs start (Ok (so_far.exact + count)) next) (sym (ap (λ (k : ℕ). take k calls) (sym (suc-eq-add-one n)) ∙ take_next calls n (make dest) at)) done;
+      done = subst (λ (cs : List RoundCall). PerformsAll cs start (Ok (so_far.exact + count)) next) (sym (ap (λ (k : ℕ). take k calls) (sym (suc-eq-add-one n)) ∙ take_next calls n (make dest) at)) done;
       told = omega (arith, told, so_far.told);
     }
 
-pub next_refused : (make : Dest → Call) (attachments start_attachments : List AttachmentState) (n : ℕ) (dest : Dest) (start now next : BoardState) (moved : ℕ) (fault : BoardFault)
+pub next_refused : (make : Dest → RoundCall) (attachments start_attachments : List AttachmentState) (n : ℕ) (dest : Dest) (start now next : BoardState) (moved : ℕ) (fault : BoardFault)
     → dests_of attachments ≡ dests_of start_attachments → option_map (λ (attachment : AttachmentState). attachment.dest) (slice_get attachments n) ≡ Some dest
     → IsPerformed (map make (dests_of start_attachments)) n start now moved → Performs (make dest) now (Err fault) next
     → PerformsUpTo (map make (dests_of start_attachments)) start (Err fault) next
@@ -66,27 +63,27 @@ next_refused make attachments start_attachments n dest start now next moved faul
     let at = call_at make attachments start_attachments n dest same there in
     let all : PerformsAll (take n calls ++ make dest ∷ drop (suc n) calls) start (Err fault) next =
     performed_then Performs (take n calls) (make dest ∷ drop (suc n) calls) start now so_far.exact (Err fault) next so_far.done (one_refused Performs (make dest) (drop (suc n) calls) now fault next one) in
-    (Err fault, (subst (λ (cs : List Call). PerformsAll cs start (Err fault) next) (sym (split_next calls n (make dest) at)) all, refl))
+    (Err fault, (subst (λ (cs : List RoundCall). PerformsAll cs start (Err fault) next) (sym (split_next calls n (make dest) at)) all, refl))
 
 past_end : {A B : Type 0} (f : A → B) (xs : List A) (n : ℕ) → option_map f (slice_get xs n) ≡ None → length xs ≤ n
 past_end f [] n none = omega arith
 past_end f (x ∷ xs) zero none = absurd cc
 past_end f (x ∷ xs) (suc n) none = omega (arith, past_end f xs n none)
 
-pub all_performed : (make : Dest → Call) (attachments start_attachments : List AttachmentState) (n : ℕ) (start now : BoardState) (moved : ℕ) → dests_of attachments ≡ dests_of start_attachments → length attachments ≤ n
+pub all_performed : (make : Dest → RoundCall) (attachments start_attachments : List AttachmentState) (n : ℕ) (start now : BoardState) (moved : ℕ) → dests_of attachments ≡ dests_of start_attachments → length attachments ≤ n
     → IsPerformed (map make (dests_of start_attachments)) n start now moved → PerformsUpTo (map make (dests_of start_attachments)) start (Ok moved) now
 all_performed make attachments start_attachments n start now moved same enough so_far =
     let calls = map make (dests_of start_attachments) in
     let attachment_dest = λ (attachment : AttachmentState). attachment.dest in (
       Ok so_far.exact,
       (
-        subst (λ (cs : List Call). PerformsAll cs start (Ok so_far.exact) now)
+        subst (λ (cs : List RoundCall). PerformsAll cs start (Ok so_far.exact) now)
             (take_all n calls (omega (arith, enough, ap length same, length-map (dests_of start_attachments) make, length-map start_attachments attachment_dest, length-map attachments attachment_dest))) so_far.done,
         ap Ok so_far.told,
       ),
     )
 
-pub all_performed_there : (make : Dest → Call) (attachments start_attachments : List AttachmentState) (n : ℕ) (start now : BoardState) (moved : ℕ) → dests_of attachments ≡ dests_of start_attachments
+pub all_performed_there : (make : Dest → RoundCall) (attachments start_attachments : List AttachmentState) (n : ℕ) (start now : BoardState) (moved : ℕ) → dests_of attachments ≡ dests_of start_attachments
     → option_map (λ (attachment : AttachmentState). attachment.dest) (slice_get attachments n) ≡ None
     → IsPerformed (map make (dests_of start_attachments)) n start now moved → PerformsUpTo (map make (dests_of start_attachments)) start (Ok moved) now
 all_performed_there make attachments start_attachments n start now moved same none so_far =
@@ -103,14 +100,14 @@ told_sum count (Ok sum) e = (sum, (refl, cc))
 told_sum count (Err fault) e = absurd cc
 
 -- a fault ends all calls
-fault_ends : (calls others : List Call) (old new : BoardState) (fault : BoardFault) → PerformsUpTo calls old (Err fault) new → PerformsUpTo (calls ++ others) old (Err fault) new
+fault_ends : (calls others : List RoundCall) (old new : BoardState) (fault : BoardFault) → PerformsUpTo calls old (Err fault) new → PerformsUpTo (calls ++ others) old (Err fault) new
 fault_ends calls others old new fault (exact, (all, told)) = (
   Err fault,
   (ended_then Performs calls others old new fault (subst (λ (r : Result ℕ BoardFault). PerformsAll calls old r new) (told_fault fault exact told) all), refl),
 )
 
 -- others that end at a fault
-fault_follows : (calls others : List Call) (old between new : BoardState) (count : ℕ) (fault : BoardFault) → PerformsUpTo calls old (Ok count) between → PerformsUpTo others between (Err fault) new
+fault_follows : (calls others : List RoundCall) (old between new : BoardState) (count : ℕ) (fault : BoardFault) → PerformsUpTo calls old (Ok count) between → PerformsUpTo others between (Err fault) new
     → PerformsUpTo (calls ++ others) old (Err fault) new
 fault_follows calls others old between new count fault (exact, (all, told)) (rest, (others_all, others_told)) =
     let sum = told_sum count exact told in (
@@ -122,7 +119,7 @@ fault_follows calls others old between new count fault (exact, (all, told)) (res
       ),
     )
 
-all_follow : (calls others : List Call) (old between new : BoardState) (count more total : ℕ) → PerformsUpTo calls old (Ok count) between → PerformsUpTo others between (Ok more) new
+all_follow : (calls others : List RoundCall) (old between new : BoardState) (count more total : ℕ) → PerformsUpTo calls old (Ok count) between → PerformsUpTo others between (Ok more) new
     → total ≡ min (count + more) (2 ^ 64 - 1) → PerformsUpTo (calls ++ others) old (Ok total) new
 all_follow calls others old between new count more total (exact, (all, told)) (rest, (others_all, others_told)) is =
     let sum = told_sum count exact told in
@@ -158,7 +155,7 @@ free_round_of engine asked after attachments left answer some same all =
     (subst (λ (rows : Option Gateway). PerformsUpTo (free_calls attachments) (record { rows = rows; attachments = attachments }) answer (board_of after left)) same all)
 
 -- a round of either kind: its first calls, and what makes it of all its calls
-module _ (first : Dest → Call) (IsWhole : BoardState → Result ℕ BoardFault → BoardState → Type 0)
+module _ (first : Dest → RoundCall) (IsWhole : BoardState → Result ℕ BoardFault → BoardState → Type 0)
     (whole : (engine asked after : Option Gateway) (attachments left : List AttachmentState) (answer : Result ℕ BoardFault) → IsSome engine → asked ≡ engine
     → PerformsUpTo (map first (dests_of attachments) ++ map SendOut (dests_of attachments)) (board_of asked attachments) answer (board_of after left)
     → IsWhole (board_of engine attachments) answer (board_of after left)) where

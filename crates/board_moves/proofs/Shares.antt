@@ -3,7 +3,7 @@ use Rattle.std.proofs.Common.{◌≡◌, ℕ, ◌-◌, ◌<◌, Bool, true, fals
 use Rattle.std.specs.Prelude.{◌*◌, ◌/◌, max, nat_le, if◌then◌else◌}
 use Rattle.std.proofs.Math.Nat.{div-eq_of_lt}
 use Rattle.std.proofs.lemmas.Bool.{leb-false}
-use Rattle.board_history.specs.declared.entry.TheConstants.{MOST_SENT}
+use Rattle.board_rings.specs.declared.entry.TheConstants.{MOST_SENT}
 use Rattle.board_moves.specs.Share.{sent_at_once}
 use Rattle.board_moves.specs.declared.share.TheConstants.{RING_BYTES}
 

@@ -6,7 +6,7 @@ use Rattle.gateway_state.specs.declared.event.Dest.{Dest}
 use Rattle.gateway_state.specs.declared.event.Dest.TheVariants.{Session, Upstream}
 use Rattle.board_rings.specs.Attachments.{attachment_of, full_or_not, have_full, is_attachment_of, is_full, last_sid_of}
 use Rattle.board_rings.specs.Rings.{AttachmentState}
-use Rattle.board_history.specs.Board.{BoardState}
+use Rattle.board_rings.specs.Board.{BoardState}
 use Rattle.board_moves.specs.Answers.{board_of, IsPump}
 use Rattle.board_moves.specs.Held.{is_full_server, is_held, server_for}
 use Rattle.board_moves.specs.Rounds.{pumped_count, PumpsFree}

@@ -16,9 +16,9 @@ use Rattle.board_rings.specs.Attachments.{is_attached, is_attachment_of, rings_o
 use Rattle.board_rings.specs.OnTheWay.{bytes_to}
 use Rattle.board_rings.specs.Rings.{EndsState, AttachmentState}
 use Rattle.board_rings.specs.declared.inbound.Inbound.{Inbound}
-use Rattle.board_history.specs.Board.{BoardState}
-use Rattle.board_history.specs.Calls.{DeskFails, Desks, PumpFails, Pumps, SendFails, Sends, uses_up}
-use Rattle.board_history.specs.History.{is_for_desk, item_event}
+use Rattle.board_rings.specs.Board.{BoardState}
+use Rattle.board_rings.specs.Calls.{DeskFails, Desks, PumpFails, Pumps, SendFails, Sends, uses_up}
+use Rattle.board_rings.specs.History.{is_for_desk, item_event}
 use Rattle.board_moves.specs.Share.{share}
 use Rattle.board_moves.specs.declared.fault.BoardFault.{BoardFault}
 use Rattle.board_moves.specs.declared.fault.BoardFault.TheVariants.{OutOfMemory, Attached, NotHere, Step}

@@ -7,7 +7,7 @@ use Rattle.gateway_state.specs.declared.event.Dest.{Dest}
 use Rattle.gateway_state.specs.declared.event.Dest.TheVariants.{Session, Upstream}
 use Rattle.board_rings.specs.Attachments.{is_full, last_sid_of}
 use Rattle.board_rings.specs.Rings.{AttachmentState}
-use Rattle.board_history.specs.Board.{BoardState}
+use Rattle.board_rings.specs.Board.{BoardState}
 use Rattle.board_moves.specs.declared.share.TheConstants.{HELD_BYTES, HELD_MESSAGES}
 
 -- more than half of what is allowed waits for a server, in messages or in bytes; for a client never

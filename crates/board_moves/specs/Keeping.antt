@@ -1,9 +1,9 @@
 -- What stands under a gate's lock, and what each call does to it.
 use Rattle.std.specs.Prelude.{◌≡◌, ℕ, zero, suc, ◌+◌, ◌%◌, ◌^◌, ◌<◌, Bool, true, false, not, ◌||◌, ◌==◌, Option, Some, None, Result, Ok, Err}
-use Rattle.gateway_state.specs.Asked.{stands, ends, queued}
+use Rattle.gateway_state.specs.Asked.{is_open, must_end, queued}
 use Rattle.gateway_state.specs.Gateway.{Gateway}
 use Rattle.gateway_state.specs.declared.event.Dest.{Dest}
-use Rattle.board_history.specs.Board.{BoardState}
+use Rattle.board_moves.specs.Noted.{bare, NotedBoard, StayNoted}
 use Rattle.board_moves.specs.Rounds.{IsBatch, IsRound}
 use Rattle.board_moves.specs.declared.fault.BoardFault.{BoardFault}
 use Rattle.board_moves.specs.declared.turn.Turn.{Turn}
@@ -11,7 +11,7 @@ use Rattle.board_moves.specs.declared.turn.Turn.TheVariants.{Moved, Closed, Fail
 
 -- the board, whether the gate is closed, and how often it woke
 pub record KeptState : Type 0 where
-  pub board : BoardState
+  pub board : NotedBoard
   pub closed : Bool
   pub wakes : ℕ
 
@@ -33,7 +33,7 @@ WakesBeside old new = (new.closed ≡ old.closed) × (new.wakes ≡ one_more old
 -- the connection's messages come to an end: it doesn't stand, or must end, or the gateway has failed
 abbrev pub is_over : Dest → Option Gateway → Bool
 is_over dest None = true
-is_over dest (Some w) = not (stands w dest) || ends w dest
+is_over dest (Some w) = not (is_open w dest) || must_end w dest
 
 -- messages wait for the connection
 abbrev pub has_waiting : Dest → Option Gateway → Bool
@@ -47,16 +47,22 @@ ComesTo (Ok (suc count)) old turn new = (turn ≡ Some Moved) × (new ≡ woken 
 ComesTo (Err fault) old turn new = (turn ≡ Some Failed) × (new ≡ woken old)
 
 -- calls of the board that moved something, moved nothing or met a fault; or it is closed
-abbrev pub IsTurnBy : (BoardState → Result ℕ BoardFault → BoardState → Type 0) → KeptState → Option Turn → KeptState → Type 0
+abbrev pub IsTurnBy : (NotedBoard → Result ℕ BoardFault → NotedBoard → Type 0) → KeptState → Option Turn → KeptState → Type 0
 IsTurnBy moves old None new = (old.closed ≡ false) × (moves old.board (Ok 0) new.board × SameBeside old new)
 IsTurnBy moves old (Some Moved) new = (old.closed ≡ false) × ((count : ℕ) × ((0 < count) × (moves old.board (Ok count) new.board × WakesBeside old new)))
 IsTurnBy moves old (Some Failed) new = (old.closed ≡ false) × ((fault : BoardFault) × (moves old.board (Err fault) new.board × WakesBeside old new))
 IsTurnBy moves old (Some Closed) new = (old.closed ≡ true) × (new ≡ woken old)
 
--- one round
+-- one round. Whoever was to be told still is
+abbrev pub IsNotedRound : NotedBoard → Result ℕ BoardFault → NotedBoard → Type 0
+IsNotedRound old answer new = IsRound (bare old) answer (bare new) × StayNoted old.news new.news
+
 abbrev pub IsTurn : KeptState → Option Turn → KeptState → Type 0
-IsTurn old turn new = IsTurnBy IsRound old turn new
+IsTurn old turn new = IsTurnBy IsNotedRound old turn new
 
 -- one batch
+abbrev pub IsNotedBatch : NotedBoard → Result ℕ BoardFault → NotedBoard → Type 0
+IsNotedBatch old answer new = IsBatch (bare old) answer (bare new) × StayNoted old.news new.news
+
 abbrev pub IsBatchTurn : KeptState → Option Turn → KeptState → Type 0
-IsBatchTurn old turn new = IsTurnBy IsBatch old turn new
+IsBatchTurn old turn new = IsTurnBy IsNotedBatch old turn new

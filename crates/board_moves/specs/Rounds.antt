@@ -7,11 +7,11 @@ use Rattle.gateway_state.specs.declared.event.Dest.{Dest}
 use Rattle.gateway_state.specs.declared.event.Dest.TheVariants.{Session, Upstream}
 use Rattle.board_rings.specs.Attachments.{is_attachment_of, with_full}
 use Rattle.board_rings.specs.Rings.{AttachmentState}
-use Rattle.board_history.specs.Board.{BoardState}
+use Rattle.board_rings.specs.Board.{BoardState}
 use Rattle.board_moves.specs.Answers.{IsPump, IsSendOut}
 use Rattle.board_moves.specs.Held.{is_held, is_over_half}
-use Rattle.board_moves.specs.declared.rounds.Call.{Call}
-use Rattle.board_moves.specs.declared.rounds.Call.TheVariants.{Pump, PumpFree, SendOut, Weigh}
+use Rattle.board_moves.specs.declared.rounds.RoundCall.{RoundCall}
+use Rattle.board_moves.specs.declared.rounds.RoundCall.TheVariants.{Pump, PumpFree, SendOut, Weigh}
 use Rattle.board_moves.specs.declared.fault.BoardFault.{BoardFault}
 use Rattle.board_moves.specs.declared.fault.BoardFault.TheVariants.{Step}
 
@@ -33,7 +33,7 @@ PumpsFree true dest old answer new = (answer ≡ Ok 0) × (new ≡ old)
 PumpsFree false dest old answer new = (pumped : Result Bool BoardFault) × (IsPump dest old pumped new × (answer ≡ pumped_count pumped))
 
 -- what the call does, and how many items it moves
-abbrev pub Performs : Call → BoardState → Result ℕ BoardFault → BoardState → Type 0
+abbrev pub Performs : RoundCall → BoardState → Result ℕ BoardFault → BoardState → Type 0
 Performs (Pump dest) old answer new = (pumped : Result Bool BoardFault) × (IsPump dest old pumped new × (answer ≡ pumped_count pumped))
 Performs (PumpFree dest) old answer new = PumpsFree (is_held dest old) dest old answer new
 Performs (SendOut dest) old answer new = IsSendOut dest old answer new
@@ -54,14 +54,14 @@ InOrder does [] old answer new = (answer ≡ Ok 0) × (new ≡ old)
 InOrder {B = B} {F = F} does (call ∷ calls) old answer new =
     (one : Result ℕ F) × ((between : B) × (does call old one between × Then (λ more. InOrder does calls between more new) (new ≡ between) one answer))
 
-abbrev pub PerformsAll : List Call → BoardState → Result ℕ BoardFault → BoardState → Type 0
+abbrev pub PerformsAll : List RoundCall → BoardState → Result ℕ BoardFault → BoardState → Type 0
 PerformsAll calls old answer new = InOrder Performs calls old answer new
 
 -- a pump for each attached connection, and then a send-out for each, clients first, by rising number
 abbrev pub dests_of : List AttachmentState → List Dest
 dests_of attachments = map (λ (attachment : AttachmentState). attachment.dest) attachments
 
-abbrev pub round_calls : List AttachmentState → List Call
+abbrev pub round_calls : List AttachmentState → List RoundCall
 round_calls attachments = map Pump (dests_of attachments) ++ map SendOut (dests_of attachments)
 
 -- how many items were moved, up to the largest number that can be told
@@ -70,7 +70,7 @@ told_count (Ok count) = Ok (min count (2 ^ 64 - 1))
 told_count (Err fault) = Err fault
 
 -- the same, where the count is told
-abbrev pub PerformsUpTo : List Call → BoardState → Result ℕ BoardFault → BoardState → Type 0
+abbrev pub PerformsUpTo : List RoundCall → BoardState → Result ℕ BoardFault → BoardState → Type 0
 PerformsUpTo calls old answer new = (exact : Result ℕ BoardFault) × (PerformsAll calls old exact new × (answer ≡ told_count exact))
 
 abbrev pub IsRoundOn : Option Gateway → BoardState → Result ℕ BoardFault → BoardState → Type 0
@@ -88,7 +88,7 @@ told_together count (Ok more) = Ok (min (count + more) (2 ^ 64 - 1))
 told_together count (Err fault) = Err fault
 
 -- a round in which those that are held aren't pumped
-abbrev pub free_calls : List AttachmentState → List Call
+abbrev pub free_calls : List AttachmentState → List RoundCall
 free_calls attachments = map PumpFree (dests_of attachments) ++ map SendOut (dests_of attachments)
 
 abbrev pub IsFreeRoundOn : Option Gateway → BoardState → Result ℕ BoardFault → BoardState → Type 0

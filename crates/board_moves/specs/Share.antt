@@ -4,8 +4,8 @@ use Rattle.std.specs.Option.{option_map}
 use Rattle.gateway_state.specs.Asked.{queued, queued_bytes}
 use Rattle.gateway_state.specs.declared.event.Dest.{Dest}
 use Rattle.board_rings.specs.OnTheWay.{bytes_to}
-use Rattle.board_history.specs.Board.{BoardState}
-use Rattle.board_history.specs.declared.entry.TheConstants.{MOST_SENT}
+use Rattle.board_rings.specs.Board.{BoardState}
+use Rattle.board_rings.specs.declared.entry.TheConstants.{MOST_SENT}
 use Rattle.board_moves.specs.declared.share.TheConstants.{RING_BYTES}
 
 -- where so many places of the ring are free, so many messages with so many bytes wait, and so many bytes are on

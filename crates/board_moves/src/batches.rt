@@ -1,5 +1,6 @@
 //! A batch: rounds one after another.
 ghost use Rattle.board_moves.specs.Answers.{board_of, KeepsRings};
+ghost use Rattle.board_moves.specs.Noted.{StayNoted};
 ghost use Rattle.board_moves.specs.Rounds.{IsBatch};
 
 use crate::fault::BoardFault;
@@ -26,6 +27,7 @@ pub(crate) fn batch<G: GatewayCalls>(
 ) -> Result<usize, BoardFault>
     ensures batch { IsBatch (board_of (G.state gate.old) attachments.old) result (board_of (G.state gate.new) attachments.new) }
     ensures rings { KeepsRings attachments.old attachments.new }
+    ensures kept { StayNoted news.old news.new }
 {
     weigh_all(gate, attachments);
     let mut moved = match free_round(gate, attachments, news) {

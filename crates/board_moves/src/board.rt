@@ -1,16 +1,18 @@
 //! The board.
-ghost use Rattle.std.specs.Prelude.{◌≡◌, ◌↔◌, ◌⊎◌, [], Some, IsSome, IsNone, IsOk, OnOk, OnErr, IfOk, IfSome, IsErrOf, filter, true, false};
+ghost use Rattle.std.specs.Prelude.{◌≡◌, ℕ, ◌↔◌, ◌⊎◌, [], Some, Ok, IsSome, IsNone, IsOk, OnOk, OnErr, IfOk, IfSome, IsErrOf, filter, true, false};
 ghost use Rattle.std.specs.Option.{option_map};
+ghost use Rattle.gateway_calls.specs.Counting.{link_count_of};
 ghost use Rattle.gateway_calls.specs.Searching.{IsSearched};
-ghost use Rattle.gateway_state.specs.Asked.{stands, ends, queued, queued_bytes};
+ghost use Rattle.gateway_state.specs.Asked.{is_open, must_end, queued};
 ghost use Rattle.gateway_state.specs.Variables.{asks, is_missing};
 ghost use Rattle.gateway_state.specs.RowCounts.{row_counts};
 ghost use Rattle.rows.specs.Rows.{change_first};
 ghost use Rattle.board_rings.specs.Attachments.{are_in_order, is_attached, is_attachment_of, is_not_attachment_of, attachment_of, with_leaving};
 ghost use Rattle.board_rings.specs.declared.attachment.TheConstants.{RING_SIZE};
-ghost use Rattle.board_history.specs.Calls.{Attaches};
-ghost use Rattle.board_history.specs.History.{HasHistory};
+ghost use Rattle.board_rings.specs.Calls.{Attaches};
+ghost use Rattle.board_rings.specs.History.{HasHistory};
 ghost use Rattle.board_moves.specs.Answers.{ends_of, IsDesk, IsNew, IsPump, IsSendOut, IsWaiting, KeepsRings};
+ghost use Rattle.board_moves.specs.Noted.{bare, lost_by, seat_bit, IsNoted, StayNoted, TellsPump, TellsSent};
 ghost use Rattle.board_moves.specs.Rounds.{IsBatch, IsRound};
 
 use crate::fault::BoardFault;
@@ -27,39 +29,40 @@ use std::marker::Model;
 /// A gateway, and an attachment with two rings for each connection that is attached. A refused step leaves it
 /// failed for good; then it still attaches and retires.
 #[derive(Drop)]
-pub struct Board<G: GatewayCalls + Drop> {
+pub struct BoardOver<G: GatewayCalls + Drop> {
     alloc: Global,
     gate: G,
     attachments: Attachments,
-    // Whom the moves concern, for those that wait. It is no part of what contracts see.
+    // Whom the moves concern, for those that wait.
     news: News,
 }
 
-impl<G: GatewayCalls + Drop> Model for Board<G> {
-    ghost use Rattle.board_history.specs.Board.{BoardState};
-    ghost use Rattle.board_history.specs.History.{HasHistory};
+impl<G: GatewayCalls + Drop> Model for BoardOver<G> {
+    ghost use Rattle.board_rings.specs.History.{HasHistory};
     ghost use Rattle.board_moves.specs.Answers.{board_of};
+    ghost use Rattle.board_moves.specs.Noted.{NotedBoard};
     ghost use Rattle.rule_desk.specs.contracts.policy.Policy as the_policy;
     ghost use Rattle.std.specs.Coded.{codes};
 
-    ghost Value = { BoardState };
+    ghost Value = { NotedBoard };
 
     ghost coded = { Prim.hlevel (codes, the_policy.the_row.coded) };
 
-    ghost view = { λ b. board_of (G.state b.gate) b.attachments };
+    ghost view = { λ b. record { rows = G.state b.gate; attachments = b.attachments; news = b.news } };
 
     // Whatever was called, some history leads to the board.
     ghost invariant = { λ b. HasHistory (board_of (G.state b.gate) b.attachments) };
 }
 
-impl<G: GatewayCalls + Drop> Board<G> {
+impl<G: GatewayCalls + Drop> BoardOver<G> {
     /// A board for a gateway to which nothing happened yet. No connection is attached.
-    pub fn new(alloc: Global, gate: G) -> Board<G>
+    pub fn new(alloc: Global, gate: G) -> BoardOver<G>
         requires new { IsNew (G.state gate) }
         ensures rows { result.rows ≡ G.state gate }
         ensures attachments { result.attachments ≡ [] }
+        ensures news { (seat : ℕ) → seat_bit seat result.news.words ≡ 0 }
     {
-        Board {
+        BoardOver {
             alloc,
             gate,
             attachments: Attachments::new(alloc),
@@ -69,7 +72,7 @@ impl<G: GatewayCalls + Drop> Board<G> {
 
     /// Does nothing. Its contract is a law: some history leads to the board, whose attachments stand in order.
     pub fn has_history(&mut self)
-        ensures history { HasHistory self.old }
+        ensures history { HasHistory (bare self.old) }
         ensures ordered { are_in_order self.old.attachments ≡ true }
         ensures same { self.new ≡ self.old }
     {
@@ -77,13 +80,14 @@ impl<G: GatewayCalls + Drop> Board<G> {
     }
 
     /// Gives a connection two rings. It may be one that doesn't stand yet, or not any more.
-    #[tactic(auto, using(board_history::proofs::Goes::attached_has_history))]
+    #[tactic(auto, using(board_rings::proofs::Goes::attached_has_history))]
     pub fn attach(&mut self, dest: Dest) -> Result<(Inlet, Outlet), BoardFault>
-        ensures ok { IfOk result (λ r. Attaches dest r.0.ring r.1.ring RING_SIZE self.old self.new) }
+        ensures ok { IfOk result (λ r. Attaches dest r.0.ring r.1.ring RING_SIZE (bare self.old) (bare self.new)) }
         ensures empty { IfOk result (λ r. (r.0.offered ≡ []) × (r.0.free ≡ RING_SIZE) × (r.1.taken ≡ []) × (r.1.seen ≡ [])) }
         ensures dest { IfOk result (λ r. r.0.dest ≡ dest) }
         ensures attached { IsErrOf result BoardFault.Attached ↔ (is_attached dest self.old.attachments ≡ true) }
         ensures err { OnErr result (self.new ≡ self.old) }
+        ensures news { self.new.news ≡ self.old.news }
         ensures cause { IsErrOf result BoardFault.Attached ⊎ IsErrOf result BoardFault.OutOfMemory ⊎ IsOk result }
     {
         if self.attachments.is_attached(dest) {
@@ -98,7 +102,9 @@ impl<G: GatewayCalls + Drop> Board<G> {
     /// Receives one item of a connection and performs its event. It answers whether there was one.
     #[tactic(auto, using(crate::proofs::Keeps::pump_keeps))]
     pub fn pump(&mut self, dest: Dest) -> Result<bool, BoardFault>
-        ensures pump { IsPump dest self.old result self.new }
+        ensures pump { IsPump dest (bare self.old) result (bare self.new) }
+        ensures told { result ≡ Ok true → TellsPump dest self.old.attachments self.new.attachments self.new.rows self.old.news self.new.news }
+        ensures kept { StayNoted self.old.news self.new.news }
         ensures rings { KeepsRings self.old.attachments self.new.attachments }
     {
         moves::pump(&mut self.gate, &mut self.attachments, &mut self.news, dest)
@@ -108,7 +114,9 @@ impl<G: GatewayCalls + Drop> Board<G> {
     /// messages.
     #[tactic(auto, using(crate::proofs::Keeps::desk_keeps))]
     pub fn desk(&mut self, event: Event) -> Result<(), BoardFault>
-        ensures desk { IsDesk event self.old result self.new }
+        ensures desk { IsDesk event (bare self.old) result (bare self.new) }
+        ensures told { OnOk result (IfSome (lost_by event) (λ lost. IsNoted lost self.new.news)) }
+        ensures kept { StayNoted self.old.news self.new.news }
         ensures rings { KeepsRings self.old.attachments self.new.attachments }
     {
         moves::desk(&mut self.gate, &self.attachments, &mut self.news, event)
@@ -120,7 +128,9 @@ impl<G: GatewayCalls + Drop> Board<G> {
     /// there were.
     #[tactic(auto, using(crate::proofs::Keeps::send_out_keeps))]
     pub fn send_out(&mut self, dest: Dest) -> Result<usize, BoardFault>
-        ensures sent { IsSendOut dest self.old result self.new }
+        ensures sent { IsSendOut dest (bare self.old) result (bare self.new) }
+        ensures told { IfOk result (λ count. TellsSent dest count self.old.news self.new.news) }
+        ensures kept { StayNoted self.old.news self.new.news }
         ensures rings { KeepsRings self.old.attachments self.new.attachments }
     {
         moves::send_out(
@@ -136,7 +146,8 @@ impl<G: GatewayCalls + Drop> Board<G> {
     /// first fault. It answers how many items were moved.
     #[tactic(auto, using(crate::proofs::Keeps::round_keeps))]
     pub fn round(&mut self) -> Result<usize, BoardFault>
-        ensures round { IsRound self.old result self.new }
+        ensures round { IsRound (bare self.old) result (bare self.new) }
+        ensures kept { StayNoted self.old.news self.new.news }
         ensures rings { KeepsRings self.old.attachments self.new.attachments }
     {
         rounds::round(&mut self.gate, &mut self.attachments, &mut self.news)
@@ -147,7 +158,8 @@ impl<G: GatewayCalls + Drop> Board<G> {
     /// many items were moved. A client is held whose last request is a write, which went to a server for which more than
     /// half of what is allowed waited, unless its end comes.
     pub fn batch(&mut self) -> Result<usize, BoardFault>
-        ensures batch { IsBatch self.old result self.new }
+        ensures batch { IsBatch (bare self.old) result (bare self.new) }
+        ensures kept { StayNoted self.old.news self.new.news }
         ensures rings { KeepsRings self.old.attachments self.new.attachments }
     {
         batches::batch(&mut self.gate, &mut self.attachments, &mut self.news)
@@ -159,6 +171,7 @@ impl<G: GatewayCalls + Drop> Board<G> {
         ensures found { result ≡ option_map ends_of (attachment_of dest self.old.attachments) }
         ensures rows { self.new.rows ≡ self.old.rows }
         ensures attachments { self.new.attachments ≡ filter (is_not_attachment_of dest) self.old.attachments }
+        ensures news { self.new.news ≡ self.old.news }
     {
         self.attachments.retire(dest)
     }
@@ -181,21 +194,13 @@ impl<G: GatewayCalls + Drop> Board<G> {
         self.gate.row_counts()
     }
 
-    /// How many bytes wait for the connection, 0 where it doesn't stand, and at most the type's last value.
-    pub fn queued_bytes(&mut self, dest: Dest) -> Result<u64, Failed>
-        ensures found { IfOk result (λ answer. Some answer ≡ option_map (λ w. queued_bytes w dest) self.old.rows) }
-        ensures failed { IsOk result ↔ IsSome self.old.rows }
-        ensures same { self.new ≡ self.old }
-    {
-        self.gate.queued_bytes(dest)
-    }
-
     /// How many bytes wait for the connection in its outbox, and in its ring out as far as they aren't known to be
     /// taken, after a look at the places of the ring: 0 where it doesn't stand and isn't attached, and at most the
     /// type's last value.
     #[tactic(auto, using(crate::proofs::Keeps::waiting_keeps))]
     pub fn waiting_bytes(&mut self, dest: Dest) -> Result<u64, Failed>
-        ensures waiting { IsWaiting dest self.old result self.new }
+        ensures waiting { IsWaiting dest (bare self.old) result (bare self.new) }
+        ensures news { self.new.news ≡ self.old.news }
     {
         moves::waiting_bytes(&mut self.gate, &mut self.attachments, dest)
     }
@@ -205,8 +210,18 @@ impl<G: GatewayCalls + Drop> Board<G> {
     pub fn note_end(&mut self, dest: Dest)
         ensures rows { self.new.rows ≡ self.old.rows }
         ensures attachments { self.new.attachments ≡ change_first (is_attachment_of dest) with_leaving self.old.attachments }
+        ensures news { self.new.news ≡ self.old.news }
     {
         self.attachments.note_end(dest);
+    }
+
+    /// How many links a server has, none where there is no such server.
+    pub fn link_count_of(&mut self, server: u32) -> Result<usize, Failed>
+        ensures found { IfOk result (λ answer. Some answer ≡ option_map (λ w. link_count_of w server) self.old.rows) }
+        ensures failed { IsOk result ↔ IsSome self.old.rows }
+        ensures same { self.new ≡ self.old }
+    {
+        self.gate.link_count_of(server)
     }
 
     /// Whether the name is one to ask servers for now: wanted, and without a link.
@@ -229,20 +244,25 @@ impl<G: GatewayCalls + Drop> Board<G> {
     }
 
     /// How many messages went through so far.
-    pub fn traffic(&self) -> Traffic {
+    pub fn traffic(&self) -> Traffic
+        ensures { result ≡ self.now.news.traffic }
+    {
         self.news.traffic()
     }
 
     /// Hands out whom the moves concerned since this was last called.
     pub fn take_news(&mut self) -> News
-        ensures same { self.new ≡ self.old }
+        ensures out { result ≡ self.old.news }
+        ensures anew { (seat : ℕ) → seat_bit seat self.new.news.words ≡ 0 }
+        ensures counts { self.new.news.traffic ≡ self.old.news.traffic }
+        ensures same { bare self.new ≡ bare self.old }
     {
         self.news.take()
     }
 
     /// Whether the connection stands.
     pub fn is_open(&mut self, dest: Dest) -> Result<bool, Failed>
-        ensures found { IfOk result (λ answer. Some answer ≡ option_map (λ w. stands w dest) self.old.rows) }
+        ensures found { IfOk result (λ answer. Some answer ≡ option_map (λ w. is_open w dest) self.old.rows) }
         ensures failed { IsOk result ↔ IsSome self.old.rows }
         ensures same { self.new ≡ self.old }
     {
@@ -251,7 +271,7 @@ impl<G: GatewayCalls + Drop> Board<G> {
 
     /// Whether the connection stands and must end.
     pub fn must_end(&mut self, dest: Dest) -> Result<bool, Failed>
-        ensures found { IfOk result (λ answer. Some answer ≡ option_map (λ w. ends w dest) self.old.rows) }
+        ensures found { IfOk result (λ answer. Some answer ≡ option_map (λ w. must_end w dest) self.old.rows) }
         ensures failed { IsOk result ↔ IsSome self.old.rows }
         ensures same { self.new ≡ self.old }
     {

@@ -2,13 +2,14 @@
 ghost use Rattle.std.specs.Prelude.{◌≡◌, map, IsSome, Ok, OnOk};
 ghost use Rattle.board_rings.specs.Attachments.{have_full};
 ghost use Rattle.board_moves.specs.Answers.{board_of, KeepsRings};
+ghost use Rattle.board_moves.specs.Noted.{StayNoted};
 ghost use Rattle.board_moves.specs.Rounds.{dests_of, IsFreeRound, Performs, PerformsUpTo, Weighs};
 
 use crate::fault::BoardFault;
 use crate::held::{is_held, is_over_half};
 use crate::moves::has_failed;
 use crate::news::News;
-use crate::rounds::{Call, pump_one, send_all};
+use crate::rounds::{RoundCall, pump_one, send_all};
 use board_rings::Attachments;
 use gateway_calls::{GatewayCalls, StepFault};
 use gateway_state::Dest;
@@ -27,7 +28,7 @@ fn weigh<G: GatewayCalls>(gate: &mut G, attachments: &mut Attachments, dest: Des
 
 /// Weighs each attached connection, in order.
 pub(crate) fn weigh_all<G: GatewayCalls>(gate: &mut G, attachments: &mut Attachments)
-    ensures calls { PerformsUpTo (map Call.Weigh (dests_of attachments.old)) (board_of (G.state gate.old) attachments.old) (Ok 0) (board_of (G.state gate.new) attachments.new) }
+    ensures calls { PerformsUpTo (map RoundCall.Weigh (dests_of attachments.old)) (board_of (G.state gate.old) attachments.old) (Ok 0) (board_of (G.state gate.new) attachments.new) }
     ensures rings { KeepsRings attachments.old attachments.new }
 {
     for n in 0..attachments.len() {
@@ -50,11 +51,12 @@ fn pump_unless_held<G: GatewayCalls>(
 ) -> Result<usize, BoardFault>
     requires stands { IsSome (G.state gate.old) }
     requires full { some_full ≡ have_full attachments.old }
-    ensures performed { Performs (Call.PumpFree dest) (board_of (G.state gate.old) attachments.old) result (board_of (G.state gate.new) attachments.new) }
+    ensures performed { Performs (RoundCall.PumpFree dest) (board_of (G.state gate.old) attachments.old) result (board_of (G.state gate.new) attachments.new) }
     ensures stands { OnOk result (IsSome (G.state gate.new)) }
     ensures dests { dests_of attachments.new ≡ dests_of attachments.old }
     ensures full { have_full attachments.new ≡ have_full attachments.old }
     ensures rings { KeepsRings attachments.old attachments.new }
+    ensures kept { StayNoted news.old news.new }
 {
     if is_held(gate, attachments, dest, guess, some_full) {
         return Ok(0);
@@ -70,10 +72,11 @@ fn pump_free<G: GatewayCalls>(
     news: &mut News,
 ) -> Result<usize, BoardFault>
     requires stands { IsSome (G.state gate.old) }
-    ensures calls { PerformsUpTo (map Call.PumpFree (dests_of attachments.old)) (board_of (G.state gate.old) attachments.old) result (board_of (G.state gate.new) attachments.new) }
+    ensures calls { PerformsUpTo (map RoundCall.PumpFree (dests_of attachments.old)) (board_of (G.state gate.old) attachments.old) result (board_of (G.state gate.new) attachments.new) }
     ensures stands { OnOk result (IsSome (G.state gate.new)) }
     ensures dests { dests_of attachments.new ≡ dests_of attachments.old }
     ensures rings { KeepsRings attachments.old attachments.new }
+    ensures kept { StayNoted news.old news.new }
 {
     news.begin_round();
     let some_full = attachments.have_full();
@@ -99,6 +102,7 @@ pub(crate) fn free_round<G: GatewayCalls>(
 ) -> Result<usize, BoardFault>
     ensures round { IsFreeRound (board_of (G.state gate.old) attachments.old) result (board_of (G.state gate.new) attachments.new) }
     ensures rings { KeepsRings attachments.old attachments.new }
+    ensures kept { StayNoted news.old news.new }
 {
     if has_failed(gate) {
         return Err(BoardFault::Step(StepFault::Failed));

@@ -1,23 +1,25 @@
 //! What stands under a gate's lock.
-ghost use Rattle.std.specs.Prelude.{◌≡◌, ◌↔◌, ◌⊎◌, [], Some, IsSome, IsNone, IsOk, IsTrue, OnOk, OnErr, IfOk, IfSome, IsErrOf, filter, true, false};
+ghost use Rattle.std.specs.Prelude.{◌≡◌, ℕ, ◌↔◌, ◌⊎◌, [], Some, IsSome, IsNone, IsOk, IsTrue, OnOk, OnErr, IfOk, IfSome, IsErrOf, filter, true, false};
 ghost use Rattle.std.specs.Option.{option_map};
+ghost use Rattle.gateway_calls.specs.Counting.{link_count_of};
 ghost use Rattle.gateway_calls.specs.Searching.{IsSearched};
-ghost use Rattle.gateway_state.specs.Asked.{stands, ends, queued_bytes};
+ghost use Rattle.gateway_state.specs.Asked.{is_open, must_end};
 ghost use Rattle.gateway_state.specs.Variables.{asks, is_missing};
 ghost use Rattle.gateway_state.specs.RowCounts.{row_counts};
 ghost use Rattle.rows.specs.Rows.{change_first};
 ghost use Rattle.board_rings.specs.Attachments.{is_attached, is_attachment_of, is_not_attachment_of, attachment_of, with_leaving};
 ghost use Rattle.board_rings.specs.declared.attachment.TheConstants.{RING_SIZE};
-ghost use Rattle.board_history.specs.Calls.{Attaches};
-ghost use Rattle.board_history.specs.History.{is_for_desk};
+ghost use Rattle.board_rings.specs.Calls.{Attaches};
+ghost use Rattle.board_rings.specs.History.{is_for_desk};
 ghost use Rattle.board_moves.specs.Answers.{ends_of, IsDesk, IsWaiting, KeepsRings};
+ghost use Rattle.board_moves.specs.Noted.{bare, lost_by, seat_bit, IsNoted, StayNoted};
 ghost use Rattle.board_moves.specs.Keeping.{has_waiting, is_over, woken, ComesTo, IsBatchTurn, IsTurn, SameBeside, WakesBeside};
 
-use crate::board::Board;
+use crate::board::BoardOver;
 use crate::fault::BoardFault;
 use crate::news::{News, Traffic};
 use crate::turn::Turn;
-use board_rings::{Ends, Inlet, Outlet};
+use board_rings::{Ends, Inlet, Outlet, Teller};
 use gateway_calls::{AskFault, Failed, GatewayCalls};
 use gateway_state::{Dest, Event, Fullest, LimitsMet, RowCounts};
 use pv_name::{Host, Name};
@@ -27,13 +29,13 @@ use std::marker::Model;
 /// A board, a mark that its gate is closed, and a count of wakes: a thread that remembers the count from
 /// before it tried misses none.
 #[derive(Drop)]
-pub struct Kept<G: GatewayCalls + Drop> {
-    board: Board<G>,
+pub struct KeptBoard<G: GatewayCalls + Drop> {
+    board: BoardOver<G>,
     closed: bool,
     wakes: u64,
 }
 
-impl<G: GatewayCalls + Drop> Model for Kept<G> {
+impl<G: GatewayCalls + Drop> Model for KeptBoard<G> {
     ghost use Rattle.board_moves.specs.Keeping.{KeptState};
     ghost use Rattle.rule_desk.specs.contracts.policy.Policy as the_policy;
     ghost use Rattle.std.specs.Coded.{codes};
@@ -45,12 +47,22 @@ impl<G: GatewayCalls + Drop> Model for Kept<G> {
     ghost view = { λ k. record { board = k.board; closed = k.closed; wakes = k.wakes } };
 }
 
-impl<G: GatewayCalls + Drop> Kept<G> {
+// What it shows to a worker that has to end. A mark that is set stays so, and a gateway that has failed.
+impl<G: GatewayCalls + Drop> Teller for KeptBoard<G> {
+    ghost use Rattle.std.specs.Prelude.{◌≡◌, ◌⊎◌, true, IsNone};
+    ghost use Rattle.board_moves.specs.Keeping.{is_over};
+
+    ghost has_stopped = { λ k. (k.closed ≡ true) ⊎ IsNone k.board.rows };
+
+    ghost is_over = { λ k dest. is_over dest k.board.rows ≡ true };
+}
+
+impl<G: GatewayCalls + Drop> KeptBoard<G> {
     /// A gate's keep that is open, for a board.
-    pub fn new(board: Board<G>) -> Kept<G>
+    pub fn new(board: BoardOver<G>) -> KeptBoard<G>
         ensures { result ≡ record { board = board; closed = false; wakes = 0 } }
     {
-        Kept {
+        KeptBoard {
             board,
             closed: false,
             wakes: 0,
@@ -109,7 +121,9 @@ impl<G: GatewayCalls + Drop> Kept<G> {
 
     /// Performs an event that comes through no ring, and counts a wake.
     pub fn desk(&mut self, event: Event) -> Result<(), BoardFault>
-        ensures desk { IsDesk event self.old.board result self.new.board }
+        ensures desk { IsDesk event (bare self.old.board) result (bare self.new.board) }
+        ensures told { OnOk result (IfSome (lost_by event) (λ lost. IsNoted lost self.new.board.news)) }
+        ensures kept { StayNoted self.old.board.news self.new.board.news }
         ensures not_here { IsErrOf result BoardFault.NotHere ↔ (is_for_desk event ≡ false) }
         ensures rings { KeepsRings self.old.board.attachments self.new.board.attachments }
         ensures wakes { WakesBeside self.old self.new }
@@ -121,11 +135,12 @@ impl<G: GatewayCalls + Drop> Kept<G> {
 
     /// Gives a connection two rings, and counts a wake.
     pub fn attach(&mut self, dest: Dest) -> Result<(Inlet, Outlet), BoardFault>
-        ensures ok { IfOk result (λ r. Attaches dest r.0.ring r.1.ring RING_SIZE self.old.board self.new.board) }
+        ensures ok { IfOk result (λ r. Attaches dest r.0.ring r.1.ring RING_SIZE (bare self.old.board) (bare self.new.board)) }
         ensures empty { IfOk result (λ r. (r.0.offered ≡ []) × (r.0.free ≡ RING_SIZE) × (r.1.taken ≡ []) × (r.1.seen ≡ [])) }
         ensures dest { IfOk result (λ r. r.0.dest ≡ dest) }
         ensures attached { IsErrOf result BoardFault.Attached ↔ (is_attached dest self.old.board.attachments ≡ true) }
         ensures err { OnErr result (self.new.board ≡ self.old.board) }
+        ensures news { self.new.board.news ≡ self.old.board.news }
         ensures cause { IsErrOf result BoardFault.Attached ⊎ IsErrOf result BoardFault.OutOfMemory ⊎ IsOk result }
         ensures wakes { WakesBeside self.old self.new }
     {
@@ -139,6 +154,7 @@ impl<G: GatewayCalls + Drop> Kept<G> {
         ensures found { result ≡ option_map ends_of (attachment_of dest self.old.board.attachments) }
         ensures rows { self.new.board.rows ≡ self.old.board.rows }
         ensures attachments { self.new.board.attachments ≡ filter (is_not_attachment_of dest) self.old.board.attachments }
+        ensures news { self.new.board.news ≡ self.old.board.news }
         ensures same { SameBeside self.old self.new }
     {
         self.board.retire(dest)
@@ -164,7 +180,7 @@ impl<G: GatewayCalls + Drop> Kept<G> {
 
     /// Whether the connection stands.
     pub fn is_open(&mut self, dest: Dest) -> Result<bool, Failed>
-        ensures found { IfOk result (λ answer. Some answer ≡ option_map (λ w. stands w dest) self.old.board.rows) }
+        ensures found { IfOk result (λ answer. Some answer ≡ option_map (λ w. is_open w dest) self.old.board.rows) }
         ensures failed { IsOk result ↔ IsSome self.old.board.rows }
         ensures same { self.new ≡ self.old }
     {
@@ -173,7 +189,7 @@ impl<G: GatewayCalls + Drop> Kept<G> {
 
     /// Whether the connection stands and must end.
     pub fn must_end(&mut self, dest: Dest) -> Result<bool, Failed>
-        ensures found { IfOk result (λ answer. Some answer ≡ option_map (λ w. ends w dest) self.old.board.rows) }
+        ensures found { IfOk result (λ answer. Some answer ≡ option_map (λ w. must_end w dest) self.old.board.rows) }
         ensures failed { IsOk result ↔ IsSome self.old.board.rows }
         ensures same { self.new ≡ self.old }
     {
@@ -189,20 +205,12 @@ impl<G: GatewayCalls + Drop> Kept<G> {
         self.board.row_counts()
     }
 
-    /// How many bytes wait for the connection, 0 where it doesn't stand, and at most the type's last value.
-    pub fn queued_bytes(&mut self, dest: Dest) -> Result<u64, Failed>
-        ensures found { IfOk result (λ answer. Some answer ≡ option_map (λ w. queued_bytes w dest) self.old.board.rows) }
-        ensures failed { IsOk result ↔ IsSome self.old.board.rows }
-        ensures same { self.new ≡ self.old }
-    {
-        self.board.queued_bytes(dest)
-    }
-
     /// How many bytes wait for the connection in its outbox, and in its ring out as far as they aren't known to be
     /// taken, after a look at the places of the ring: 0 where it doesn't stand and isn't attached, and at most the
     /// type's last value.
     pub fn waiting_bytes(&mut self, dest: Dest) -> Result<u64, Failed>
-        ensures waiting { IsWaiting dest self.old.board result self.new.board }
+        ensures waiting { IsWaiting dest (bare self.old.board) result (bare self.new.board) }
+        ensures news { self.new.board.news ≡ self.old.board.news }
         ensures same { SameBeside self.old self.new }
     {
         self.board.waiting_bytes(dest)
@@ -212,10 +220,20 @@ impl<G: GatewayCalls + Drop> Kept<G> {
     pub fn note_end(&mut self, dest: Dest)
         ensures rows { self.new.board.rows ≡ self.old.board.rows }
         ensures attachments { self.new.board.attachments ≡ change_first (is_attachment_of dest) with_leaving self.old.board.attachments }
+        ensures news { self.new.board.news ≡ self.old.board.news }
         ensures wakes { WakesBeside self.old self.new }
     {
         self.board.note_end(dest);
         self.wake();
+    }
+
+    /// How many links a server has, none where there is no such server.
+    pub fn link_count_of(&mut self, server: u32) -> Result<usize, Failed>
+        ensures found { IfOk result (λ answer. Some answer ≡ option_map (λ w. link_count_of w server) self.old.board.rows) }
+        ensures failed { IsOk result ↔ IsSome self.old.board.rows }
+        ensures same { self.new ≡ self.old }
+    {
+        self.board.link_count_of(server)
     }
 
     /// Whether the name is one to ask servers for now: wanted, and without a link.
@@ -280,13 +298,19 @@ impl<G: GatewayCalls + Drop> Kept<G> {
     }
 
     /// How many messages went through so far.
-    pub fn traffic(&self) -> Traffic {
+    pub fn traffic(&self) -> Traffic
+        ensures { result ≡ self.now.board.news.traffic }
+    {
         self.board.traffic()
     }
 
     /// Hands out whom the moves concerned since this was last called.
     pub fn take_news(&mut self) -> News
-        ensures same { self.new ≡ self.old }
+        ensures out { result ≡ self.old.board.news }
+        ensures anew { (seat : ℕ) → seat_bit seat self.new.board.news.words ≡ 0 }
+        ensures counts { self.new.board.news.traffic ≡ self.old.board.news.traffic }
+        ensures board { bare self.new.board ≡ bare self.old.board }
+        ensures same { SameBeside self.old self.new }
     {
         self.board.take_news()
     }

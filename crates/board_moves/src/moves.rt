@@ -1,12 +1,13 @@
 //! The board's calls on its parts: the gateway and the attachments.
-ghost use Rattle.std.specs.Prelude.{◌≡◌, ◌+◌, ◌-◌, ◌^◌, ◌<◌, min, ◌↔◌, ◌⊎◌, IsTrue, IsNone, IsSome, IsErrOf, OnOk, OnErr, Some, None, true, false};
+ghost use Rattle.std.specs.Prelude.{◌≡◌, ◌+◌, ◌-◌, ◌^◌, ◌<◌, min, ◌↔◌, ◌⊎◌, Ok, IfOk, IfSome, IsTrue, IsNone, IsSome, IsErrOf, OnOk, OnErr, Some, None, true, false};
 ghost use Rattle.std.specs.Option.{option_map};
 ghost use Rattle.gateway_state.specs.Asked.{queued, queued_bytes};
 ghost use Rattle.gateway_state.specs.Step.{step};
 ghost use Rattle.board_rings.specs.Attachments.{have_full};
-ghost use Rattle.board_history.specs.Calls.{uses_up};
-ghost use Rattle.board_history.specs.History.{is_for_desk, item_event};
+ghost use Rattle.board_rings.specs.Calls.{uses_up};
+ghost use Rattle.board_rings.specs.History.{is_for_desk, item_event};
 ghost use Rattle.board_moves.specs.Answers.{board_of, IsDesk, IsPump, IsSendOut, IsWaiting, KeepsRings};
+ghost use Rattle.board_moves.specs.Noted.{is_message, lost_by, IsEnding, IsNoted, StayNoted, TellsPump, TellsSent};
 ghost use Rattle.board_moves.specs.Rounds.{dests_of};
 ghost use Rattle.board_moves.specs.Share.{sent_at_once};
 
@@ -47,7 +48,30 @@ fn is_for_desk(event: &Event) -> bool
     )
 }
 
+/// Whether it is a message.
+fn is_message(item: &Inbound) -> bool
+    ensures { result ≡ is_message item.now }
+{
+    matches!(item, Inbound::Message(_))
+}
+
+/// Whether the workers of a connection are to be told: that was its end, or it must end now.
+fn must_tell<G: GatewayCalls>(gate: &mut G, dest: Dest, is_gone: bool) -> bool
+    ensures gone { is_gone ≡ true → result ≡ true }
+    ensures ending { IsEnding dest (G.state gate.old) → result ≡ true }
+    ensures same { G.state gate.new ≡ G.state gate.old }
+{
+    if is_gone {
+        return true;
+    }
+    match gate.must_end(dest) {
+        Ok(ends) => ends,
+        Err(_) => true,
+    }
+}
+
 /// Performs the event of a connection's item, and notes the connection where that was its end.
+#[tactic(auto, using(crate::proofs::Told::no_message))]
 fn perform_item<G: GatewayCalls>(
     gate: &mut G,
     news: &mut News,
@@ -59,11 +83,15 @@ fn perform_item<G: GatewayCalls>(
     ensures in_range { OnOk result (uses_up (item_event dest item) (G.state gate.old) ≡ Some false) }
     ensures failed { IsErrOf result StepFault.Failed ↔ IsNone (G.state gate.old) }
     ensures err { OnErr result (G.state gate.new ≡ None) }
+    ensures gone { OnOk result (item ≡ Inbound.Gone → IsNoted dest news.new) }
+    ensures ending { OnOk result (IsEnding dest (G.state gate.new) → IsNoted dest news.new) }
+    ensures kept { StayNoted news.old news.new }
+    ensures counts { news.new.traffic ≡ news.old.traffic }
 {
-    let is_gone = matches!(item, Inbound::Gone);
+    let is_gone = !is_message(&item);
     match gate.step(event_of(dest, item)) {
         Ok(()) => {
-            if is_gone || !matches!(gate.must_end(dest), Ok(false)) {
+            if must_tell(gate, dest, is_gone) {
                 news.note(dest);
             }
             Ok(())
@@ -74,7 +102,7 @@ fn perform_item<G: GatewayCalls>(
 
 /// Receives one item of a connection and performs its event, on a gateway that hasn't failed. An item
 /// whose event is refused is gone with the gateway. The guess is where the connection's attachment may stand.
-#[tactic(auto, using(crate::proofs::Moved::pumped, crate::proofs::Moved::pump_refused, crate::proofs::Moved::pump_used_up, crate::proofs::Changed::received_dests, crate::proofs::Changed::received_full, crate::proofs::Changed::received_rings, crate::proofs::Changed::peeked_dests, crate::proofs::Changed::peeked_full, crate::proofs::Changed::peeked_rings))]
+#[tactic(auto, using(crate::proofs::Moved::pumped, crate::proofs::Moved::pump_refused, crate::proofs::Moved::pump_used_up, crate::proofs::Changed::received_dests, crate::proofs::Changed::received_full, crate::proofs::Changed::received_rings, crate::proofs::Changed::peeked_dests, crate::proofs::Changed::peeked_full, crate::proofs::Changed::peeked_rings, crate::proofs::Told::pump_told, crate::proofs::Told::noted_through))]
 pub(crate) fn pump_standing<G: GatewayCalls>(
     gate: &mut G,
     attachments: &mut Attachments,
@@ -88,11 +116,13 @@ pub(crate) fn pump_standing<G: GatewayCalls>(
     ensures dests { dests_of attachments.new ≡ dests_of attachments.old }
     ensures full { have_full attachments.new ≡ have_full attachments.old }
     ensures rings { KeepsRings attachments.old attachments.new }
+    ensures told { result ≡ Ok true → TellsPump dest attachments.old attachments.new (G.state gate.new) news.old news.new }
+    ensures kept { StayNoted news.old news.new }
 {
     let Some((item, left)) = attachments.receive(dest, guess) else {
         return Ok(false);
     };
-    news.note_received(dest, left, !matches!(item, Inbound::Gone));
+    news.note_received(dest, left, is_message(&item));
     match perform_item(gate, news, dest, item) {
         Ok(()) => Ok(true),
         Err(fault) => Err(BoardFault::Step(fault)),
@@ -108,6 +138,8 @@ pub(crate) fn pump<G: GatewayCalls>(
 ) -> Result<bool, BoardFault>
     ensures pump { IsPump dest (board_of (G.state gate.old) attachments.old) result (board_of (G.state gate.new) attachments.new) }
     ensures rings { KeepsRings attachments.old attachments.new }
+    ensures told { result ≡ Ok true → TellsPump dest attachments.old attachments.new (G.state gate.new) news.old news.new }
+    ensures kept { StayNoted news.old news.new }
 {
     if !attachments.is_attached(dest) {
         return Ok(false);
@@ -118,6 +150,28 @@ pub(crate) fn pump<G: GatewayCalls>(
     pump_standing(gate, attachments, news, dest, 0)
 }
 
+// The connection that is lost by the event.
+fn lost_by(event: &Event) -> Option<Dest>
+    ensures { result ≡ lost_by event.now }
+{
+    match event {
+        Event::Lost(number) => Some(Dest::Session(*number)),
+        Event::UpLost(number) => Some(Dest::Upstream(*number)),
+        _ => None,
+    }
+}
+
+// Notes a connection that is lost by the event.
+fn note_loss(news: &mut News, event: &Event)
+    ensures told { IfSome (lost_by event.now) (λ lost. IsNoted lost news.new) }
+    ensures kept { StayNoted news.old news.new }
+    ensures counts { news.new.traffic ≡ news.old.traffic }
+{
+    if let Some(lost) = lost_by(event) {
+        news.note(lost);
+    }
+}
+
 /// Performs an event that comes through no ring.
 pub(crate) fn desk<G: GatewayCalls>(
     gate: &mut G,
@@ -125,16 +179,14 @@ pub(crate) fn desk<G: GatewayCalls>(
     news: &mut News,
     event: Event,
 ) -> Result<(), BoardFault>
-    ensures { IsDesk event (board_of (G.state gate.old) attachments.now) result (board_of (G.state gate.new) attachments.now) }
+    ensures desk { IsDesk event (board_of (G.state gate.old) attachments.now) result (board_of (G.state gate.new) attachments.now) }
+    ensures told { OnOk result (IfSome (lost_by event) (λ lost. IsNoted lost news.new)) }
+    ensures kept { StayNoted news.old news.new }
 {
     if !is_for_desk(&event) {
         return Err(BoardFault::NotHere);
     }
-    match event {
-        Event::Lost(number) => news.note(Dest::Session(number)),
-        Event::UpLost(number) => news.note(Dest::Upstream(number)),
-        _ => (),
-    }
+    note_loss(news, &event);
     match gate.step(event) {
         Ok(()) => Ok(()),
         Err(fault) => Err(BoardFault::Step(fault)),
@@ -169,7 +221,7 @@ fn share<G: GatewayCalls>(
 
 /// Takes a connection's share of messages and pushes them, on a gateway that hasn't failed, where so many wait. The
 /// guess is where its attachment may stand.
-#[tactic(auto, using(crate::proofs::Changed::looked_dests, crate::proofs::Changed::looked_rings))]
+#[tactic(auto, using(crate::proofs::Changed::looked_dests, crate::proofs::Changed::looked_rings, crate::proofs::Told::none_sent, crate::proofs::Told::sent_told))]
 fn send_standing<G: GatewayCalls>(
     gate: &mut G,
     attachments: &mut Attachments,
@@ -183,6 +235,8 @@ fn send_standing<G: GatewayCalls>(
     ensures sent { IsSendOut dest (board_of (G.state gate.old) attachments.old) result (board_of (G.state gate.new) attachments.new) }
     ensures dests { dests_of attachments.new ≡ dests_of attachments.old }
     ensures rings { KeepsRings attachments.old attachments.new }
+    ensures told { IfOk result (λ count. TellsSent dest count news.old news.new) }
+    ensures kept { StayNoted news.old news.new }
 {
     let found = attachments.room(dest, guess);
     if found == 0 {
@@ -206,6 +260,7 @@ fn send_standing<G: GatewayCalls>(
 
 /// Takes a connection's share of messages and pushes them. The guess is where its attachment may stand. A connection
 /// for which no message waits costs one look.
+#[tactic(auto, using(crate::proofs::Told::none_sent))]
 pub(crate) fn send_out<G: GatewayCalls>(
     gate: &mut G,
     attachments: &mut Attachments,
@@ -216,6 +271,8 @@ pub(crate) fn send_out<G: GatewayCalls>(
     ensures sent { IsSendOut dest (board_of (G.state gate.old) attachments.old) result (board_of (G.state gate.new) attachments.new) }
     ensures dests { dests_of attachments.new ≡ dests_of attachments.old }
     ensures rings { KeepsRings attachments.old attachments.new }
+    ensures told { IfOk result (λ count. TellsSent dest count news.old news.new) }
+    ensures kept { StayNoted news.old news.new }
 {
     match gate.queued(dest) {
         Ok(0) => Ok(0),

@@ -2,6 +2,7 @@
 ghost use Rattle.std.specs.Prelude.{◌≡◌, map, IsSome, OnOk};
 ghost use Rattle.board_rings.specs.Attachments.{have_full};
 ghost use Rattle.board_moves.specs.Answers.{board_of, KeepsRings};
+ghost use Rattle.board_moves.specs.Noted.{StayNoted};
 ghost use Rattle.board_moves.specs.Rounds.{dests_of, IsRound, Performs, PerformsUpTo};
 
 use crate::fault::BoardFault;
@@ -13,7 +14,7 @@ use gateway_state::Dest;
 
 /// One call of a round or of a batch.
 #[derive(Clone, Copy)]
-pub(crate) enum Call {
+pub(crate) enum RoundCall {
     Pump(Dest),
     /// A pump, unless the connection is held.
     PumpFree(Dest),
@@ -31,11 +32,12 @@ pub(crate) fn pump_one<G: GatewayCalls>(
     guess: usize,
 ) -> Result<usize, BoardFault>
     requires stands { IsSome (G.state gate.old) }
-    ensures performed { Performs (Call.Pump dest) (board_of (G.state gate.old) attachments.old) result (board_of (G.state gate.new) attachments.new) }
+    ensures performed { Performs (RoundCall.Pump dest) (board_of (G.state gate.old) attachments.old) result (board_of (G.state gate.new) attachments.new) }
     ensures stands { OnOk result (IsSome (G.state gate.new)) }
     ensures dests { dests_of attachments.new ≡ dests_of attachments.old }
     ensures full { have_full attachments.new ≡ have_full attachments.old }
     ensures rings { KeepsRings attachments.old attachments.new }
+    ensures kept { StayNoted news.old news.new }
 {
     match pump_standing(gate, attachments, news, dest, guess) {
         Ok(true) => Ok(1),
@@ -52,10 +54,11 @@ fn pump_all<G: GatewayCalls>(
     news: &mut News,
 ) -> Result<usize, BoardFault>
     requires stands { IsSome (G.state gate.old) }
-    ensures calls { PerformsUpTo (map Call.Pump (dests_of attachments.old)) (board_of (G.state gate.old) attachments.old) result (board_of (G.state gate.new) attachments.new) }
+    ensures calls { PerformsUpTo (map RoundCall.Pump (dests_of attachments.old)) (board_of (G.state gate.old) attachments.old) result (board_of (G.state gate.new) attachments.new) }
     ensures stands { OnOk result (IsSome (G.state gate.new)) }
     ensures dests { dests_of attachments.new ≡ dests_of attachments.old }
     ensures rings { KeepsRings attachments.old attachments.new }
+    ensures kept { StayNoted news.old news.new }
 {
     news.begin_round();
     let mut moved = 0usize;
@@ -78,9 +81,10 @@ pub(crate) fn send_all<G: GatewayCalls>(
     attachments: &mut Attachments,
     news: &mut News,
 ) -> Result<usize, BoardFault>
-    ensures calls { PerformsUpTo (map Call.SendOut (dests_of attachments.old)) (board_of (G.state gate.old) attachments.old) result (board_of (G.state gate.new) attachments.new) }
+    ensures calls { PerformsUpTo (map RoundCall.SendOut (dests_of attachments.old)) (board_of (G.state gate.old) attachments.old) result (board_of (G.state gate.new) attachments.new) }
     ensures dests { dests_of attachments.new ≡ dests_of attachments.old }
     ensures rings { KeepsRings attachments.old attachments.new }
+    ensures kept { StayNoted news.old news.new }
 {
     let mut moved = 0usize;
     for n in 0..attachments.len() {
@@ -104,6 +108,7 @@ pub(crate) fn round<G: GatewayCalls>(
 ) -> Result<usize, BoardFault>
     ensures round { IsRound (board_of (G.state gate.old) attachments.old) result (board_of (G.state gate.new) attachments.new) }
     ensures rings { KeepsRings attachments.old attachments.new }
+    ensures kept { StayNoted news.old news.new }
 {
     if has_failed(gate) {
         return Err(BoardFault::Step(StepFault::Failed));

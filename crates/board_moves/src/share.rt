@@ -2,7 +2,7 @@
 ghost use Rattle.std.specs.Prelude.{◌≡◌};
 ghost use Rattle.board_moves.specs.Share.{sent_at_once};
 
-use board_history::MOST_SENT;
+use board_rings::MOST_SENT;
 
 /// Where so many bytes are on their way to a connection no more are sent out to it.
 pub const RING_BYTES: usize = 262_144;

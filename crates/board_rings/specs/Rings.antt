@@ -7,6 +7,7 @@ use Rattle.rtrb.specs.declared.end.End.{End}
 use Rattle.gateway_state.specs.declared.event.Dest.{Dest}
 use Rattle.fanout.specs.declared.outbox.Out.{Out}
 use Rattle.board_rings.specs.declared.inbound.Inbound.{Inbound}
+use Rattle.board_rings.specs.Told.{TimesTold}
 
 -- which ring it is: what is the same at both of its ends
 pub record Ring : Type 0 where
@@ -20,20 +21,24 @@ abbrev pub ring_of : {T P : Type 0} → End T Global P → Ring
 ring_of end = record { words = end.words; slots = end.slots; names = end.names; heap = end.heap }
 
 -- a reader's end: whose it is, all that was ever offered by it, how many places are known to be free, and how often it
--- looked into the ring
+-- looked into the ring; and how often it was told that nothing is moved any more
 pub record InletState : Type 0 where
   pub ring : Ring
   pub dest : Dest
   pub offered : List Inbound
   pub free : ℕ
   pub looks : ℕ
+  pub stops : ℕ
 
--- a writer's end: all that was ever taken by it, what is known to be in the ring, and how often it looked into it
+-- a writer's end: all that was ever taken by it, what is known to be in the ring, and how often it looked into it; how
+-- often it was told that nothing is moved any more, and that the messages for a connection come to an end
 pub record OutletState : Type 0 where
   pub ring : Ring
   pub taken : List Out
   pub seen : List Out
   pub looks : ℕ
+  pub stops : ℕ
+  pub ends : TimesTold
 
 -- the board's ends of both rings of one attachment: all that was ever received by the one, and pushed
 -- by the other

@@ -9,6 +9,8 @@ use crate::counted::{CountedConsumer, CountedProducer};
 use crate::ends::{Ends, Inlet, Outlet};
 use crate::inbound::Inbound;
 use crate::lengths::Lengths;
+use crate::looks::LookCount;
+use crate::told::ToldEnds;
 use ca_message::commands::{CA_PROTO_WRITE, CA_PROTO_WRITE_NOTIFY};
 use fanout::Out;
 use gateway_state::Dest;
@@ -89,9 +91,12 @@ impl Attachment {
         let inlet = Inlet {
             ring: CountedProducer::new(inward),
             dest,
+            stops: LookCount::none(),
         };
         let outlet = Outlet {
             ring: CountedConsumer::new(outward),
+            stops: LookCount::none(),
+            ends: ToldEnds::none(),
         };
         Ok((attachment, inlet, outlet))
     }

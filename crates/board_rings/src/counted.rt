@@ -7,14 +7,14 @@ ghost use Rattle.std.specs.Prelude.{◌≡◌, ◌+◌, ◌<◌, ◌≤◌, [], 
 ghost use mathlib.Core.List.{IsPrefix};
 ghost use Rattle.rtrb.specs.Ring.{sent, received, known_free, known_items, SameConsumer, SameProducer, ConsumerLooked, ProducerLooked};
 
-use crate::looks::Looks;
+use crate::looks::LookCount;
 use rtrb::{Consumer, PopError, Producer, PushError};
 
 /// The end that pushes.
 #[derive(Drop)]
 pub(crate) struct CountedProducer<T> {
     pub(crate) end: Producer<T>,
-    pub(crate) looks: Looks,
+    pub(crate) looks: LookCount,
 }
 
 impl<T> CountedProducer<T> {
@@ -25,7 +25,7 @@ impl<T> CountedProducer<T> {
     {
         CountedProducer {
             end,
-            looks: Looks::none(),
+            looks: LookCount::none(),
         }
     }
 
@@ -64,7 +64,7 @@ impl<T> CountedProducer<T> {
 #[derive(Drop)]
 pub(crate) struct CountedConsumer<T> {
     pub(crate) end: Consumer<T>,
-    pub(crate) looks: Looks,
+    pub(crate) looks: LookCount,
 }
 
 impl<T> CountedConsumer<T> {
@@ -75,7 +75,7 @@ impl<T> CountedConsumer<T> {
     {
         CountedConsumer {
             end,
-            looks: Looks::none(),
+            looks: LookCount::none(),
         }
     }
 

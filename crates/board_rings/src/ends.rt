@@ -1,8 +1,11 @@
 //! The ends of the rings.
+ghost use Rattle.board_rings.specs.Told.{name_of};
 ghost use Rattle.std.specs.Prelude.{◌≡◌, ◌++◌, ◌∷◌, ◌<◌, ◌≤◌, ◌+◌, [], length, OnOk, OnErr, IfErr, IfSome, IsNone, IsOk, IsSome};
 
 use crate::counted::{CountedConsumer, CountedProducer};
 use crate::inbound::Inbound;
+use crate::looks::LookCount;
+use crate::told::{Teller, ToldEnds};
 use fanout::Out;
 use gateway_state::Dest;
 use rtrb::{Consumer, Producer, PushError};
@@ -14,6 +17,7 @@ pub struct Inlet {
     pub(crate) ring: CountedProducer<Inbound>,
     // Whose ring it is, for those that wait for a place.
     pub(crate) dest: Dest,
+    pub(crate) stops: LookCount,
 }
 
 impl Model for Inlet {
@@ -28,6 +32,7 @@ impl Model for Inlet {
       offered = sent i.ring.end;
       free = known_free i.ring.end;
       looks = i.ring.looks;
+      stops = i.stops;
     } };
 }
 
@@ -49,6 +54,7 @@ impl Inlet {
         ensures succeeds { 0 < self.old.free → IsOk result }
         ensures looked { self.new.looks ≡ self.old.looks + 1 }
         ensures ring { self.new.ring ≡ self.old.ring }
+        ensures told { self.new.stops ≡ self.old.stops }
         ensures dest { self.new.dest ≡ self.old.dest }
     {
         match self.ring.push(item) {
@@ -56,12 +62,23 @@ impl Inlet {
             Err(PushError::Full(back)) => Err(back),
         }
     }
+
+    /// Notes that nothing is moved any more, which the teller shows. It does nothing at run time.
+    pub fn note_stop<T: Teller>(&mut self, teller: &T)
+        requires { T.has_stopped teller.now }
+        ensures { self.new ≡ record self.old { stops = self.old.stops + 1 } }
+    {
+        let _teller = teller;
+        self.stops.count();
+    }
 }
 
 /// A writer's end of the ring out. It can move to another thread.
 #[derive(Drop)]
 pub struct Outlet {
     pub(crate) ring: CountedConsumer<Out>,
+    pub(crate) stops: LookCount,
+    pub(crate) ends: ToldEnds,
 }
 
 impl Model for Outlet {
@@ -75,6 +92,8 @@ impl Model for Outlet {
       taken = received o.ring.end;
       seen = known_items o.ring.end;
       looks = o.ring.looks;
+      stops = o.stops;
+      ends = o.ends;
     } };
 }
 
@@ -88,11 +107,30 @@ impl Outlet {
         ensures succeeds { 0 < length self.old.seen → IsSome result }
         ensures looked { self.new.looks ≡ self.old.looks + 1 }
         ensures ring { self.new.ring ≡ self.old.ring }
+        ensures told { (self.new.stops ≡ self.old.stops) × (self.new.ends ≡ self.old.ends) }
     {
         match self.ring.pop() {
             Ok(out) => Some(out),
             Err(_) => None,
         }
+    }
+
+    /// Notes that nothing is moved any more, which the teller shows. It does nothing at run time.
+    pub fn note_stop<T: Teller>(&mut self, teller: &T)
+        requires { T.has_stopped teller.now }
+        ensures { self.new ≡ record self.old { stops = self.old.stops + 1 } }
+    {
+        let _teller = teller;
+        self.stops.count();
+    }
+
+    /// Notes that the messages for a connection come to an end, which the teller shows. It does nothing at run time.
+    pub fn note_over<T: Teller>(&mut self, teller: &T, dest: Dest)
+        requires { T.is_over teller.now dest }
+        ensures { self.new ≡ record self.old { ends = record { times = self.old.ends.times + 1; last = name_of dest } } }
+    {
+        let _teller = teller;
+        self.ends.tell(dest);
     }
 }
 

@@ -6,12 +6,12 @@ use std::marker::Model;
 
 /// A count that contracts alone read. It takes no memory, and to count does nothing at run time.
 #[derive(Drop)]
-pub(crate) struct Looks {
+pub(crate) struct LookCount {
     // It names a number for each look.
     each: Tag,
 }
 
-impl Model for Looks {
+impl Model for LookCount {
     ghost use Rattle.std.specs.Prelude.{ℕ, length};
 
     ghost Value = { ℕ };
@@ -28,12 +28,12 @@ impl Names<Tag> for OneMore {
     ghost numbers = { λ tag. 0 ∷ tag.numbers };
 }
 
-impl Looks {
+impl LookCount {
     /// There was none.
-    pub(crate) fn none() -> Looks
+    pub(crate) fn none() -> LookCount
         ensures { result ≡ 0 }
     {
-        Looks { each: Tag::empty() }
+        LookCount { each: Tag::empty() }
     }
 
     /// There is one more.

@@ -6,11 +6,11 @@ use Rattle.std.proofs.lemmas.List.Sums.{sum_by_push}
 use Rattle.std.proofs.lemmas.Option.{get_or_from_slice_get, slice_get_cases, slice_get_within}
 use Rattle.rows.specs.Rows.{change_first}
 use Rattle.channel_table.specs.declared.sessions.Session.{Session}
-use Rattle.channel_table.specs.Indexes.{AreNumbersOf}
+use Rattle.channel_table.specs.SessionIndex.{AreNumbersOf}
 use Rattle.channel_table.specs.Numbers.{is_lower, is_not_number, is_number, with_number}
 use Rattle.channel_table.specs.Sessions.{has_below, is_not_numbered, is_numbered, nth_by_number}
-use Rattle.channel_table.proofs.Keyed.{Each}
-use Rattle.channel_table.proofs.Lists.{none_dropped}
+use Rattle.named_rows.proofs.Keyed.{Each}
+use Rattle.named_rows.proofs.Lists.{none_dropped}
 use Rattle.channel_table.proofs.Rising.{counted_first}
 
 module _ {A : Type 0} where

@@ -4,7 +4,7 @@ use Rattle.row_index.specs.declared.key.Key.{Key}
 use Rattle.row_index.specs.Rows.{same_key}
 use Rattle.channel_table.specs.declared.sessions.Session.{Session}
 use Rattle.channel_table.specs.Sessions.{is_numbered}
-use Rattle.channel_table.specs.Indexes.{session_key}
+use Rattle.channel_table.specs.SessionIndex.{session_key}
 
 -- the key under which the session of a number stands
 abbrev pub number_key : ℕ → Key

@@ -2,14 +2,14 @@
 use Rattle.std.proofs.Common.{◌≡◌, ℕ, ◌<◌, List, Bool, true, false, not, ◌&&◌, ◌==◌, Some, length, slice_get, refl, sym, ◌∙◌}
 use Rattle.std.specs.Cmp.{nat_eq_equiv}
 use Rattle.std.specs.List.{filter, list_any}
-use Rattle.channel_table.specs.declared.channels.Channel.{Channel}
-use Rattle.channel_table.specs.declared.reads.WaitingRead.{WaitingRead}
-use Rattle.channel_table.specs.declared.subs.ClientSub.{ClientSub}
+use Rattle.named_rows.specs.declared.channels.Channel.{Channel}
+use Rattle.named_rows.specs.declared.reads.WaitingRead.{WaitingRead}
+use Rattle.named_rows.specs.declared.subs.ClientSub.{ClientSub}
 use Rattle.channel_table.specs.ClientRows.{ClientRows}
-use Rattle.channel_table.specs.Channels.{is_channel, is_not_channel, is_channel_of, is_not_channel_of}
-use Rattle.channel_table.specs.Reads.{is_not_read_of, is_not_read_on, is_read_on}
-use Rattle.channel_table.specs.Subs.{is_sub_on, is_not_sub_of, is_not_sub_on}
-use Rattle.channel_table.proofs.Lists.{filter_among, nth_is_there, nth_passes, none_dropped, one_fewer_left}
+use Rattle.named_rows.specs.Channels.{is_channel, is_not_channel, is_channel_of, is_not_channel_of}
+use Rattle.named_rows.specs.Reads.{is_not_read_of, is_not_read_on, is_read_on}
+use Rattle.named_rows.specs.Subs.{is_sub_on, is_not_sub_of, is_not_sub_on}
+use Rattle.named_rows.proofs.Lists.{filter_among, nth_is_there, nth_passes, none_dropped, one_fewer_left}
 
 -- with a channel's subscriptions gone one by one, those on others are left
 pub subs_gone : (session sid : ℕ) (old some left : ClientRows)

@@ -1,14 +1,14 @@
 -- The value of the table of clients.
 use Rattle.std.specs.Prelude.{ℕ, List, Bool}
 use Rattle.std.specs.List.{list_any, count_by, find}
-use Rattle.channel_table.specs.declared.channels.Channel.{Channel}
-use Rattle.channel_table.specs.declared.reads.WaitingRead.{WaitingRead}
+use Rattle.named_rows.specs.declared.channels.Channel.{Channel}
+use Rattle.named_rows.specs.declared.reads.WaitingRead.{WaitingRead}
 use Rattle.channel_table.specs.declared.sessions.Session.{Session}
-use Rattle.channel_table.specs.declared.subs.ClientSub.{ClientSub}
-use Rattle.channel_table.specs.Channels.{is_channel, is_channel_of, is_channel_on}
-use Rattle.channel_table.specs.Reads.{is_read_of}
+use Rattle.named_rows.specs.declared.subs.ClientSub.{ClientSub}
+use Rattle.named_rows.specs.Channels.{is_channel, is_channel_of, is_channel_on}
+use Rattle.named_rows.specs.Reads.{is_read_of}
 use Rattle.channel_table.specs.Sessions.{is_numbered}
-use Rattle.channel_table.specs.Subs.{is_sub, is_sub_of}
+use Rattle.named_rows.specs.Subs.{is_sub, is_sub_of}
 
 -- the rows of clients, each list in the order in which they were added
 pub record ClientRows : Type 0 where

@@ -1,9 +1,5 @@
-pub mod Channels
 pub mod ClientRows
-pub mod Demand
-pub mod Indexes
 pub mod Looks
 pub mod Numbers
-pub mod Reads
+pub mod SessionIndex
 pub mod Sessions
-pub mod Subs

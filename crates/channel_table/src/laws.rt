@@ -1,6 +1,6 @@
 //! Laws of the table of clients. Each is a call that does nothing, and its contract is the law.
 ghost use Rattle.std.specs.Prelude.{◌≡◌};
-ghost use Rattle.channel_table.specs.declared.asks.TheConstants.{READ_RIGHT};
+ghost use Rattle.named_rows.specs.declared.asks.TheConstants.{READ_RIGHT};
 ghost use Rattle.channel_table.specs.declared.table.TheConstants.{SESSION_LIMIT, CHANNEL_LIMIT, SUB_LIMIT, READ_LIMIT};
 
 /// The limits: of all sessions, and of the channels, subscriptions and waiting reads of one; and the

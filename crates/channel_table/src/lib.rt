@@ -5,10 +5,10 @@
 //!   session or channel doesn't stand, and one past its limit ([`TableFault`]). `add_session_within` and the
 //!   like take the limit from their caller.
 //! - `session`, `channel` and `sub` find a row by its IDs; `channels`, `subs` and `reads` are all rows
-//!   in the order of adding, `list_subs_to` the subscriptions to a real name, `reads_for` the reads that wait
+//!   in the order of adding, `subs_to` the subscriptions to a real name, `reads_for` the reads that wait
 //!   for one, and `channel_count` and the like count those of a session.
 //! - `nth_session` gives the sessions one by one, by rising number.
-//! - `channel_of`, `sub_of` and `read_of` give the rows of a session one by one, and `channel_on` and
+//! - `nth_channel_of`, `nth_sub_of` and `nth_read_of` give the rows of a session one by one, and `channel_on` and
 //!   `read_on` those of a real name: of the channels on it, and of what waits on these. `channels_on_any` gives the
 //!   channels on several real names, each once, in the order of adding.
 //! - `want_on` tells what the subscriptions to a real name and the channels on it want together, and
@@ -20,13 +20,9 @@
 //! rows as many times as it has rows. So a contract above can say how many rows an event looks at.
 //! Adding, removing and counting rows look at none.
 //!
-//! Sessions, channels, subscriptions and reads are kept under their IDs (a read under one that the table
-//! gives it, since equal reads may stand together), the keys of the latter three in lists by real name,
-//! those of subscriptions and reads in lists by the gateway's IDs of their channels too, and the numbers
-//! of sessions in rising order, so that a look-up costs the same beside many rows as beside few. What is
-//! asked for of each real name is counted as rows come, go and change. A channel that goes, or whose
-//! rights change, finds what hangs on it by its ID, and looks at no row beside. A removal may still walk the
-//! IDs of its own session; of the keys of the same name it moves some hundred at most.
+//! The rows below sessions stand in `named_rows`, with what is asked for of each real name; the numbers of
+//! sessions stand in rising order beside them. A channel that goes, or whose rights change, finds what hangs
+//! on it by its ID, and looks at no row beside.
 //!
 //! A contract sees a `Table` as four lists. Each call changes the rows that it names alone, a refused
 //! one none, and a limit refuses exactly where it is reached; limits are in `laws::numbers_are_these`.
@@ -54,27 +50,18 @@
 //! ```
 #![tactic(auto)]
 
-mod asks;
 mod brand;
-mod channels;
-mod counted_rows;
-mod demand;
-mod keys;
 pub mod laws;
-mod named_rows;
 mod numbers;
-mod reads;
 mod sessions;
-mod subs;
 mod table;
 mod user;
 mod visits;
 
-pub use asks::{READ_RIGHT, may_read, own_ask, reach_ask};
-pub use channels::{Channel, Reach};
-pub use reads::WaitingRead;
+pub use named_rows::{
+    Channel, ClientSub, READ_RIGHT, Reach, SubList, WaitingRead, may_read, own_ask, reach_ask,
+};
 pub use sessions::Session;
-pub use subs::ClientSub;
 pub use table::{CHANNEL_LIMIT, READ_LIMIT, SESSION_LIMIT, SUB_LIMIT, Table, TableFault};
 pub use user::User;
 pub use visits::Visits;

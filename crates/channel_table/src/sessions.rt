@@ -4,7 +4,7 @@ ghost use Rattle.std.specs.List.{list_any, filter, find};
 ghost use Rattle.std.specs.Option.{option_copied};
 ghost use Rattle.rows.specs.Rows.{change_first};
 ghost use Rattle.row_index.specs.Rows.{has_key};
-ghost use Rattle.channel_table.specs.Indexes.{changed_by};
+ghost use Rattle.named_rows.specs.Indexes.{changed_by};
 ghost use Rattle.channel_table.specs.Sessions.{is_numbered, is_not_numbered, nth_by_number, with_host_and_pause, with_user};
 
 use crate::numbers::Numbers;
@@ -42,7 +42,7 @@ impl Model for Sessions {
     ghost use Rattle.std.specs.Prelude.{List, map};
     ghost use Rattle.row_index.specs.Rows.{row_of};
     ghost use Rattle.channel_table.specs.declared.sessions.Session.{Session};
-    ghost use Rattle.channel_table.specs.Indexes.{IsSessionIndex};
+    ghost use Rattle.channel_table.specs.SessionIndex.{IsSessionIndex};
 
     ghost Value = { List Session };
 

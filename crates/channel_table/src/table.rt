@@ -1,11 +1,11 @@
 //! The table of clients, and what of it concerns rows of more than one kind.
 ghost use Rattle.std.specs.Prelude.{◌≡◌, ◌<◌, [], length, true, false, IsTrue};
 ghost use Rattle.std.specs.List.{filter, list_any};
-ghost use Rattle.channel_table.specs.Channels.{is_not_channel, is_channel_of, is_not_channel_of};
-ghost use Rattle.channel_table.specs.Reads.{is_not_read_of, is_read_on, is_not_read_on};
+ghost use Rattle.named_rows.specs.Channels.{is_not_channel, is_channel_of, is_not_channel_of};
+ghost use Rattle.named_rows.specs.Reads.{is_not_read_of, is_read_on, is_not_read_on};
 ghost use Rattle.channel_table.specs.Sessions.{is_not_numbered};
-ghost use Rattle.channel_table.specs.Demand.{props_on, want_on};
-ghost use Rattle.channel_table.specs.Subs.{is_not_sub_of, is_sub_on, is_not_sub_on};
+ghost use Rattle.named_rows.specs.Demand.{props_on, want_on};
+ghost use Rattle.named_rows.specs.Subs.{is_not_sub_of, is_sub_on, is_not_sub_on};
 
 mod channels;
 mod reads;
@@ -13,14 +13,10 @@ mod sessions;
 mod subs;
 
 use crate::brand::Brand;
-use crate::channels::Channels;
-use crate::counted_rows;
-use crate::demand::Demand;
-use crate::reads::Reads;
 use crate::sessions::Sessions;
-use crate::subs::Subs;
 use crate::visits::Visits;
 use mask_merge::Want;
+use named_rows::{Channels, Demand, Reads, Subs, counted_rows};
 use pv_name::Name;
 use std::alloc::Global;
 use std::marker::Model;
@@ -61,8 +57,8 @@ pub struct Table {
 
 impl Model for Table {
     ghost use Rattle.channel_table.specs.Looks.{BrandedRows};
-    ghost use Rattle.channel_table.specs.Indexes.{reads_in};
-    ghost use Rattle.channel_table.specs.Demand.{FollowRows};
+    ghost use Rattle.named_rows.specs.Indexes.{reads_in};
+    ghost use Rattle.named_rows.specs.Demand.{FollowRows};
 
     ghost Value = { BrandedRows };
 

@@ -1,6 +1,6 @@
 //! How many rows were looked at.
-ghost use Rattle.std.specs.Prelude.{◌≡◌, ◌≤◌, ◌+◌};
-ghost use Rattle.std.specs.Io.Iter.{u64_saturate};
+ghost use Rattle.std.specs.Prelude.{◌≡◌};
+ghost use Rattle.channel_table.specs.Looks.{IsCountedExactly};
 
 use crate::brand::Brand;
 use std::marker::Model;
@@ -41,10 +41,7 @@ impl Visits {
 
     /// So many rows more are looked at.
     pub(crate) fn count(&mut self, rows: usize)
-        ensures exact { self.new.looks ≡ u64_saturate (self.old.looks + rows) }
-        ensures bound { self.new.looks ≤ self.old.looks + rows }
-        ensures no_less { self.old.looks ≤ self.new.looks }
-        ensures brand { self.new.brand ≡ self.old.brand }
+        ensures { IsCountedExactly rows self.old self.new }
     {
         self.rows = self.rows.saturating_add(rows as u64);
     }

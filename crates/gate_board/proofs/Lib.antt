@@ -4,3 +4,4 @@ pub mod StateCrosses
 pub mod RingsCross
 pub mod GateCrosses
 mod Looks
+mod Under

@@ -13,10 +13,10 @@ use Rattle.row_index.specs.contracts.name_keys.NameKeys as name_keys
 use Rattle.row_index.specs.contracts.name_lists.NameLists as name_lists
 use Rattle.row_index.specs.contracts.tall_keys.TallKeys as tall_keys
 use Rattle.channel_table.specs.contracts.sessions.Sessions as sessions
-use Rattle.channel_table.specs.contracts.channels.Channels as channels
-use Rattle.channel_table.specs.contracts.subs.Subs as subs
-use Rattle.channel_table.specs.contracts.demand.Demand as demand
-use Rattle.channel_table.specs.contracts.reads.Reads as reads
+use Rattle.named_rows.specs.contracts.channels.Channels as channels
+use Rattle.named_rows.specs.contracts.subs.Subs as subs
+use Rattle.named_rows.specs.contracts.demand.Demand as demand
+use Rattle.named_rows.specs.contracts.reads.Reads as reads
 use Rattle.channel_table.specs.contracts.table.Table as table
 use Rattle.link_table.specs.contracts.link_set.LinkSet as link_set
 use Rattle.link_table.specs.contracts.sub_leads.SubLeads as sub_leads

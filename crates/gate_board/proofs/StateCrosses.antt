@@ -6,8 +6,8 @@ use Rattle.state_tables.specs.contracts.connections.Connections as connections
 use Rattle.state_tables.specs.contracts.cache.Cache as cache
 use Rattle.state_tables.specs.contracts.searches.Searches as searches
 use Rattle.state_tables.specs.contracts.searches.Searches.TheInside as searches_parts
-use Rattle.gateway_state.specs.contracts.search.Search as looked
-use Rattle.state_tables.specs.contracts.kept.Kept as kept
+use Rattle.gateway_state.specs.contracts.search.RememberedSearch as looked
+use Rattle.state_tables.specs.contracts.kept.KeptSearch as kept
 use Rattle.state_tables.specs.contracts.search_lists.SearchLists as search_lists
 use Rattle.state_tables.specs.contracts.search_table.SearchTable as search_table
 use Rattle.state_tables.specs.contracts.search_table.SearchTable.TheInside as search_table_parts

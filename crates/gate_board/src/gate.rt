@@ -22,12 +22,24 @@
 //! - Closing and a fault of the gateway notify all.
 //!
 //! Connections that share a seat wake each other for nothing, and look again.
-ghost use Rattle.std.specs.Prelude.{◌≡◌, ◌<◌, ◌↔◌, ◌⊎◌, [], ◌∷◌, ◌++◌, OnOk, OnErr, IfOk, IfErr, IfSome, IsErrOf, IsNone, IsOk, false};
+//!
+//! What is said of a call is that there are states that stood under the lock before and after it, over which its answer is
+//! that of the board's call. No clause can say whom it wakes, nor that it waits.
+ghost use Rattle.std.specs.Prelude.{◌≡◌, ◌+◌, ◌<◌, ◌↔◌, ◌⊎◌, [], ◌∷◌, ◌++◌, OnOk, OnErr, IfOk, IfErr, IfSome, IsErrOf, IsFalse, IsNone, IsOk, IsTrue, false};
 ghost use Rattle.board_rings.specs.declared.attachment.TheConstants.{RING_SIZE};
-ghost use Rattle.board_history.specs.History.{is_for_desk};
+ghost use Rattle.board_rings.specs.History.{is_for_desk};
+ghost use Rattle.gateway_state.specs.Asked.{must_end, is_open};
+ghost use Rattle.gateway_state.specs.RowCounts.{row_counts};
+ghost use Rattle.gateway_state.specs.Variables.{is_missing};
+ghost use Rattle.board_moves.specs.Keeping.{IsBatchTurn, IsTurn};
+ghost use Rattle.gate_board.specs.Locked.{AreAsks, IsAnswered, IsAttached, IsBatched, IsDesked, IsRetired, IsSearchedIn, IsStanding, IsTurned, IsWeighed, IsWoken};
+ghost use Rattle.gateway_calls.specs.Counting.{link_count_of};
+ghost use Rattle.gateway_calls.specs.Searching.{IsSearched};
 ghost use Rattle.gate_board.specs.Taking.{IsTaken, LooksOnly};
 
-use board_moves::{Board, BoardFault, Kept, News, SEAT_WORDS, SEATS, Traffic, Turn, seat_of};
+use board_moves::{
+    BoardFault, BoardOver, KeptBoard, News, SEAT_WORDS, SEATS, Traffic, Turn, seat_of,
+};
 use board_rings::{Ends, Inbound, Inlet, Outlet};
 use fanout::Out;
 use gateway_calls::{AskFault, Failed, GatewayCalls};
@@ -48,9 +60,18 @@ pub enum Taken {
     Stopped,
 }
 
+/// What [`GateOver::standing`] tells.
+#[derive(Clone, Copy, PartialEq, Eq, Debug)]
+pub struct Standing {
+    /// As [`GateOver::must_end`].
+    pub must_end: bool,
+    /// As [`GateOver::waiting_bytes`].
+    pub waiting: u64,
+}
+
 // What is performed under one lock.
 #[derive(Clone, Copy)]
-enum Pace {
+enum UnderLock {
     Round,
     Batch,
 }
@@ -59,17 +80,28 @@ enum Pace {
 /// on. No call lends the board or puts another one in its place.
 #[derive(Drop)]
 pub struct GateOver<G: GatewayCalls + Drop> {
-    kept: Mutex<Kept<G>>,
+    kept: Mutex<KeptBoard<G>>,
     core: Condvar,
     paused: Condvar,
     seats: [Condvar; SEATS],
 }
 
+// One try at this pace.
+fn try_at<G: GatewayCalls + Drop>(kept: &mut KeptBoard<G>, pace: UnderLock) -> Option<Turn>
+    ensures round { pace ≡ UnderLock.Round → IsTurn kept.old result kept.new }
+    ensures batch { pace ≡ UnderLock.Batch → IsBatchTurn kept.old result kept.new }
+{
+    match pace {
+        UnderLock::Round => kept.try_turn(),
+        UnderLock::Batch => kept.try_batch(),
+    }
+}
+
 impl<G: GatewayCalls + Drop> GateOver<G> {
     /// A gate that is open, for a board.
-    pub fn new(board: Board<G>) -> GateOver<G> {
+    pub fn new(board: BoardOver<G>) -> GateOver<G> {
         GateOver {
-            kept: Mutex::new(Kept::new(board)),
+            kept: Mutex::new(KeptBoard::new(board)),
             core: Condvar::new(),
             paused: Condvar::new(),
             seats: array::from_fn(|_| Condvar::new()),
@@ -77,7 +109,9 @@ impl<G: GatewayCalls + Drop> GateOver<G> {
     }
 
     /// Performs an event that comes through no ring, and wakes.
+    #[tactic(auto, using(crate::proofs::Under::desked))]
     pub fn desk<R: Wait>(&self, rt: &R, event: Event) -> Result<(), BoardFault>
+        ensures desked { IsDesked event result }
         ensures not_here { IsErrOf result BoardFault.NotHere ↔ (is_for_desk event ≡ false) }
     {
         let mut kept = self.kept.lock(rt);
@@ -94,9 +128,11 @@ impl<G: GatewayCalls + Drop> GateOver<G> {
     }
 
     /// Gives a connection two rings, and wakes.
+    #[tactic(auto, using(crate::proofs::Under::attached))]
     pub fn attach<R: Wait>(&self, rt: &R, dest: Dest) -> Result<(Inlet, Outlet), BoardFault>
         ensures empty { IfOk result (λ r. (r.0.offered ≡ []) × (r.0.free ≡ RING_SIZE) × (r.1.taken ≡ []) × (r.1.seen ≡ [])) }
         ensures dest { IfOk result (λ r. r.0.dest ≡ dest) }
+        ensures attached { IsAttached dest result }
         ensures cause { IsErrOf result BoardFault.Attached ⊎ IsErrOf result BoardFault.OutOfMemory ⊎ IsOk result }
     {
         let mut kept = self.kept.lock(rt);
@@ -107,48 +143,83 @@ impl<G: GatewayCalls + Drop> GateOver<G> {
     }
 
     /// Takes the board's ends of a connection's rings off.
-    pub fn retire<R: Wait>(&self, rt: &R, dest: Dest) -> Option<Ends> {
+    #[tactic(auto, using(crate::proofs::Under::retired))]
+    pub fn retire<R: Wait>(&self, rt: &R, dest: Dest) -> Option<Ends>
+        ensures { IsRetired dest result }
+    {
         self.kept.lock(rt).retire(dest)
     }
 
     /// What a client's datagram from this host comes to.
+    #[tactic(auto, using(crate::proofs::Under::searched))]
     pub fn search<R: Wait>(
         &self,
         rt: &R,
         host: &Host,
         datagram: &[u8],
-    ) -> Result<SearchAnswer, AskFault> {
+    ) -> Result<SearchAnswer, AskFault>
+        ensures { IsSearchedIn (λ w answer. IsSearched w host.now datagram.now answer) result }
+    {
         self.kept.lock(rt).search(host, datagram)
     }
 
     /// The names to ask servers for.
-    pub fn asks<R: Wait>(&self, rt: &R) -> Result<Vec<Name>, AskFault> {
+    #[tactic(auto, using(crate::proofs::Under::asked))]
+    pub fn asks<R: Wait>(&self, rt: &R) -> Result<Vec<Name>, AskFault>
+        ensures { AreAsks result }
+    {
         self.kept.lock(rt).asks()
     }
 
     /// Whether the connection stands.
-    pub fn is_open<R: Wait>(&self, rt: &R, dest: Dest) -> Result<bool, Failed> {
+    #[tactic(auto, using(crate::proofs::Under::answered))]
+    pub fn is_open<R: Wait>(&self, rt: &R, dest: Dest) -> Result<bool, Failed>
+        ensures { IsAnswered (λ w. is_open w dest) result }
+    {
         self.kept.lock(rt).is_open(dest)
     }
 
     /// Whether the connection stands and must end.
-    pub fn must_end<R: Wait>(&self, rt: &R, dest: Dest) -> Result<bool, Failed> {
+    #[tactic(auto, using(crate::proofs::Under::answered))]
+    pub fn must_end<R: Wait>(&self, rt: &R, dest: Dest) -> Result<bool, Failed>
+        ensures { IsAnswered (λ w. must_end w dest) result }
+    {
         self.kept.lock(rt).must_end(dest)
-    }
-
-    /// How many bytes wait for the connection, 0 where it doesn't stand.
-    pub fn queued_bytes<R: Wait>(&self, rt: &R, dest: Dest) -> Result<u64, Failed> {
-        self.kept.lock(rt).queued_bytes(dest)
     }
 
     /// How many bytes wait for the connection in its outbox, and in its ring out as far as they aren't known to be
     /// taken: 0 where it doesn't stand and isn't attached, and at most the type's last value.
-    pub fn waiting_bytes<R: Wait>(&self, rt: &R, dest: Dest) -> Result<u64, Failed> {
+    #[tactic(auto, using(crate::proofs::Under::weighed))]
+    pub fn waiting_bytes<R: Wait>(&self, rt: &R, dest: Dest) -> Result<u64, Failed>
+        ensures { IsWeighed dest result }
+    {
         self.kept.lock(rt).waiting_bytes(dest)
     }
 
+    /// Whether the connection must end, and how many bytes wait for it, at one time.
+    #[tactic(auto, using(crate::proofs::Under::stands_so, crate::proofs::Under::failed_so))]
+    pub fn standing<R: Wait>(&self, rt: &R, dest: Dest) -> Result<Standing, Failed>
+        ensures { IsStanding dest result }
+    {
+        let mut kept = self.kept.lock(rt);
+        let waiting = kept.waiting_bytes(dest)?;
+        let must_end = kept.must_end(dest)?;
+        Ok(Standing { must_end, waiting })
+    }
+
+    /// How many links a server has, none where there is no such server.
+    #[tactic(auto, using(crate::proofs::Under::answered))]
+    pub fn link_count_of<R: Wait>(&self, rt: &R, server: u32) -> Result<usize, Failed>
+        ensures { IsAnswered (λ w. link_count_of w server) result }
+    {
+        self.kept.lock(rt).link_count_of(server)
+    }
+
     /// Whether the name is one to ask servers for now: wanted, and without a link.
-    pub fn is_missing<R: Wait>(&self, rt: &R, name: &Name) -> Result<bool, Failed> {
+    #[tactic(auto, using(crate::proofs::Under::answered))]
+    pub fn is_missing<R: Wait>(&self, rt: &R, name: &Name) -> Result<bool, Failed>
+        ensures { IsAnswered (λ w. is_missing w name.now) result }
+    {
         self.kept.lock(rt).is_missing(name)
     }
 
@@ -163,7 +234,10 @@ impl<G: GatewayCalls + Drop> GateOver<G> {
     }
 
     /// How many rows of each kind the gateway has.
-    pub fn row_counts<R: Wait>(&self, rt: &R) -> Result<RowCounts, Failed> {
+    #[tactic(auto, using(crate::proofs::Under::answered))]
+    pub fn row_counts<R: Wait>(&self, rt: &R) -> Result<RowCounts, Failed>
+        ensures { IsAnswered row_counts result }
+    {
         self.kept.lock(rt).row_counts()
     }
 
@@ -172,7 +246,7 @@ impl<G: GatewayCalls + Drop> GateOver<G> {
         self.kept.lock(rt).traffic()
     }
 
-    /// Closes the gate for good, and wakes all.
+    /// Closes the gate for good, and wakes all. No clause can say so: `a_closed_gate_stops_both` of `board_tests` shows it.
     pub fn close<R: Wait>(&self, rt: &R) {
         self.kept.lock(rt).close();
         self.notify_all();
@@ -180,7 +254,10 @@ impl<G: GatewayCalls + Drop> GateOver<G> {
 
     /// Wakes the core and whoever pauses. It answers false where the gate is closed or the engine has
     /// failed.
-    pub fn wake<R: Wait>(&self, rt: &R) -> bool {
+    #[tactic(auto, using(crate::proofs::Under::woken_so))]
+    pub fn wake<R: Wait>(&self, rt: &R) -> bool
+        ensures { IsWoken result }
+    {
         let mut kept = self.kept.lock(rt);
         let goes_on = !kept.has_stopped();
         kept.wake();
@@ -189,7 +266,25 @@ impl<G: GatewayCalls + Drop> GateOver<G> {
         goes_on
     }
 
-    /// Waits while the count of wakes is this one, and answers the count.
+    /// The same for a reader, whose end notes where it is false.
+    #[tactic(auto, using(crate::proofs::Under::woken_so))]
+    pub fn wake_for<R: Wait>(&self, rt: &R, inlet: &mut Inlet) -> bool
+        ensures woken { IsWoken result }
+        ensures goes_on { IsTrue result → inlet.new ≡ inlet.old }
+        ensures stopped { IsFalse result → inlet.new ≡ record inlet.old { stops = inlet.old.stops + 1 } }
+    {
+        let mut kept = self.kept.lock(rt);
+        let has_stopped = kept.has_stopped();
+        if has_stopped {
+            inlet.note_stop(&*kept);
+        }
+        kept.wake();
+        drop(kept);
+        self.notify_core();
+        !has_stopped
+    }
+
+    /// Waits while the count of wakes is this one, and answers the count. No clause can say that it waits.
     pub fn pause<R: Wait>(&self, rt: &R, seen: u64) -> u64 {
         let kept = self.kept.lock(rt);
         let kept = self
@@ -218,7 +313,7 @@ impl<G: GatewayCalls + Drop> GateOver<G> {
         }
     }
 
-    // Those of the n-th 64 seats whose bits are set.
+    // Those of the n-th 64 seats whose bits are set. No clause can say so.
     fn notify_word(&self, n: usize, word: u64) {
         for bit in 0..64usize {
             if word & (1u64 << bit) != 0 {
@@ -247,11 +342,12 @@ impl<G: GatewayCalls + Drop> GateOver<G> {
 
     /// Offers an item, and waits for a place where there is none. The item comes back where the gate is
     /// closed or the engine has failed. Before an end it says to the board that it comes.
-    #[tactic(auto, using(crate::proofs::Looks::offered_once, crate::proofs::Looks::offered_again, crate::proofs::Looks::offered_on))]
+    #[tactic(auto, using(crate::proofs::Looks::offered_once, crate::proofs::Looks::offered_again, crate::proofs::Looks::offered_on, crate::proofs::Looks::stopped_on))]
     pub fn put<R: Wait>(&self, rt: &R, inlet: &mut Inlet, item: Inbound) -> Result<(), Inbound>
         ensures ok { OnOk result (inlet.new.offered ≡ inlet.old.offered ++ item ∷ []) }
         ensures err { IfErr result (λ back. back ≡ item) }
-        ensures same { OnErr result (inlet.new ≡ record inlet.old { looks = inlet.new.looks }) }
+        ensures same { OnErr result (inlet.new ≡ record inlet.old { looks = inlet.new.looks; stops = inlet.old.stops + 1 }) }
+        ensures told { OnOk result (inlet.new.stops ≡ inlet.old.stops) }
         ensures looked { OnErr result (inlet.old.looks < inlet.new.looks) }
         ensures full { OnErr result (inlet.new.free ≡ 0) }
         ensures ring { inlet.new.ring ≡ inlet.old.ring }
@@ -271,7 +367,7 @@ impl<G: GatewayCalls + Drop> GateOver<G> {
                 Ok(()) => return Ok(()),
                 Err(back) => back,
             };
-            if self.waits_in_vain(rt, inlet.dest(), seen) {
+            if self.waits_in_vain(rt, inlet, seen) {
                 return Err(item);
             }
         }
@@ -286,15 +382,19 @@ impl<G: GatewayCalls + Drop> GateOver<G> {
         self.notify_core();
     }
 
-    // Waits at a connection's seat while the count of wakes is this one. True where the gate is closed or
+    // Waits at a connection's seat while the count of wakes is this one: `a_put_waits_for_room` of `board_tests` shows it. True where the gate is closed or
     // the engine has failed, without waiting.
-    fn waits_in_vain<R: Wait>(&self, rt: &R, dest: Dest, seen: u64) -> bool {
+    fn waits_in_vain<R: Wait>(&self, rt: &R, inlet: &mut Inlet, seen: u64) -> bool
+        ensures stopped { IsTrue result → inlet.new ≡ record inlet.old { stops = inlet.old.stops + 1 } }
+        ensures waited { IsFalse result → inlet.new ≡ inlet.old }
+    {
         let mut kept = self.kept.lock(rt);
         if kept.has_stopped() {
+            inlet.note_stop(&*kept);
             return true;
         }
         let _woken = self
-            .seat(dest)
+            .seat(inlet.dest())
             .wait_while(rt, kept, |kept| kept.wakes() == seen);
         false
     }
@@ -302,7 +402,7 @@ impl<G: GatewayCalls + Drop> GateOver<G> {
     /// Takes the next message for a connection, and waits for one where there is none.
     #[tactic(auto, using(crate::proofs::Looks::not_yet, crate::proofs::Looks::taken_on, crate::proofs::Looks::taken_after, crate::proofs::Looks::waited_after))]
     pub fn take<R: Wait>(&self, rt: &R, outlet: &mut Outlet, dest: Dest) -> Taken
-        ensures { IsTaken outlet.old result outlet.new }
+        ensures { IsTaken dest outlet.old result outlet.new }
     {
         for _ in rt.forever() {
             if let Some(out) = outlet.next() {
@@ -319,9 +419,9 @@ impl<G: GatewayCalls + Drop> GateOver<G> {
     // The next message, or that none comes any more. Where neither is so it waits at the connection's seat
     // for a wake, and answers nothing. Messages are pushed under the lock, so none comes between the look and
     // the wait. Where some wait that found no place the core is woken: the ring was full when it looked.
-    #[tactic(auto, using(crate::proofs::Looks::looks_once))]
+    #[tactic(auto, using(crate::proofs::Looks::looks_once, crate::proofs::Looks::over_once, crate::proofs::Looks::stop_once))]
     fn next_or_wait<R: Wait>(&self, rt: &R, outlet: &mut Outlet, dest: Dest) -> Option<Taken>
-        ensures some { IfSome result (λ taken. IsTaken outlet.old taken outlet.new) }
+        ensures some { IfSome result (λ taken. IsTaken dest outlet.old taken outlet.new) }
         ensures none { IsNone result → LooksOnly outlet.old outlet.new }
     {
         let mut kept = self.kept.lock(rt);
@@ -329,12 +429,14 @@ impl<G: GatewayCalls + Drop> GateOver<G> {
             return Some(Taken::Item(out));
         }
         if kept.has_stopped() {
+            outlet.note_stop(&*kept);
             return Some(Taken::Stopped);
         }
         if kept.has_waiting(dest) {
             kept.wake();
             self.core.notify_all();
         } else if kept.is_over(dest) {
+            outlet.note_over(&*kept, dest);
             return Some(Taken::Closed);
         }
         let seen = kept.wakes();
@@ -346,23 +448,27 @@ impl<G: GatewayCalls + Drop> GateOver<G> {
 
     /// Performs rounds until one moves something or meets a fault, or the gate is closed, which is looked
     /// at before each. It waits between two, and notifies before it answers.
-    pub fn turn<R: Wait>(&self, rt: &R) -> Turn {
-        self.next_turn(rt, Pace::Round)
+    pub fn turn<R: Wait>(&self, rt: &R) -> Turn
+        ensures { IsTurned result }
+    {
+        self.next_turn(rt, UnderLock::Round)
     }
 
     /// The same by batches, each of which is one round or more under one lock.
-    pub fn batch<R: Wait>(&self, rt: &R) -> Turn {
-        self.next_turn(rt, Pace::Batch)
+    pub fn batch<R: Wait>(&self, rt: &R) -> Turn
+        ensures { IsBatched result }
+    {
+        self.next_turn(rt, UnderLock::Batch)
     }
 
-    fn next_turn<R: Wait>(&self, rt: &R, pace: Pace) -> Turn {
+    #[tactic(auto, using(crate::proofs::Under::turned, crate::proofs::Under::batched))]
+    fn next_turn<R: Wait>(&self, rt: &R, pace: UnderLock) -> Turn
+        ensures round { pace ≡ UnderLock.Round → IsTurned result }
+        ensures batch { pace ≡ UnderLock.Batch → IsBatched result }
+    {
         for _ in rt.forever() {
             let mut kept = self.kept.lock(rt);
-            let turn = match pace {
-                Pace::Round => kept.try_turn(),
-                Pace::Batch => kept.try_batch(),
-            };
-            match turn {
+            match try_at(&mut *kept, pace) {
                 Some(turn) => {
                     let news = kept.take_news();
                     drop(kept);

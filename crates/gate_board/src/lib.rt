@@ -14,11 +14,11 @@ mod gate;
 
 pub use board_moves::{BoardFault, Traffic, Turn};
 pub use board_rings::{Ends, Inbound, Inlet, Outlet, RING_SIZE, laws};
-pub use gate::{GateOver, Taken};
+pub use gate::{GateOver, Standing, Taken};
 use gateway_core::Engine;
 
 /// The board of the gateway's engine.
-pub type Board = board_moves::Board<Engine>;
+pub type Board = board_moves::BoardOver<Engine>;
 
 /// The gate of that board.
 pub type Gate = GateOver<Engine>;

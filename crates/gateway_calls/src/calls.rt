@@ -6,12 +6,13 @@ ghost use Rattle.gateway_state.specs.declared.config.TheConstants.{LAST_FIRST};
 ghost use Rattle.gateway_state.specs.Numbers.{is_past_numbers, runs_out};
 ghost use Rattle.gateway_state.specs.Step.{step, run, taken};
 ghost use Rattle.gateway_state.specs.Answer.{reading};
-ghost use Rattle.gateway_state.specs.Asked.{stands, ends, queued, queued_bytes};
+ghost use Rattle.gateway_state.specs.Asked.{is_open, must_end, queued, queued_bytes};
 ghost use Rattle.gateway_state.specs.Serving.{server_of};
 ghost use Rattle.gateway_state.specs.Interest.{property_subscription_of, subscription_of};
 ghost use Rattle.gateway_state.specs.Rights.{rights_asked};
 ghost use Rattle.gateway_state.specs.Variables.{asks, is_missing};
 ghost use Rattle.gateway_state.specs.RowCounts.{row_counts};
+ghost use Rattle.gateway_calls.specs.Counting.{link_count_of};
 ghost use Rattle.gateway_calls.specs.Searching.{IsSearched};
 
 use crate::NoMemory;
@@ -62,13 +63,13 @@ pub trait GatewayCalls {
 
     /// Whether the connection stands.
     fn is_open(&mut self, dest: Dest) -> Result<bool, Failed>
-        ensures found { IfOk result (λ answer. Some answer ≡ option_map (λ w. stands w dest) (state self.old)) }
+        ensures found { IfOk result (λ answer. Some answer ≡ option_map (λ w. is_open w dest) (state self.old)) }
         ensures failed { IsOk result ↔ IsSome (state self.old) }
         ensures same { state self.new ≡ state self.old };
 
     /// Whether the connection stands and must end.
     fn must_end(&mut self, dest: Dest) -> Result<bool, Failed>
-        ensures found { IfOk result (λ answer. Some answer ≡ option_map (λ w. ends w dest) (state self.old)) }
+        ensures found { IfOk result (λ answer. Some answer ≡ option_map (λ w. must_end w dest) (state self.old)) }
         ensures failed { IsOk result ↔ IsSome (state self.old) }
         ensures same { state self.new ≡ state self.old };
 
@@ -129,6 +130,12 @@ pub trait GatewayCalls {
     /// Whether the name is one to ask servers for now: wanted, and without a link.
     fn is_missing(&mut self, name: &Name) -> Result<bool, Failed>
         ensures found { IfOk result (λ answer. Some answer ≡ option_map (λ w. is_missing w name.now) (state self.old)) }
+        ensures failed { IsOk result ↔ IsSome (state self.old) }
+        ensures same { state self.new ≡ state self.old };
+
+    /// How many links a server has, none where there is no such server.
+    fn link_count_of(&mut self, server: u32) -> Result<usize, Failed>
+        ensures found { IfOk result (λ answer. Some answer ≡ option_map (λ w. link_count_of w server) (state self.old)) }
         ensures failed { IsOk result ↔ IsSome (state self.old) }
         ensures same { state self.new ≡ state self.old };
 

@@ -1,7 +1,7 @@
 -- What is given up as time passes leaves the policy and the searches that are remembered.
 use Rattle.std.proofs.Common.{◌≡◌, List, [], ◌∷◌, ◌&&◌, filter, refl, ◌∙◌}
 use Rattle.std.specs.Prelude.{fold}
-use Rattle.channel_table.specs.declared.reads.WaitingRead.{WaitingRead}
+use Rattle.named_rows.specs.declared.reads.WaitingRead.{WaitingRead}
 use Rattle.gateway_state.specs.Aged.{age_told, are_properties_overdue, is_link_overdue, link_given_up, links_given_up, properties_given_up, properties_given_up_on}
 use Rattle.gateway_state.specs.Answer.{native_in}
 use Rattle.gateway_state.specs.Gateway.{Gateway}
@@ -9,7 +9,7 @@ use Rattle.gateway_state.specs.Searches.{is_stale}
 use Rattle.gateway_state.specs.Servers.{fails_without, read_failed, waits_for}
 use Rattle.gateway_state.specs.Telling.{sent}
 use Rattle.gateway_state.specs.Variables.{search_names}
-use Rattle.link_table.specs.declared.links.Link.{Link}
+use Rattle.link_table.specs.declared.links.LinkRow.{LinkRow}
 use Rattle.link_table.specs.declared.links.Subject.TheVariants.{Properties}
 
 -- what each change leaves is left by all of them
@@ -20,8 +20,8 @@ left_by_each {A = A} part change left (row ∷ rows) w = left_by_each part chang
 
 -- a part of the state that neither a read that fails nor a link that goes changes
 module _ {B : Type 0} (part : Gateway → B) (read : (w : Gateway) (read : WaitingRead) → part (read_failed w read) ≡ part w)
-    (link : (w : Gateway) (link : Link) → part (link_given_up w link) ≡ part w) where
-  after_properties : (w : Gateway) (link : Link) → part (properties_given_up_on w link) ≡ part w
+    (link : (w : Gateway) (link : LinkRow) → part (link_given_up w link) ≡ part w) where
+  after_properties : (w : Gateway) (link : LinkRow) → part (properties_given_up_on w link) ≡ part w
   after_properties w link =
       left_by_each part read_failed read (filter (λ read. waits_for w link.name read && fails_without Properties (native_in link.state) read) w.clients.reads) w
 

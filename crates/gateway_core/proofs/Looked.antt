@@ -1,6 +1,6 @@
 -- An event looks at as many rows of clients as it does by itself and what follows from it does.
-use Rattle.std.proofs.Common.{◌≡◌, ◌≤◌, ℕ, ◌+◌, ◌*◌, List, Bool, true, false, cond, eqb, leb, Option, Some, None, arith}
-use Rattle.std.specs.Prelude.{Ok, Err, Result, is_some}
+use Rattle.std.proofs.Common.{◌≡◌, ◌≤◌, ℕ, ◌+◌, ◌*◌, List, Bool, true, false, cond, eqb, leb, Option, Some, None, length, refl, ap, arith}
+use Rattle.std.specs.Prelude.{Ok, Err, Result, filter, is_some}
 use Rattle.std.specs.List.{find}
 use Rattle.ca_message.specs.declared.codes.TheConstants.{ECA_NORMAL}
 use Rattle.ca_message.specs.declared.reply.ReplyFault.{ReplyFault}
@@ -11,23 +11,24 @@ use Rattle.ca_message.specs.declared.request.ClientRequest.TheVariants as reques
 use Rattle.ca_message.specs.declared.request.RequestFault.{RequestFault}
 use Rattle.ca_message.specs.ClientRequest.{request_of}
 use Rattle.ca_message.specs.ServerReply.{reply_of}
-use Rattle.channel_table.specs.declared.channels.Channel.{Channel}
-use Rattle.channel_table.specs.declared.reads.WaitingRead.{WaitingRead}
+use Rattle.named_rows.specs.declared.channels.Channel.{Channel}
+use Rattle.named_rows.specs.declared.reads.WaitingRead.{WaitingRead}
 use Rattle.channel_table.specs.declared.sessions.Session.{Session as SessionRow}
-use Rattle.channel_table.specs.declared.subs.ClientSub.{ClientSub}
-use Rattle.channel_table.specs.ClientRows.{channel_count}
+use Rattle.named_rows.specs.declared.subs.ClientSub.{ClientSub}
+use Rattle.named_rows.specs.Channels.{is_on}
+use Rattle.channel_table.specs.ClientRows.{ClientRows, channel_count, is_read_for, is_sub_to}
 use Rattle.channel_table.specs.Sessions.{is_numbered}
 use Rattle.gateway_state.specs.declared.notice.ReadVerdict.{ReadVerdict}
 use Rattle.gateway_state.specs.declared.notice.ReadVerdict.TheVariants as reads
 use Rattle.gateway_state.specs.declared.notice.SubVerdict.{SubVerdict}
 use Rattle.gateway_state.specs.declared.notice.SubVerdict.TheVariants as subs
-use Rattle.gateway_state.specs.declared.search.Search.{Search as SearchRow}
+use Rattle.gateway_state.specs.declared.search.RememberedSearch.{RememberedSearch as SearchRow}
 use Rattle.gateway_state.specs.Clients.{read_verdict, search_left_by}
 use Rattle.gateway_state.specs.Requests.{client_said}
 use Rattle.gateway_state.specs.Rights.{channel_of, lead_in}
 use Rattle.gateway_state.specs.Subscribing.{is_on_sid, new_sub, sub_of, sub_verdict}
 use Rattle.gateway_core.specs.Looks.{direct_looks, event_looks, request_looks, update_looks}
-use Rattle.gateway_notices.specs.Looks.{looks_after}
+use Rattle.consequences.specs.Looks.{looks_after}
 use Rattle.gateway_rows.specs.Own.{IsWithin, channels_on, own_over, reads_on, subs_on}
 use Rattle.gateway_rows.proofs.OwnStays.{reads_on_owed, subs_on_owed}
 use Rattle.gateway_state.specs.declared.event.Dest.TheVariants.{Session, Upstream}
@@ -39,28 +40,39 @@ use Rattle.gateway_state.specs.Direct.{direct_effect, searched}
 use Rattle.gateway_state.specs.Gateway.{Gateway}
 use Rattle.gateway_state.specs.Resolution.{lead_of}
 use Rattle.gateway_state.specs.Searches.{left_by_search}
-use Rattle.gateway_state.specs.Variables.{ConnectedVariable, connected, is_creating}
-use Rattle.gateway_state.specs.Servers.{concerned_owed, concerns, fails_without, held_with, is_heard, reads_failed, replied, server_said, subject_of, updated_by, updated_link, updated_under, with_held}
+use Rattle.gateway_state.specs.Variables.{ConnectedVariable, connected, is_connected, is_creating}
+use Rattle.gateway_state.specs.Servers.{channel_dropped, concerned_owed, concerns, fails_without, gone_for, held_with, is_heard, reads_failed, replied, rights_given, rights_said, server_said, subject_of, updated_by, updated_link, updated_under, with_held}
 use Rattle.gateway_state.specs.Updates.{concerned}
-use Rattle.link_table.specs.declared.links.Link.{Link}
+use Rattle.link_table.specs.declared.links.LinkRow.{LinkRow}
 use Rattle.link_table.specs.declared.links.LinkState.{LinkState}
 use Rattle.link_table.specs.declared.links.LinkState.TheVariants.{Creating, Connected, Unusable}
 use Rattle.link_table.specs.declared.links.Subject.{Subject}
 use Rattle.link_table.specs.declared.links.Subscription.{Subscription}
 use Rattle.link_table.specs.Links.{has_subscription, is_link, sub_at}
-use Rattle.server_messages.specs.Looks.{reply_looks}
+use Rattle.direct_effect.specs.Looks.{failing_looks, reply_looks}
 use Rattle.rule_desk.specs.declared.policy.Policy.{Policy}
 use Rattle.touched_rows.specs.declared.touched.Touched.{Touched}
-use Rattle.touched_rows.specs.declared.touched.Touched.TheVariants.{Interest, Nothing, Value}
-use Rattle.touched_rows.specs.Touches.{cancel_touches_by, clear_touches_by, create_touches, create_touches_as, create_touches_over, created_touches_over, event_touches, left_touches, new_read, read_touches_by, reply_touches, request_touches, search_left_for, sub_touches_by, update_touches_over, update_touches_under, value_touches}
+use Rattle.touched_rows.specs.declared.touched.Touched.TheVariants.{Interest, Nothing, Value, Variable}
+use Rattle.touched_rows.specs.Concern.{concern_of}
+use Rattle.touched_rows.specs.Touches.{cancel_touches_by, clear_touches_by, create_touches, create_touches_as, create_touches_over, created_touches_over, event_touches, gone_touches_over, left_touches, new_read, read_touches_by, reply_touches, request_touches, rights_touches_over, search_left_for, sub_touches_by, update_touches_over, update_touches_under, value_touches}
+
+-- how many rows a table has of a variable
+abbrev channels_in : ClientRows → List ℕ → ℕ
+channels_in rows name = length (filter (is_on name) rows.channels)
+
+abbrev subs_in : ClientRows → List ℕ → ℕ
+subs_in rows name = length (filter (is_sub_to rows name) rows.subs)
+
+abbrev reads_in : ClientRows → List ℕ → ℕ
+reads_in rows name = length (filter (is_read_for rows name) rows.reads)
 
 -- nothing followed
-quiet : (before direct after own : ℕ) → direct ≤ before + 2 * own → after ≤ direct + 0 → after ≤ before + (4 + 8 * own)
-quiet before direct after own first rest = omega (arith, first, rest)
+quiet : (before direct after channels subs reads : ℕ) → direct ≤ before + reads → after ≤ direct + 0 → after ≤ before + 6 * (channels + subs + reads)
+quiet before direct after channels subs reads first rest = omega (arith, first, rest)
 
 -- it was told to those on the variable
-told : (before direct after channels subs reads subs-then reads-then : ℕ) → direct ≤ before + 2 * (channels + subs + reads)
-    → after ≤ direct + (6 * subs-then + 2 * reads-then) → subs-then ≡ subs → reads-then ≡ reads → after ≤ before + (4 + 8 * (channels + subs + reads))
+told : (before direct after channels subs reads subs-then reads-then : ℕ) → direct ≤ before + 0
+    → after ≤ direct + (6 * subs-then + 2 * reads-then) → subs-then ≡ subs → reads-then ≡ reads → after ≤ before + 6 * (channels + subs + reads)
 told before direct after channels subs reads subs-then reads-then first rest as-many-subs as-many-reads = omega (arith, first, rest, as-many-subs, as-many-reads)
 
 -- ---- what follows from a request is told of few rows
@@ -159,49 +171,92 @@ module _ (then : Gateway) (direct after : ℕ) where
 -- ---- servers' messages
 
 module _ (w : Gateway) (before direct after : ℕ) where
-  looked_over : (subject : Subject) (dtype count : ℕ) (payload : List ℕ) (link : Link) (state : LinkState) (sub : Option Subscription) → direct ≤ before + 2 * own_over w (Some link)
-      → IsWithin (looks_after (value_touches subject link state sub dtype count payload) (updated_link subject link state sub dtype count payload w)) direct after
-      → after ≤ before + (4 + 8 * own_over w (Some link))
+  -- six looks at most at each row of a link's variable
+  abbrev IsWithinOwn : LinkRow → Type 0
+  IsWithinOwn link = after ≤ before + 6 * own_over w (Some link)
+
+  none_told : (link : LinkRow) → direct ≤ before + 0 → after ≤ direct + 0 → IsWithinOwn link
+  none_told link first rest = quiet before direct after (channels_on w link.name) (subs_on w link.name) (reads_on w link.name) (omega (arith, first)) rest
+
+  looked_over : (subject : Subject) (dtype count : ℕ) (payload : List ℕ) (link : LinkRow) (state : LinkState) (sub : Option Subscription) → direct ≤ before + 0
+      → IsWithin (looks_after (value_touches w subject link state sub dtype count payload) (updated_link subject link state sub dtype count payload w)) direct after → IsWithinOwn link
   looked_over subject dtype count payload link (Connected sid native native_count) (Some sub) first =
       let passes : ClientSub → Bool = concerns subject w link.cid dtype count payload in
+      let touched : Touched = Value link.name (concern_of subject w link.cid dtype count payload) in
       let then : Gateway = with_held link.server link.cid (held_with subject dtype count payload sub.count) (concerned_owed link.name passes w) in
-      elim (is_heard subject native sub.count dtype count payload)
-      as (λ t. IsWithin (looks_after (cond t (Value link.name) Nothing) (cond t then w)) direct after → after ≤ before + (4 + 8 * own_over w (Some link))) [
+      elim (is_heard subject native sub.count dtype count payload) as (λ t. IsWithin (looks_after (cond t touched Nothing) (cond t then w)) direct after → IsWithinOwn link) [
         | true ↦
             λ rest. told before direct after (channels_on w link.name) (subs_on w link.name) (reads_on w link.name) (subs_on then link.name) (reads_on then link.name) first rest
             (subs_on_owed link.name (concerned w link.name passes) w) (reads_on_owed link.name (concerned w link.name passes) w)
-        | false ↦ λ rest. quiet before direct after (own_over w (Some link)) first rest
+        | false ↦ none_told link first
       ]
-  looked_over subject dtype count payload link (Connected sid native native_count) None first = λ rest. quiet before direct after (own_over w (Some link)) first rest
-  looked_over subject dtype count payload link Creating sub first = λ rest. quiet before direct after (own_over w (Some link)) first rest
-  looked_over subject dtype count payload link Unusable sub first = λ rest. quiet before direct after (own_over w (Some link)) first rest
+  looked_over subject dtype count payload link (Connected sid native native_count) None first = none_told link first
+  looked_over subject dtype count payload link Creating sub first = none_told link first
+  looked_over subject dtype count payload link Unusable sub first = none_told link first
 
-  looked_under : (subject : Subject) (status dtype count : ℕ) (payload : List ℕ) (link : Link) → direct ≤ before + 2 * own_over w (Some link)
-      → IsWithin (looks_after (update_touches_under subject status dtype count payload link) (updated_under subject status dtype count payload link w)) direct after
-      → after ≤ before + (4 + 8 * own_over w (Some link))
-  looked_under subject status dtype count payload link first =
+  looked_under : (subject : Subject) (status dtype count : ℕ) (payload : List ℕ) (link : LinkRow) → direct ≤ before + failing_looks w status (Some link)
+      → IsWithin (looks_after (update_touches_under w subject status dtype count payload link) (updated_under subject status dtype count payload link w)) direct after → IsWithinOwn link
+  looked_under subject status dtype count payload link =
       let sub : Option Subscription = sub_at subject link.subscriptions in
+      let touched : Touched = value_touches w subject link link.state sub dtype count payload in
       let then : Gateway = updated_link subject link link.state sub dtype count payload w in
       let failed : Gateway = reads_failed (fails_without subject (native_in link.state)) w link.name in
       elim (eqb status ECA_NORMAL)
-      as (λ t. IsWithin (looks_after (cond t (value_touches subject link link.state sub dtype count payload) Nothing) (cond t then failed)) direct after
-      → after ≤ before + (4 + 8 * own_over w (Some link)))
-      [ true ↦ looked_over subject dtype count payload link link.state sub first | false ↦ λ rest. quiet before direct after (own_over w (Some link)) first rest ]
+      as (λ t. direct ≤ before + cond t 0 (reads_on w link.name) → IsWithin (looks_after (cond t touched Nothing) (cond t then failed)) direct after → IsWithinOwn link) [
+        | true ↦ looked_over subject dtype count payload link link.state sub
+        | false ↦ λ first rest. quiet before direct after (channels_on w link.name) (subs_on w link.name) (reads_on w link.name) first rest
+      ]
 
-  looked_by : (id status dtype count : ℕ) (payload : List ℕ) (found : Option Link) → direct ≤ before + 2 * own_over w found
-      → IsWithin (looks_after (update_touches_over id status dtype count payload found) (updated_by id status dtype count payload found w)) direct after
-      → after ≤ before + (4 + 8 * own_over w found)
-  looked_by id status dtype count payload None first = λ rest. quiet before direct after 0 first rest
+  looked_by : (id status dtype count : ℕ) (payload : List ℕ) (found : Option LinkRow) → direct ≤ before + failing_looks w status found
+      → IsWithin (looks_after (update_touches_over w id status dtype count payload found) (updated_by id status dtype count payload found w)) direct after
+      → after ≤ before + 6 * own_over w found
+  looked_by id status dtype count payload None first = λ rest. quiet before direct after 0 0 0 first rest
   looked_by id status dtype count payload (Some link) first = looked_under (subject_of id link) status dtype count payload link first
+
+  -- nothing followed, as the server isn't heard
+  unheard : (status : ℕ) (found : Option LinkRow) → direct ≤ before + failing_looks w status found → after ≤ direct + 0 → after ≤ before + 6 * own_over w found
+  unheard status None = quiet before direct after 0 0 0
+  unheard status (Some link) =
+      elim (eqb status ECA_NORMAL) as (λ t. direct ≤ before + cond t 0 (reads_on w link.name) → after ≤ direct + 0 → IsWithinOwn link)
+      [ true ↦ none_told link | false ↦ quiet before direct after (channels_on w link.name) (subs_on w link.name) (reads_on w link.name) ]
 
   none : direct ≤ before + 0 → after ≤ direct + 0 → after ≤ before + 0
   none first rest = omega (arith, first, rest)
 
   -- a channel that a server made
-  made : (then : Gateway) (found : Option Link) → direct ≤ before + 0 → IsWithin (looks_after (created_touches_over found) then) direct after → after ≤ before + 0
+  made : (then : Gateway) (found : Option LinkRow) → direct ≤ before + 0 → IsWithin (looks_after (created_touches_over found) then) direct after → after ≤ before + 0
   made then None first = none first
   made then (Some link) first =
       elim (is_creating link.state) as (λ t. IsWithin (looks_after (cond t (Interest link.name) Nothing) then) direct after → after ≤ before + 0) [ true ↦ none first | false ↦ none first ]
+
+  -- rights that came, and a channel that a server dropped, are told to all on the variable, which has the rows that it had
+  none_of : (own : ℕ) → direct ≤ before + 0 → after ≤ direct + 0 → after ≤ before + 9 * own
+  none_of own first rest = omega (arith, first, rest)
+
+  all_of : (then : Gateway) (link : LinkRow) → then.clients ≡ w.clients → direct ≤ before + 0 → IsWithin (looks_after (Variable link.name) then) direct after → after ≤ before + 9 * own_over w (Some link)
+  all_of then link same first rest =
+      omega
+      (arith, first, rest, ap (λ (rows : ClientRows). channels_in rows link.name) same, ap (λ (rows : ClientRows). subs_in rows link.name) same, ap (λ (rows : ClientRows). reads_in rows link.name) same)
+
+  righted : (then : Gateway) (found : Option LinkRow) → then.clients ≡ w.clients → direct ≤ before + 0 → IsWithin (looks_after (rights_touches_over found) then) direct after → after ≤ before + 9 * own_over w found
+  righted then None same first = none_of 0 first
+  righted then (Some link) same first =
+      elim (is_creating link.state) as (λ t. IsWithin (looks_after (cond t (Interest link.name) (Variable link.name)) then) direct after → after ≤ before + 9 * own_over w (Some link))
+      [ true ↦ none_of (own_over w (Some link)) first | false ↦ all_of then link same first ]
+
+  dropped : (then : Gateway) (found : Option LinkRow) → then.clients ≡ w.clients → direct ≤ before + 0 → IsWithin (looks_after (gone_touches_over found) then) direct after → after ≤ before + 9 * own_over w found
+  dropped then None same first = none_of 0 first
+  dropped then (Some link) same first =
+      elim (is_connected link.state) as (λ t. IsWithin (looks_after (cond t (Variable link.name) Nothing) then) direct after → after ≤ before + 9 * own_over w (Some link))
+      [ true ↦ all_of then link same first | false ↦ none_of (own_over w (Some link)) first ]
+
+  rights_keep : (server cid rights : ℕ) (found : Option LinkRow) → (rights_given server cid rights found w).clients ≡ w.clients
+  rights_keep server cid rights None = refl
+  rights_keep server cid rights (Some link) = refl
+
+  drops_keep : (server cid : ℕ) (found : Option LinkRow) → (gone_for server cid found w).clients ≡ w.clients
+  drops_keep server cid None = refl
+  drops_keep server cid (Some link) = refl
 
   looked_for : (server : ℕ) (reply : Result ServerReply ReplyFault) → IsWithin (reply_looks w server reply) before direct
       → IsWithin (looks_after (reply_touches w server reply) (replied w server reply)) direct after → IsWithin (update_looks w server reply) before after
@@ -209,20 +264,24 @@ module _ (w : Gateway) (before direct after : ℕ) where
   looked_for server (Ok (says.EventAdd id status dtype count value)) first rest = looked_by id status dtype count value (find (has_subscription server id) w.upstream.links) first rest
   looked_for server (Ok (says.CreateChannel cid sid dtype count)) first rest = made (replied w server (Ok (says.CreateChannel cid sid dtype count))) (find (is_link server cid) w.upstream.links) first rest
   looked_for server (Ok (says.WriteNotify ioid status)) first rest = none first rest
-  looked_for server (Ok (says.AccessRights cid rights)) first rest = tt
+  looked_for server (Ok (says.AccessRights cid rights)) first rest =
+      let found : Option LinkRow = find (is_link server cid) w.upstream.links in
+      righted (rights_said w server cid rights) found (rights_keep server cid rights found) first rest
   looked_for server (Ok (says.CreateChannelFail cid)) first rest = none first rest
-  looked_for server (Ok (says.ServerDisconnect cid)) first rest = tt
+  looked_for server (Ok (says.ServerDisconnect cid)) first rest =
+      let found : Option LinkRow = find (is_link server cid) w.upstream.links in
+      dropped (channel_dropped w server cid) found (drops_keep server cid found) first rest
   looked_for server (Err fault) first rest = none first rest
 
   looked_quietly : (server : ℕ) (reply : Result ServerReply ReplyFault) → IsWithin (reply_looks w server reply) before direct
       → after ≤ direct + 0 → IsWithin (update_looks w server reply) before after
   looked_quietly server (Ok (says.Version minor)) first rest = none first rest
-  looked_quietly server (Ok (says.EventAdd id status dtype count value)) first rest = quiet before direct after (own_over w (find (has_subscription server id) w.upstream.links)) first rest
+  looked_quietly server (Ok (says.EventAdd id status dtype count value)) first rest = unheard status (find (has_subscription server id) w.upstream.links) first rest
   looked_quietly server (Ok (says.CreateChannel cid sid dtype count)) first rest = none first rest
   looked_quietly server (Ok (says.WriteNotify ioid status)) first rest = none first rest
-  looked_quietly server (Ok (says.AccessRights cid rights)) first rest = tt
+  looked_quietly server (Ok (says.AccessRights cid rights)) first rest = none_of (own_over w (find (is_link server cid) w.upstream.links)) first rest
   looked_quietly server (Ok (says.CreateChannelFail cid)) first rest = none first rest
-  looked_quietly server (Ok (says.ServerDisconnect cid)) first rest = tt
+  looked_quietly server (Ok (says.ServerDisconnect cid)) first rest = none_of (own_over w (find (is_link server cid) w.upstream.links)) first rest
   looked_quietly server (Err fault) first rest = none first rest
 
 -- by itself, and for what follows

@@ -4,16 +4,16 @@ use Rattle.std.specs.Prelude.{count_by, option_map, slice_get}
 use Rattle.std.proofs.lemmas.List.{append-nil, drop_all, length-map}
 use Rattle.std.proofs.lemmas.List.Sums.{length-filter}
 use Rattle.std.proofs.lemmas.Option.{slice_get-map}
-use Rattle.channel_table.specs.declared.channels.Channel.{Channel}
+use Rattle.named_rows.specs.declared.channels.Channel.{Channel}
 use Rattle.gateway_rows.proofs.Counted.{taken_none, taken_one_more}
 use Rattle.gateway_state.specs.Variables.{channel_names}
-use Rattle.link_table.specs.declared.links.Link.{Link}
+use Rattle.link_table.specs.declared.links.LinkRow.{LinkRow}
 use Rattle.touched_rows.specs.Touches.{link_names}
 
 abbrev real_of : Channel → List ℕ
 real_of c = c.real
 
-abbrev link_name : Link → List ℕ
+abbrev link_name : LinkRow → List ℕ
 link_name link = link.name
 
 -- one more is taken
@@ -48,13 +48,13 @@ pub all_named : (test : Channel → Bool) (rows : List Channel) (names : List (L
 all_named test rows names n enough so_far =
     whole_named real_of (filter test rows) names n (omega (arith, enough, length-filter test rows)) so_far
 
-pub linked_next : (own : List Link) (names : List (List ℕ)) (n : ℕ) (link : Link) → names ++ drop n (link_names own) ≡ link_names own → slice_get own n ≡ Some link
+pub linked_next : (own : List LinkRow) (names : List (List ℕ)) (n : ℕ) (link : LinkRow) → names ++ drop n (link_names own) ≡ link_names own → slice_get own n ≡ Some link
     → (names ++ link.name ∷ []) ++ drop (n + 1) (link_names own) ≡ link_names own
 linked_next own names n link so_far is = next_named link_name own names n link so_far is
 
-pub linked_past : (own : List Link) (names : List (List ℕ)) (n : ℕ) → names ++ drop n (link_names own) ≡ link_names own → slice_get own n ≡ None
+pub linked_past : (own : List LinkRow) (names : List (List ℕ)) (n : ℕ) → names ++ drop n (link_names own) ≡ link_names own → slice_get own n ≡ None
     → names ++ drop (n + 1) (link_names own) ≡ link_names own
 linked_past own names n so_far is = past_named link_name own names n so_far is
 
-pub all_linked : (own : List Link) (names : List (List ℕ)) (n : ℕ) → length own ≤ n → names ++ drop n (link_names own) ≡ link_names own → names ≡ link_names own
+pub all_linked : (own : List LinkRow) (names : List (List ℕ)) (n : ℕ) → length own ≤ n → names ++ drop n (link_names own) ≡ link_names own → names ≡ link_names own
 all_linked own names n enough so_far = whole_named link_name own names n enough so_far

@@ -5,13 +5,11 @@ use Rattle.gateway_state.proofs.NumbersKept.{reached_numbers}
 use Rattle.gateway_state.proofs.SessionsConnected.{reached_sessions}
 use Rattle.gateway_state.proofs.ToldRights.{reached_told}
 use Rattle.gateway_core.specs.ReadyForEvent.{IsReadyForEvent}
-use Rattle.touched_rows.proofs.Tidy.{reached_tidy}
 
 pub reached_is_ready : (w : Gateway) → IsReached w → IsReadyForEvent w
 reached_is_ready w reached = record {
   sids = (reached_numbers w reached).channels;
   cids = (reached_numbers w reached).links;
-  subs = (reached_tidy w reached).subs_apart;
   sessions = reached_sessions w reached;
   ids = (reached_numbers w reached).writes;
   told = reached_told w reached;

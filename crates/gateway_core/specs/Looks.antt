@@ -1,5 +1,5 @@
 -- How many rows of clients an event may look at.
-use Rattle.std.specs.Prelude.{ℕ, ◌+◌, ◌*◌, Result, Ok, Option, Some, None}
+use Rattle.std.specs.Prelude.{ℕ, ◌*◌, Result, Ok, Option, Some, None}
 use Rattle.std.specs.List.{find}
 use Rattle.ca_message.specs.declared.reply.ReplyFault.{ReplyFault}
 use Rattle.ca_message.specs.declared.reply.ServerReply.{ServerReply}
@@ -14,8 +14,8 @@ use Rattle.gateway_rows.specs.Own.{own_over}
 use Rattle.gateway_state.specs.declared.event.Event.{Event}
 use Rattle.gateway_state.specs.declared.event.Event.TheVariants as events
 use Rattle.gateway_state.specs.Gateway.{Gateway}
-use Rattle.link_table.specs.Links.{has_subscription}
-use Rattle.server_messages.specs.Looks.{age_looks, reply_looks}
+use Rattle.link_table.specs.Links.{has_subscription, is_link}
+use Rattle.direct_effect.specs.Looks.{age_looks, reply_looks}
 
 -- by itself
 abbrev pub direct_looks : Gateway → Event → Option ℕ
@@ -25,14 +25,14 @@ direct_looks w (events.Server number message) = reply_looks w number (reply_of m
 direct_looks w events.Age = Some (age_looks w)
 direct_looks w event = Some 0
 
--- An update, of a value or of properties, may look eight times at each channel, subscription and waiting read of
--- its variable, and four times more, however many rows there are. Rights, and a channel that goes, are told to all who use the
--- variable; nothing else that a server says is looked at for a client
+-- An update, of a value or of properties, may look six times at each channel, subscription and waiting read of its
+-- variable, however many rows there are. Rights, and a channel that goes, may look nine times at
+-- each; nothing else that a server says is looked at for a client
 abbrev pub update_looks : Gateway → ℕ → Result ServerReply ReplyFault → Option ℕ
 update_looks w server (Ok (says.EventAdd id status dtype count value)) =
-    Some (4 + 8 * own_over w (find (has_subscription server id) w.upstream.links))
-update_looks w server (Ok (says.AccessRights cid rights)) = None
-update_looks w server (Ok (says.ServerDisconnect cid)) = None
+    Some (6 * own_over w (find (has_subscription server id) w.upstream.links))
+update_looks w server (Ok (says.AccessRights cid rights)) = Some (9 * own_over w (find (is_link server cid) w.upstream.links))
+update_looks w server (Ok (says.ServerDisconnect cid)) = Some (9 * own_over w (find (is_link server cid) w.upstream.links))
 update_looks w server reply = Some 0
 
 -- a request may look at eight rows, however many there are. Updates that are wanted again concern all

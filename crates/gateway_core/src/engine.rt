@@ -6,22 +6,23 @@ ghost use Rattle.gateway_state.specs.declared.config.TheConstants.{LAST_FIRST};
 ghost use Rattle.gateway_state.specs.Numbers.{is_past_numbers, runs_out};
 ghost use Rattle.gateway_state.specs.Step.{step, run, taken};
 ghost use Rattle.gateway_state.specs.Answer.{reading};
-ghost use Rattle.gateway_state.specs.Asked.{stands, ends, queued, queued_bytes};
+ghost use Rattle.gateway_state.specs.Asked.{is_open, must_end, queued, queued_bytes};
 ghost use Rattle.gateway_state.specs.Serving.{server_of};
 ghost use Rattle.gateway_state.specs.Interest.{property_subscription_of, subscription_of};
 ghost use Rattle.gateway_state.specs.Rights.{rights_asked};
 ghost use Rattle.gateway_state.specs.Variables.{asks, is_missing};
 ghost use Rattle.gateway_state.specs.RowCounts.{row_counts};
+ghost use Rattle.gateway_calls.specs.Counting.{link_count_of};
 ghost use Rattle.gateway_calls.specs.Searching.{IsSearched};
+ghost use Rattle.gateway_core.specs.EngineState.{visits_of};
 ghost use Rattle.gateway_core.specs.Looks.{event_looks};
 ghost use Rattle.gateway_rows.specs.Own.{IsWithin};
 
 use crate::search::search;
 use crate::step::{drain, step};
-use channel_table::Visits;
 use fanout::Out;
 use gateway_calls::{AskFault, Failed, NoMemory, StepFault};
-use gateway_rows::{Refusal, Rows};
+use gateway_rows::{CountedRows, RowsRefusal};
 use gateway_state::{
     Config, Dest, Event, Fullest, Limits, LimitsMet, Policy, Reading, RowCounts, Sub,
 };
@@ -34,12 +35,13 @@ use std::marker::Model;
 /// The gateway, one event at a time. A refused step leaves it failed for good.
 #[derive(Drop)]
 pub struct Engine {
-    rows: Option<Rows>,
-    visits: Visits,
+    rows: Option<CountedRows>,
+    // How many rows of clients had been looked at when a step was refused.
+    visited: u64,
 }
 
 impl Model for Engine {
-    ghost use Rattle.gateway_core.specs.EngineState.{EngineState};
+    ghost use Rattle.gateway_core.specs.EngineState.{EngineState, visits_of};
     ghost use Rattle.rule_desk.specs.contracts.policy.Policy as the_policy;
     ghost use Rattle.std.specs.Coded.{codes};
     ghost use Rattle.std.specs.Option.{option_map};
@@ -48,13 +50,13 @@ impl Model for Engine {
 
     ghost coded = { Prim.hlevel (codes, the_policy.the_row.coded) };
 
-    ghost view = { λ e. record { state = option_map (λ rows. rows.state) e.rows; visits = e.visits.looks } };
+    ghost view = { λ e. record { state = option_map (λ rows. rows.state) e.rows; visits = visits_of e.rows e.visited } };
 
     ghost use Rattle.std.specs.Option.{ForSome};
     ghost use Rattle.gateway_core.specs.EngineState.{IsRunning};
 
-    // Whatever happened, the rows are those that a run of events reaches, and looks at them are counted.
-    ghost invariant = { λ e. ForSome e.rows (IsRunning e.visits) };
+    // Whatever happened, the rows are those that a run of events reaches.
+    ghost invariant = { λ e. ForSome e.rows IsRunning };
 }
 
 impl Engine {
@@ -65,10 +67,9 @@ impl Engine {
         ensures state { IfOk result (λ engine. engine.state ≡ Some (initial config policy)) }
         ensures visits { IfOk result (λ engine. engine.visits ≡ 0) }
     {
-        let (rows, visits) = Rows::new(alloc, config, policy);
         Ok(Engine {
-            rows: Some(rows),
-            visits,
+            rows: Some(CountedRows::new(alloc, config, policy)),
+            visited: 0,
         })
     }
 
@@ -84,11 +85,11 @@ impl Engine {
         ensures state { IfOk result (λ engine. engine.state ≡ Some (step (initial config policy) (Event.Limit limits))) }
         ensures visits { IfOk result (λ engine. engine.visits ≡ 0) }
     {
-        let (mut limited, visits) = Rows::new(alloc, config, policy);
-        limited.set_limits(limits);
+        let mut limited = CountedRows::new(alloc, config, policy);
+        limited.known.set_limits(limits);
         Ok(Engine {
             rows: Some(limited),
-            visits,
+            visited: 0,
         })
     }
 
@@ -105,9 +106,9 @@ impl Engine {
         let Some(rows) = &mut self.rows else {
             return Err(StepFault::Failed);
         };
-        match step(rows, &mut self.visits, event) {
+        match step(rows, event) {
             Ok(()) => Ok(()),
-            Err(refusal) => Err(give_up(&mut self.rows, refusal)),
+            Err(refusal) => Err(give_up(&mut self.rows, &mut self.visited, refusal)),
         }
     }
 
@@ -144,9 +145,9 @@ impl Engine {
         let Some(rows) = &mut self.rows else {
             return Err(StepFault::Failed);
         };
-        match drain(rows, &mut self.visits, dest, count) {
+        match drain(rows, dest, count) {
             Ok(outs) => Ok(outs),
-            Err(refusal) => Err(give_up(&mut self.rows, refusal)),
+            Err(refusal) => Err(give_up(&mut self.rows, &mut self.visited, refusal)),
         }
     }
 
@@ -155,31 +156,32 @@ impl Engine {
         ensures found { result ≡ self.old.visits }
         ensures same { self.new ≡ self.old }
     {
-        self.visits.visited()
+        match &self.rows {
+            Some(rows) => rows.visits.visited(),
+            None => self.visited,
+        }
     }
 
     /// Whether the connection stands.
     pub fn is_open(&mut self, dest: Dest) -> Result<bool, Failed>
-        ensures found { IfOk result (λ answer. Some answer ≡ option_map (λ w. stands w dest) self.old.state) }
+        ensures found { IfOk result (λ answer. Some answer ≡ option_map (λ w. is_open w dest) self.old.state) }
         ensures failed { IsOk result ↔ IsSome self.old.state }
-        ensures same { self.new.state ≡ self.old.state }
-        ensures looks { self.new.visits ≡ self.old.visits }
+        ensures same { self.new ≡ self.old }
     {
         match &self.rows {
-            Some(rows) => Ok(rows.stands(dest)),
+            Some(rows) => Ok(rows.known.is_open(dest)),
             None => Err(Failed),
         }
     }
 
     /// Whether the connection stands and must end.
     pub fn must_end(&mut self, dest: Dest) -> Result<bool, Failed>
-        ensures found { IfOk result (λ answer. Some answer ≡ option_map (λ w. ends w dest) self.old.state) }
+        ensures found { IfOk result (λ answer. Some answer ≡ option_map (λ w. must_end w dest) self.old.state) }
         ensures failed { IsOk result ↔ IsSome self.old.state }
-        ensures same { self.new.state ≡ self.old.state }
-        ensures looks { self.new.visits ≡ self.old.visits }
+        ensures same { self.new ≡ self.old }
     {
         match &self.rows {
-            Some(rows) => Ok(rows.ends(dest)),
+            Some(rows) => Ok(rows.known.must_end(dest)),
             None => Err(Failed),
         }
     }
@@ -188,11 +190,10 @@ impl Engine {
     pub fn queued(&mut self, dest: Dest) -> Result<usize, Failed>
         ensures found { IfOk result (λ answer. Some answer ≡ option_map (λ w. queued w dest) self.old.state) }
         ensures failed { IsOk result ↔ IsSome self.old.state }
-        ensures same { self.new.state ≡ self.old.state }
-        ensures looks { self.new.visits ≡ self.old.visits }
+        ensures same { self.new ≡ self.old }
     {
         match &self.rows {
-            Some(rows) => Ok(rows.queued(dest)),
+            Some(rows) => Ok(rows.known.queued(dest)),
             None => Err(Failed),
         }
     }
@@ -201,11 +202,10 @@ impl Engine {
     pub fn queued_bytes(&mut self, dest: Dest) -> Result<u64, Failed>
         ensures found { IfOk result (λ answer. Some answer ≡ option_map (λ w. queued_bytes w dest) self.old.state) }
         ensures failed { IsOk result ↔ IsSome self.old.state }
-        ensures same { self.new.state ≡ self.old.state }
-        ensures looks { self.new.visits ≡ self.old.visits }
+        ensures same { self.new ≡ self.old }
     {
         match &self.rows {
-            Some(rows) => Ok(rows.queued_bytes(dest)),
+            Some(rows) => Ok(rows.known.queued_bytes(dest)),
             None => Err(Failed),
         }
     }
@@ -214,11 +214,10 @@ impl Engine {
     pub fn row_counts(&mut self) -> Result<RowCounts, Failed>
         ensures found { IfOk result (λ counts. Some counts ≡ option_map row_counts self.old.state) }
         ensures failed { IsOk result ↔ IsSome self.old.state }
-        ensures same { self.new.state ≡ self.old.state }
-        ensures looks { self.new.visits ≡ self.old.visits }
+        ensures same { self.new ≡ self.old }
     {
         match &self.rows {
-            Some(rows) => Ok(rows.row_counts()),
+            Some(rows) => Ok(rows.known.row_counts()),
             None => Err(Failed),
         }
     }
@@ -227,11 +226,10 @@ impl Engine {
     pub fn limits(&mut self) -> Result<Limits, Failed>
         ensures found { IfOk result (λ limits. Some limits ≡ option_map (λ w. w.limits) self.old.state) }
         ensures failed { IsOk result ↔ IsSome self.old.state }
-        ensures same { self.new.state ≡ self.old.state }
-        ensures looks { self.new.visits ≡ self.old.visits }
+        ensures same { self.new ≡ self.old }
     {
         match &self.rows {
-            Some(rows) => Ok(rows.limits),
+            Some(rows) => Ok(rows.known.limits),
             None => Err(Failed),
         }
     }
@@ -240,11 +238,10 @@ impl Engine {
     pub fn subscription(&mut self, name: &Name) -> Result<Option<Sub>, Failed>
         ensures found { IfOk result (λ answer. Some answer ≡ option_map (λ w. subscription_of w name.now) self.old.state) }
         ensures failed { IsOk result ↔ IsSome self.old.state }
-        ensures same { self.new.state ≡ self.old.state }
-        ensures looks { self.new.visits ≡ self.old.visits }
+        ensures same { self.new ≡ self.old }
     {
         match &self.rows {
-            Some(rows) => Ok(rows.subscription_of(name)),
+            Some(rows) => Ok(rows.known.subscription_of(name)),
             None => Err(Failed),
         }
     }
@@ -253,11 +250,10 @@ impl Engine {
     pub fn property_subscription(&mut self, name: &Name) -> Result<Option<u32>, Failed>
         ensures found { IfOk result (λ answer. Some answer ≡ option_map (λ w. property_subscription_of w name.now) self.old.state) }
         ensures failed { IsOk result ↔ IsSome self.old.state }
-        ensures same { self.new.state ≡ self.old.state }
-        ensures looks { self.new.visits ≡ self.old.visits }
+        ensures same { self.new ≡ self.old }
     {
         match &self.rows {
-            Some(rows) => Ok(rows.property_subscription_of(name)),
+            Some(rows) => Ok(rows.known.property_subscription_of(name)),
             None => Err(Failed),
         }
     }
@@ -270,11 +266,11 @@ impl Engine {
         ensures bound { self.new.visits ≤ self.old.visits + 1 }
         ensures no_less { self.old.visits ≤ self.new.visits }
     {
-        let Some(rows) = &self.rows else {
+        let Some(rows) = &mut self.rows else {
             return Err(Failed);
         };
         // Whatever happened, a client was told of the rights that it has.
-        Ok(rows.rights_told(&mut self.visits, session, sid))
+        Ok(rows.rights_told(session, sid))
     }
 
     /// What a READ_NOTIFY would be answered now. The limit of reads that wait isn't part of it.
@@ -290,12 +286,12 @@ impl Engine {
         ensures same { self.new.state ≡ self.old.state }
         ensures no_less { self.old.visits ≤ self.new.visits }
     {
-        match &self.rows {
-            Some(rows) => match rows.reading(&mut self.visits, session, sid, dtype, count) {
-                Ok(answer) => Ok(answer),
-                Err(_) => Err(AskFault::OutOfMemory),
-            },
-            None => Err(AskFault::Failed),
+        let Some(rows) = &mut self.rows else {
+            return Err(AskFault::Failed);
+        };
+        match rows.reading(session, sid, dtype, count) {
+            Ok(answer) => Ok(answer),
+            Err(_) => Err(AskFault::OutOfMemory),
         }
     }
 
@@ -303,11 +299,10 @@ impl Engine {
     pub fn asks(&mut self) -> Result<Vec<Name>, AskFault>
         ensures found { IfOk result (λ names. Some names.items ≡ option_map asks self.old.state) }
         ensures failed { IsErrOf result AskFault.Failed ↔ IsNone self.old.state }
-        ensures same { self.new.state ≡ self.old.state }
-        ensures looks { self.new.visits ≡ self.old.visits }
+        ensures same { self.new ≡ self.old }
     {
         match &self.rows {
-            Some(rows) => match rows.asks() {
+            Some(rows) => match rows.known.asks() {
                 Ok(names) => Ok(names),
                 Err(_) => Err(AskFault::OutOfMemory),
             },
@@ -319,11 +314,22 @@ impl Engine {
     pub fn is_missing(&mut self, name: &Name) -> Result<bool, Failed>
         ensures found { IfOk result (λ answer. Some answer ≡ option_map (λ w. is_missing w name.now) self.old.state) }
         ensures failed { IsOk result ↔ IsSome self.old.state }
-        ensures same { self.new.state ≡ self.old.state }
-        ensures looks { self.new.visits ≡ self.old.visits }
+        ensures same { self.new ≡ self.old }
     {
         match &self.rows {
-            Some(rows) => Ok(rows.is_missing(name)),
+            Some(rows) => Ok(rows.known.is_missing(name)),
+            None => Err(Failed),
+        }
+    }
+
+    /// How many links a server has, none where there is no such server. It takes no memory.
+    pub fn link_count_of(&mut self, server: u32) -> Result<usize, Failed>
+        ensures found { IfOk result (λ answer. Some answer ≡ option_map (λ w. link_count_of w server) self.old.state) }
+        ensures failed { IsOk result ↔ IsSome self.old.state }
+        ensures same { self.new ≡ self.old }
+    {
+        match &self.rows {
+            Some(rows) => Ok(rows.known.upstream.link_count_of(server)),
             None => Err(Failed),
         }
     }
@@ -337,17 +343,17 @@ impl Engine {
         ensures bound { self.new.visits ≤ self.old.visits + 1 }
         ensures no_less { self.old.visits ≤ self.new.visits }
     {
-        match &self.rows {
-            Some(rows) => Ok(rows.server_of(&mut self.visits, session, sid)),
-            None => Err(Failed),
-        }
+        let Some(rows) = &mut self.rows else {
+            return Err(Failed);
+        };
+        Ok(rows.server_of(session, sid))
     }
 
     /// How often each limit was met since the start; none where a step was refused. No definition speaks of
     /// it: it is for whoever watches.
     pub fn limits_met(&self) -> LimitsMet {
         match &self.rows {
-            Some(rows) => rows.limits_met(),
+            Some(rows) => rows.known.limits_met(),
             None => LimitsMet::NONE,
         }
     }
@@ -356,7 +362,7 @@ impl Engine {
     /// refused, or memory to look. No definition speaks of it: it is for whoever watches.
     pub fn fullest(&self) -> Fullest {
         match &self.rows {
-            Some(rows) => rows.fullest(),
+            Some(rows) => rows.known.fullest(),
             None => Fullest::NONE,
         }
     }
@@ -366,29 +372,32 @@ impl Engine {
     pub fn search(&mut self, host: &Host, datagram: &[u8]) -> Result<SearchAnswer, AskFault>
         ensures found { IfOk result (λ answer. IfSome self.old.state (λ w. IsSearched w host.now datagram.now answer)) }
         ensures failed { IsErrOf result AskFault.Failed ↔ IsNone self.old.state }
-        ensures same { self.new.state ≡ self.old.state }
-        ensures looks { self.new.visits ≡ self.old.visits }
+        ensures same { self.new ≡ self.old }
     {
         let Some(rows) = &mut self.rows else {
             return Err(AskFault::Failed);
         };
-        match search(rows, host, datagram) {
+        match search(&mut rows.known, host, datagram) {
             Ok(answer) => Ok(answer),
             Err(_) => Err(AskFault::OutOfMemory),
         }
     }
 }
 
-/// Gives up for good: a step was refused, and is half done.
-fn give_up(rows: &mut Option<Rows>, refusal: Refusal) -> StepFault
+/// Gives up for good: a step was refused, and is half done. The number of looks is kept.
+fn give_up(rows: &mut Option<CountedRows>, visited: &mut u64, refusal: RowsRefusal) -> StepFault
     ensures cause { result ≢ StepFault.Failed }
-    ensures used_up { result ≡ StepFault.NumbersUsedUp ↔ refusal ≡ Refusal.NumbersUsedUp }
-    ensures out_of_memory { result ≡ StepFault.OutOfMemory ↔ refusal ≡ Refusal.OutOfMemory }
+    ensures used_up { result ≡ StepFault.NumbersUsedUp ↔ refusal ≡ RowsRefusal.NumbersUsedUp }
+    ensures out_of_memory { result ≡ StepFault.OutOfMemory ↔ refusal ≡ RowsRefusal.OutOfMemory }
     ensures failed { rows.new ≡ None }
+    ensures kept { visited.new ≡ visits_of rows.old visited.old }
 {
+    if let Some(refused) = &*rows {
+        *visited = refused.visits.visited();
+    }
     *rows = None;
     match refusal {
-        Refusal::OutOfMemory => StepFault::OutOfMemory,
-        Refusal::NumbersUsedUp => StepFault::NumbersUsedUp,
+        RowsRefusal::OutOfMemory => StepFault::OutOfMemory,
+        RowsRefusal::NumbersUsedUp => StepFault::NumbersUsedUp,
     }
 }

@@ -83,6 +83,10 @@ impl GatewayCalls for Engine {
         Engine::is_missing(self, name)
     }
 
+    fn link_count_of(&mut self, server: u32) -> Result<usize, Failed> {
+        Engine::link_count_of(self, server)
+    }
+
     fn server_of(&mut self, session: u32, sid: u32) -> Result<Option<u32>, Failed> {
         Engine::server_of(self, session, sid)
     }

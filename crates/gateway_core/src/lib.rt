@@ -8,8 +8,8 @@
 //! what holds in every state that a run reaches.
 //!
 //! The layers below: the rows and what is asked of them (`gateway_rows`), and on those side by side
-//! what a client's message does (`client_requests`), what a server's does (`server_messages`), and
-//! the notices (`gateway_notices`).
+//! what a client's and a server's message does by itself (`direct_effect`), and
+//! the notices (`consequences`).
 #![tactic(auto)]
 
 mod age;

@@ -2,43 +2,41 @@
 ghost use Rattle.std.specs.Prelude.{◌≡◌, IfOk};
 ghost use Rattle.gateway_calls.specs.Searching.{IsSearched};
 
-use gateway_rows::Rows;
+use gateway_rows::Known;
 use pv_name::{Host, Name};
 use pv_search::{SearchAnswer, answer};
 use std::alloc::AllocError;
 
 /// What a host's datagram comes to: those names pass that lead to connected variables.
 pub(crate) fn search(
-    rows: &mut Rows,
+    known: &mut Known,
     host: &Host,
     datagram: &[u8],
 ) -> Result<SearchAnswer, AllocError>
-    ensures found { IfOk result (λ answer. IsSearched rows.old.state host.now datagram.now answer) }
-    ensures same { rows.new.state ≡ rows.old.state }
-    ensures brand { rows.new.brand ≡ rows.old.brand }
+    ensures found { IfOk result (λ answer. IsSearched known.old.state host.now datagram.now answer) }
+    ensures same { known.new ≡ known.old }
 {
-    learn(rows, host, datagram)?;
-    search_known(rows, host, datagram)
+    learn(known, host, datagram)?;
+    search_known(known, host, datagram)
 }
 
 /// Where the names lead that a datagram searches for is remembered, so that the rules are run for each once:
 /// not in its answer again, nor in the events that tell who looked for them.
-fn learn(rows: &mut Rows, host: &Host, datagram: &[u8]) -> Result<(), AllocError>
-    ensures same { rows.new.state ≡ rows.old.state }
-    ensures brand { rows.new.brand ≡ rows.old.brand }
+fn learn(known: &mut Known, host: &Host, datagram: &[u8]) -> Result<(), AllocError>
+    ensures same { known.new ≡ known.old }
 {
-    if rows.searches.policy().rules.is_open() {
+    if known.searches.policy().rules.is_open() {
         return Ok(());
     }
     let none = |_name: &Name| Ok(false);
-    let found = answer(rows.alloc, datagram, rows.config.port, none)?;
-    rows.learn_names(host, found.asked.as_slice())
+    let found = answer(known.alloc, datagram, known.config.port, none)?;
+    known.learn_names(host, found.asked.as_slice())
 }
 
-fn search_known(rows: &Rows, host: &Host, datagram: &[u8]) -> Result<SearchAnswer, AllocError>
-    ensures { IfOk result (λ answer. IsSearched rows.now.state host.now datagram.now answer) }
+fn search_known(known: &Known, host: &Host, datagram: &[u8]) -> Result<SearchAnswer, AllocError>
+    ensures { IfOk result (λ answer. IsSearched known.now.state host.now datagram.now answer) }
 {
-    let is_found = |name: &Name| rows.is_found(host, name);
-    let found = answer(rows.alloc, datagram, rows.config.port, is_found)?;
+    let is_found = |name: &Name| known.is_found(host, name);
+    let found = answer(known.alloc, datagram, known.config.port, is_found)?;
     Ok(found)
 }

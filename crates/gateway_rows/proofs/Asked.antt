@@ -3,8 +3,8 @@ use Rattle.std.proofs.Common.{◌≡◌, ℕ, List, [], ◌∷◌, ◌++◌, Boo
 use Rattle.std.specs.Prelude.{fold, is_some}
 use Rattle.std.specs.List.{All}
 use Rattle.std.proofs.lemmas.List.Elements.{All-head, All-tail}
-use Rattle.channel_table.specs.declared.channels.Channel.{Channel}
-use Rattle.link_table.specs.declared.links.Link.{Link}
+use Rattle.named_rows.specs.declared.channels.Channel.{Channel}
+use Rattle.link_table.specs.declared.links.LinkRow.{LinkRow}
 use Rattle.gateway_state.specs.Gateway.{Gateway, initial}
 use Rattle.gateway_state.specs.Reached.{IsReached}
 use Rattle.gateway_state.specs.Resolution.{is_real}
@@ -18,7 +18,7 @@ use Rattle.gateway_state.proofs.SettledRuns.{run_settled}
 linked_if_served : (w : Gateway) (c : Channel) → is_served w c ≡ true → is_linked w c.real ≡ true
 linked_if_served w c served = by (is_real (lead_in w c.session c.asked) c.real) (link_of w c.real) served
   where
-    by : (real : Bool) (found : Option Link) → (real && link_connected found) ≡ true → is_some found ≡ true
+    by : (real : Bool) (found : Option LinkRow) → (real && link_connected found) ≡ true → is_some found ≡ true
     by true (Some link) served = refl
     by true None served = absurd (true≢false (sym served))
     by false found served = absurd (true≢false (sym served))

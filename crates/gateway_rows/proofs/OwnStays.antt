@@ -2,8 +2,8 @@
 use Rattle.std.proofs.Common.{◌≡◌, ℕ, suc, List, [], ◌∷◌, Option, Some, None, arith, Bool, true, false, cond, length, refl, ap, ◌∙◌}
 use Rattle.std.specs.Prelude.{filter}
 use Rattle.rows.specs.Rows.{change_first}
-use Rattle.channel_table.specs.declared.subs.ClientSub.{ClientSub}
-use Rattle.channel_table.specs.Subs.{is_sub, with_owed}
+use Rattle.named_rows.specs.declared.subs.ClientSub.{ClientSub}
+use Rattle.named_rows.specs.Subs.{is_sub, with_owed}
 use Rattle.gateway_rows.specs.Own.{IsWithin, reads_on, subs_on}
 use Rattle.gateway_state.specs.Gateway.{Gateway}
 use Rattle.gateway_state.specs.Updates.{is_sub_to, owed_to, owed_to_all}

@@ -6,11 +6,11 @@ use Rattle.std.proofs.lemmas.Bool.{eqb-true}
 use Rattle.std.proofs.lemmas.List.{map-append}
 use Rattle.std.proofs.lemmas.List.Elements.{All-head, All-tail}
 use Rattle.dbr_layout.specs.Needs.{is_state_by}
-use Rattle.channel_table.specs.declared.channels.Channel.{Channel}
-use Rattle.channel_table.specs.declared.subs.ClientSub.{ClientSub}
-use Rattle.channel_table.specs.Channels.{is_channel, is_channel_on, is_on}
-use Rattle.channel_table.specs.Indexes.{is_to}
-use Rattle.channel_table.specs.Demand.{ask_of_sub, asks_on, channel_ask, own_ask, props_on, reach_ask, reads_over, sub_ask, want_on}
+use Rattle.named_rows.specs.declared.channels.Channel.{Channel}
+use Rattle.named_rows.specs.declared.subs.ClientSub.{ClientSub}
+use Rattle.named_rows.specs.Channels.{is_channel, is_channel_on, is_on}
+use Rattle.named_rows.specs.Indexes.{is_to}
+use Rattle.named_rows.specs.Demand.{ask_of_sub, asks_on, channel_ask, own_ask, props_on, reach_ask, reads_over, sub_ask, want_on}
 use Rattle.link_table.specs.declared.links.Subject.TheVariants.{Values}
 use Rattle.mask_merge.specs.declared.want.Ask.{Ask}
 use Rattle.mask_merge.specs.Counts.{asks_in, asks_props}

@@ -1,12 +1,12 @@
 -- How many rows a variable has, and how many rows of clients are looked at.
 use Rattle.std.specs.Prelude.{◌≤◌, ⊤, ℕ, ◌+◌, Bool, List, length, filter, Option, Some, None}
-use Rattle.channel_table.specs.declared.subs.ClientSub.{ClientSub}
-use Rattle.channel_table.specs.Subs.{is_sub_of}
-use Rattle.link_table.specs.declared.links.Link.{Link}
+use Rattle.named_rows.specs.declared.subs.ClientSub.{ClientSub}
+use Rattle.named_rows.specs.Subs.{is_sub_of}
+use Rattle.link_table.specs.declared.links.LinkRow.{LinkRow}
 use Rattle.gateway_state.specs.Gateway.{Gateway}
 use Rattle.gateway_state.specs.Servers.{waits_for}
 use Rattle.gateway_state.specs.Updates.{is_sub_to}
-use Rattle.channel_table.specs.Channels.{is_on}
+use Rattle.named_rows.specs.Channels.{is_on}
 
 -- how many channels are on it
 abbrev pub channels_on : Gateway → List ℕ → ℕ
@@ -33,7 +33,7 @@ abbrev pub own : Gateway → List ℕ → ℕ
 own w name = channels_on w name + subs_on w name + reads_on w name
 
 -- all rows of a link's variable, none where there is no link
-abbrev pub own_over : Gateway → Option Link → ℕ
+abbrev pub own_over : Gateway → Option LinkRow → ℕ
 own_over w None = 0
 own_over w (Some link) = own w link.name
 

@@ -1,10 +1,10 @@
 -- The readers of a variable, by the rights that their clients were last told.
 use Rattle.std.specs.Prelude.{ℕ, List, Bool, false, ◌&&◌, nat_lt, Option, Some, None}
-use Rattle.channel_table.specs.declared.channels.Channel.{Channel}
-use Rattle.channel_table.specs.declared.subs.ClientSub.{ClientSub}
+use Rattle.named_rows.specs.declared.channels.Channel.{Channel}
+use Rattle.named_rows.specs.declared.subs.ClientSub.{ClientSub}
 use Rattle.gateway_state.specs.Gateway.{Gateway}
 use Rattle.gateway_state.specs.Rights.{channel_of, may_read}
-use Rattle.channel_table.specs.Channels.{is_on}
+use Rattle.named_rows.specs.Channels.{is_on}
 
 -- a channel on the variable that had a read accepted, and whose client was told that it may read
 abbrev pub is_told_reader : List ℕ → Channel → Bool

@@ -1,12 +1,13 @@
 //! What is given up as time passes.
 ghost use Rattle.std.specs.Prelude.{◌≡◌, filter, fold, map, OnOk, IfOk};
+ghost use Rattle.gateway_rows.specs.BrandedState.{Becomes};
 ghost use Rattle.gateway_rows.specs.LinkIds.{link_id, without_link_of};
 ghost use Rattle.gateway_state.specs.Aged.{age_told, is_link_overdue, links_given_up};
 
-use crate::state::Rows;
+use crate::state::Known;
 use gateway_state::LastAge;
 use gateway_values::{is_creating, is_older};
-use link_table::{Counter, Link};
+use link_table::{Counter, LinkRow};
 use std::alloc::AllocError;
 
 /// Which link it is.
@@ -16,9 +17,9 @@ pub(crate) struct LinkId {
     cid: u32,
 }
 
-impl Rows {
+impl Known {
     /// Whether the server was asked for the link's channel before the last age, and hasn't answered.
-    fn is_link_overdue(&self, link: &Link) -> bool
+    fn is_link_overdue(&self, link: &LinkRow) -> bool
         ensures { result ≡ is_link_overdue self.now.state link.now }
     {
         let next = self.upstream.next(Counter::Cid);
@@ -55,8 +56,7 @@ impl Rows {
 
     /// Removes each of these links.
     fn remove_links(&mut self, ids: &[LinkId])
-        ensures state { self.new.state ≡ fold without_link_of self.old.state ids.now }
-        ensures brand { self.new.brand ≡ self.old.brand }
+        ensures state { Becomes (fold without_link_of self.old.state ids.now) self.old self.new }
     {
         for id in ids {
             self.remove_link(id.server, id.cid);
@@ -65,8 +65,7 @@ impl Rows {
 
     /// What stands now stood at this age.
     pub fn tell_age(&mut self)
-        ensures state { self.new.state ≡ age_told self.old.state }
-        ensures brand { self.new.brand ≡ self.old.brand }
+        ensures state { Becomes (age_told self.old.state) self.old self.new }
     {
         self.last_age = LastAge {
             cid: self.upstream.next(Counter::Cid),

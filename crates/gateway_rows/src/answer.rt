@@ -1,15 +1,17 @@
 //! What reads are answered.
-ghost use Rattle.std.specs.Prelude.{◌≡◌, ◌≤◌, Some, IfOk};
+ghost use Rattle.std.specs.Prelude.{◌≡◌, Some, IfOk};
+ghost use Rattle.gateway_rows.specs.Looked.{OnlyLooked};
 ghost use Rattle.gateway_state.specs.Answer.{cached_value, reading, reading_on, reading_over};
 ghost use Rattle.gateway_state.specs.Told.{KnowRights, KnowsRights};
 
-use crate::state::Rows;
-use channel_table::{Channel, Visits};
+use crate::counted_rows::CountedRows;
+use crate::state::Known;
+use channel_table::Channel;
 use gateway_state::{Given, Reading};
 use gateway_values::{ConnectedVariable, cached_as, meant_count, read_refusal};
 use std::alloc::AllocError;
 
-impl Rows {
+impl Known {
     /// What a link was told last, as an asked type and count; nothing where these aren't covered.
     pub fn cached_value(
         &self,
@@ -35,8 +37,7 @@ impl Rows {
         dtype: u16,
         count: u32,
     ) -> Result<(), AllocError>
-        ensures state { self.new.state ≡ self.old.state }
-        ensures brand { self.new.brand ≡ self.old.brand }
+        ensures same { self.new ≡ self.old }
     {
         match self.cache.get(cid) {
             Some(last) if last.held.covers(dtype, meant_count(native, count)) => self
@@ -49,8 +50,7 @@ impl Rows {
     /// Lets go large encodings of what a link was told last, where several are kept: once an update was
     /// told one is enough. What the gateway knows is as before.
     pub fn thin_value(&mut self, cid: u32)
-        ensures state { self.new.state ≡ self.old.state }
-        ensures brand { self.new.brand ≡ self.old.brand }
+        ensures same { self.new ≡ self.old }
     {
         self.cache.thin(cid);
     }
@@ -84,24 +84,24 @@ impl Rows {
             None => Ok(Reading::NoChannel),
         }
     }
+}
 
+impl CountedRows {
     /// What a session's read would be answered.
     pub fn reading(
-        &self,
-        visits: &mut Visits,
+        &mut self,
         session: u32,
         sid: u32,
         dtype: u16,
         count: u32,
     ) -> Result<Reading, AllocError>
-        requires told { KnowRights self.now.state }
-        requires own { visits.old.brand ≡ self.now.brand }
-        ensures found { IfOk result (λ answer. answer ≡ reading self.now.state session sid dtype count) }
-        ensures no_less { visits.old.looks ≤ visits.new.looks }
-        ensures own { visits.new.brand ≡ visits.old.brand }
+        requires told { KnowRights self.old.state }
+        ensures found { IfOk result (λ answer. answer ≡ reading self.old.state session sid dtype count) }
+        ensures looked { OnlyLooked 1 self.old self.new }
     {
-        match self.told_channel(visits, session, sid) {
-            Some(channel) => self.reading_on(channel, dtype, count),
+        let known = &self.known;
+        match known.told_channel(&mut self.visits, session, sid) {
+            Some(channel) => known.reading_on(channel, dtype, count),
             None => Ok(Reading::NoChannel),
         }
     }

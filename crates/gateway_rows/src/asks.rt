@@ -7,12 +7,12 @@ ghost use Rattle.std.specs.Ordering.{nat_cmp};
 ghost use Rattle.gateway_state.specs.Settled.{IsUpToDate};
 ghost use Rattle.gateway_state.specs.Variables.{asks, is_unlinked, search_names};
 
-use crate::state::Rows;
+use crate::state::Known;
 use pv_name::Name;
 use std::alloc::AllocError;
 use std::cmp::Ordering;
 
-impl Rows {
+impl Known {
     /// The names that searches lead to and that have no link, each as often as searches lead to it.
     fn unlinked_names(&self) -> Result<Vec<Name>, AllocError>
         ensures { IfOk result (λ names. names.items ≡ filter (is_unlinked self.now.state) (search_names self.now.state.policy self.now.state.searches)) }

@@ -1,27 +1,28 @@
 //! Connections: whether they stand, and what waits for them.
 ghost use Rattle.std.specs.Prelude.{◌≡◌, take, OnOk, IfOk};
-ghost use Rattle.gateway_state.specs.Asked.{stands, ends, queued, queued_bytes, acts};
+ghost use Rattle.gateway_rows.specs.BrandedState.{Becomes};
+ghost use Rattle.gateway_state.specs.Asked.{is_open, must_end, queued, queued_bytes, acts};
 ghost use Rattle.gateway_state.specs.Connections.{outbox_of};
 ghost use Rattle.gateway_state.specs.Direct.{drained};
 ghost use Rattle.gateway_state.specs.Telling.{marked};
-ghost use Rattle.gateway_state.specs.Updates.{is_taking};
+ghost use Rattle.gateway_state.specs.Updates.{takes_updates};
 
-use crate::state::Rows;
+use crate::state::Known;
 use fanout::Out;
 use gateway_state::Dest;
 use std::alloc::AllocError;
 
-impl Rows {
+impl Known {
     /// Whether a connection stands.
-    pub fn stands(&self, dest: Dest) -> bool
-        ensures { result ≡ stands self.now.state dest }
+    pub fn is_open(&self, dest: Dest) -> bool
+        ensures { result ≡ is_open self.now.state dest }
     {
-        self.connections.stands(dest)
+        self.connections.is_open(dest)
     }
 
     /// Whether a connection stands and must end.
-    pub fn ends(&self, dest: Dest) -> bool
-        ensures { result ≡ ends self.now.state dest }
+    pub fn must_end(&self, dest: Dest) -> bool
+        ensures { result ≡ must_end self.now.state dest }
     {
         self.connections.must_end(dest)
     }
@@ -44,12 +45,12 @@ impl Rows {
     pub fn acts(&self, dest: Dest) -> bool
         ensures { result ≡ acts self.now.state dest }
     {
-        self.connections.goes_on(dest)
+        self.connections.acts(dest)
     }
 
     /// Whether a session's outbox takes updates.
-    pub fn is_taking(&self, number: u32) -> bool
-        ensures { result ≡ is_taking self.now.state number }
+    pub fn takes_updates(&self, number: u32) -> bool
+        ensures { result ≡ takes_updates self.now.state number }
     {
         self.connections
             .takes_updates(&self.limits, Dest::Session(number))
@@ -57,8 +58,7 @@ impl Rows {
 
     /// Marks a connection to end.
     pub fn mark(&mut self, dest: Dest)
-        ensures state { self.new.state ≡ marked dest self.old.state }
-        ensures brand { self.new.brand ≡ self.old.brand }
+        ensures state { Becomes (marked dest self.old.state) self.old self.new }
     {
         self.connections.mark(dest);
     }

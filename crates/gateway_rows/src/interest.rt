@@ -4,7 +4,7 @@ ghost use Rattle.gateway_state.specs.Interest.{minor_of, property_subscription_o
 ghost use Rattle.gateway_state.specs.Told.{KnowRights};
 ghost use Rattle.link_table.specs.declared.links.Subject.TheVariants.{Properties, Values};
 
-use crate::state::Rows;
+use crate::state::Known;
 use dbr_layout::is_state_by;
 use gateway_state::Sub;
 use gateway_values::property_want;
@@ -12,7 +12,7 @@ use link_table::{LinkState, Subject};
 use mask_merge::Want;
 use pv_name::Name;
 
-impl Rows {
+impl Known {
     /// What the readers of a variable of this native type and count want of its values and of its
     /// properties, nothing of those that there is no reader of. The table of clients has it counted, so
     /// this looks at no row.

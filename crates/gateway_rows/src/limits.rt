@@ -2,14 +2,13 @@
 //! a gateway, and nothing that a gateway does depends on it.
 ghost use Rattle.std.specs.Prelude.{◌≡◌};
 
-use crate::state::Rows;
-use gateway_state::{Connection, Dest, Fullest, Limit, LimitsMet};
+use crate::state::Known;
+use gateway_state::{Connection, Dest, Fullest, LimitsMet, RowLimit};
 
-impl Rows {
+impl Known {
     /// Notes that a limit was met. Nothing changes that contracts see.
-    pub fn meet(&mut self, limit: Limit)
-        ensures state { self.new.state ≡ self.old.state }
-        ensures brand { self.new.brand ≡ self.old.brand }
+    pub fn meet(&mut self, limit: RowLimit)
+        ensures same { self.new ≡ self.old }
     {
         self.met.meet(limit);
     }
@@ -17,11 +16,10 @@ impl Rows {
     /// Notes that a subscription of a session that is owed an update got none, where that is since too many
     /// messages wait for the session.
     pub fn note_held(&mut self, number: u32)
-        ensures state { self.new.state ≡ self.old.state }
-        ensures brand { self.new.brand ≡ self.old.brand }
+        ensures same { self.new ≡ self.old }
     {
-        if !self.is_taking(number) {
-            self.meet(Limit::Held);
+        if !self.takes_updates(number) {
+            self.meet(RowLimit::Held);
         }
     }
 

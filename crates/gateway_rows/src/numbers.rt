@@ -6,11 +6,11 @@ ghost use Rattle.link_table.specs.declared.counter.TheConstants.{LAST_NUMBER};
 ghost use Rattle.link_table.specs.Counters.{are_over, begins_again, first_free, given_out};
 ghost use Rattle.link_table.specs.Numbers.{fitting, fitting_one};
 
-use crate::state::Rows;
+use crate::state::Known;
 use channel_table::Table;
 use link_table::{Counter, LAST_NUMBER, begins_again, fitting, turned};
 
-impl Rows {
+impl Known {
     /// Gives out the number of the session's next channel, which no other channel of it has: as long as the
     /// counter didn't begin again, it is the counter's. There is none past the last one, and then nothing
     /// changes.

@@ -1,33 +1,20 @@
 //! The reads and subscriptions of one variable.
 ghost use Rattle.std.specs.Prelude.{◌≡◌, ◌≤◌, ◌+◌, [], length, filter, map, IfOk, OnOk};
-ghost use Rattle.channel_table.specs.Subs.{is_sub_of};
+ghost use Rattle.named_rows.specs.Subs.{is_sub_of};
 ghost use Rattle.gateway_state.specs.Servers.{waits_for};
 ghost use Rattle.gateway_state.specs.Updates.{is_sub_to};
-ghost use Rattle.channel_table.specs.Channels.{is_on};
-ghost use Rattle.gateway_rows.specs.Own.{is_owed, owed_of};
+ghost use Rattle.named_rows.specs.Channels.{is_on};
+ghost use Rattle.channel_table.specs.Looks.{GoesOn, IsCounted};
+ghost use Rattle.gateway_rows.specs.Looked.{OnlyLookedOn};
+ghost use Rattle.gateway_rows.specs.Own.{channels_on, is_owed, owed_of};
 
-use crate::state::Rows;
-use channel_table::{Channel, ClientSub, Table, Visits, WaitingRead};
+use crate::counted_rows::CountedRows;
+use crate::state::Known;
+use channel_table::{Channel, ClientSub, SubList, Table, Visits, WaitingRead};
 use pv_name::Name;
 use std::alloc::{AllocError, Global};
-use std::mem;
 
-impl Rows {
-    /// The reads that wait for a variable, in the order of asking.
-    pub fn reads_for(
-        &self,
-        visits: &mut Visits,
-        name: &Name,
-    ) -> Result<Vec<WaitingRead>, AllocError>
-        requires own { visits.old.brand ≡ self.now.brand }
-        ensures found { IfOk result (λ reads. reads.items ≡ filter (waits_for self.now.state name.now) self.now.state.clients.reads) }
-        ensures bound { IfOk result (λ reads. visits.new.looks ≤ visits.old.looks + length reads.items) }
-        ensures no_less { visits.old.looks ≤ visits.new.looks }
-        ensures own { visits.new.brand ≡ visits.old.brand }
-    {
-        self.clients.reads_for(visits, self.alloc, name)
-    }
-
+impl Known {
     /// The channels on a variable, in the order in which they were opened.
     #[tactic(auto, using(crate::proofs::Counted::seen_one_more, crate::proofs::Counted::taken_none))]
     pub fn channels_on<'a>(
@@ -37,8 +24,7 @@ impl Rows {
     ) -> Result<Vec<&'a Channel>, AllocError>
         requires own { visits.old.brand ≡ self.now.brand }
         ensures found { IfOk result (λ channels. map (λ channel. channel.now) channels.items ≡ filter (is_on name.now) self.now.state.clients.channels) }
-        ensures no_less { visits.old.looks ≤ visits.new.looks }
-        ensures own { visits.new.brand ≡ visits.old.brand }
+        ensures looked { IsCounted (channels_on self.now.state name.now) visits.old visits.new }
     {
         let mut channels = Vec::new(self.alloc);
         for n in 0..self.clients.channels_on(name) {
@@ -48,64 +34,36 @@ impl Rows {
         }
         Ok(channels)
     }
+}
 
-    /// Fills an empty list with the subscriptions to a variable, in the order in which they were made.
-    pub fn list_subs_on(
-        &self,
-        visits: &mut Visits,
-        name: &Name,
-        subs: &mut Vec<ClientSub>,
-    ) -> Result<(), AllocError>
-        requires own { visits.old.brand ≡ self.now.brand }
-        requires empty { subs.old.items ≡ [] }
-        ensures found { OnOk result (subs.new.items ≡ filter (is_sub_to self.now.state name.now) self.now.state.clients.subs) }
-        ensures bound { OnOk result (visits.new.looks ≤ visits.old.looks + length subs.new.items) }
-        ensures no_less { visits.old.looks ≤ visits.new.looks }
-        ensures own { visits.new.brand ≡ visits.old.brand }
+impl CountedRows {
+    /// The reads that wait for a variable, in the order of asking.
+    pub fn reads_for(&mut self, name: &Name) -> Result<Vec<WaitingRead>, AllocError>
+        ensures found { IfOk result (λ reads. reads.items ≡ filter (waits_for self.old.state name.now) self.old.state.clients.reads) }
+        ensures bound { IfOk result (λ reads. self.new.count.looks ≤ self.old.count.looks + length reads.items) }
+        ensures looked { OnlyLookedOn self.old self.new }
     {
-        self.clients.list_subs_to(visits, name, subs)
+        let known = &self.known;
+        known.clients.reads_for(&mut self.visits, known.alloc, name)
     }
 
     /// The subscriptions to a variable, in the order in which they were made.
-    pub fn subs_on(&self, visits: &mut Visits, name: &Name) -> Result<Vec<ClientSub>, AllocError>
-        requires own { visits.old.brand ≡ self.now.brand }
-        ensures found { IfOk result (λ subs. subs.items ≡ filter (is_sub_to self.now.state name.now) self.now.state.clients.subs) }
-        ensures bound { IfOk result (λ subs. visits.new.looks ≤ visits.old.looks + length subs.items) }
-        ensures no_less { visits.old.looks ≤ visits.new.looks }
-        ensures own { visits.new.brand ≡ visits.old.brand }
+    pub fn subs_on(&mut self, name: &Name) -> Result<SubList, AllocError>
+        ensures found { IfOk result (λ subs. subs ≡ filter (is_sub_to self.old.state name.now) self.old.state.clients.subs) }
+        ensures bound { IfOk result (λ subs. self.new.count.looks ≤ self.old.count.looks + length subs) }
+        ensures looked { OnlyLookedOn self.old self.new }
     {
-        let mut subs = Vec::new(self.alloc);
-        self.list_subs_on(visits, name, &mut subs)?;
-        Ok(subs)
-    }
-
-    /// An empty list of subscriptions. It has the memory of the list that was given back last.
-    pub fn spare_subs(&mut self) -> Vec<ClientSub>
-        ensures empty { result.items ≡ [] }
-        ensures state { self.new.state ≡ self.old.state }
-        ensures brand { self.new.brand ≡ self.old.brand }
-    {
-        let mut subs = mem::replace(&mut self.spare, Vec::new(self.alloc));
-        subs.clear();
-        subs
-    }
-
-    /// Gives a list back that is done with: the next one begins with its memory.
-    pub fn give_back(&mut self, subs: Vec<ClientSub>)
-        ensures state { self.new.state ≡ self.old.state }
-        ensures brand { self.new.brand ≡ self.old.brand }
-    {
-        self.spare = subs;
+        let known = &self.known;
+        known.clients.subs_to(&mut self.visits, known.alloc, name)
     }
 
     /// The subscriptions of a session that are owed an update, in the order in which they were made.
-    pub fn owed_of(&self, visits: &mut Visits, session: u32) -> Result<Vec<ClientSub>, AllocError>
-        requires own { visits.old.brand ≡ self.now.brand }
-        ensures found { IfOk result (λ subs. subs.items ≡ owed_of self.now.state session) }
-        ensures no_less { visits.old.looks ≤ visits.new.looks }
-        ensures own { visits.new.brand ≡ visits.old.brand }
+    pub fn owed_of(&mut self, session: u32) -> Result<Vec<ClientSub>, AllocError>
+        ensures found { IfOk result (λ subs. subs.items ≡ owed_of self.old.state session) }
+        ensures looked { OnlyLookedOn self.old self.new }
     {
-        owed_of(self.alloc, &self.clients, visits, session)
+        let known = &self.known;
+        owed_of(known.alloc, &known.clients, &mut self.visits, session)
     }
 }
 
@@ -118,12 +76,11 @@ fn owed_of(
 ) -> Result<Vec<ClientSub>, AllocError>
     requires own { visits.old.brand ≡ clients.now.brand }
     ensures found { IfOk result (λ subs. subs.items ≡ filter is_owed (filter (is_sub_of session) clients.now.rows.subs)) }
-    ensures no_less { visits.old.looks ≤ visits.new.looks }
-    ensures own { visits.new.brand ≡ visits.old.brand }
+    ensures looked { GoesOn visits.old visits.new }
 {
     let mut subs = Vec::new(alloc);
     for n in 0..clients.sub_count(session) {
-        if let Some(sub) = clients.sub_of(visits, session, n) {
+        if let Some(sub) = clients.nth_sub_of(visits, session, n) {
             if sub.owed {
                 subs.push(*sub)?;
             }

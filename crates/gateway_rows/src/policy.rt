@@ -1,17 +1,20 @@
 //! What the policy says of names. Each question of the policy is asked here and nowhere else, and takes
 //! memory. What remembered searches and the names of channels lead to is kept beside the policy.
-ghost use Rattle.std.specs.Prelude.{◌≡◌, ◌≤◌, ◌+◌, IfOk};
+ghost use Rattle.std.specs.Prelude.{◌≡◌, IfOk};
+ghost use Rattle.channel_table.specs.Looks.{GoesOn, IsCounted};
+ghost use Rattle.gateway_rows.specs.Looked.{OnlyLooked, OnlyLookedOn};
 ghost use Rattle.gateway_state.specs.Resolution.{lead_of};
 ghost use Rattle.gateway_state.specs.Rights.{lead_in};
 
-use crate::state::Rows;
+use crate::counted_rows::CountedRows;
+use crate::state::Known;
 use channel_table::{Table, Visits};
 use pv_alias::Lead;
 use pv_name::{Host, Name};
-use state_tables::{Asked, Searches};
+use state_tables::{AskedName, Searches};
 use std::alloc::{AllocError, Global};
 
-impl Rows {
+impl Known {
     /// Where the name leads that a host asks for; nothing where it is refused.
     pub fn lead_of(&self, host: &Host, name: &Name) -> Result<Option<Lead>, AllocError>
         ensures { IfOk result (λ lead. lead ≡ lead_of self.now.state.policy host.now name.now) }
@@ -22,8 +25,7 @@ impl Rows {
     /// The same, which is remembered: asking for it again runs no rule.
     pub fn learn_lead(&mut self, host: &Host, name: &Name) -> Result<Option<Lead>, AllocError>
         ensures found { IfOk result (λ lead. lead ≡ lead_of self.old.state.policy host.now name.now) }
-        ensures same { self.new.state ≡ self.old.state }
-        ensures brand { self.new.brand ≡ self.old.brand }
+        ensures same { self.new ≡ self.old }
     {
         self.searches.learn_lead(self.alloc, host, name)
     }
@@ -31,12 +33,11 @@ impl Rows {
     /// Remembers where these names lead that a host asks for, so that asking for them again runs no rule.
     /// Nothing else changes.
     pub fn learn_names(&mut self, host: &Host, names: &[Name]) -> Result<(), AllocError>
-        ensures ok { self.new.state ≡ self.old.state }
-        ensures brand { self.new.brand ≡ self.old.brand }
+        ensures same { self.new ≡ self.old }
     {
         let mut asked = Vec::with_capacity(self.alloc, names.len())?;
         for name in names {
-            asked.push(Asked { host, name })?;
+            asked.push(AskedName { host, name })?;
         }
         self.searches.learn_leads(self.alloc, &asked)
     }
@@ -51,47 +52,41 @@ impl Rows {
     ) -> Result<Option<Lead>, AllocError>
         requires own { visits.old.brand ≡ self.now.brand }
         ensures found { IfOk result (λ lead. lead ≡ lead_in self.now.state number name.now) }
-        ensures bound { visits.new.looks ≤ visits.old.looks + 1 }
-        ensures no_less { visits.old.looks ≤ visits.new.looks }
-        ensures own { visits.new.brand ≡ visits.old.brand }
+        ensures looked { IsCounted 1 visits.old visits.new }
     {
         match self.clients.session(visits, number) {
             Some(session) => self.lead_of(&session.host, name),
             None => Ok(None),
         }
     }
+}
 
-    /// The same, and what it leads to is remembered: asking for it again runs no rule.
-    pub fn learn_lead_in(
-        &mut self,
-        visits: &mut Visits,
-        number: u32,
-        name: &Name,
-    ) -> Result<Option<Lead>, AllocError>
-        requires own { visits.old.brand ≡ self.old.brand }
+impl CountedRows {
+    /// Where the name leads that the host of a session asks for, which is remembered: asking for it again runs
+    /// no rule. It is nothing where it is refused, or where there is no such session.
+    pub fn learn_lead_in(&mut self, number: u32, name: &Name) -> Result<Option<Lead>, AllocError>
         ensures found { IfOk result (λ lead. lead ≡ lead_in self.old.state number name.now) }
-        ensures same { self.new.state ≡ self.old.state }
-        ensures bound { visits.new.looks ≤ visits.old.looks + 1 }
-        ensures no_less { visits.old.looks ≤ visits.new.looks }
-        ensures brand { self.new.brand ≡ self.old.brand }
-        ensures own { visits.new.brand ≡ visits.old.brand }
+        ensures looked { OnlyLooked 1 self.old self.new }
     {
-        match self.clients.session(visits, number) {
-            Some(session) => self.searches.learn_lead(self.alloc, &session.host, name),
+        let known = &mut self.known;
+        match known.clients.session(&mut self.visits, number) {
+            Some(session) => known.searches.learn_lead(known.alloc, &session.host, name),
             None => Ok(None),
         }
     }
 
     /// Remembers what the names of all channels lead to, so that asking for them again runs no rule.
     /// Nothing else changes.
-    pub fn learn_leads(&mut self, visits: &mut Visits) -> Result<(), AllocError>
-        requires own { visits.old.brand ≡ self.old.brand }
-        ensures ok { self.new.state ≡ self.old.state }
-        ensures no_less { visits.old.looks ≤ visits.new.looks }
-        ensures brand { self.new.brand ≡ self.old.brand }
-        ensures own { visits.new.brand ≡ visits.old.brand }
+    pub fn learn_leads(&mut self) -> Result<(), AllocError>
+        ensures looked { OnlyLookedOn self.old self.new }
     {
-        learn_leads(self.alloc, &self.clients, visits, &mut self.searches)
+        let known = &mut self.known;
+        learn_leads(
+            known.alloc,
+            &known.clients,
+            &mut self.visits,
+            &mut known.searches,
+        )
     }
 }
 
@@ -102,14 +97,13 @@ fn learn_leads(
     searches: &mut Searches,
 ) -> Result<(), AllocError>
     requires own { visits.old.brand ≡ clients.now.brand }
-    ensures ok { searches.new ≡ searches.old }
-    ensures no_less { visits.old.looks ≤ visits.new.looks }
-    ensures own { visits.new.brand ≡ visits.old.brand }
+    ensures same { searches.new ≡ searches.old }
+    ensures looked { GoesOn visits.old visits.new }
 {
     let mut asked = Vec::new(alloc);
     for channel in &clients.channels(visits, alloc)? {
         if let Some(session) = clients.session(visits, channel.session) {
-            asked.push(Asked {
+            asked.push(AskedName {
                 host: &session.host,
                 name: &channel.asked,
             })?;

@@ -1,6 +1,8 @@
 //! What clients may do with their channels.
-ghost use Rattle.std.specs.Prelude.{◌≡◌, ◌≤◌, ◌+◌, ◌&&◌, bit_and, IfOk, IfSome};
+ghost use Rattle.std.specs.Prelude.{◌≡◌, ◌&&◌, bit_and, IfOk, IfSome};
 ghost use Rattle.std.specs.Option.{option_copied};
+ghost use Rattle.channel_table.specs.Looks.{IsCounted};
+ghost use Rattle.gateway_rows.specs.Looked.{OnlyLooked};
 ghost use Rattle.gateway_state.specs.Serving.{server_of};
 ghost use Rattle.gateway_state.specs.Variables.{link_of};
 ghost use Rattle.gateway_state.specs.Reached.{rights_told};
@@ -8,7 +10,8 @@ ghost use Rattle.gateway_state.specs.Resolution.{is_real, rights_left};
 ghost use Rattle.gateway_state.specs.Told.{KnowRights, KnowsRights};
 ghost use Rattle.gateway_state.specs.Rights.{is_found, link_rights, link_connected, channel_of};
 
-use crate::state::Rows;
+use crate::counted_rows::CountedRows;
+use crate::state::Known;
 use channel_table::{Channel, Visits};
 use gateway_state::{is_real, rights_left};
 use gateway_values::is_connected;
@@ -16,7 +19,7 @@ use pv_alias::Lead;
 use pv_name::{Host, Name};
 use std::alloc::AllocError;
 
-impl Rows {
+impl Known {
     fn link_rights(&self, name: &Name) -> u32
         ensures { result ≡ link_rights (link_of self.now.state name.now) }
     {
@@ -70,9 +73,7 @@ impl Rows {
     ) -> Option<&'a Channel>
         requires own { visits.old.brand ≡ self.now.brand }
         ensures found { option_copied result ≡ channel_of self.now.state session sid }
-        ensures bound { visits.new.looks ≤ visits.old.looks + 1 }
-        ensures no_less { visits.old.looks ≤ visits.new.looks }
-        ensures own { visits.new.brand ≡ visits.old.brand }
+        ensures looked { IsCounted 1 visits.old visits.new }
     {
         self.clients.channel(visits, session, sid)
     }
@@ -88,23 +89,20 @@ impl Rows {
         requires own { visits.old.brand ≡ self.now.brand }
         ensures found { option_copied result ≡ channel_of self.now.state session sid }
         ensures told { IfSome (option_copied result) (KnowsRights self.now.state) }
-        ensures bound { visits.new.looks ≤ visits.old.looks + 1 }
-        ensures no_less { visits.old.looks ≤ visits.new.looks }
-        ensures own { visits.new.brand ≡ visits.old.brand }
+        ensures looked { IsCounted 1 visits.old visits.new }
     {
         self.channel_of(visits, session, sid)
     }
+}
 
+impl CountedRows {
     /// What a client was last told that it may do with a channel, nothing where it has no such channel. It
     /// takes no memory.
-    pub fn rights_told(&self, visits: &mut Visits, session: u32, sid: u32) -> Option<u32>
-        requires own { visits.old.brand ≡ self.now.brand }
-        ensures found { result ≡ rights_told self.now.state session sid }
-        ensures bound { visits.new.looks ≤ visits.old.looks + 1 }
-        ensures no_less { visits.old.looks ≤ visits.new.looks }
-        ensures own { visits.new.brand ≡ visits.old.brand }
+    pub fn rights_told(&mut self, session: u32, sid: u32) -> Option<u32>
+        ensures found { result ≡ rights_told self.old.state session sid }
+        ensures looked { OnlyLooked 1 self.old self.new }
     {
-        match self.channel_of(visits, session, sid) {
+        match self.known.channel_of(&mut self.visits, session, sid) {
             Some(channel) => Some(channel.rights_told),
             None => None,
         }
@@ -112,15 +110,13 @@ impl Rows {
 
     /// The number of the server on whose link a session's channel stands, nothing where there is no such
     /// channel. It takes no memory.
-    pub fn server_of(&self, visits: &mut Visits, session: u32, sid: u32) -> Option<u32>
-        requires own { visits.old.brand ≡ self.now.brand }
-        ensures found { result ≡ server_of self.now.state session sid }
-        ensures bound { visits.new.looks ≤ visits.old.looks + 1 }
-        ensures no_less { visits.old.looks ≤ visits.new.looks }
-        ensures own { visits.new.brand ≡ visits.old.brand }
+    pub fn server_of(&mut self, session: u32, sid: u32) -> Option<u32>
+        ensures found { result ≡ server_of self.old.state session sid }
+        ensures looked { OnlyLooked 1 self.old self.new }
     {
-        let channel = self.channel_of(visits, session, sid)?;
-        let link = self.link_of(&channel.real)?;
+        let known = &self.known;
+        let channel = known.channel_of(&mut self.visits, session, sid)?;
+        let link = known.link_of(&channel.real)?;
         Some(link.server)
     }
 }

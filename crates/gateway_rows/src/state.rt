@@ -4,7 +4,7 @@ ghost use Rattle.gateway_state.specs.Gateway.{initial};
 ghost use Rattle.gateway_state.specs.Numbers.{is_past_numbers};
 ghost use Rattle.gateway_state.specs.RowCounts.{row_counts};
 
-use channel_table::{ClientSub, Table, Visits};
+use channel_table::{Table, Visits};
 use gateway_state::{Config, LastAge, Limits, LimitsMet, Policy, RowCounts};
 use link_table::Links;
 use state_tables::{Cache, Connections, Searches};
@@ -12,7 +12,7 @@ use std::alloc::Global;
 use std::marker::Model;
 
 /// What the gateway knows. A call that fails may leave the work half done.
-pub struct Rows {
+pub struct Known {
     pub alloc: Global,
     pub config: Config,
     /// How much is taken on at most.
@@ -29,13 +29,11 @@ pub struct Rows {
     pub searches: Searches,
     /// What stood already when time was last told to pass.
     pub last_age: LastAge,
-    // The memory of a list that is done with. It is no part of what contracts see.
-    pub(crate) spare: Vec<ClientSub>,
-    // How often limits were met, without the outboxes that were full. It is no part of it either.
+    // How often limits were met, without the outboxes that were full. It is no part of what contracts see.
     pub(crate) met: LimitsMet,
 }
 
-impl Model for Rows {
+impl Model for Known {
     ghost use Rattle.gateway_rows.specs.BrandedState.{BrandedState};
     ghost use Rattle.rule_desk.specs.contracts.policy.Policy as the_policy;
     ghost use Rattle.std.specs.Coded.{codes};
@@ -61,16 +59,15 @@ impl Model for Rows {
 }
 
 // A function of its own, so that who drops the rows need not know of the drops of all their parts.
-impl Drop for Rows {
+impl Drop for Known {
     fn drop(self) {
-        let Rows {
+        let Known {
             config,
             connections,
             clients,
             upstream,
             cache,
             searches,
-            spare,
             alloc: _,
             limits: _,
             last_age: _,
@@ -82,20 +79,19 @@ impl Drop for Rows {
         drop(upstream);
         drop(cache);
         drop(searches);
-        drop(spare);
     }
 }
 
-impl Rows {
+impl Known {
     /// What is known before any event, and the count of looks at the rows of clients.
-    pub fn new(alloc: Global, config: Config, policy: Policy) -> (Rows, Visits)
-        ensures rows { result.0.state ≡ initial config policy }
+    pub(crate) fn new(alloc: Global, config: Config, policy: Policy) -> (Known, Visits)
+        ensures state { result.0.state ≡ initial config policy }
         ensures looks { result.1.looks ≡ 0 }
         ensures own { result.1.brand ≡ result.0.brand }
     {
         let first = config.first;
         let (clients, visits) = Table::new(alloc);
-        let rows = Rows {
+        let known = Known {
             alloc,
             config,
             limits: Limits::usual(),
@@ -108,10 +104,9 @@ impl Rows {
                 cid: first,
                 subscription: first,
             },
-            spare: Vec::new(alloc),
             met: LimitsMet::NONE,
         };
-        (rows, visits)
+        (known, visits)
     }
 
     /// How many rows of each kind there are. It looks at none.

@@ -3,14 +3,14 @@ ghost use Rattle.std.specs.Prelude.{◌≡◌};
 ghost use Rattle.std.specs.Option.{option_copied};
 ghost use Rattle.gateway_state.specs.Variables.{connected, link_of, is_linked, is_wanted, is_missing};
 
-use crate::state::Rows;
+use crate::state::Known;
 use gateway_values::{ConnectedVariable, connected};
-use link_table::Link;
+use link_table::LinkRow;
 use pv_name::Name;
 
-impl Rows {
+impl Known {
     /// The link of a real name.
-    pub fn link_of(&self, name: &Name) -> Option<&Link>
+    pub fn link_of(&self, name: &Name) -> Option<&LinkRow>
         ensures { option_copied result ≡ link_of self.now.state name.now }
     {
         self.upstream.by_name(name)

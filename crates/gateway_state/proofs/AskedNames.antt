@@ -9,8 +9,8 @@ use Rattle.std.specs.Prelude.{bytes_eq, fold}
 use Rattle.std.proofs.lemmas.List.Folds.{list_any-append}
 use Rattle.std.proofs.lemmas.Map.Text.{is_eq-slice_cmp}
 use Rattle.std.proofs.lemmas.Slice.Eq.{bytes_eq-Decides}
-use Rattle.channel_table.specs.declared.channels.Channel.{Channel}
-use Rattle.channel_table.specs.Channels.{is_on}
+use Rattle.named_rows.specs.declared.channels.Channel.{Channel}
+use Rattle.named_rows.specs.Channels.{is_on}
 use Rattle.gateway_state.specs.Gateway.{Gateway}
 use Rattle.gateway_state.specs.Variables.{asks, channel_names, is_among, is_linked, is_missing, is_unlinked, is_wanted, search_names, wanted_names, with_name, with_unlinked}
 use Rattle.gateway_state.proofs.SearchedNames.{searched_is_among}

@@ -20,7 +20,7 @@ use Rattle.gateway_state.specs.declared.event.Dest.{Dest}
 use Rattle.gateway_state.specs.declared.event.Dest.TheVariants.{Session, Upstream}
 use Rattle.gateway_state.specs.declared.event.Event.{Event}
 use Rattle.gateway_state.specs.declared.event.Event.TheVariants.{Opened, Lost, Client, UpOpened, UpLost, Server, Found, Search, Sweep, Edit, Drain, Limit, Age, Probe}
-use Rattle.gateway_state.specs.Asked.{stands}
+use Rattle.gateway_state.specs.Asked.{is_open}
 use Rattle.gateway_state.specs.Connections.{fresh, given, is_not_to, is_to, marked_now, most_for, outbox_in, outbox_of, relieved, same_dest}
 use Rattle.gateway_state.specs.Delivered.{IsSaidBy, IsWireForm, before_said, given_by, is_loss_of, waiting_for}
 use Rattle.gateway_state.specs.Direct.{direct_effect}
@@ -274,15 +274,15 @@ module _ (event : Event) (dest : Dest) (other : is_loss_of event dest ≡ false)
       left : List Out
       left = waiting_for (before_said w event) dest
 
-      begins : not (stands w dest) ≡ true → waiting_for (step w event) dest ≡ given_by w event dest
+      begins : not (is_open w dest) ≡ true → waiting_for (step w event) dest ≡ given_by w event dest
       begins fresh_now =
-          let none : waiting_for w dest ≡ [] = nothing_waits w.connections dest (not-true (stands w dest) fresh_now) in
+          let none : waiting_for w dest ≡ [] = nothing_waits w.connections dest (not-true (is_open w dest) fresh_now) in
           let empty : left ≡ [] = nothing_left (taken w event dest) left (sym none ∙ taken_first w event dest other) in
           given_last w event dest ∙ ap (λ (l : List Out). l ++ given_by w event dest) empty
 
       by : (made : Bool) → makes w event dest ≡ made
           → cond made [] (before ++ taken w event dest) ++ waiting_for (step w event) dest ≡ cond made [] (before ++ waiting_for w dest) ++ given_by w event dest
-      by true is = begins (and_parts (not (stands w dest)) (stands (step w event) dest) is).0
+      by true is = begins (and_parts (not (is_open w dest)) (is_open (step w event) dest) is).0
       by false is =
           ap (λ (l : List Out). (before ++ taken w event dest) ++ l) (given_last w event dest)
           ∙ sym (append_assoc (before ++ taken w event dest) left (given_by w event dest))

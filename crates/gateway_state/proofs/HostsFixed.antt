@@ -5,9 +5,9 @@ use Rattle.std.specs.List.{count_by, find, fold, list_all, list_any}
 use Rattle.std.proofs.lemmas.Bool.{and_parts, eq-eqb, eqb-true, true≢false}
 use Rattle.std.proofs.lemmas.List.Folds.{list_all-append}
 use Rattle.rows.specs.Rows.{change_first}
-use Rattle.channel_table.specs.declared.channels.Channel.{Channel}
+use Rattle.named_rows.specs.declared.channels.Channel.{Channel}
 use Rattle.channel_table.specs.declared.sessions.Session.{Session}
-use Rattle.channel_table.specs.Channels.{is_channel, is_channel_of, is_not_channel, is_not_channel_of, with_reach_and_rights}
+use Rattle.named_rows.specs.Channels.{is_channel, is_channel_of, is_not_channel, is_not_channel_of, with_reach_and_rights}
 use Rattle.channel_table.specs.ClientRows.{channel_count}
 use Rattle.channel_table.specs.Sessions.{is_not_numbered, is_numbered}
 use Rattle.rule_desk.specs.declared.policy.Policy.{Policy}

@@ -10,12 +10,12 @@ use Rattle.ca_message.specs.declared.to_client.ToClient.{ToClient}
 use Rattle.ca_message.specs.declared.to_client.ToClient.TheVariants as replies
 use Rattle.ca_message.specs.declared.to_server.ToServer.{ToServer}
 use Rattle.ca_message.specs.ClientRequest.{request_of}
-use Rattle.channel_table.specs.declared.channels.Channel.{Channel}
-use Rattle.channel_table.specs.declared.channels.Reach.{Reach}
-use Rattle.channel_table.specs.declared.reads.WaitingRead.{WaitingRead}
+use Rattle.named_rows.specs.declared.channels.Channel.{Channel}
+use Rattle.named_rows.specs.declared.channels.Reach.{Reach}
+use Rattle.named_rows.specs.declared.reads.WaitingRead.{WaitingRead}
 use Rattle.channel_table.specs.declared.sessions.Session.{Session}
-use Rattle.channel_table.specs.declared.subs.ClientSub.{ClientSub}
-use Rattle.channel_table.specs.Channels.{is_channel}
+use Rattle.named_rows.specs.declared.subs.ClientSub.{ClientSub}
+use Rattle.named_rows.specs.Channels.{is_channel}
 use Rattle.channel_table.specs.Sessions.{is_numbered}
 use Rattle.link_table.specs.declared.links.LinkState.{LinkState}
 use Rattle.link_table.specs.declared.links.Subject.{Subject}
@@ -34,14 +34,14 @@ use Rattle.gateway_state.specs.declared.connections.Connection.{Connection}
 use Rattle.fanout.specs.declared.outbox.TheConstants.{OUTBOX_LIMIT}
 use Rattle.fanout.specs.Outbox.{appended}
 use Rattle.fanout.specs.Waiting.{Waiting}
-use Rattle.gateway_state.specs.declared.search.Search.{Search}
+use Rattle.gateway_state.specs.declared.search.RememberedSearch.{RememberedSearch}
 use Rattle.link_table.specs.declared.counter.Counter.TheVariants.{Cid as CountsCids, Subscription as CountsSubscriptions}
 use Rattle.link_table.specs.Counters.{given_out}
 use Rattle.link_table.specs.LinkRows.{has_server}
 use Rattle.link_table.specs.Links.{new_link}
 use Rattle.link_table.specs.Servers.{is_server, with_minor}
 use Rattle.gateway_state.specs.Clients.{next_sid, no_reach, with_channel, without_channel}
-use Rattle.gateway_state.specs.Asked.{stands}
+use Rattle.gateway_state.specs.Asked.{is_open}
 use Rattle.gateway_state.specs.CachedRows.{put_row}
 use Rattle.gateway_state.specs.Connections.{fresh, is_to}
 use Rattle.gateway_state.specs.Delivered.{IsSaidBy}
@@ -74,7 +74,7 @@ with_servers rows w = record w { upstream = record w.upstream { servers = rows }
 abbrev pub with_cache : List LastMessage → Gateway → Gateway
 with_cache rows w = record w { cache = rows }
 
-abbrev pub with_searches : List Search → Gateway → Gateway
+abbrev pub with_searches : List RememberedSearch → Gateway → Gateway
 with_searches rows w = record w { searches = rows }
 
 abbrev pub with_policy : Policy → Gateway → Gateway
@@ -154,7 +154,7 @@ pub record KeepsQuotes (P : Gateway → Type 0) (number : ℕ) (message : Messag
 pub record KeepsRows (P : Gateway → Type 0) : Type 0 where
   pub messages : KeepsMessages P
   pub connection_added : (dest : Dest) (w : Gateway) → ((number : ℕ) → dest ≡ dests.Upstream number → has_server number w.upstream ≡ true) → P w → P (with_connections (w.connections ++ fresh dest ∷ []) w)
-  pub session_added : (row : Session) (w : Gateway) → stands w (dests.Session row.number) ≡ true → P w → P (with_sessions (w.clients.sessions ++ row ∷ []) w)
+  pub session_added : (row : Session) (w : Gateway) → is_open w (dests.Session row.number) ≡ true → P w → P (with_sessions (w.clients.sessions ++ row ∷ []) w)
   pub session_changed : (number : ℕ) (change : Session → Session) (w : Gateway) → KeepsSession change → P w
       → P (with_sessions (change_first (is_numbered number) change w.clients.sessions) w)
   pub server_added : (row : Server) (w : Gateway) → P w → P (with_servers (w.upstream.servers ++ row ∷ []) w)
@@ -162,7 +162,7 @@ pub record KeepsRows (P : Gateway → Type 0) : Type 0 where
   pub cache_left : (stays : LastMessage → Bool) (w : Gateway) → P w → P (with_cache (filter stays w.cache) w)
   pub cached : (server cid : ℕ) (change : Held → Held) (w : Gateway) → P w → P (with_cache (put_row server cid change w.cache) w)
   pub bare : (cid : ℕ) (w : Gateway) → P w → P (forgotten Properties cid w)
-  pub searches : (rows : List Search) (w : Gateway) → P w → P (with_searches rows w)
+  pub searches : (rows : List RememberedSearch) (w : Gateway) → P w → P (with_searches rows w)
   pub policy : (policy : Policy) (w : Gateway) → P w → P (with_policy policy w)
   pub limits : (limits : Limits) (w : Gateway) → P w → P (with_limits limits w)
   pub last_age : (last : LastAge) (w : Gateway) → P w → P (with_last_age last w)
@@ -192,7 +192,7 @@ pub record IsKept (P : Gateway → Type 0) : Type 0 where
 
 -- and new links do
 abbrev pub KeepsLinks : (Gateway → Type 0) → Type 0
-KeepsLinks P = (server : ℕ) (name : List ℕ) (w : Gateway) → is_linked w name ≡ false → stands w (dests.Upstream server) ≡ true → P w → P (with_link server name w)
+KeepsLinks P = (server : ℕ) (name : List ℕ) (w : Gateway) → is_linked w name ≡ false → is_open w (dests.Upstream server) ≡ true → P w → P (with_link server name w)
 
 -- what doesn't depend on outboxes is kept by all that is said
 module _ (P : Gateway → Type 0) (kept : (dest : Dest) (change : Waiting → Waiting) (w : Gateway) → P w → P (with_outbox dest change w)) where

@@ -2,7 +2,7 @@
 use Rattle.std.proofs.Common.{List, [], ◌∷◌, ◌&&◌}
 use Rattle.std.specs.Prelude.{filter, map}
 use Rattle.std.specs.List.{fold}
-use Rattle.link_table.specs.declared.links.Link.{Link}
+use Rattle.link_table.specs.declared.links.LinkRow.{LinkRow}
 use Rattle.link_table.specs.declared.links.Subject.TheVariants.{Properties}
 use Rattle.gateway_state.specs.Aged.{age_told, aged, are_properties_overdue, is_link_overdue, link_given_up, links_given_up, properties_given_up, properties_given_up_on}
 use Rattle.gateway_state.specs.Answer.{native_in}
@@ -13,15 +13,15 @@ use Rattle.gateway_state.proofs.Kept.{KeepsRows}
 use Rattle.gateway_state.proofs.KeptByServers.{kept_all_failed}
 
 module _ (P : Gateway → Type 0) (kept : KeepsRows P) where
-  kept_given_up_on : (w : Gateway) (link : Link) → P w → P (properties_given_up_on w link)
+  kept_given_up_on : (w : Gateway) (link : LinkRow) → P w → P (properties_given_up_on w link)
   kept_given_up_on w link holds =
       kept_all_failed P kept (filter (λ read. waits_for w link.name read && fails_without Properties (native_in link.state) read) w.clients.reads) w holds
 
-  kept_all_given_up_on : (links : List Link) (w : Gateway) → P w → P (fold properties_given_up_on w links)
+  kept_all_given_up_on : (links : List LinkRow) (w : Gateway) → P w → P (fold properties_given_up_on w links)
   kept_all_given_up_on [] w holds = holds
   kept_all_given_up_on (link ∷ links) w holds = kept_all_given_up_on links (properties_given_up_on w link) (kept_given_up_on w link holds)
 
-  kept_links_given_up : (links : List Link) (w : Gateway) → P w → P (fold link_given_up w links)
+  kept_links_given_up : (links : List LinkRow) (w : Gateway) → P w → P (fold link_given_up w links)
   kept_links_given_up [] w holds = holds
   kept_links_given_up (link ∷ links) w holds = kept_links_given_up links (link_given_up w link) (kept.link_removed link.server link.cid w holds)
 

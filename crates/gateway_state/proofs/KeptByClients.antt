@@ -16,22 +16,22 @@ use Rattle.ca_message.specs.declared.to_server.ToServer.TheVariants as to_server
 use Rattle.ca_message.specs.declared.written.WriteFault.{WriteFault}
 use Rattle.ca_message.specs.Written.{Written, written}
 use Rattle.ca_message.specs.ClientRequest.{request_of}
-use Rattle.channel_table.specs.declared.channels.Channel.{Channel}
-use Rattle.channel_table.specs.declared.channels.Reach.{Reach}
-use Rattle.channel_table.specs.declared.reads.WaitingRead.{WaitingRead}
+use Rattle.named_rows.specs.declared.channels.Channel.{Channel}
+use Rattle.named_rows.specs.declared.channels.Reach.{Reach}
+use Rattle.named_rows.specs.declared.reads.WaitingRead.{WaitingRead}
 use Rattle.channel_table.specs.declared.sessions.Session.{Session}
-use Rattle.channel_table.specs.declared.subs.ClientSub.{ClientSub}
-use Rattle.channel_table.specs.Channels.{is_channel}
+use Rattle.named_rows.specs.declared.subs.ClientSub.{ClientSub}
+use Rattle.named_rows.specs.Channels.{is_channel}
 use Rattle.channel_table.specs.ClientRows.{channel_count}
 use Rattle.channel_table.specs.Sessions.{is_numbered}
-use Rattle.link_table.specs.declared.links.Link.{Link}
+use Rattle.link_table.specs.declared.links.LinkRow.{LinkRow}
 use Rattle.link_table.specs.declared.links.LinkState.{LinkState}
 use Rattle.link_table.specs.declared.links.LinkState.TheVariants.{Creating, Connected, Unusable}
 use Rattle.link_table.specs.declared.writes.WaitingWrite.{WaitingWrite}
 use Rattle.link_table.specs.LinkRows.{write_count}
 use Rattle.gateway_state.specs.declared.event.Dest.TheVariants.{Session as ToSession}
 use Rattle.channel_table.specs.ClientRows.{has_sub}
-use Rattle.channel_table.specs.Subs.{is_sub}
+use Rattle.named_rows.specs.Subs.{is_sub}
 use Rattle.gateway_state.specs.declared.limits.TheConstants.{LOWEST_MINOR}
 use Rattle.gateway_state.specs.declared.notice.ReadVerdict.{ReadVerdict}
 use Rattle.gateway_state.specs.declared.notice.ReadVerdict.TheVariants.{NoChannel, Ignored, Refused, Accepted}
@@ -44,7 +44,7 @@ use Rattle.gateway_state.specs.Answer.{value_refusal}
 use Rattle.pv_alias.specs.declared.lead.Lead.{Lead}
 use Rattle.rule_desk.specs.declared.policy.Policy.{Policy}
 use Rattle.gateway_state.specs.declared.connections.Connection.{Connection}
-use Rattle.gateway_state.specs.Asked.{stands}
+use Rattle.gateway_state.specs.Asked.{is_open}
 use Rattle.gateway_state.specs.Clients.{channel_asked, cleared, created, created_as, created_over, creation_failed, judged, next_sid, no_channel, not_connected, read_verdict, remembered, remembered_by, rights_on, versioned, with_channel, with_host_fixed, without_channel, verdict_on, called, fixed, renamed, search_left_by, was_given_out}
 use Rattle.gateway_state.specs.Connections.{fresh, is_to}
 use Rattle.gateway_state.specs.Gateway.{Gateway}
@@ -114,14 +114,14 @@ judged_server w c at sid (Ok value) server upstream_sid handed e = by (may_write
     by true is = cc
     by false is = absurd cc
 
-server_in : (w : Gateway) (c : Channel) (link : Link) (state : LinkState) (dtype count : ℕ) (payload : List ℕ) (server upstream_sid : ℕ) (handed : Written)
+server_in : (w : Gateway) (c : Channel) (link : LinkRow) (state : LinkState) (dtype count : ℕ) (payload : List ℕ) (server upstream_sid : ℕ) (handed : Written)
     → write_verdict_over w c dtype count payload (connected_in link state) ≡ WriteVerdicts.Accepted server upstream_sid handed → link.server ≡ server
 server_in w c link Creating dtype count payload server upstream_sid handed e = absurd cc
 server_in w c link (Connected sid native native_count) dtype count payload server upstream_sid handed e =
     judged_server w c link.server sid (written dtype count native_count payload) server upstream_sid handed e
 server_in w c link Unusable dtype count payload server upstream_sid handed e = absurd cc
 
-server_over : (w : Gateway) (c : Channel) (link : Option Link) (dtype count : ℕ) (payload : List ℕ) (server upstream_sid : ℕ) (handed : Written)
+server_over : (w : Gateway) (c : Channel) (link : Option LinkRow) (dtype count : ℕ) (payload : List ℕ) (server upstream_sid : ℕ) (handed : Written)
     → write_verdict_over w c dtype count payload (connected_over link) ≡ WriteVerdicts.Accepted server upstream_sid handed → is_of_server server link ≡ true
 server_over w c None dtype count payload server upstream_sid handed e = absurd cc
 server_over w c (Some link) dtype count payload server upstream_sid handed e =
@@ -182,7 +182,7 @@ module _ (P : Gateway → Type 0) (kept : KeepsRows P) where
       let new : Session = record { number = number; peer = host; host = host; user = []; host_fixed = false; paused = false } in
       let first : Gateway = with_connections (w.connections ++ fresh (ToSession number) ∷ []) w in
       let second = kept.session_added new first (added_stands number w.connections) (kept.connection_added (ToSession number) w (λ other is. absurd cc) holds) in
-      kept_either P (stands w (ToSession number) || leb w.limits.sessions (length w.clients.sessions)) w (told number replies.Version (with_session w number host))
+      kept_either P (is_open w (ToSession number) || leb w.limits.sessions (length w.clients.sessions)) w (told number replies.Version (with_session w number host))
       (λ _. holds) (kept.messages.telling number replies.Version by_any (with_session w number host) second)
 
   -- new channels
@@ -191,7 +191,7 @@ module _ (P : Gateway → Type 0) (kept : KeepsRows P) where
   abbrev HasHost : ℕ → Gateway → Type 0
   HasHost number w = is_host_fixed (find (is_numbered number) w.clients.sessions) ≡ true
 
-  kept_created : (number cid : ℕ) (name : List ℕ) (lead : Lead) (link : Link) (native : Native) (w : Gateway) → HasHost number w → P w → P (created number cid name lead link native w)
+  kept_created : (number cid : ℕ) (name : List ℕ) (lead : Lead) (link : LinkRow) (native : Native) (w : Gateway) → HasHost number w → P w → P (created number cid name lead link native w)
   kept_created number cid name lead link native w fixed holds =
       let rights : ℕ = rights_on w lead link in
       let first : Gateway = with_channel number cid name lead.real rights w in

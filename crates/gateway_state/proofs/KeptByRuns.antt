@@ -7,8 +7,8 @@ use Rattle.ca_header.specs.declared.header.Message.{Message}
 use Rattle.ca_message.specs.declared.codes.TheConstants.{ECA_NORDACCESS}
 use Rattle.ca_message.specs.declared.to_client.ToClient.TheVariants as replies
 use Rattle.ca_message.specs.declared.to_server.ToServer.TheVariants as requests
-use Rattle.channel_table.specs.declared.subs.ClientSub.{ClientSub}
-use Rattle.channel_table.specs.Subs.{is_sub_on}
+use Rattle.named_rows.specs.declared.subs.ClientSub.{ClientSub}
+use Rattle.named_rows.specs.Subs.{is_sub_on}
 use Rattle.link_table.specs.declared.links.LinkState.TheVariants.{Creating, Connected, Unusable}
 use Rattle.link_table.specs.declared.links.Subject.TheVariants.{Values, Properties}
 use Rattle.gateway_state.specs.declared.event.Dest.TheVariants as dests
@@ -36,7 +36,7 @@ use Rattle.gateway_state.specs.Servers.{found, server_said, without_link}
 use Rattle.gateway_state.specs.Step.{consequences, run, step}
 use Rattle.gateway_state.specs.Subscribing.{unreadable_told}
 use Rattle.gateway_state.specs.Telling.{told}
-use Rattle.gateway_state.specs.Updates.{is_taking, update_notices, update_told, updates_withheld, with_owed_of, withheld}
+use Rattle.gateway_state.specs.Updates.{takes_updates, update_notices, update_told, updates_withheld, with_owed_of, withheld}
 use Rattle.gateway_state.proofs.Kept.{IsKept, KeepsLinks, KeepsQuotes, KeepsRows, by_any, kept_either, kept_owed_to_all, quotes_kept, with_new_subscription}
 use Rattle.gateway_state.proofs.KeptByAge.{kept_aged}
 use Rattle.gateway_state.proofs.KeptByClients.{kept_client_said, kept_opened, kept_remembered}
@@ -132,7 +132,7 @@ module _ (P : Gateway → Type 0) (kept : KeepsRows P) where
   kept_update_told : (w : Gateway) (notice : UpdateNotice) → IsUpdate notice → P w → P (update_told w notice)
   kept_update_told w notice laid holds =
       let served : Gateway = with_owed_of notice.session notice.id false w in
-      kept_either P (is_taking w notice.session) (told notice.session (replies.Update notice.id notice.dtype notice.count notice.payload) served) w
+      kept_either P (takes_updates w notice.session) (told notice.session (replies.Update notice.id notice.dtype notice.count notice.payload) served) w
       (λ _. kept.messages.telling notice.session (replies.Update notice.id notice.dtype notice.count notice.payload) (λ event number. laid) served (kept.sub_changed notice.session notice.id false w holds))
       holds
 

@@ -10,9 +10,9 @@ use Rattle.ca_message.specs.declared.reply.ServerReply.TheVariants as says
 use Rattle.ca_message.specs.declared.to_client.ToClient.TheVariants as replies
 use Rattle.ca_message.specs.declared.to_server.ToServer.TheVariants as requests
 use Rattle.ca_message.specs.ServerReply.{reply_of}
-use Rattle.channel_table.specs.declared.reads.WaitingRead.{WaitingRead}
-use Rattle.channel_table.specs.declared.subs.ClientSub.{ClientSub}
-use Rattle.link_table.specs.declared.links.Link.{Link}
+use Rattle.named_rows.specs.declared.reads.WaitingRead.{WaitingRead}
+use Rattle.named_rows.specs.declared.subs.ClientSub.{ClientSub}
+use Rattle.link_table.specs.declared.links.LinkRow.{LinkRow}
 use Rattle.link_table.specs.declared.links.LinkState.{LinkState}
 use Rattle.link_table.specs.declared.links.LinkState.TheVariants.{Creating, Connected, Unusable}
 use Rattle.link_table.specs.declared.links.Subject.{Subject}
@@ -21,7 +21,7 @@ use Rattle.link_table.specs.Links.{has_subscription, is_link, sub_at}
 use Rattle.value_cache.specs.Held.{Held}
 use Rattle.gateway_state.specs.declared.event.Dest.TheVariants.{Upstream}
 use Rattle.gateway_state.specs.Answer.{native_in}
-use Rattle.gateway_state.specs.Asked.{acts, ends, stands}
+use Rattle.gateway_state.specs.Asked.{acts, must_end, is_open}
 use Rattle.gateway_state.specs.Gateway.{Gateway}
 use Rattle.gateway_state.specs.Servers.{answered_creating, concerned_owed, concerns, created_for, failed_for, fails_without, found, gone_for, held_with, is_heard, is_usable, linked, next_cid, read_failed, reads_failed, replied, rights_given, server_said, subject_of, updated_by, updated_link, updated_under, waits_for, with_held, with_link_state, without_link}
 use Rattle.gateway_state.specs.Sessions.{introduced, up_opened, with_server}
@@ -60,7 +60,7 @@ module _ (P : Gateway → Type 0) (kept : KeepsRows P) where
       let new : Server = record { number = number; minor = 0 } in
       let first : Gateway = with_servers (w.upstream.servers ++ new ∷ []) w in
       let second = kept.connection_added (Upstream number) first (λ other is. server_there other number w.upstream.servers is) (kept.server_added new w holds) in
-      kept_either P (stands w (Upstream number) || leb w.limits.servers (length w.upstream.servers)) w (introduced number (with_server w number))
+      kept_either P (is_open w (Upstream number) || leb w.limits.servers (length w.upstream.servers)) w (introduced number (with_server w number))
       (λ _. holds) (kept_introduced number (with_server w number) second)
 
 -- a new link, where it keeps it
@@ -68,21 +68,21 @@ module _ (P : Gateway → Type 0) (messages : KeepsMessages P) where
   kept_linked : (w : Gateway) (server : ℕ) (name : List ℕ) → P (with_link server name w) → P (linked w server name)
   kept_linked w server name holds = messages.asking server (requests.CreateChannel (next_cid w) name) (with_link server name w) holds
 
-  pub kept_found : (w : Gateway) (name : List ℕ) (server : ℕ) → (is_linked w name ≡ false → stands w (Upstream server) ≡ true → P (with_link server name w))
+  pub kept_found : (w : Gateway) (name : List ℕ) (server : ℕ) → (is_linked w name ≡ false → is_open w (Upstream server) ≡ true → P (with_link server name w))
       → P w → P (found w name server)
   kept_found w name server with_it holds =
       kept_either P (is_missing w name && acts w (Upstream server) && ltb (length w.upstream.links) w.limits.links) (linked w server name) w
       (λ e.
       let tests = and_parts (is_missing w name && acts w (Upstream server)) (ltb (length w.upstream.links) w.limits.links) e in
       let parts = and_parts (is_missing w name) (acts w (Upstream server)) tests.0 in
-      let standing = and_parts (stands w (Upstream server)) (not (ends w (Upstream server))) parts.1 in
+      let standing = and_parts (is_open w (Upstream server)) (not (must_end w (Upstream server))) parts.1 in
       kept_linked w server name (with_it (not-true (is_linked w name) (and_parts (is_wanted w name) (not (is_linked w name)) parts.0).1) standing.0))
       holds
 
 module _ (P : Gateway → Type 0) (kept : KeepsRows P) where
   -- changes of one link
 
-  kept_created_for : (server cid sid dtype count : ℕ) (link : Option Link) (w : Gateway) → P w → P (created_for server cid sid dtype count link w)
+  kept_created_for : (server cid sid dtype count : ℕ) (link : Option LinkRow) (w : Gateway) → P w → P (created_for server cid sid dtype count link w)
   kept_created_for server cid sid dtype count None w holds = kept.messages.asking server (requests.ClearChannel sid cid) w holds
   kept_created_for server cid sid dtype count (Some link) w holds =
       let connected : Gateway = with_link_state server cid (Connected sid dtype count) link.rights w in
@@ -93,16 +93,16 @@ module _ (P : Gateway → Type 0) (kept : KeepsRows P) where
       (kept.messages.asking server (requests.ClearChannel sid cid) unusable (kept.link_changed server cid Unusable link.rights w holds)))
       holds
 
-  kept_rights_given : (server cid rights : ℕ) (link : Option Link) (w : Gateway) → P w → P (rights_given server cid rights link w)
+  kept_rights_given : (server cid rights : ℕ) (link : Option LinkRow) (w : Gateway) → P w → P (rights_given server cid rights link w)
   kept_rights_given server cid rights None w holds = holds
   kept_rights_given server cid rights (Some link) w holds = kept.link_changed server cid link.state rights w holds
 
-  kept_failed_for : (server cid : ℕ) (link : Option Link) (w : Gateway) → P w → P (failed_for server cid link w)
+  kept_failed_for : (server cid : ℕ) (link : Option LinkRow) (w : Gateway) → P w → P (failed_for server cid link w)
   kept_failed_for server cid None w holds = holds
   kept_failed_for server cid (Some link) w holds =
       kept_either P (is_creating link.state) (without_link server cid w) w (λ _. kept.link_removed server cid w holds) holds
 
-  kept_gone_for : (server cid : ℕ) (link : Option Link) (w : Gateway) → P w → P (gone_for server cid link w)
+  kept_gone_for : (server cid : ℕ) (link : Option LinkRow) (w : Gateway) → P w → P (gone_for server cid link w)
   kept_gone_for server cid None w holds = holds
   kept_gone_for server cid (Some link) w holds = kept.link_removed server cid w holds
 
@@ -116,7 +116,7 @@ module _ (P : Gateway → Type 0) (kept : KeepsRows P) where
   kept_all_failed [] w holds = holds
   kept_all_failed (read ∷ reads) w holds = kept_all_failed reads (read_failed w read) (kept_read_failed w read holds)
 
-  kept_updated_link : (subject : Subject) (link : Link) (state : LinkState) (sub : Option Subscription) (dtype count : ℕ) (payload : List ℕ) (w : Gateway) → P w → P (updated_link subject link state sub dtype count payload w)
+  kept_updated_link : (subject : Subject) (link : LinkRow) (state : LinkState) (sub : Option Subscription) (dtype count : ℕ) (payload : List ℕ) (w : Gateway) → P w → P (updated_link subject link state sub dtype count payload w)
   kept_updated_link subject link (Connected sid native native_count) (Some sub) dtype count payload w holds =
       let change : Held → Held = held_with subject dtype count payload sub.count in
       let passes : ClientSub → Bool = concerns subject w link.cid dtype count payload in
@@ -127,7 +127,7 @@ module _ (P : Gateway → Type 0) (kept : KeepsRows P) where
   kept_updated_link subject link Creating sub dtype count payload w holds = holds
   kept_updated_link subject link Unusable sub dtype count payload w holds = holds
 
-  kept_updated_under : (subject : Subject) (status dtype count : ℕ) (payload : List ℕ) (link : Link) (w : Gateway) → P w → P (updated_under subject status dtype count payload link w)
+  kept_updated_under : (subject : Subject) (status dtype count : ℕ) (payload : List ℕ) (link : LinkRow) (w : Gateway) → P w → P (updated_under subject status dtype count payload link w)
   kept_updated_under subject status dtype count payload link w holds =
       let sub : Option Subscription = sub_at subject link.subscriptions in
       let fails : WaitingRead → Bool = fails_without subject (native_in link.state) in
@@ -135,7 +135,7 @@ module _ (P : Gateway → Type 0) (kept : KeepsRows P) where
       (λ _. kept_updated_link subject link link.state sub dtype count payload w holds)
       (kept_all_failed (filter (λ read. waits_for w link.name read && fails read) w.clients.reads) w holds)
 
-  kept_updated_by : (id status dtype count : ℕ) (payload : List ℕ) (link : Option Link) (w : Gateway) → P w → P (updated_by id status dtype count payload link w)
+  kept_updated_by : (id status dtype count : ℕ) (payload : List ℕ) (link : Option LinkRow) (w : Gateway) → P w → P (updated_by id status dtype count payload link w)
   kept_updated_by id status dtype count payload None w holds = holds
   kept_updated_by id status dtype count payload (Some link) w holds = kept_updated_under (subject_of id link) status dtype count payload link w holds
 

@@ -4,9 +4,9 @@ use Rattle.std.specs.Prelude.{filter_map}
 use Rattle.std.specs.List.{All, cons_option, find}
 use Rattle.std.proofs.lemmas.List.Elements.{All-cons, All-nil}
 use Rattle.ca_message.specs.declared.codes.TheConstants.{ECA_NORDACCESS}
-use Rattle.channel_table.specs.declared.channels.Channel.{Channel}
-use Rattle.channel_table.specs.declared.reads.WaitingRead.{WaitingRead}
-use Rattle.channel_table.specs.declared.subs.ClientSub.{ClientSub}
+use Rattle.named_rows.specs.declared.channels.Channel.{Channel}
+use Rattle.named_rows.specs.declared.reads.WaitingRead.{WaitingRead}
+use Rattle.named_rows.specs.declared.subs.ClientSub.{ClientSub}
 use Rattle.value_cache.specs.Held.{answer, covers}
 use Rattle.gateway_state.specs.declared.cached.LastMessage.{LastMessage}
 use Rattle.gateway_state.specs.declared.notice.ReadNotice.{ReadNotice}

@@ -8,11 +8,11 @@ use Rattle.std.proofs.lemmas.List.Folds.{list_any-append}
 use Rattle.std.proofs.lemmas.Slice.Eq.{bytes_eq-Decides}
 use Rattle.rows.specs.Rows.{change_first, remove_first}
 use Rattle.channel_table.specs.declared.sessions.Session.{Session}
-use Rattle.channel_table.proofs.Lists.{found_passes}
+use Rattle.named_rows.proofs.Lists.{found_passes}
 use Rattle.pv_name.specs.Host.{lowercase, same_host}
 use Rattle.rule_desk.specs.declared.policy.Policy.{Policy}
 use Rattle.gateway_state.specs.declared.limits.Limits.{Limits}
-use Rattle.gateway_state.specs.declared.search.Search.{Search}
+use Rattle.gateway_state.specs.declared.search.RememberedSearch.{RememberedSearch}
 use Rattle.gateway_state.specs.Clients.{search_left_by}
 use Rattle.gateway_state.specs.Gateway.{Gateway}
 use Rattle.gateway_state.specs.Searches.{grown_stale, has_its_share, is_fresh, is_from, is_stale, leads_to, left_by_channel, left_by_search, made_now, outworn, refreshed, same_search, with_search, without_search}
@@ -72,19 +72,19 @@ found_by_stricter test stricter (first ∷ rows) row is less passes =
 
 -- ---- searches that are the same
 
-same_as_itself : (row : Search) → same_search row.host row.name row ≡ true
+same_as_itself : (row : RememberedSearch) → same_search row.host row.name row ≡ true
 same_as_itself row =
     and_from (bytes_eq row.name row.name) (same_host row.host row.host) ((bytes_eq-Decides row.name row.name).1 refl)
     ((bytes_eq-Decides (lowercase row.host) (lowercase row.host)).1 refl)
 
 -- a search that is the same as one of a host is the host's too
-from_same : (host : List ℕ) (row other : Search) → is_from host row ≡ true → same_search row.host row.name other ≡ true → is_from host other ≡ true
+from_same : (host : List ℕ) (row other : RememberedSearch) → is_from host row ≡ true → same_search row.host row.name other ≡ true → is_from host other ≡ true
 from_same host row other from same =
     let parts = and_parts (bytes_eq other.name row.name) (same_host other.host row.host) same in
     (bytes_eq-Decides (lowercase other.host) (lowercase host)).1
     ((bytes_eq-Decides (lowercase other.host) (lowercase row.host)).0 parts.1 ∙ (bytes_eq-Decides (lowercase row.host) (lowercase host)).0 from)
 
-same_by_same : (host name : List ℕ) (row other : Search) → same_search host name row ≡ true → same_search row.host row.name other ≡ true → same_search host name other ≡ true
+same_by_same : (host name : List ℕ) (row other : RememberedSearch) → same_search host name row ≡ true → same_search row.host row.name other ≡ true → same_search host name other ≡ true
 same_by_same host name row other first second =
     let here = and_parts (bytes_eq row.name name) (same_host row.host host) first in
     let there = and_parts (bytes_eq other.name row.name) (same_host other.host row.host) second in
@@ -95,33 +95,33 @@ same_by_same host name row other first second =
 -- ---- the search that goes
 
 -- it is remembered, and the first of its host and name
-abbrev pub IsFirst : List Search → Option Search → Type 0
+abbrev pub IsFirst : List RememberedSearch → Option RememberedSearch → Type 0
 IsFirst rows None = Unit {0}
 IsFirst rows (Some row) = find (same_search row.host row.name) rows ≡ Some row
 
-from_first : (host : List ℕ) (rows : List Search) → IsFirst rows (find (is_from host) rows)
+from_first : (host : List ℕ) (rows : List RememberedSearch) → IsFirst rows (find (is_from host) rows)
 from_first host rows = by (find (is_from host) rows) refl
   where
-    by : (found : Option Search) → find (is_from host) rows ≡ found → IsFirst rows found
+    by : (found : Option RememberedSearch) → find (is_from host) rows ≡ found → IsFirst rows found
     by None is = record {}
     by (Some row) is =
         found_by_stricter (is_from host) (same_search row.host row.name) rows row is
         (λ other same. from_same host row other (found_passes (is_from host) rows row is) same) (same_as_itself row)
 
-same_first : (host name : List ℕ) (rows : List Search) → IsFirst rows (find (same_search host name) rows)
+same_first : (host name : List ℕ) (rows : List RememberedSearch) → IsFirst rows (find (same_search host name) rows)
 same_first host name rows = by (find (same_search host name) rows) refl
   where
-    by : (found : Option Search) → find (same_search host name) rows ≡ found → IsFirst rows found
+    by : (found : Option RememberedSearch) → find (same_search host name) rows ≡ found → IsFirst rows found
     by None is = record {}
     by (Some row) is =
         found_by_stricter (same_search host name) (same_search row.host row.name) rows row is
         (λ other same. same_by_same host name row other (found_passes (same_search host name) rows row is) same) (same_as_itself row)
 
-oldest_first : (rows : List Search) → IsFirst rows (slice_get rows 0)
+oldest_first : (rows : List RememberedSearch) → IsFirst rows (slice_get rows 0)
 oldest_first [] = record {}
 oldest_first (row ∷ rows) = rw (same_as_itself row) refl
 
-pub outworn_first : (limits : Limits) (host : List ℕ) (rows : List Search) → IsFirst rows (outworn limits host rows)
+pub outworn_first : (limits : Limits) (host : List ℕ) (rows : List RememberedSearch) → IsFirst rows (outworn limits host rows)
 outworn_first limits host rows = by (has_its_share limits host rows) (nat_le limits.searches (length rows))
   where
     by : (share full : Bool) → IsFirst rows (cond share (find (is_from host) rows) (cond full (slice_get rows 0) None))
@@ -129,12 +129,12 @@ outworn_first limits host rows = by (has_its_share limits host rows) (nat_le lim
     by false true = oldest_first rows
     by false false = record {}
 
-pub left_by_search_first : (limits : Limits) (host name : List ℕ) (rows : List Search) → IsFirst rows (left_by_search limits host name rows)
+pub left_by_search_first : (limits : Limits) (host name : List ℕ) (rows : List RememberedSearch) → IsFirst rows (left_by_search limits host name rows)
 left_by_search_first limits host name rows =
     elim (list_any (same_search host name) rows || not limits.makes_room) as (λ t. IsFirst rows (cond t None (outworn limits host rows)))
     [ true ↦ record {} | false ↦ outworn_first limits host rows ]
 
-pub left_by_channel_first : (limits : Limits) (host name : List ℕ) (rows : List Search) → IsFirst rows (left_by_channel limits host name rows)
+pub left_by_channel_first : (limits : Limits) (host name : List ℕ) (rows : List RememberedSearch) → IsFirst rows (left_by_channel limits host name rows)
 left_by_channel_first limits host name rows =
     elim limits.makes_room as (λ t. IsFirst rows (cond t (find (same_search host name) rows) None))
     [ true ↦ same_first host name rows | false ↦ record {} ]
@@ -146,7 +146,7 @@ search_left_by_first (Some row) name w = left_by_channel_first w.limits row.peer
 -- ---- what the others lead to
 
 -- a name that the search which goes doesn't lead to is led to as before
-pub left_leads : (policy : Policy) (left : Option Search) (rows : List Search) (x : List ℕ) → IsFirst rows left
+pub left_leads : (policy : Policy) (left : Option RememberedSearch) (rows : List RememberedSearch) (x : List ℕ) → IsFirst rows left
     → is_among (search_names policy (cons_option left [])) x ≡ false
     → list_any (leads_to policy x) (without_search left rows) ≡ list_any (leads_to policy x) rows
 left_leads policy None rows x first none = refl
@@ -156,28 +156,28 @@ left_leads policy (Some row) rows x first none =
     ∙ ap (λ (t : Bool). t || list_any (leads_to policy x) (remove_first (same_search row.host row.name) rows)) unled)
 
 -- the search that is remembered for the first time, where one is
-abbrev pub added_by_search : Limits → List ℕ → List ℕ → List Search → List Search
+abbrev pub added_by_search : Limits → List ℕ → List ℕ → List RememberedSearch → List RememberedSearch
 added_by_search limits host name rows =
     cond (list_any (same_search host name) rows) []
     (cond limits.makes_room (made_now host name ∷ []) (cond (nat_le limits.searches (length rows)) [] (made_now host name ∷ [])))
 
 -- once a host searched, such a name is led to as before, or by the new search
-pub searched_leads : (policy : Policy) (limits : Limits) (host name : List ℕ) (rows : List Search) (x : List ℕ)
+pub searched_leads : (policy : Policy) (limits : Limits) (host name : List ℕ) (rows : List RememberedSearch) (x : List ℕ)
     → is_among (search_names policy (cons_option (left_by_search limits host name rows) [])) x ≡ false
     → list_any (leads_to policy x) (with_search limits host name rows) ≡ list_any (leads_to policy x) (rows ++ added_by_search limits host name rows)
 searched_leads policy limits host name rows x none =
     by (list_any (same_search host name) rows) limits.makes_room (nat_le limits.searches (length rows)) none
   where
-    same : Search → Bool
+    same : RememberedSearch → Bool
     same = same_search host name
 
-    leads : Search → Bool
+    leads : RememberedSearch → Bool
     leads = leads_to policy x
 
-    new : List Search
+    new : List RememberedSearch
     new = made_now host name ∷ []
 
-    left : Option Search
+    left : Option RememberedSearch
     left = outworn limits host rows
 
     by : (there room full : Bool) → is_among (search_names policy (cons_option (cond (there || not room) None left) [])) x ≡ false
@@ -197,16 +197,16 @@ searched_leads policy limits host name rows x none =
 -- ---- as time passes
 
 -- what searches lead to doesn't depend on when they were made
-pub grown_stale_names : (policy : Policy) (rows : List Search) → search_names policy (map grown_stale rows) ≡ search_names policy rows
+pub grown_stale_names : (policy : Policy) (rows : List RememberedSearch) → search_names policy (map grown_stale rows) ≡ search_names policy rows
 grown_stale_names policy [] = refl
 grown_stale_names policy (row ∷ rows) = ap (λ (names : List (List ℕ)). cons_option (search_name policy row) names) (grown_stale_names policy rows)
 
-stale_or_fresh : (policy : Policy) (rows : List Search) (x : List ℕ) → list_any (leads_to policy x) rows
+stale_or_fresh : (policy : Policy) (rows : List RememberedSearch) (x : List ℕ) → list_any (leads_to policy x) rows
     ≡ (list_any (leads_to policy x) (filter is_stale rows) || list_any (leads_to policy x) (map grown_stale (filter is_fresh rows)))
 stale_or_fresh policy [] x = refl
 stale_or_fresh policy (row ∷ rows) x = by row.fresh (stale_or_fresh policy rows x)
   where
-    leads : Search → Bool
+    leads : RememberedSearch → Bool
     leads = leads_to policy x
 
     together : (a b c : Bool) → (a || (b || c)) ≡ ((a || b) || c)
@@ -225,7 +225,7 @@ stale_or_fresh policy (row ∷ rows) x = by row.fresh (stale_or_fresh policy row
         ∙ together (leads row) (list_any leads (filter is_stale rows)) (list_any leads (map grown_stale (filter is_fresh rows)))
 
 -- a name that no stale search leads to is led to as before, once those are forgotten
-pub fresh_leads : (policy : Policy) (rows : List Search) (x : List ℕ) → is_among (search_names policy (filter is_stale rows)) x ≡ false
+pub fresh_leads : (policy : Policy) (rows : List RememberedSearch) (x : List ℕ) → is_among (search_names policy (filter is_stale rows)) x ≡ false
     → list_any (leads_to policy x) (map grown_stale (filter is_fresh rows)) ≡ list_any (leads_to policy x) rows
 fresh_leads policy rows x none =
     sym (stale_or_fresh policy rows x

@@ -4,7 +4,7 @@ use Rattle.std.specs.Prelude.{filter, is_some}
 use Rattle.std.specs.List.{find}
 use Rattle.std.proofs.lemmas.Slice.Eq.{bytes_eq-Decides}
 use Rattle.rows.specs.Rows.{change_first}
-use Rattle.link_table.specs.declared.links.Link.{Link}
+use Rattle.link_table.specs.declared.links.LinkRow.{LinkRow}
 use Rattle.link_table.specs.Links.{is_link, is_named, is_not_link, is_not_of, new_link, with_state, with_subscription}
 use Rattle.gateway_state.specs.declared.config.Config.{Config}
 use Rattle.rule_desk.specs.declared.policy.Policy.{Policy}
@@ -61,7 +61,7 @@ passing_pushed test (row ∷ rows) new =
     [ true ↦ omega arith | false ↦ rest ]
 
 -- a link for a name that had none
-apart_pushed : (links : List Link) (new : Link) → is_some (find (is_named new.name) links) ≡ false → ((name : List ℕ) → length (filter (is_named name) links) ≤ 1)
+apart_pushed : (links : List LinkRow) (new : LinkRow) → is_some (find (is_named new.name) links) ≡ false → ((name : List ℕ) → length (filter (is_named name) links) ≤ 1)
     → (name : List ℕ) → length (filter (is_named name) (links ++ new ∷ [])) ≤ 1
 apart_pushed links new missing apart name = by (is_named name new) refl
   where
@@ -79,12 +79,12 @@ apart_pushed links new missing apart name = by (is_named name new) refl
         let most = apart name in
         omega arith
 
-apart_filtered : (links : List Link) (test : Link → Bool) → ((name : List ℕ) → length (filter (is_named name) links) ≤ 1) → (name : List ℕ) → length (filter (is_named name) (filter test links)) ≤ 1
+apart_filtered : (links : List LinkRow) (test : LinkRow → Bool) → ((name : List ℕ) → length (filter (is_named name) links) ≤ 1) → (name : List ℕ) → length (filter (is_named name) (filter test links)) ≤ 1
 apart_filtered links test apart name =
     let most = apart name in
     omega (arith, passing_filtered (is_named name) test links)
 
-pub apart_changed : (links : List Link) (test : Link → Bool) (change : Link → Link) → ((name : List ℕ) (link : Link) → is_named name (change link) ≡ is_named name link)
+pub apart_changed : (links : List LinkRow) (test : LinkRow → Bool) (change : LinkRow → LinkRow) → ((name : List ℕ) (link : LinkRow) → is_named name (change link) ≡ is_named name link)
     → ((name : List ℕ) → length (filter (is_named name) links) ≤ 1) → (name : List ℕ) → length (filter (is_named name) (change_first test change links)) ≤ 1
 apart_changed links test change unseen apart name =
     let most = apart name in

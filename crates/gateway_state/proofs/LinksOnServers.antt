@@ -4,7 +4,7 @@ use Rattle.std.specs.Prelude.{filter}
 use Rattle.std.specs.List.{list_all, list_any}
 use Rattle.std.proofs.lemmas.Bool.{eqb-true}
 use Rattle.std.proofs.lemmas.List.Folds.{list_all-append, list_any-append}
-use Rattle.link_table.specs.declared.links.Link.{Link}
+use Rattle.link_table.specs.declared.links.LinkRow.{LinkRow}
 use Rattle.link_table.specs.Links.{is_link, is_not_link, is_not_of, with_state, with_subscription}
 use Rattle.gateway_state.specs.declared.config.Config.{Config}
 use Rattle.rule_desk.specs.declared.policy.Policy.{Policy}
@@ -28,11 +28,11 @@ not_a_client number server (Session n) same = absurd cc
 not_a_client number server (Upstream n) same = refl
 
 -- links stay with their servers where other connections go
-links_left : (rows : List Connection) (number : ℕ) (links : List Link)
-    → list_all (λ (link : Link). list_any (is_to (Upstream link.server)) rows) links ≡ true
-    → list_all (λ (link : Link). list_any (is_to (Upstream link.server)) (filter (is_not_to (Session number)) rows)) links ≡ true
+links_left : (rows : List Connection) (number : ℕ) (links : List LinkRow)
+    → list_all (λ (link : LinkRow). list_any (is_to (Upstream link.server)) rows) links ≡ true
+    → list_all (λ (link : LinkRow). list_any (is_to (Upstream link.server)) (filter (is_not_to (Session number)) rows)) links ≡ true
 links_left rows number links on =
-    all_weaker (λ (link : Link). list_any (is_to (Upstream link.server)) rows) (λ (link : Link). list_any (is_to (Upstream link.server)) (filter (is_not_to (Session number)) rows)) links
+    all_weaker (λ (link : LinkRow). list_any (is_to (Upstream link.server)) rows) (λ (link : LinkRow). list_any (is_to (Upstream link.server)) (filter (is_not_to (Session number)) rows)) links
     (λ link there. any_filtered (is_to (Upstream link.server)) (is_not_to (Session number)) rows (λ row same. not_a_client number link.server row.dest same) there) on
 
 -- another server is none of this number
@@ -42,13 +42,13 @@ another_server number server (Upstream n) other same = ap (λ (m : ℕ). not (eq
 
 -- a server's links go with it, and the others stay
 module _ (rows : List Connection) (number : ℕ) where
-  abbrev stood : Link → Bool
+  abbrev stood : LinkRow → Bool
   stood link = list_any (is_to (Upstream link.server)) rows
 
-  abbrev stands_still : Link → Bool
+  abbrev stands_still : LinkRow → Bool
   stands_still link = list_any (is_to (Upstream link.server)) (filter (is_not_to (Upstream number)) rows)
 
-  others_left : (links : List Link) → list_all stood links ≡ true → list_all stands_still (filter (is_not_of number) links) ≡ true
+  others_left : (links : List LinkRow) → list_all stood links ≡ true → list_all stands_still (filter (is_not_of number) links) ≡ true
   others_left links on =
       all_left stood stands_still (is_not_of number) links
       (λ link other there. any_filtered (is_to (Upstream link.server)) (is_not_to (Upstream number)) rows (λ row same. another_server number link.server row.dest other same) there) on
@@ -65,7 +65,7 @@ links_on_servers_kept = record {
   rows = record {
     messages = messages_kept HasLinksOnServers outboxes_changed;
     connection_added = λ dest w rowed on.
-        all_weaker (is_on_server w) (λ (link : Link). list_any (is_to (Upstream link.server)) (w.connections ++ fresh dest ∷ [])) w.upstream.links
+        all_weaker (is_on_server w) (λ (link : LinkRow). list_any (is_to (Upstream link.server)) (w.connections ++ fresh dest ∷ [])) w.upstream.links
         (λ link there. list_any-append (is_to (Upstream link.server)) w.connections (fresh dest ∷ []) ∙ rw there refl) on;
     session_added = λ row w there on. on;
     session_changed = λ number change w same on. on;

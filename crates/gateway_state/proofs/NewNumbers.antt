@@ -3,10 +3,10 @@ use Rattle.std.proofs.Common.{◌≡◌, ℕ, ◌<◌, List, map, true, false, e
 use Rattle.std.specs.Prelude.{filter, flat_map, if◌then◌else◌}
 use Rattle.std.specs.List.{list_any}
 use Rattle.std.proofs.lemmas.Bool.{and_parts, and_right, ltb-true, ne_eqb, or_from, or_parts}
-use Rattle.channel_table.specs.declared.channels.Channel.{Channel}
-use Rattle.channel_table.specs.Channels.{is_channel, is_channel_of}
+use Rattle.named_rows.specs.declared.channels.Channel.{Channel}
+use Rattle.named_rows.specs.Channels.{is_channel, is_channel_of}
 use Rattle.channel_table.specs.ClientRows.{has_channel}
-use Rattle.link_table.specs.declared.links.Link.{Link}
+use Rattle.link_table.specs.declared.links.LinkRow.{LinkRow}
 use Rattle.link_table.specs.declared.links.Subject.{Subject}
 use Rattle.link_table.specs.declared.links.Subject.TheVariants.{Values, Properties}
 use Rattle.link_table.specs.declared.links.Subscription.{Subscription}
@@ -43,7 +43,7 @@ new_sid w session order =
 
 -- LINKS
 
-other_link : (next : ℕ) (link : Link) → has_cid_below next link ≡ true → is_of_cid next link ≡ false
+other_link : (next : ℕ) (link : LinkRow) → has_cid_below next link ≡ true → is_of_cid next link ≡ false
 other_link next link below = let less : link.cid < next = ltb-true link.cid next below in ne_eqb link.cid next (λ same. omega (arith, less, same))
 
 -- no link has the next number
@@ -69,7 +69,7 @@ other_id : (next : ℕ) (sub : Option Subscription) → is_sub_below next sub �
 other_id next None below = refl
 other_id next (Some sub) below = let less : sub.id < next = ltb-true sub.id next below in ne_eqb sub.id next (λ same. omega (arith, less, same))
 
-other_ids : (server next : ℕ) (link : Link) → has_id_below next link ≡ true → has_subscription server next link ≡ false
+other_ids : (server next : ℕ) (link : LinkRow) → has_id_below next link ≡ true → has_subscription server next link ≡ false
 other_ids server next link below =
     let both = and_parts (is_sub_below next link.subscriptions.values) (is_sub_below next link.subscriptions.properties) below in
     or_from (is_of server link && has_id next link.subscriptions.values) (is_of server link && has_id next link.subscriptions.properties)
@@ -86,7 +86,7 @@ new_sub_id w server order =
     (λ id beyond. no_sub_past server id w.upstream.links beyond)
 
 -- a link without the ID is without it too once it lost a subscription
-without_it : (server id : ℕ) (subject : Subject) (link : Link) → has_subscription server id link ≡ false → has_subscription server id (with_subscription subject None link) ≡ false
+without_it : (server id : ℕ) (subject : Subject) (link : LinkRow) → has_subscription server id link ≡ false → has_subscription server id (with_subscription subject None link) ≡ false
 without_it server id Values link none =
     or_from (is_of server link && false) (is_of server link && has_id id link.subscriptions.properties) (and_right (is_of server link) false refl)
     (or_parts (is_of server link && has_id id link.subscriptions.values) (is_of server link && has_id id link.subscriptions.properties) none).1
@@ -94,7 +94,7 @@ without_it server id Properties link none =
     or_from (is_of server link && has_id id link.subscriptions.values) (is_of server link && false)
     (or_parts (is_of server link && has_id id link.subscriptions.values) (is_of server link && has_id id link.subscriptions.properties) none).0 (and_right (is_of server link) false refl)
 
-no_other : (server cid : ℕ) (subject : Subject) (id : ℕ) (link : Link) → has_subscription server id link ≡ false → has_other_sub server cid subject id link ≡ false
+no_other : (server cid : ℕ) (subject : Subject) (id : ℕ) (link : LinkRow) → has_subscription server id link ≡ false → has_other_sub server cid subject id link ≡ false
 no_other server cid subject id link none =
     elim (is_link server cid link) as (λ t. has_subscription server id (if t then with_subscription subject None link else link) ≡ false)
     [ true ↦ without_it server id subject link none | false ↦ none ]

@@ -6,7 +6,7 @@ use Rattle.std.specs.Option.{unwrap_or}
 use Rattle.std.proofs.lemmas.Bool.{and_right, lt-ltb, ltb-true, ne_eqb, or_parts}
 use Rattle.std.proofs.lemmas.List.Sums.{sum_by-append, sum_by-cons}
 use Rattle.link_table.specs.declared.counter.TheConstants.{LAST_NUMBER}
-use Rattle.link_table.specs.declared.links.Link.{Link}
+use Rattle.link_table.specs.declared.links.LinkRow.{LinkRow}
 use Rattle.link_table.specs.declared.links.Subscription.{Subscription}
 use Rattle.link_table.specs.Counters.{begins_again, first_free, is_over, next_number, past, turned}
 use Rattle.link_table.specs.Links.{has_id, has_subscription, is_of}
@@ -109,7 +109,7 @@ id_past next None less = refl
 id_past next (Some sub) less = ne_eqb sub.id next (λ same. omega (arith, less, same))
 
 -- no subscription has an ID past all of its server
-pub no_sub_past : (server next : ℕ) (links : List Link) → sum (flat_map sub_ids (filter (is_of server) links)) < next → list_any (has_subscription server next) links ≡ false
+pub no_sub_past : (server next : ℕ) (links : List LinkRow) → sum (flat_map sub_ids (filter (is_of server) links)) < next → list_any (has_subscription server next) links ≡ false
 no_sub_past server next [] less = refl
 no_sub_past server next (link ∷ links) less = by (is_of server link) less (λ left. no_sub_past server next links left)
   where

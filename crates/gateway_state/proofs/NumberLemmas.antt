@@ -12,7 +12,7 @@ use Rattle.gateway_state.specs.declared.notice.ChannelNotice.{ChannelNotice}
 use Rattle.gateway_state.specs.declared.notice.ChannelNotice.TheVariants as channels
 use Rattle.gateway_state.specs.declared.notice.LinkNotice.{LinkNotice}
 use Rattle.gateway_state.specs.declared.notice.LinkNotice.TheVariants as links
-use Rattle.channel_table.specs.declared.subs.ClientSub.{ClientSub}
+use Rattle.named_rows.specs.declared.subs.ClientSub.{ClientSub}
 use Rattle.gateway_state.specs.declared.notice.ReadNotice.{ReadNotice}
 use Rattle.gateway_state.specs.declared.notice.ReadNotice.TheVariants as reads
 use Rattle.gateway_state.specs.declared.notice.UpdateNotice.{UpdateNotice}
@@ -26,7 +26,7 @@ use Rattle.gateway_state.specs.Step.{consequences}
 use Rattle.gateway_state.specs.Telling.{sent, told}
 use Rattle.gateway_state.proofs.NextNumbers.{next_is_past}
 use Rattle.gateway_state.proofs.ReadingEnded.{reading_ended_shape}
-use Rattle.gateway_state.specs.Updates.{is_taking, owed_to, owed_to_all, update_notices, update_told, updates_told, updates_withheld, with_owed_of, withheld}
+use Rattle.gateway_state.specs.Updates.{takes_updates, owed_to, owed_to_all, update_notices, update_told, updates_told, updates_withheld, with_owed_of, withheld}
 
 -- of four counters one is past its end, also once one of them went on
 one_of_four : (a b c d after : Bool) → (c ≡ true → after ≡ true) → (a || b || c || d) ≡ true → (a || b || after || d) ≡ true
@@ -102,7 +102,7 @@ owed_to_all_past w (sub ∷ subs) e = owed_to_all_past (owed_to w sub) subs e
 pub update_told_past : (w : Gateway) (notice : UpdateNotice) → is_past_numbers w ≡ true → is_past_numbers (update_told w notice) ≡ true
 unfolding sent is_past_numbers
 update_told_past w notice e =
-    elim (is_taking w notice.session) as (λ t. is_past_numbers (cond t (told notice.session (replies.Update notice.id notice.dtype notice.count notice.payload) (with_owed_of notice.session notice.id false w)) w) ≡ true)
+    elim (takes_updates w notice.session) as (λ t. is_past_numbers (cond t (told notice.session (replies.Update notice.id notice.dtype notice.count notice.payload) (with_owed_of notice.session notice.id false w)) w) ≡ true)
     [ true ↦ e | false ↦ e ]
 
 pub all_updates_past : (w : Gateway) (notices : List UpdateNotice) → is_past_numbers w ≡ true → is_past_numbers (fold update_told w notices) ≡ true

@@ -5,10 +5,10 @@ use Rattle.std.specs.List.{list_any}
 use Rattle.std.proofs.lemmas.Bool.{lt-ltb, or_parts}
 use Rattle.std.proofs.lemmas.List.Folds.{list_all-append}
 use Rattle.rows.specs.Rows.{change_first}
-use Rattle.channel_table.specs.declared.channels.Channel.{Channel}
-use Rattle.channel_table.specs.Channels.{is_channel, is_not_channel, is_not_channel_of, with_reach_and_rights}
+use Rattle.named_rows.specs.declared.channels.Channel.{Channel}
+use Rattle.named_rows.specs.Channels.{is_channel, is_not_channel, is_not_channel_of, with_reach_and_rights}
 use Rattle.channel_table.specs.ClientRows.{has_channel}
-use Rattle.link_table.specs.declared.links.Link.{Link}
+use Rattle.link_table.specs.declared.links.LinkRow.{LinkRow}
 use Rattle.link_table.specs.declared.links.LinkState.{LinkState}
 use Rattle.link_table.specs.declared.links.Subject.{Subject}
 use Rattle.link_table.specs.declared.links.Subscription.{Subscription}
@@ -43,13 +43,13 @@ fewer_sids again next test channels order = record {
   below = λ before. all_filtered (has_sid_below next) test channels (order.below before);
 }
 
-fewer_cids : (again : Bool) (next : ℕ) (test : Link → Bool) (links : List Link) → AreCidsApart again next links → AreCidsApart again next (filter test links)
+fewer_cids : (again : Bool) (next : ℕ) (test : LinkRow → Bool) (links : List LinkRow) → AreCidsApart again next links → AreCidsApart again next (filter test links)
 fewer_cids again next test links order = record {
   apart = unlike_filtered is_same_link test links order.apart;
   below = λ before. all_filtered (has_cid_below next) test links (order.below before);
 }
 
-fewer_sub_ids : (again : Bool) (next : ℕ) (test : Link → Bool) (links : List Link) → AreSubIdsApart again next links → AreSubIdsApart again next (filter test links)
+fewer_sub_ids : (again : Bool) (next : ℕ) (test : LinkRow → Bool) (links : List LinkRow) → AreSubIdsApart again next links → AreSubIdsApart again next (filter test links)
 fewer_sub_ids again next test links order = record {
   own = all_filtered has_two_ids test links order.own;
   apart = unlike_filtered shares_id test links order.apart;
@@ -74,7 +74,7 @@ sids_changed again next session sid change channels same_session same_sid order 
   below = λ before. all_changed (has_sid_below next) (is_channel session sid) change channels (λ c. let second = same_sid c in λ i. ltb (second i) next) ∙ order.below before;
 }
 
-cids_changed : (again : Bool) (next server cid : ℕ) (change : Link → Link) (links : List Link) → ((link : Link) → (change link).cid ≡ link.cid)
+cids_changed : (again : Bool) (next server cid : ℕ) (change : LinkRow → LinkRow) (links : List LinkRow) → ((link : LinkRow) → (change link).cid ≡ link.cid)
     → AreCidsApart again next links → AreCidsApart again next (change_first (is_link server cid) change links)
 cids_changed again next server cid change links same order = record {
   apart =
@@ -82,7 +82,7 @@ cids_changed again next server cid change links same order = record {
   below = λ before. all_changed (has_cid_below next) (is_link server cid) change links (λ link. let of = same link in λ i. ltb (of i) next) ∙ order.below before;
 }
 
-sub_ids_in_state : (again : Bool) (next server cid : ℕ) (state : LinkState) (rights : ℕ) (links : List Link) → AreSubIdsApart again next links
+sub_ids_in_state : (again : Bool) (next server cid : ℕ) (state : LinkState) (rights : ℕ) (links : List LinkRow) → AreSubIdsApart again next links
     → AreSubIdsApart again next (change_first (is_link server cid) (with_state state rights) links)
 sub_ids_in_state again next server cid state rights links order = record {
   own = all_changed has_two_ids (is_link server cid) (with_state state rights) links (λ link. refl) ∙ order.own;
@@ -90,7 +90,7 @@ sub_ids_in_state again next server cid state rights links order = record {
   below = λ before. all_changed (has_id_below next) (is_link server cid) (with_state state rights) links (λ link. refl) ∙ order.below before;
 }
 
-sub_ids_without : (again : Bool) (next : ℕ) (subject : Subject) (server cid : ℕ) (links : List Link) → AreSubIdsApart again next links
+sub_ids_without : (again : Bool) (next : ℕ) (subject : Subject) (server cid : ℕ) (links : List LinkRow) → AreSubIdsApart again next links
     → AreSubIdsApart again next (change_first (is_link server cid) (with_subscription subject None) links)
 sub_ids_without again next subject server cid links order = record {
   own = own_put subject server cid None links (none_meets_none server links) order.own;
@@ -119,7 +119,7 @@ cids_with : (w : Gateway) (server : ℕ) (name : List ℕ) → HasCidsApart w
 cids_with w server name order = record {
   apart =
       unlike_pushed is_same_link w.upstream.links (new_link server (next_cid w) name)
-      (none_weaker (is_of_cid (next_cid w)) (λ (link : Link). is_same_link link (new_link server (next_cid w) name)) w.upstream.links
+      (none_weaker (is_of_cid (next_cid w)) (λ (link : LinkRow). is_same_link link (new_link server (next_cid w) name)) w.upstream.links
       (λ link other. eqb_swapped (next_cid w) link.cid ∙ other) (new_number w order)) order.apart;
   below = λ none.
       let is = next_is_counter w.limits.reuses_numbers w.config.first (λ (cid : ℕ). list_any (is_of_cid cid) w.upstream.links) w.upstream.counters.again.cid (map cid_of w.upstream.links) w.upstream.counters.cid none in
@@ -127,7 +127,7 @@ cids_with w server name order = record {
       below_pushed cid_of w.upstream.counters.cid (next_cid w + 1) w.upstream.links (new_link server (next_cid w) name) (omega (arith, is)) (omega arith) (order.below before.0);
 }
 
-sub_ids_with_link : (again : Bool) (next server cid : ℕ) (name : List ℕ) (links : List Link) → AreSubIdsApart again next links → AreSubIdsApart again next (links ++ new_link server cid name ∷ [])
+sub_ids_with_link : (again : Bool) (next server cid : ℕ) (name : List ℕ) (links : List LinkRow) → AreSubIdsApart again next links → AreSubIdsApart again next (links ++ new_link server cid name ∷ [])
 sub_ids_with_link again next server cid name links order = record {
   own = list_all-append has_two_ids links (new_link server cid name ∷ []) ∙ rw order.own refl;
   apart = unlike_pushed shares_id links (new_link server cid name) (none_shares_new server cid name links) order.apart;

@@ -1,11 +1,11 @@
 -- Every waiting read and every subscription of a client is on a channel that stands.
 use Rattle.std.proofs.Common.{ℕ, List, [], ◌∷◌, not, refl, ap, ◌∙◌}
 use Rattle.std.proofs.lemmas.List.Folds.{list_all-append}
-use Rattle.channel_table.specs.declared.reads.WaitingRead.{WaitingRead}
-use Rattle.channel_table.specs.declared.subs.ClientSub.{ClientSub}
-use Rattle.channel_table.specs.Channels.{is_not_channel, is_not_channel_of}
-use Rattle.channel_table.specs.Reads.{is_not_read_of, is_not_read_on, same_read}
-use Rattle.channel_table.specs.Subs.{is_not_sub, is_not_sub_of, is_not_sub_on, is_sub, with_owed}
+use Rattle.named_rows.specs.declared.reads.WaitingRead.{WaitingRead}
+use Rattle.named_rows.specs.declared.subs.ClientSub.{ClientSub}
+use Rattle.named_rows.specs.Channels.{is_not_channel, is_not_channel_of}
+use Rattle.named_rows.specs.Reads.{is_not_read_of, is_not_read_on, same_read}
+use Rattle.named_rows.specs.Subs.{is_not_sub, is_not_sub_of, is_not_sub_on, is_sub, with_owed}
 use Rattle.gateway_state.specs.declared.config.Config.{Config}
 use Rattle.rule_desk.specs.declared.policy.Policy.{Policy}
 use Rattle.gateway_state.specs.declared.event.Event.{Event}

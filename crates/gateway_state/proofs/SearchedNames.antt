@@ -3,13 +3,13 @@ use Rattle.std.proofs.Common.{◌≡◌, ℕ, List, [], ◌∷◌, ◌++◌, Boo
 use Rattle.std.specs.List.{cons_option, list_any}
 use Rattle.pv_alias.specs.declared.lead.Lead.{Lead}
 use Rattle.rule_desk.specs.declared.policy.Policy.{Policy}
-use Rattle.gateway_state.specs.declared.search.Search.{Search}
+use Rattle.gateway_state.specs.declared.search.RememberedSearch.{RememberedSearch}
 use Rattle.gateway_state.specs.Resolution.{is_real, lead_of, real_in}
 use Rattle.gateway_state.specs.Searches.{leads_to}
 use Rattle.gateway_state.specs.Variables.{is_among, search_name, search_names}
 
 -- a search leads to a real name exactly where that is among the names that searches lead to
-pub searched_is_among : (policy : Policy) (name : List ℕ) (rows : List Search) → list_any (leads_to policy name) rows ≡ is_among (search_names policy rows) name
+pub searched_is_among : (policy : Policy) (name : List ℕ) (rows : List RememberedSearch) → list_any (leads_to policy name) rows ≡ is_among (search_names policy rows) name
 searched_is_among policy name [] = refl
 searched_is_among policy name (row ∷ rows) = by (lead_of policy row.host row.name) (searched_is_among policy name rows)
   where
@@ -19,7 +19,7 @@ searched_is_among policy name (row ∷ rows) = by (lead_of policy row.host row.n
     by (Some lead) rest = ap (λ (t : Bool). is_real (Some lead) name || t) rest
 
 -- what rows lead to with one row more
-pub names_with_one_more : (policy : Policy) (rows : List Search) (row : Search) → search_names policy (rows ++ row ∷ []) ≡ search_names policy rows ++ cons_option (search_name policy row) []
+pub names_with_one_more : (policy : Policy) (rows : List RememberedSearch) (row : RememberedSearch) → search_names policy (rows ++ row ∷ []) ≡ search_names policy rows ++ cons_option (search_name policy row) []
 names_with_one_more policy [] row = by (search_name policy row)
   where
     by : (name : Option (List ℕ)) → cons_option name [] ≡ [] ++ cons_option name []

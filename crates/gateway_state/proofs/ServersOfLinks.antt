@@ -5,7 +5,7 @@ use Rattle.std.specs.List.{list_all, list_any}
 use Rattle.std.proofs.lemmas.Bool.{and_parts, eqb-true}
 use Rattle.std.proofs.lemmas.List.Folds.{list_all-append, list_any-append}
 use Rattle.rows.specs.Rows.{change_first}
-use Rattle.link_table.specs.declared.links.Link.{Link}
+use Rattle.link_table.specs.declared.links.LinkRow.{LinkRow}
 use Rattle.link_table.specs.declared.servers.Server.{Server}
 use Rattle.link_table.specs.Links.{is_link, is_not_link, is_not_of, with_state, with_subscription}
 use Rattle.link_table.specs.Servers.{is_not_server, is_server, with_minor}
@@ -40,7 +40,7 @@ record HasRows (w : Gateway) : Type 0 where
   links : HasServersOfLinks w
 
 -- a server that has a row
-abbrev is_listed : List Server → Link → Bool
+abbrev is_listed : List Server → LinkRow → Bool
 is_listed servers link = list_any (is_server link.server) servers
 
 -- MORE ROWS, AND ROWS THAT CHANGE

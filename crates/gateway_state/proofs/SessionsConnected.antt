@@ -14,7 +14,7 @@ use Rattle.gateway_state.specs.declared.connections.Connection.{Connection}
 use Rattle.gateway_state.specs.declared.event.Dest.{Dest}
 use Rattle.gateway_state.specs.declared.event.Dest.TheVariants as dests
 use Rattle.gateway_state.specs.declared.event.Event.{Event}
-use Rattle.gateway_state.specs.Asked.{stands}
+use Rattle.gateway_state.specs.Asked.{is_open}
 use Rattle.gateway_state.specs.Connections.{fresh, is_not_to, is_to, same_dest}
 use Rattle.gateway_state.specs.Direct.{direct_effect}
 use Rattle.gateway_state.specs.Gateway.{Gateway, initial}
@@ -69,7 +69,7 @@ sessions_connected_kept = record {
         (λ row there. list_any-append (is_to (dests.Session row.number)) w.connections (fresh dest ∷ []) ∙ rw there refl) connected;
     session_added = λ row w there connected. list_all-append (is_session_connected w) w.clients.sessions (row ∷ []) ∙ rw (connected, there) refl;
     session_changed = λ number change w same connected.
-        all_changed (is_session_connected w) (is_numbered number) change w.clients.sessions (λ row. ap (λ (n : ℕ). stands w (dests.Session n)) (same.same_number row)) ∙ connected;
+        all_changed (is_session_connected w) (is_numbered number) change w.clients.sessions (λ row. ap (λ (n : ℕ). is_open w (dests.Session n)) (same.same_number row)) ∙ connected;
     server_added = λ row w connected. connected;
     server_changed = λ number minor w connected. connected;
     cache_left = λ stays w connected. connected;
@@ -114,9 +114,9 @@ pub sessions_after_effect : (w : Gateway) (event : Event) → IsReached w → Ha
 sessions_after_effect w event reached = kept_direct_effect HasSessionsConnected sessions_connected_kept sessions_connected_with_links w event (reached_sessions w reached)
 
 -- the number of no connection is new: no session has it
-pub session_is_new : (w : Gateway) (number : ℕ) → HasSessionsConnected w → stands w (dests.Session number) ≡ false → has_session number w.clients ≡ false
+pub session_is_new : (w : Gateway) (number : ℕ) → HasSessionsConnected w → is_open w (dests.Session number) ≡ false → has_session number w.clients ≡ false
 session_is_new w number connected free = none_passes (is_session_connected w) (is_numbered number) w.clients.sessions (λ row there. by row there (eqb row.number number) refl) connected
   where
     by : (row : Session) → is_session_connected w row ≡ true → (same : Bool) → eqb row.number number ≡ same → same ≡ false
-    by row there true is = absurd (true≢false (sym there ∙ ap (λ (n : ℕ). stands w (dests.Session n)) (eqb-true row.number number is) ∙ free))
+    by row there true is = absurd (true≢false (sym there ∙ ap (λ (n : ℕ). is_open w (dests.Session n)) (eqb-true row.number number is) ∙ free))
     by row there false is = refl

@@ -5,10 +5,10 @@ use Rattle.std.specs.List.{fold, cons_option, list_any}
 use Rattle.std.proofs.lemmas.Bool.{and_from, eq-eqb, or_parts}
 use Rattle.rows.specs.Rows.{change_first}
 use Rattle.ca_message.specs.declared.to_client.ToClient.TheVariants as replies
-use Rattle.channel_table.specs.declared.channels.Channel.{Channel}
-use Rattle.channel_table.specs.declared.reads.WaitingRead.{WaitingRead}
-use Rattle.channel_table.specs.declared.subs.ClientSub.{ClientSub}
-use Rattle.channel_table.specs.Channels.{is_channel, is_not_channel, with_reach_and_rights}
+use Rattle.named_rows.specs.declared.channels.Channel.{Channel}
+use Rattle.named_rows.specs.declared.reads.WaitingRead.{WaitingRead}
+use Rattle.named_rows.specs.declared.subs.ClientSub.{ClientSub}
+use Rattle.named_rows.specs.Channels.{is_channel, is_not_channel, with_reach_and_rights}
 use Rattle.link_table.specs.declared.writes.WaitingWrite.{WaitingWrite}
 use Rattle.gateway_state.specs.declared.connections.Connection.{Connection}
 use Rattle.gateway_state.specs.declared.notice.ChannelNotice.{ChannelNotice}

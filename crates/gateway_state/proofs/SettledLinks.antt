@@ -7,7 +7,7 @@ use Rattle.std.proofs.lemmas.List.Folds.{list_any-append}
 use Rattle.std.proofs.lemmas.List.Sums.{fold-append}
 use Rattle.std.proofs.lemmas.Slice.Eq.{bytes_eq-Decides}
 use Rattle.rows.specs.Rows.{change_first}
-use Rattle.link_table.specs.declared.links.Link.{Link}
+use Rattle.link_table.specs.declared.links.LinkRow.{LinkRow}
 use Rattle.link_table.specs.declared.links.LinkState.{LinkState}
 use Rattle.link_table.specs.declared.links.LinkState.TheVariants.{Creating, Connected, Unusable}
 use Rattle.link_table.specs.declared.links.Subject.{Subject}
@@ -33,7 +33,7 @@ use Rattle.gateway_state.proofs.UnlikeRows.{eqb_swapped, filter_absent}
 
 -- links, and the IDs that new subscriptions get, whichever those are
 record LinksAndIds : Type 0 where
-  links : List Link
+  links : List LinkRow
   ids : List ℕ
 
 abbrev next_of : List ℕ → ℕ
@@ -44,7 +44,7 @@ abbrev rest_of : List ℕ → List ℕ
 rest_of [] = []
 rest_of (id ∷ ids) = ids
 
-abbrev dealt : List Link → List ℕ → LinksAndIds
+abbrev dealt : List LinkRow → List ℕ → LinksAndIds
 dealt links ids = record { links = links; ids = ids }
 
 -- what a notice leaves of them
@@ -82,7 +82,7 @@ left_is (Dropped server cid Unusable ∷ notices) w = left_is notices (link_told
 left_is (Dropped server cid (Connected sid dtype native) ∷ notices) w = left_is notices (link_told w (Dropped server cid (Connected sid dtype native)))
 
 -- a state with other links, other counters, and what goes with them
-abbrev pub with_links_left : Gateway → List Connection → List LastMessage → List Link → Counters → Gateway
+abbrev pub with_links_left : Gateway → List Connection → List LastMessage → List LinkRow → Counters → Gateway
 with_links_left w connections cache links counters =
     record w { connections = connections; cache = cache; upstream = record w.upstream { links = links; counters = counters } }
 
@@ -105,24 +105,24 @@ links_changed (Dropped server cid (Connected sid dtype native) ∷ notices) w =
 
 -- ---- notices on other links
 
-abbrev in_front : Link → LinksAndIds → LinksAndIds
+abbrev in_front : LinkRow → LinksAndIds → LinksAndIds
 in_front link rows = record rows { links = link ∷ rows.links }
 
 -- the notice changes this link
-abbrev concerns : Link → LinkNotice → Bool
+abbrev concerns : LinkRow → LinkNotice → Bool
 concerns link (Cancelled subject server cid sid dtype sub) = is_link server cid link
 concerns link (Unread subject cid) = false
 concerns link (Subscribed subject server cid sid dtype want sent) = is_link server cid link
 concerns link (Dropped server cid state) = is_link server cid link
 
-passed_by : (link : Link) (rows : LinksAndIds) (notice : LinkNotice) → concerns link notice ≡ false → left_by (in_front link rows) notice ≡ in_front link (left_by rows notice)
+passed_by : (link : LinkRow) (rows : LinksAndIds) (notice : LinkNotice) → concerns link notice ≡ false → left_by (in_front link rows) notice ≡ in_front link (left_by rows notice)
 passed_by link rows (Cancelled subject server cid sid dtype sub) other = rw other refl
 passed_by link rows (Unread subject cid) other = refl
 passed_by link rows (Subscribed subject server cid sid dtype want sent) other = rw other refl
 passed_by link rows (Dropped server cid state) other = rw other refl
 
 -- notices that don't concern the first link leave it as it is
-all_passed_by : (link : Link) (rows : LinksAndIds) (notices : List LinkNotice) → list_any (concerns link) notices ≡ false
+all_passed_by : (link : LinkRow) (rows : LinksAndIds) (notices : List LinkNotice) → list_any (concerns link) notices ≡ false
     → fold left_by (in_front link rows) notices ≡ in_front link (fold left_by rows notices)
 all_passed_by link rows [] others = refl
 all_passed_by link rows (notice ∷ notices) others =
@@ -134,19 +134,19 @@ all_passed_by link rows (notice ∷ notices) others =
     by true is none on = absurd (true≢false none)
     by false is none on = ap (λ (left : LinksAndIds). fold left_by left notices) (passed_by link rows notice is) ∙ on none
 
-itself : (link : Link) → is_link link.server link.cid link ≡ true
+itself : (link : LinkRow) → is_link link.server link.cid link ≡ true
 itself link = and_from (eqb link.server link.server) (eqb link.cid link.cid) (eq-eqb link.server link.server refl) (eq-eqb link.cid link.cid refl)
 
-cancelled-other : (subject : Subject) (link row : Link) (sid dtype : ℕ) (sub : Option Subscription) → is_link row.server row.cid link ≡ false → list_any (concerns link) (cancelled subject row sid dtype sub) ≡ false
+cancelled-other : (subject : Subject) (link row : LinkRow) (sid dtype : ℕ) (sub : Option Subscription) → is_link row.server row.cid link ≡ false → list_any (concerns link) (cancelled subject row sid dtype sub) ≡ false
 cancelled-other subject link row sid dtype None other = refl
 cancelled-other subject link row sid dtype (Some sub) other = rw other refl
 
-subscribed-other : (subject : Subject) (link row : Link) (minor sid dtype native : ℕ) (want : Option Want) → is_link row.server row.cid link ≡ false
+subscribed-other : (subject : Subject) (link row : LinkRow) (minor sid dtype native : ℕ) (want : Option Want) → is_link row.server row.cid link ≡ false
     → list_any (concerns link) (subscribed subject minor row sid dtype native want) ≡ false
 subscribed-other subject link row minor sid dtype native None other = refl
 subscribed-other subject link row minor sid dtype native (Some want) other = rw other refl
 
-notices_between-other : (subject : Subject) (link row : Link) (minor sid dtype native : ℕ) (want : Option Want) (sub : Option Subscription) → is_link row.server row.cid link ≡ false
+notices_between-other : (subject : Subject) (link row : LinkRow) (minor sid dtype native : ℕ) (want : Option Want) (sub : Option Subscription) → is_link row.server row.cid link ≡ false
     → list_any (concerns link) (notices_between subject minor row sid dtype native want sub) ≡ false
 notices_between-other subject link row minor sid dtype native want sub other = by (is_for want sub)
   where
@@ -154,18 +154,18 @@ notices_between-other subject link row minor sid dtype native want sub other = b
     by true = refl
     by false = rw (list_any-append, cancelled-other subject link row sid dtype sub other) (subscribed-other subject link row minor sid dtype native want other)
 
-subject_notices-other : (subject : Subject) (w : Gateway) (link row : Link) (sid dtype native : ℕ) → is_link row.server row.cid link ≡ false
+subject_notices-other : (subject : Subject) (w : Gateway) (link row : LinkRow) (sid dtype native : ℕ) → is_link row.server row.cid link ≡ false
     → list_any (concerns link) (subject_notices subject w row sid dtype native) ≡ false
 subject_notices-other subject w link row sid dtype native other =
     notices_between-other subject link row (minor_of w row.server) sid dtype native (wanted_for subject w row.name dtype native) (sub_at subject row.subscriptions) other
 
-interest_notices-other : (w : Gateway) (link row : Link) (state : LinkState) → is_link row.server row.cid link ≡ false → list_any (concerns link) (interest_notices w row state) ≡ false
+interest_notices-other : (w : Gateway) (link row : LinkRow) (state : LinkState) → is_link row.server row.cid link ≡ false → list_any (concerns link) (interest_notices w row state) ≡ false
 interest_notices-other w link row Creating other = refl
 interest_notices-other w link row Unusable other = refl
 interest_notices-other w link row (Connected sid dtype native) other =
     rw (list_any-append, subject_notices-other Values w link row sid dtype native other) (subject_notices-other Properties w link row sid dtype native other)
 
-link_notices_of-other : (w : Gateway) (link row : Link) → is_link row.server row.cid link ≡ false → list_any (concerns link) (link_notices_of w row) ≡ false
+link_notices_of-other : (w : Gateway) (link row : LinkRow) → is_link row.server row.cid link ≡ false → list_any (concerns link) (link_notices_of w row) ≡ false
 link_notices_of-other w link row other = by (is_wanted w row.name)
   where
     by : (wanted : Bool) → list_any (concerns link) (interest_notices w row row.state ++ cond wanted [] (Dropped row.server row.cid row.state ∷ [])) ≡ false
@@ -173,7 +173,7 @@ link_notices_of-other w link row other = by (is_wanted w row.name)
     by false = rw (list_any-append, interest_notices-other w link row row.state other, other) refl
 
 -- notices on later links don't concern a link
-later_notices-other : (w : Gateway) (link : Link) (rows : List Link) → list_any (is_same_link link) rows ≡ false → list_any (concerns link) (flat_map (link_notices_of w) rows) ≡ false
+later_notices-other : (w : Gateway) (link : LinkRow) (rows : List LinkRow) → list_any (is_same_link link) rows ≡ false → list_any (concerns link) (flat_map (link_notices_of w) rows) ≡ false
 later_notices-other w link [] none = refl
 later_notices-other w link (row ∷ rows) none =
     let parts = or_parts (is_same_link link row) (list_any (is_same_link link) rows) none in
@@ -185,7 +185,7 @@ later_notices-other w link (row ∷ rows) none =
 abbrev with_ids : List ℕ → LinksAndIds → LinksAndIds
 with_ids ids rows = record rows { ids = ids }
 
-abbrev with_subs : Subscriptions → Link → Link
+abbrev with_subs : Subscriptions → LinkRow → LinkRow
 with_subs subs link = record link { subscriptions = subs }
 
 same_at : (subject : Subject) (subs : Subscriptions) → with_at subject (sub_at subject subs) subs ≡ subs
@@ -197,13 +197,13 @@ put_again Values first second subs = refl
 put_again Properties first second subs = refl
 
 -- the notices about a subject leave the link with a subscription that is for what is wanted of it
-record IsMetFor (subject : Subject) (want : Option Want) (link : Link) (rows : LinksAndIds) (notices : List LinkNotice) : Type 0 where
+record IsMetFor (subject : Subject) (want : Option Want) (link : LinkRow) (rows : LinksAndIds) (notices : List LinkNotice) : Type 0 where
   sub : Option Subscription
   ids : List ℕ
   gives : fold left_by (in_front link rows) notices ≡ in_front (with_subscription subject sub link) (with_ids ids rows)
   met : is_for want sub ≡ true
 
-met_for : (subject : Subject) (want : Option Want) (link : Link) (rows : LinksAndIds) (minor sid dtype native : ℕ)
+met_for : (subject : Subject) (want : Option Want) (link : LinkRow) (rows : LinksAndIds) (minor sid dtype native : ℕ)
     → IsMetFor subject want link rows (notices_between subject minor link sid dtype native want (sub_at subject link.subscriptions))
 met_for subject want link rows minor sid dtype native = by (is_for want (sub_at subject link.subscriptions)) refl
   where
@@ -239,13 +239,13 @@ met_for subject want link rows minor sid dtype native = by (is_for want (sub_at 
     by false met = anew (sub_at subject link.subscriptions) want met
 
 -- the notices leave the link with subscriptions that are for what is wanted
-record IsMet (w : Gateway) (link : Link) (state : LinkState) (rows : LinksAndIds) (notices : List LinkNotice) : Type 0 where
+record IsMet (w : Gateway) (link : LinkRow) (state : LinkState) (rows : LinksAndIds) (notices : List LinkNotice) : Type 0 where
   subs : Subscriptions
   ids : List ℕ
   gives : fold left_by (in_front link rows) notices ≡ in_front (with_subs subs link) (with_ids ids rows)
   quiet : interest_notices w (with_subs subs link) state ≡ []
 
-interest_met : (w : Gateway) (link : Link) (rows : LinksAndIds) (state : LinkState) → IsMet w link state rows (interest_notices w link state)
+interest_met : (w : Gateway) (link : LinkRow) (rows : LinksAndIds) (state : LinkState) → IsMet w link state rows (interest_notices w link state)
 interest_met w link rows Creating = record { subs = link.subscriptions; ids = rows.ids; gives = refl; quiet = refl }
 interest_met w link rows Unusable = record { subs = link.subscriptions; ids = rows.ids; gives = refl; quiet = refl }
 interest_met w link rows (Connected sid dtype native) = record {
@@ -270,35 +270,35 @@ interest_met w link rows (Connected sid dtype native) = record {
 -- ---- all links
 
 -- the links left are owed no notice, and a wanted name has the rights and the connection that it had
-pub record IsLeft (w : Gateway) (links left : List Link) : Type 0 where
+pub record IsLeft (w : Gateway) (links left : List LinkRow) : Type 0 where
   pub quiet : flat_map (link_notices_of w) left ≡ []
   pub rights : (name : List ℕ) → is_wanted w name ≡ true → link_rights (find (is_named name) left) ≡ link_rights (find (is_named name) links)
   pub connected : (name : List ℕ) → is_wanted w name ≡ true → link_connected (find (is_named name) left) ≡ link_connected (find (is_named name) links)
 
 -- a link that isn't wanted isn't that of a wanted name
-pub unwanted : (w : Gateway) (link : Link) (name : List ℕ) → is_wanted w link.name ≡ false → is_wanted w name ≡ true → is_named name link ≡ false
+pub unwanted : (w : Gateway) (link : LinkRow) (name : List ℕ) → is_wanted w link.name ≡ false → is_wanted w name ≡ true → is_named name link ≡ false
 unwanted w link name refused wanted = by (is_named name link) refl
   where
     by : (named : Bool) → is_named name link ≡ named → named ≡ false
     by false e = refl
     by true e = let same : link.name ≡ name = (bytes_eq-Decides link.name name).0 e in absurd (both_ways (is_wanted w name) (ap (is_wanted w) (sym same) ∙ refused) wanted)
 
-left_without : (w : Gateway) (link : Link) (links left : List Link) → is_wanted w link.name ≡ false → IsLeft w links left → IsLeft w (link ∷ links) left
+left_without : (w : Gateway) (link : LinkRow) (links left : List LinkRow) → is_wanted w link.name ≡ false → IsLeft w links left → IsLeft w (link ∷ links) left
 left_without w link links left refused rest = record {
   quiet = rest.quiet;
   rights = λ name wanted. rw (unwanted w link name refused wanted) (rest.rights name wanted);
   connected = λ name wanted. rw (unwanted w link name refused wanted) (rest.connected name wanted);
 }
 
-left_with : (w : Gateway) (link : Link) (subs : Subscriptions) (links left : List Link) → link_notices_of w (with_subs subs link) ≡ [] → IsLeft w links left
+left_with : (w : Gateway) (link : LinkRow) (subs : Subscriptions) (links left : List LinkRow) → link_notices_of w (with_subs subs link) ≡ [] → IsLeft w links left
     → IsLeft w (link ∷ links) (with_subs subs link ∷ left)
 left_with w link subs links left quiet rest = record {
   quiet = ap (λ (notices : List LinkNotice). notices ++ flat_map (link_notices_of w) left) quiet ∙ rest.quiet;
-  rights = λ name wanted. same name (λ (found : Option Link). link_rights found) refl (rest.rights name wanted);
+  rights = λ name wanted. same name (λ (found : Option LinkRow). link_rights found) refl (rest.rights name wanted);
   connected = λ name wanted. same_connected name (rest.connected name wanted);
 }
   where
-    same : (name : List ℕ) (of : Option Link → ℕ) → of (Some (with_subs subs link)) ≡ of (Some link) → of (find (is_named name) left) ≡ of (find (is_named name) links)
+    same : (name : List ℕ) (of : Option LinkRow → ℕ) → of (Some (with_subs subs link)) ≡ of (Some link) → of (find (is_named name) left) ≡ of (find (is_named name) links)
         → of (find (is_named name) (with_subs subs link ∷ left)) ≡ of (find (is_named name) (link ∷ links))
     same name of here rest =
         elim (is_named name link) as (λ t. of (cond t (Some (with_subs subs link)) (find (is_named name) left)) ≡ of (cond t (Some link) (find (is_named name) links)))
@@ -310,10 +310,10 @@ left_with w link subs links left quiet rest = record {
         elim (is_named name link) as (λ t. link_connected (cond t (Some (with_subs subs link)) (find (is_named name) left)) ≡ link_connected (cond t (Some link) (find (is_named name) links)))
         [ true ↦ refl | false ↦ rest ]
 
-abbrev with_links : List Link → LinksAndIds → LinksAndIds
+abbrev with_links : List LinkRow → LinksAndIds → LinksAndIds
 with_links links rows = record rows { links = links }
 
-links_left : (w : Gateway) (rows : LinksAndIds) (links : List Link) → AreUnlike is_same_link links
+links_left : (w : Gateway) (rows : LinksAndIds) (links : List LinkRow) → AreUnlike is_same_link links
     → IsLeft w links (fold left_by (with_links links rows) (flat_map (link_notices_of w) links)).links
 links_left w rows [] apart = record { quiet = refl; rights = λ name wanted. refl; connected = λ name wanted. refl }
 links_left w rows (link ∷ links) apart =
@@ -322,7 +322,7 @@ links_left w rows (link ∷ links) apart =
     met : IsMet w link link.state (with_links links rows) (interest_notices w link link.state)
     met = interest_met w link (with_links links rows) link.state
 
-    left : Link
+    left : LinkRow
     left = with_subs met.subs link
 
     own : fold left_by (with_links (link ∷ links) rows) (interest_notices w link link.state) ≡ in_front left (with_links links (with_ids met.ids rows))
@@ -367,7 +367,7 @@ links_left w rows (link ∷ links) apart =
 pub record IsPassed (w v : Gateway) : Type 0 where
   pub connections : List Connection
   pub cache : List LastMessage
-  pub links : List Link
+  pub links : List LinkRow
   pub counters : Counters
   pub is : v ≡ with_links_left w connections cache links counters
   pub left : IsLeft w w.upstream.links links
@@ -380,6 +380,6 @@ links_passed w order = record {
   counters = (links_told w).upstream.counters;
   is = links_changed (link_notices w) w;
   left =
-      subst (λ (links : List Link). IsLeft w w.upstream.links links) (sym (left_is (link_notices w) w))
+      subst (λ (links : List LinkRow). IsLeft w w.upstream.links links) (sym (left_is (link_notices w) w))
       (links_left w (dealt w.upstream.links (ids_given w (link_notices w))) w.upstream.links order.apart);
 }

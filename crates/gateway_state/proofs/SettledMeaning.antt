@@ -5,10 +5,10 @@ use Rattle.std.specs.List.{All, cons_option, find, list_all, list_any}
 use Rattle.std.proofs.lemmas.Bool.{and_parts, eqb-true, true≢false}
 use Rattle.std.proofs.lemmas.List.Elements.{All-cons, All-head, All-nil, All-tail, All-weaker}
 use Rattle.ca_message.specs.declared.codes.TheConstants.{ECA_NORDACCESS}
-use Rattle.channel_table.specs.declared.channels.Channel.{Channel}
-use Rattle.channel_table.specs.declared.reads.WaitingRead.{WaitingRead}
-use Rattle.channel_table.specs.Channels.{is_channel}
-use Rattle.link_table.specs.declared.links.Link.{Link}
+use Rattle.named_rows.specs.declared.channels.Channel.{Channel}
+use Rattle.named_rows.specs.declared.reads.WaitingRead.{WaitingRead}
+use Rattle.named_rows.specs.Channels.{is_channel}
+use Rattle.link_table.specs.declared.links.LinkRow.{LinkRow}
 use Rattle.link_table.specs.declared.links.LinkState.{LinkState}
 use Rattle.link_table.specs.declared.links.LinkState.TheVariants.{Creating, Connected, Unusable}
 use Rattle.link_table.specs.declared.links.Subject.{Subject}
@@ -80,7 +80,7 @@ is_for-same (Some want) (Some sub) is =
     λ i. Some (record { mask = masks i; count = counts i })
 
 -- where the subscription isn't for what is wanted, something is told
-pub told_anew : (subject : Subject) (link : Link) (minor sid dtype native : ℕ) (sub : Option Subscription) (want : Option Want)
+pub told_anew : (subject : Subject) (link : LinkRow) (minor sid dtype native : ℕ) (sub : Option Subscription) (want : Option Want)
     → cancelled subject link sid dtype sub ++ subscribed subject minor link sid dtype native want ≡ [] → ⊥
 told_anew subject link minor sid dtype native None None none = cc
 told_anew subject link minor sid dtype native None (Some want) none = cc
@@ -91,7 +91,7 @@ pub both_empty : {A : Type 0} (first second : List A) → first ++ second ≡ []
 both_empty [] second none = (refl, none)
 both_empty (row ∷ rows) second none = absurd cc
 
-pub subscribed_for : (subject : Subject) (link : Link) (minor sid dtype native : ℕ) (want : Option Want) (sub : Option Subscription)
+pub subscribed_for : (subject : Subject) (link : LinkRow) (minor sid dtype native : ℕ) (want : Option Want) (sub : Option Subscription)
     → notices_between subject minor link sid dtype native want sub ≡ [] → option_map want_in sub ≡ want
 subscribed_for subject link minor sid dtype native want sub none = by (is_for want sub) refl none
   where
@@ -101,11 +101,11 @@ subscribed_for subject link minor sid dtype native want sub none = by (is_for wa
     by false met none = absurd (told_anew subject link minor sid dtype native sub want none)
 
 -- nothing is told about a connected link, so nothing about either subject
-subject_quiet : (w : Gateway) (link : Link) (sid dtype native : ℕ) → interest_notices w link (Connected sid dtype native) ≡ [] → (subject : Subject) → subject_notices subject w link sid dtype native ≡ []
+subject_quiet : (w : Gateway) (link : LinkRow) (sid dtype native : ℕ) → interest_notices w link (Connected sid dtype native) ≡ [] → (subject : Subject) → subject_notices subject w link sid dtype native ≡ []
 subject_quiet w link sid dtype native none Values = (both_empty (subject_notices Values w link sid dtype native) (subject_notices Properties w link sid dtype native) none).0
 subject_quiet w link sid dtype native none Properties = (both_empty (subject_notices Values w link sid dtype native) (subject_notices Properties w link sid dtype native) none).1
 
-all_subscribed : (w : Gateway) (link : Link) (state : LinkState) → interest_notices w link state ≡ [] → is_connected state ≡ true → (subject : Subject)
+all_subscribed : (w : Gateway) (link : LinkRow) (state : LinkState) → interest_notices w link state ≡ [] → is_connected state ≡ true → (subject : Subject)
     → option_map want_in (sub_at subject link.subscriptions) ≡ wanted_for subject w link.name (native_type_in state) (native_count_in state)
 all_subscribed w link Creating none connected subject = absurd (true≢false (sym connected))
 all_subscribed w link Unusable none connected subject = absurd (true≢false (sym connected))
@@ -113,7 +113,7 @@ all_subscribed w link (Connected sid dtype native) none connected subject =
     subscribed_for subject link (minor_of w link.server) sid dtype native (wanted_for subject w link.name dtype native) (sub_at subject link.subscriptions)
     (subject_quiet w link sid dtype native none subject)
 
-in_use : (w : Gateway) (link : Link) → link_notices_of w link ≡ [] → IsInUse w link
+in_use : (w : Gateway) (link : LinkRow) → link_notices_of w link ≡ [] → IsInUse w link
 in_use w link none = by (interest_notices w link link.state) (is_wanted w link.name) refl refl none
   where
     by : (first : List LinkNotice) (wanted : Bool) → interest_notices w link link.state ≡ first → is_wanted w link.name ≡ wanted
@@ -124,7 +124,7 @@ in_use w link none = by (interest_notices w link link.state) (is_wanted w link.n
 
 pub all_in_use : (w : Gateway) → IsSettled w → All (IsInUse w) w.upstream.links
 all_in_use w settled =
-    All-weaker (λ (link : Link). link_notices_of w link ≡ []) (IsInUse w) (in_use w) w.upstream.links (nothing_told (link_notices_of w) w.upstream.links settled.links)
+    All-weaker (λ (link : LinkRow). link_notices_of w link ≡ []) (IsInUse w) (in_use w) w.upstream.links (nothing_told (link_notices_of w) w.upstream.links settled.links)
 
 -- ---- waiting reads
 
@@ -152,7 +152,7 @@ unanswered read None none = refl
 unanswered read (Some given) none = absurd cc
 
 -- a read that isn't answered on a connected link isn't covered
-uncovered_in : (w : Gateway) (read : WaitingRead) (link : Link) (state : LinkState) (native : Native) → native_in state ≡ Some native
+uncovered_in : (w : Gateway) (read : WaitingRead) (link : LinkRow) (state : LinkState) (native : Native) → native_in state ≡ Some native
     → answered_over w read (connected_in link state) ≡ None → cached_value w link.cid native.count read.dtype read.count ≡ None
 uncovered_in w read link Creating native is none = absurd cc
 uncovered_in w read link Unusable native is none = absurd cc
@@ -162,7 +162,7 @@ uncovered_in w read link (Connected sid dtype count) native is none =
     ∙ unanswered read (cached_value w link.cid count read.dtype read.count) none
 
 -- a read without a notice waits, on a channel that is served
-waiting_over : (w : Gateway) (read : WaitingRead) (c : Channel) (link : Option Link) → channel_of w read.session read.sid ≡ Some c → link_of w c.real ≡ link
+waiting_over : (w : Gateway) (read : WaitingRead) (c : Channel) (link : Option LinkRow) → channel_of w read.session read.sid ≡ Some c → link_of w c.real ≡ link
     → link_connected link ≡ true → may_read (rights_of w c) ≡ true → answered_over w read (connected_over link) ≡ None → IsWaiting w read
 waiting_over w read c None on is connected readable none = absurd (true≢false (sym connected))
 waiting_over w read c (Some link) on is connected readable none =

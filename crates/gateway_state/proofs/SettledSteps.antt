@@ -3,11 +3,11 @@ use Rattle.std.proofs.Common.{◌≡◌, ℕ, List, [], ◌∷◌, ◌++◌, Boo
 use Rattle.std.specs.Prelude.{filter, filter_map, flat_map, map, bit_and}
 use Rattle.std.specs.List.{fold, find, list_any, cons_option}
 use Rattle.std.proofs.lemmas.Slice.Eq.{bytes_eq-Decides}
-use Rattle.channel_table.specs.declared.channels.Channel.{Channel}
-use Rattle.channel_table.specs.declared.subs.ClientSub.{ClientSub}
-use Rattle.channel_table.specs.Channels.{is_channel, is_on}
-use Rattle.channel_table.specs.Demand.{own_ask}
-use Rattle.link_table.specs.declared.links.Link.{Link}
+use Rattle.named_rows.specs.declared.channels.Channel.{Channel}
+use Rattle.named_rows.specs.declared.subs.ClientSub.{ClientSub}
+use Rattle.named_rows.specs.Channels.{is_channel, is_on}
+use Rattle.named_rows.specs.Demand.{own_ask}
+use Rattle.link_table.specs.declared.links.LinkRow.{LinkRow}
 use Rattle.link_table.specs.LinkRows.{Counters}
 use Rattle.gateway_state.specs.declared.cached.LastMessage.{LastMessage}
 use Rattle.gateway_state.specs.declared.connections.Connection.{Connection}
@@ -48,7 +48,7 @@ found_is_on test (row ∷ rows) c e = by (test row) e (λ rest. found_is_on test
         ap (λ (t : Bool). t || list_any (is_on c.real) rows) ((bytes_eq-Decides row.real c.real).1 (ap (λ (x : Channel). x.real) same))
     by false e rest = elim (is_on c.real row) as (λ t. (t || list_any (is_on c.real) rows) ≡ true) [ true ↦ refl | false ↦ rest e ]
 
-module _ (w : Gateway) (connections : List Connection) (cache : List LastMessage) (links : List Link) (counters : Counters) (left : IsLeft w w.upstream.links links) where
+module _ (w : Gateway) (connections : List Connection) (cache : List LastMessage) (links : List LinkRow) (counters : Counters) (left : IsLeft w w.upstream.links links) where
   abbrev v : Gateway
   v = with_links_left w connections cache links counters
 

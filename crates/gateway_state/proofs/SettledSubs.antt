@@ -5,11 +5,11 @@ use Rattle.std.specs.List.{All, find}
 use Rattle.std.proofs.lemmas.Bool.{and_parts, true≢false}
 use Rattle.std.proofs.lemmas.List.Elements.{All-cons, All-head, All-nil, All-tail}
 use Rattle.std.proofs.lemmas.Slice.Eq.{bytes_eq-Decides}
-use Rattle.channel_table.specs.declared.channels.Channel.{Channel}
-use Rattle.channel_table.specs.declared.subs.ClientSub.{ClientSub}
-use Rattle.channel_table.specs.Channels.{is_channel, is_on}
-use Rattle.channel_table.specs.Demand.{own_ask}
-use Rattle.link_table.specs.declared.links.Link.{Link}
+use Rattle.named_rows.specs.declared.channels.Channel.{Channel}
+use Rattle.named_rows.specs.declared.subs.ClientSub.{ClientSub}
+use Rattle.named_rows.specs.Channels.{is_channel, is_on}
+use Rattle.named_rows.specs.Demand.{own_ask}
+use Rattle.link_table.specs.declared.links.LinkRow.{LinkRow}
 use Rattle.link_table.specs.declared.links.LinkState.{LinkState}
 use Rattle.link_table.specs.declared.links.LinkState.TheVariants.{Creating, Connected, Unusable}
 use Rattle.link_table.specs.declared.links.Subject.{Subject}
@@ -93,7 +93,7 @@ same_want (Some sub) = refl
 pub subscribed_to_each : (subject : Subject) (w : Gateway) → IsSettled w → IsSubscribedTo subject w
 subscribed_to_each subject w settled name = by (link_of w name) refl
   where
-    over : (link : Link) (state : LinkState) → link_of w name ≡ Some link → link.state ≡ state
+    over : (link : LinkRow) (state : LinkState) → link_of w name ≡ Some link → link.state ≡ state
         → option_map want_of (sub_in (present subject link state)) ≡ wanted_for subject w name (native_type_over (Some link)) (native_count_over (Some link))
     over link Creating is is_state =
         sym (nothing_wanted subject w name (native_type_over (Some link)) (native_count_over (Some link)) settled (ap link_connected is ∙ rw is_state refl))
@@ -105,7 +105,7 @@ subscribed_to_each subject w settled name = by (link_of w name) refl
         same_want (sub_at subject link.subscriptions) ∙ found.holds.subscribed (rw is_state refl) subject
         ∙ ap (λ (n : List ℕ). wanted_for subject w n (native_type_over (Some link)) (native_count_over (Some link))) named
 
-    by : (link : Option Link) → link_of w name ≡ link
+    by : (link : Option LinkRow) → link_of w name ≡ link
         → option_map want_of (sub_in (subscription_in subject link)) ≡ wanted_for subject w name (native_type_over link) (native_count_over link)
     by None is = sym (nothing_wanted subject w name 0 0 settled (ap link_connected is))
     by (Some link) is = over link link.state is refl

@@ -8,10 +8,10 @@ use Rattle.std.proofs.lemmas.List.Sums.{sum_by_push}
 use Rattle.std.proofs.Math.Nat.{le-min, min-le_left, min-le_right}
 use Rattle.rows.specs.Rows.{change_first}
 use Rattle.ca_message.specs.declared.to_client.ToClient.TheVariants as replies
-use Rattle.channel_table.specs.declared.channels.Channel.{Channel}
-use Rattle.channel_table.specs.declared.subs.ClientSub.{ClientSub}
-use Rattle.channel_table.specs.Demand.{own_ask}
-use Rattle.channel_table.specs.Subs.{is_sub, with_owed}
+use Rattle.named_rows.specs.declared.channels.Channel.{Channel}
+use Rattle.named_rows.specs.declared.subs.ClientSub.{ClientSub}
+use Rattle.named_rows.specs.Demand.{own_ask}
+use Rattle.named_rows.specs.Subs.{is_sub, with_owed}
 use Rattle.mask_merge.specs.declared.want.Ask.{Ask}
 use Rattle.gateway_state.specs.declared.event.Dest.{Dest}
 use Rattle.gateway_state.specs.declared.event.Dest.TheVariants.{Session as ToSession}
@@ -30,7 +30,7 @@ use Rattle.fanout.specs.Outbox.{appended, refuses}
 use Rattle.gateway_state.specs.Rights.{channel_of, may_read, rights_of}
 use Rattle.gateway_state.specs.Settled.{AreApart}
 use Rattle.gateway_state.specs.Telling.{outgoing, sent}
-use Rattle.gateway_state.specs.Updates.{is_paused, is_unreadable, is_withheld, takes_updates, update_by, update_notice, update_notices, update_on, update_over, update_told, updates_told, withheld}
+use Rattle.gateway_state.specs.Updates.{is_paused, is_unreadable, is_withheld, outbox_takes_updates, update_by, update_notice, update_notices, update_on, update_over, update_told, updates_told, withheld}
 use Rattle.gateway_state.specs.Variables.{ConnectedVariable, connected}
 use Rattle.fanout.specs.Waiting.{Waiting, out_len, waiting_bytes}
 use Rattle.gateway_state.proofs.LinkNotices.{link_notices_alike}
@@ -47,7 +47,7 @@ abbrev with_served : Gateway → Served → Gateway
 with_served w served = record w { connections = served.connections; clients = record w.clients { subs = served.subs } }
 
 abbrev takes : Limits → List Connection → ℕ → Bool
-takes limits connections number = takes_updates limits (outbox_of (ToSession number) connections)
+takes limits connections number = outbox_takes_updates limits (outbox_of (ToSession number) connections)
 
 abbrev said : UpdateNotice → Out
 said notice = outgoing (replies.Update notice.id notice.dtype notice.count notice.payload)
@@ -89,10 +89,10 @@ more_bytes box out =
     let bytes : ℕ = sum_by out_len box.messages in
     le-min (omega (arith, min-le_left bytes (2 ^ 64 - 1), sum_by_push out_len box.messages out)) (min-le_right bytes (2 ^ 64 - 1))
 
-pub box_taking : (limits : Limits) (most : ℕ) (box : Waiting) (out : Out) → takes_updates limits (appended most box out) ≡ true → takes_updates limits box ≡ true
+pub box_taking : (limits : Limits) (most : ℕ) (box : Waiting) (out : Out) → outbox_takes_updates limits (appended most box out) ≡ true → outbox_takes_updates limits box ≡ true
 box_taking limits most box out e = by (refuses most box) e
   where
-    by : (refused : Bool) → takes_updates limits (cond refused (record box { marked = true }) (record box { messages = box.messages ++ out ∷ [] })) ≡ true → takes_updates limits box ≡ true
+    by : (refused : Bool) → outbox_takes_updates limits (cond refused (record box { marked = true }) (record box { messages = box.messages ++ out ∷ [] })) ≡ true → outbox_takes_updates limits box ≡ true
     by true e = absurd (true≢false (sym e))
     by false e =
         let after : Waiting = record box { messages = box.messages ++ out ∷ [] } in
@@ -114,15 +114,15 @@ taking_before limits number dest most out (row ∷ rows) e = by (is_to dest row)
     by : (here sought : Bool) → is_to dest row ≡ here → is_to (ToSession number) row ≡ sought
         → takes limits (cond here (given most out row ∷ rows) (row ∷ change_first (is_to dest) (given most out) rows)) number ≡ true
         → (takes limits (change_first (is_to dest) (given most out) rows) number ≡ true → takes limits rows number ≡ true)
-        → takes_updates limits (outbox_in (cond sought (Some row) (find (is_to (ToSession number)) rows))) ≡ true
+        → outbox_takes_updates limits (outbox_in (cond sought (Some row) (find (is_to (ToSession number)) rows))) ≡ true
     by true true is is_sought e rest =
-        box_taking limits most row.outbox out (ap (λ (t : Bool). takes_updates limits (outbox_in (cond t (Some (given most out row)) (find (is_to (ToSession number)) rows)))) (sym is_sought) ∙ e)
+        box_taking limits most row.outbox out (ap (λ (t : Bool). outbox_takes_updates limits (outbox_in (cond t (Some (given most out row)) (find (is_to (ToSession number)) rows)))) (sym is_sought) ∙ e)
     by true false is is_sought e rest =
-        ap (λ (t : Bool). takes_updates limits (outbox_in (cond t (Some (given most out row)) (find (is_to (ToSession number)) rows)))) (sym is_sought) ∙ e
+        ap (λ (t : Bool). outbox_takes_updates limits (outbox_in (cond t (Some (given most out row)) (find (is_to (ToSession number)) rows)))) (sym is_sought) ∙ e
     by false true is is_sought e rest =
-        ap (λ (t : Bool). takes_updates limits (outbox_in (cond t (Some row) (find (is_to (ToSession number)) (change_first (is_to dest) (given most out) rows))))) (sym is_sought) ∙ e
+        ap (λ (t : Bool). outbox_takes_updates limits (outbox_in (cond t (Some row) (find (is_to (ToSession number)) (change_first (is_to dest) (given most out) rows))))) (sym is_sought) ∙ e
     by false false is is_sought e rest =
-        rest (ap (λ (t : Bool). takes_updates limits (outbox_in (cond t (Some row) (find (is_to (ToSession number)) (change_first (is_to dest) (given most out) rows))))) (sym is_sought) ∙ e)
+        rest (ap (λ (t : Bool). outbox_takes_updates limits (outbox_in (cond t (Some row) (find (is_to (ToSession number)) (change_first (is_to dest) (given most out) rows))))) (sym is_sought) ∙ e)
 
 -- no session takes updates after that didn't before
 abbrev HasNoMoreRoom : Limits → List Connection → List Connection → Type 0

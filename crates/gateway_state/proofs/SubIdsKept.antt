@@ -3,7 +3,7 @@ use Rattle.std.proofs.Common.{◌≡◌, ℕ, ◌≤◌, List, [], ◌∷◌, Bo
 use Rattle.std.specs.List.{list_all, list_any}
 use Rattle.std.proofs.lemmas.Bool.{and_from, and_parts, and_right, eq-eqb, eqb-true, lt-ltb, ltb-true, or_from, or_parts}
 use Rattle.rows.specs.Rows.{change_first}
-use Rattle.link_table.specs.declared.links.Link.{Link}
+use Rattle.link_table.specs.declared.links.LinkRow.{LinkRow}
 use Rattle.link_table.specs.declared.links.LinkState.{LinkState}
 use Rattle.link_table.specs.declared.links.Subject.{Subject}
 use Rattle.link_table.specs.declared.links.Subject.TheVariants.{Values, Properties}
@@ -20,7 +20,7 @@ below_more : (next after : ℕ) (sub : Option Subscription) → next ≤ after �
 below_more next after None rises below = refl
 below_more next after (Some sub) rises below = lt-ltb sub.id after (omega (arith, rises, ltb-true sub.id next below))
 
-pub all_below_more : (next after : ℕ) (links : List Link) → next ≤ after → list_all (has_id_below next) links ≡ true → list_all (has_id_below after) links ≡ true
+pub all_below_more : (next after : ℕ) (links : List LinkRow) → next ≤ after → list_all (has_id_below next) links ≡ true → list_all (has_id_below after) links ≡ true
 all_below_more next after links rises below =
     all_weaker (has_id_below next) (has_id_below after) links
     (λ link is.
@@ -29,14 +29,14 @@ all_below_more next after links rises below =
     (below_more next after link.subscriptions.values rises parts.0) (below_more next after link.subscriptions.properties rises parts.1)) below
 
 -- with one of them replaced by one below, both are below
-put_below : (subject : Subject) (next : ℕ) (sub : Option Subscription) (link : Link) → is_sub_below next sub ≡ true → has_id_below next link ≡ true → has_id_below next (with_subscription subject sub link) ≡ true
+put_below : (subject : Subject) (next : ℕ) (sub : Option Subscription) (link : LinkRow) → is_sub_below next sub ≡ true → has_id_below next link ≡ true → has_id_below next (with_subscription subject sub link) ≡ true
 put_below Values next sub link new below =
     and_from (is_sub_below next sub) (is_sub_below next link.subscriptions.properties) new (and_parts (is_sub_below next link.subscriptions.values) (is_sub_below next link.subscriptions.properties) below).1
 put_below Properties next sub link new below =
     and_from (is_sub_below next link.subscriptions.values) (is_sub_below next sub) (and_parts (is_sub_below next link.subscriptions.values) (is_sub_below next link.subscriptions.properties) below).0 new
 
 -- a link gets a subscription below, or loses it
-pub ids_of_put : (subject : Subject) (links : List Link) (test : Link → Bool) (next : ℕ) (sub : Option Subscription) → is_sub_below next sub ≡ true → list_all (has_id_below next) links ≡ true
+pub ids_of_put : (subject : Subject) (links : List LinkRow) (test : LinkRow → Bool) (next : ℕ) (sub : Option Subscription) → is_sub_below next sub ≡ true → list_all (has_id_below next) links ≡ true
     → list_all (has_id_below next) (change_first test (with_subscription subject sub) links) ≡ true
 ids_of_put subject [] test next sub new below = refl
 ids_of_put subject (link ∷ links) test next sub new below =
@@ -62,18 +62,18 @@ meets_swapped server None other (Some sub) = sym (and_right (eqb server other) f
 meets_swapped server (Some own) other None = and_right (eqb other server) false refl
 meets_swapped server (Some own) other (Some sub) = both_swapped other server sub.id own.id
 
-sharing_is : (server : ℕ) (own : Option Subscription) (other : Link)
+sharing_is : (server : ℕ) (own : Option Subscription) (other : LinkRow)
     → is_sharing server own other ≡ (meets server own other.server other.subscriptions.values || meets server own other.server other.subscriptions.properties)
 sharing_is server None other = refl
 sharing_is server (Some own) other = refl
 
-sharing_parts : (server : ℕ) (own : Option Subscription) (other : Link) → is_sharing server own other ≡ false
+sharing_parts : (server : ℕ) (own : Option Subscription) (other : LinkRow) → is_sharing server own other ≡ false
     → (meets server own other.server other.subscriptions.values ≡ false) × (meets server own other.server other.subscriptions.properties ≡ false)
 sharing_parts server own other none =
     or_parts (meets server own other.server other.subscriptions.values) (meets server own other.server other.subscriptions.properties) (sym (sharing_is server own other) ∙ none)
 
 -- a subscription that meets none of a link's doesn't meet it once it has another that it doesn't meet
-sharing_put : (subject : Subject) (server : ℕ) (own new : Option Subscription) (other : Link) → meets other.server new server own ≡ false → is_sharing server own other ≡ false
+sharing_put : (subject : Subject) (server : ℕ) (own new : Option Subscription) (other : LinkRow) → meets other.server new server own ≡ false → is_sharing server own other ≡ false
     → is_sharing server own (with_subscription subject new other) ≡ false
 sharing_put Values server own new other apart none =
     sharing_is server own (with_subscription Values new other)
@@ -84,7 +84,7 @@ sharing_put Properties server own new other apart none =
     ∙ or_from (meets server own other.server other.subscriptions.values) (meets server own other.server new)
     (sharing_parts server own other none).0 (meets_swapped server own other.server new ∙ apart)
 
-shares_put : (subject : Subject) (new : Option Subscription) (link other : Link) → is_sharing other.server new link ≡ false → shares_id link other ≡ false
+shares_put : (subject : Subject) (new : Option Subscription) (link other : LinkRow) → is_sharing other.server new link ≡ false → shares_id link other ≡ false
     → shares_id link (with_subscription subject new other) ≡ false
 shares_put subject new link other apart none =
     let values : Option Subscription = link.subscriptions.values in
@@ -95,7 +95,7 @@ shares_put subject new link other apart none =
     (sharing_put subject link.server values new other own.0 was.0) (sharing_put subject link.server properties new other own.1 was.1)
 
 -- a later link gets a subscription that meets none of this one's
-later_put : (subject : Subject) (server cid : ℕ) (new : Option Subscription) (link : Link) (rows : List Link) → is_sharing server new link ≡ false → list_any (shares_id link) rows ≡ false
+later_put : (subject : Subject) (server cid : ℕ) (new : Option Subscription) (link : LinkRow) (rows : List LinkRow) → is_sharing server new link ≡ false → list_any (shares_id link) rows ≡ false
     → list_any (shares_id link) (change_first (is_link server cid) (with_subscription subject new) rows) ≡ false
 later_put subject server cid new link [] apart none = refl
 later_put subject server cid new link (row ∷ rows) apart none = by (is_link server cid row) refl (later_put subject server cid new link rows apart parts.1)
@@ -111,16 +111,16 @@ later_put subject server cid new link (row ∷ rows) apart none = by (is_link se
         (shares_put subject new link row (ap (λ (n : ℕ). is_sharing n new link) same ∙ apart) parts.0) parts.1
     by false e rest = or_from (shares_id link row) (list_any (shares_id link) (change_first (is_link server cid) (with_subscription subject new) rows)) parts.0 rest
 
-none_of_either : (first second : Link → Bool) (rows : List Link) → list_any first rows ≡ false → list_any second rows ≡ false → list_any (λ (row : Link). first row || second row) rows ≡ false
+none_of_either : (first second : LinkRow → Bool) (rows : List LinkRow) → list_any first rows ≡ false → list_any second rows ≡ false → list_any (λ (row : LinkRow). first row || second row) rows ≡ false
 none_of_either first second [] one other = refl
 none_of_either first second (row ∷ rows) one other =
     let parts = or_parts (first row) (list_any first rows) one in
     let others = or_parts (second row) (list_any second rows) other in
-    or_from (first row || second row) (list_any (λ (x : Link). first x || second x) rows) (or_from (first row) (second row) parts.0 others.0)
+    or_from (first row || second row) (list_any (λ (x : LinkRow). first x || second x) rows) (or_from (first row) (second row) parts.0 others.0)
     (none_of_either first second rows parts.1 others.1)
 
 -- a link gets a subscription that meets none of later links
-first_put : (subject : Subject) (new : Option Subscription) (link : Link) (rows : List Link) → list_any (is_sharing link.server new) rows ≡ false → list_any (shares_id link) rows ≡ false
+first_put : (subject : Subject) (new : Option Subscription) (link : LinkRow) (rows : List LinkRow) → list_any (is_sharing link.server new) rows ≡ false → list_any (shares_id link) rows ≡ false
     → list_any (shares_id (with_subscription subject new link)) rows ≡ false
 first_put Values new link rows apart none =
     none_of_either (is_sharing link.server new) (is_sharing link.server link.subscriptions.properties) rows apart
@@ -132,7 +132,7 @@ first_put Properties new link rows apart none =
     (λ row is. (or_parts (is_sharing link.server link.subscriptions.values row) (is_sharing link.server link.subscriptions.properties row) is).0) none) apart
 
 -- IDs stay apart where a link gets a subscription that meets none, or loses one
-pub unlike_put : (subject : Subject) (server cid : ℕ) (new : Option Subscription) (rows : List Link) → list_any (is_sharing server new) rows ≡ false → AreUnlike shares_id rows
+pub unlike_put : (subject : Subject) (server cid : ℕ) (new : Option Subscription) (rows : List LinkRow) → list_any (is_sharing server new) rows ≡ false → AreUnlike shares_id rows
     → AreUnlike shares_id (change_first (is_link server cid) (with_subscription subject new) rows)
 unlike_put subject server cid new [] none apart = apart
 unlike_put subject server cid new (row ∷ rows) none apart = by (is_link server cid row) refl (unlike_put subject server cid new rows parts.1 apart.1)
@@ -156,13 +156,13 @@ own_apart server (Some a) b apart = by (eqb server server) (eq-eqb server server
     by true e none = none
     by false e none = absurd cc
 
-two_put : (subject : Subject) (new : Option Subscription) (link : Link) → is_sharing link.server new link ≡ false → has_two_ids (with_subscription subject new link) ≡ true
+two_put : (subject : Subject) (new : Option Subscription) (link : LinkRow) → is_sharing link.server new link ≡ false → has_two_ids (with_subscription subject new link) ≡ true
 two_put Values new link none =
     let other : Option Subscription = link.subscriptions.properties in
     ap not (own_apart link.server other new (meets_swapped link.server other link.server new ∙ (sharing_parts link.server new link none).1))
 two_put Properties new link none = ap not (own_apart link.server new link.subscriptions.values (sharing_parts link.server new link none).0)
 
-pub own_put : (subject : Subject) (server cid : ℕ) (new : Option Subscription) (rows : List Link) → list_any (is_sharing server new) rows ≡ false → list_all has_two_ids rows ≡ true
+pub own_put : (subject : Subject) (server cid : ℕ) (new : Option Subscription) (rows : List LinkRow) → list_any (is_sharing server new) rows ≡ false → list_all has_two_ids rows ≡ true
     → list_all has_two_ids (change_first (is_link server cid) (with_subscription subject new) rows) ≡ true
 own_put subject server cid new [] none own = refl
 own_put subject server cid new (row ∷ rows) none own = by (is_link server cid row) refl (own_put subject server cid new rows parts.1 own_parts.1)
@@ -181,17 +181,17 @@ own_put subject server cid new (row ∷ rows) none own = by (is_link server cid 
     by false e rest = and_from (has_two_ids row) (list_all has_two_ids (change_first (is_link server cid) (with_subscription subject new) rows)) own_parts.0 rest
 
 -- no subscription meets none
-pub none_meets_none : (server : ℕ) (rows : List Link) → list_any (is_sharing server None) rows ≡ false
+pub none_meets_none : (server : ℕ) (rows : List LinkRow) → list_any (is_sharing server None) rows ≡ false
 none_meets_none server [] = refl
 none_meets_none server (row ∷ rows) = none_meets_none server rows
 
 -- LINKS WHOSE SUBSCRIPTIONS STAY
 
-sharing_in_state : (server : ℕ) (own : Option Subscription) (state : LinkState) (rights : ℕ) (other : Link) → is_sharing server own (with_state state rights other) ≡ is_sharing server own other
+sharing_in_state : (server : ℕ) (own : Option Subscription) (state : LinkState) (rights : ℕ) (other : LinkRow) → is_sharing server own (with_state state rights other) ≡ is_sharing server own other
 sharing_in_state server None state rights other = refl
 sharing_in_state server (Some own) state rights other = refl
 
-pub shares_in_state : (state : LinkState) (rights : ℕ) (link other : Link) → shares_id link (with_state state rights other) ≡ shares_id link other
+pub shares_in_state : (state : LinkState) (rights : ℕ) (link other : LinkRow) → shares_id link (with_state state rights other) ≡ shares_id link other
 shares_in_state state rights link other =
     let first = sharing_in_state link.server link.subscriptions.values state rights other in
     let second = sharing_in_state link.server link.subscriptions.properties state rights other in
@@ -203,10 +203,10 @@ sharing_new at (Some own) server cid name =
     or_from (eqb server at && false) (eqb server at && false) (and_right (eqb server at) false refl) (and_right (eqb server at) false refl)
 
 -- a new link has no subscription
-pub none_shares_new : (server cid : ℕ) (name : List ℕ) (rows : List Link) → list_any (λ (row : Link). shares_id row (new_link server cid name)) rows ≡ false
+pub none_shares_new : (server cid : ℕ) (name : List ℕ) (rows : List LinkRow) → list_any (λ (row : LinkRow). shares_id row (new_link server cid name)) rows ≡ false
 none_shares_new server cid name [] = refl
 none_shares_new server cid name (row ∷ rows) =
-    or_from (shares_id row (new_link server cid name)) (list_any (λ (x : Link). shares_id x (new_link server cid name)) rows)
+    or_from (shares_id row (new_link server cid name)) (list_any (λ (x : LinkRow). shares_id x (new_link server cid name)) rows)
     (or_from (is_sharing row.server row.subscriptions.values (new_link server cid name)) (is_sharing row.server row.subscriptions.properties (new_link server cid name))
     (sharing_new row.server row.subscriptions.values server cid name) (sharing_new row.server row.subscriptions.properties server cid name))
     (none_shares_new server cid name rows)

@@ -1,8 +1,8 @@
 -- Where each channel has the rights that its client was last told.
 use Rattle.std.proofs.Common.{◌≡◌, ℕ, [], Some, sym, subst, ◌∙◌}
 use Rattle.std.proofs.lemmas.List.Elements.{All-weaker}
-use Rattle.channel_table.specs.declared.channels.Channel.{Channel}
-use Rattle.channel_table.specs.Channels.{is_channel}
+use Rattle.named_rows.specs.declared.channels.Channel.{Channel}
+use Rattle.named_rows.specs.Channels.{is_channel}
 use Rattle.gateway_state.specs.Gateway.{Gateway, initial}
 use Rattle.gateway_state.specs.Notices.{channel_notices, channels_told, links_told, reads_told}
 use Rattle.gateway_state.specs.Reached.{IsReached}

@@ -7,10 +7,10 @@ use Rattle.std.proofs.lemmas.Bool.{and_parts, eqb-true, true≢false}
 use Rattle.std.proofs.lemmas.List.Folds.{list_all-append}
 use Rattle.std.proofs.lemmas.Slice.Eq.{bytes_eq-Decides}
 use Rattle.rows.specs.Rows.{change_first}
-use Rattle.channel_table.specs.declared.channels.Channel.{Channel}
-use Rattle.channel_table.specs.declared.channels.Reach.{Reach}
-use Rattle.channel_table.specs.Channels.{is_channel, is_not_channel, is_not_channel_of, with_reach_and_rights}
-use Rattle.link_table.specs.declared.links.Link.{Link}
+use Rattle.named_rows.specs.declared.channels.Channel.{Channel}
+use Rattle.named_rows.specs.declared.channels.Reach.{Reach}
+use Rattle.named_rows.specs.Channels.{is_channel, is_not_channel, is_not_channel_of, with_reach_and_rights}
+use Rattle.link_table.specs.declared.links.LinkRow.{LinkRow}
 use Rattle.link_table.specs.declared.links.Subject.{Subject}
 use Rattle.link_table.specs.declared.links.Subscription.{Subscription}
 use Rattle.link_table.specs.declared.writes.WaitingWrite.{WaitingWrite}
@@ -87,15 +87,15 @@ name_left session sid stays (c ∷ channels) both = by (is_channel session sid c
 -- THE LINKS OF A WRITE
 
 -- a link for the name is of this server
-abbrev is_right : ℕ → List ℕ → Link → Bool
+abbrev is_right : ℕ → List ℕ → LinkRow → Bool
 is_right server name link = not (is_named name link) || eqb link.server server
 
-abbrev fits_name : List Link → ℕ → Option (List ℕ) → Bool
+abbrev fits_name : List LinkRow → ℕ → Option (List ℕ) → Bool
 fits_name links server None = false
 fits_name links server (Some name) = list_all (is_right server name) links
 
 -- the write's channel stands, and no link for its variable is of another server
-abbrev fits : List Channel → List Link → WaitingWrite → Bool
+abbrev fits : List Channel → List LinkRow → WaitingWrite → Bool
 fits channels links write = fits_name links write.server (name_of channels write.session write.sid)
 
 -- what `HasWritesOnLinks` says while links go before their channels do
@@ -103,18 +103,18 @@ record HasWritesFit (w : Gateway) : Type 0 where
   apart : HasLinksApart w
   fit : list_all (fits w.clients.channels w.upstream.links) w.upstream.writes ≡ true
 
-fits_name_kept : (links : List Link) (server : ℕ) (before after : Option (List ℕ)) → ((name : List ℕ) → before ≡ Some name → after ≡ Some name)
+fits_name_kept : (links : List LinkRow) (server : ℕ) (before after : Option (List ℕ)) → ((name : List ℕ) → before ≡ Some name → after ≡ Some name)
     → fits_name links server before ≡ true → fits_name links server after ≡ true
 fits_name_kept links server None after same there = absurd (true≢false (sym there))
 fits_name_kept links server (Some name) after same there = ap (fits_name links server) (same name refl) ∙ there
 
-fits_links_kept : (links others : List Link) (server : ℕ) (name : Option (List ℕ)) → ((name : List ℕ) → list_all (is_right server name) links ≡ true → list_all (is_right server name) others ≡ true)
+fits_links_kept : (links others : List LinkRow) (server : ℕ) (name : Option (List ℕ)) → ((name : List ℕ) → list_all (is_right server name) links ≡ true → list_all (is_right server name) others ≡ true)
     → fits_name links server name ≡ true → fits_name others server name ≡ true
 fits_links_kept links others server None same there = there
 fits_links_kept links others server (Some name) same there = same name there
 
 -- where no link is for the name, none is of another server
-none_named : (server : ℕ) (name : List ℕ) (links : List Link) → length (filter (is_named name) links) ≤ 0 → list_all (is_right server name) links ≡ true
+none_named : (server : ℕ) (name : List ℕ) (links : List LinkRow) → length (filter (is_named name) links) ≤ 0 → list_all (is_right server name) links ≡ true
 none_named server name [] none = refl
 none_named server name (link ∷ links) none = by (is_named name link) none (λ rest. none_named server name links rest)
   where
@@ -124,7 +124,7 @@ none_named server name (link ∷ links) none = by (is_named name link) none (λ 
     by false none rest = rest none
 
 -- the only link for a name decides of all
-first_decides : (server : ℕ) (name : List ℕ) (links : List Link) → length (filter (is_named name) links) ≤ 1 → is_of_server server (find (is_named name) links) ≡ true
+first_decides : (server : ℕ) (name : List ℕ) (links : List LinkRow) → length (filter (is_named name) links) ≤ 1 → is_of_server server (find (is_named name) links) ≡ true
     → list_all (is_right server name) links ≡ true
 first_decides server name [] most on = absurd (true≢false (sym on))
 first_decides server name (link ∷ links) most on = by (is_named name link) most on (λ few rest. first_decides server name links few rest)
@@ -137,7 +137,7 @@ first_decides server name (link ∷ links) most on = by (is_named name link) mos
     by false few is rest = rest few is
 
 -- and is of this server where all are
-decided_first : (server : ℕ) (name : List ℕ) (links : List Link) (link : Link) → list_all (is_right server name) links ≡ true → find (is_named name) links ≡ Some link → eqb link.server server ≡ true
+decided_first : (server : ℕ) (name : List ℕ) (links : List LinkRow) (link : LinkRow) → list_all (is_right server name) links ≡ true → find (is_named name) links ≡ Some link → eqb link.server server ≡ true
 decided_first server name [] link right is = absurd cc
 decided_first server name (first ∷ links) link right is = by (is_named name first) right is (λ rest found. decided_first server name links link rest found)
   where
@@ -145,7 +145,7 @@ decided_first server name (first ∷ links) link right is = by (is_named name fi
         → (list_all (is_right server name) links ≡ true → find (is_named name) links ≡ Some link → eqb link.server server ≡ true) → eqb link.server server ≡ true
     by true all found rest =
         let same : first ≡ link = cc in
-        ap (λ (l : Link). eqb l.server server) (sym same) ∙ (and_parts (eqb first.server server) (list_all (is_right server name) links) all).0
+        ap (λ (l : LinkRow). eqb l.server server) (sym same) ∙ (and_parts (eqb first.server server) (list_all (is_right server name) links) all).0
     by false all found rest = rest all found
 
 -- EACH CHANGE
@@ -154,7 +154,7 @@ module _ (w : Gateway) where
   abbrev channels : List Channel
   channels = w.clients.channels
 
-  abbrev links : List Link
+  abbrev links : List LinkRow
   links = w.upstream.links
 
   abbrev writes : List WaitingWrite
@@ -180,7 +180,7 @@ module _ (w : Gateway) where
       all_left (fits channels links) (fits (filter stays channels) links) kept writes
       (λ write is there. ap (fits_name links write.server) (name_left write.session write.sid stays channels (λ c same. both write c is same)) ∙ there) fit
 
-  fit_over : (others : List Link) → ((server : ℕ) (name : List ℕ) → list_all (is_right server name) links ≡ true → list_all (is_right server name) others ≡ true)
+  fit_over : (others : List LinkRow) → ((server : ℕ) (name : List ℕ) → list_all (is_right server name) links ≡ true → list_all (is_right server name) others ≡ true)
       → list_all (fits channels links) writes ≡ true → list_all (fits channels others) writes ≡ true
   fit_over others same fit =
       all_weaker (fits channels links) (fits channels others) writes
@@ -286,12 +286,12 @@ linked_where w c session sid settled is =
     let up = found_passes (IsUpToDate w) (is_channel session sid) w.clients.channels c (all_up_to_date w settled) is in
     by (link_of w c.real) refl (and_parts _ (link_connected (link_of w c.real)) up.served).1
   where
-    by : (link : Option Link) → link_of w c.real ≡ link → link_connected link ≡ true → is_linked w c.real ≡ true
+    by : (link : Option LinkRow) → link_of w c.real ≡ link → link_connected link ≡ true → is_linked w c.real ≡ true
     by None e connected = absurd (true≢false (sym connected))
     by (Some link) e connected = ap is_some e
 
 -- a link for a name that had none is for no variable of a channel
-fits_found : (w : Gateway) (write : WaitingWrite) (new : Link) → IsSettled w → is_linked w new.name ≡ false
+fits_found : (w : Gateway) (write : WaitingWrite) (new : LinkRow) → IsSettled w → is_linked w new.name ≡ false
     → fits w.clients.channels w.upstream.links write ≡ true → fits w.clients.channels (w.upstream.links ++ new ∷ []) write ≡ true
 fits_found w write new settled missing there = by (channel_of w write.session write.sid) refl there
   where
@@ -311,7 +311,7 @@ fits_found w write new settled missing there = by (channel_of w write.session wr
 fit_found : (w : Gateway) (server : ℕ) (name : List ℕ) → IsSettled w → is_linked w name ≡ false → list_all (fits w.clients.channels w.upstream.links) w.upstream.writes ≡ true
     → list_all (fits w.clients.channels (with_link server name w).upstream.links) w.upstream.writes ≡ true
 fit_found w server name settled missing fit =
-    let new : Link = new_link server (next_cid w) name in
+    let new : LinkRow = new_link server (next_cid w) name in
     all_weaker (fits w.clients.channels w.upstream.links) (fits w.clients.channels (w.upstream.links ++ new ∷ [])) w.upstream.writes
     (λ write there. fits_found w write new settled missing there) fit
 
@@ -332,7 +332,7 @@ run_fit_from w (event ∷ events) order apart settled fit =
 on_link : (w : Gateway) (write : WaitingWrite) → IsSettled w → fits w.clients.channels w.upstream.links write ≡ true → is_write_on_link w write ≡ true
 on_link w write settled there = by (channel_of w write.session write.sid) refl there
   where
-    over : (c : Channel) (link : Option Link) → link_of w c.real ≡ link → is_linked w c.real ≡ true → list_all (is_right write.server c.real) w.upstream.links ≡ true → is_of_server write.server link ≡ true
+    over : (c : Channel) (link : Option LinkRow) → link_of w c.real ≡ link → is_linked w c.real ≡ true → list_all (is_right write.server c.real) w.upstream.links ≡ true → is_of_server write.server link ≡ true
     over c None is linked right = absurd (true≢false (sym linked ∙ ap is_some is))
     over c (Some link) is linked right = decided_first write.server c.real w.upstream.links link right is
 

@@ -1,7 +1,7 @@
 -- What is forgotten and given up as time passes.
 use Rattle.std.specs.Prelude.{ℕ, map, filter, Bool, false, not, ◌&&◌, ◌||◌, nat_le, nat_lt, is_some, if◌then◌else◌, Option, Some, None}
 use Rattle.std.specs.List.{fold}
-use Rattle.link_table.specs.declared.links.Link.{Link}
+use Rattle.link_table.specs.declared.links.LinkRow.{LinkRow}
 use Rattle.link_table.specs.declared.links.Subject.TheVariants.{Properties}
 use Rattle.link_table.specs.declared.links.Subscription.{Subscription}
 use Rattle.link_table.specs.Links.{sub_at}
@@ -22,10 +22,10 @@ is_older before next number =
     else nat_le next number && nat_lt number before
 
 -- the server was asked for the channel before the last age, and hasn't answered
-abbrev pub is_link_overdue : Gateway → Link → Bool
+abbrev pub is_link_overdue : Gateway → LinkRow → Bool
 is_link_overdue w link = is_creating link.state && is_older w.last_age.cid w.upstream.counters.cid link.cid
 
-abbrev pub link_given_up : Gateway → Link → Gateway
+abbrev pub link_given_up : Gateway → LinkRow → Gateway
 link_given_up w link = without_link link.server link.cid w
 
 -- such links go, so that their names are missing again
@@ -40,14 +40,14 @@ is_asked_before w None = false
 is_asked_before w (Some sub) = is_older w.last_age.subscription w.upstream.counters.subscription sub.id
 
 -- and weren't told
-abbrev pub are_properties_overdue : Gateway → Link → Bool
+abbrev pub are_properties_overdue : Gateway → LinkRow → Bool
 are_properties_overdue w link =
     is_connected link.state
     && is_asked_before w (sub_at Properties link.subscriptions)
     && not (is_some (held_by w link.cid).properties)
 
 -- the reads that wait for the properties of a link's variable can't be had
-abbrev pub properties_given_up_on : Gateway → Link → Gateway
+abbrev pub properties_given_up_on : Gateway → LinkRow → Gateway
 properties_given_up_on w link = reads_failed (fails_without Properties (native_in link.state)) w link.name
 
 abbrev pub properties_given_up : Gateway → Gateway

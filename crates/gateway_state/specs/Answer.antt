@@ -2,7 +2,7 @@
 use Rattle.std.specs.Prelude.{ℕ, List, Bool, false, not, ◌&&◌, ◌||◌, ◌==◌, nat_lt, nat_le, is_some, if◌then◌else◌, Option, Some, None}
 use Rattle.std.specs.List.{find}
 use Rattle.ca_message.specs.declared.codes.TheConstants.{ECA_BADTYPE, ECA_BADCOUNT, ECA_TOLARGE, ECA_NORDACCESS}
-use Rattle.channel_table.specs.declared.channels.Channel.{Channel}
+use Rattle.named_rows.specs.declared.channels.Channel.{Channel}
 use Rattle.dbr_layout.specs.declared.dbr.Dbr.{Dbr}
 use Rattle.dbr_layout.specs.declared.dbr.TheConstants.{MAX_PAYLOAD}
 use Rattle.dbr_layout.specs.Conversion.{conversion_between}

@@ -7,12 +7,12 @@ use Rattle.gateway_state.specs.Connections.{is_to, outbox_of}
 use Rattle.gateway_state.specs.Gateway.{Gateway}
 
 -- whether the connection stands
-abbrev pub stands : Gateway → Dest → Bool
-stands w dest = list_any (is_to dest) w.connections
+abbrev pub is_open : Gateway → Dest → Bool
+is_open w dest = list_any (is_to dest) w.connections
 
 -- whether it stands and must end
-abbrev pub ends : Gateway → Dest → Bool
-ends w dest = (outbox_of dest w.connections).marked
+abbrev pub must_end : Gateway → Dest → Bool
+must_end w dest = (outbox_of dest w.connections).marked
 
 -- how many messages wait for it
 abbrev pub queued : Gateway → Dest → ℕ
@@ -24,4 +24,4 @@ queued_bytes w dest = waiting_bytes (outbox_of dest w.connections)
 
 -- a connection's messages have an effect: it stands and isn't marked
 abbrev pub acts : Gateway → Dest → Bool
-acts w dest = stands w dest && not (ends w dest)
+acts w dest = is_open w dest && not (must_end w dest)

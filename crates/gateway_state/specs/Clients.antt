@@ -6,15 +6,15 @@ use Rattle.ca_header.specs.declared.header.Header.{Header}
 use Rattle.ca_message.specs.declared.codes.TheConstants.{ECA_INTERNAL, ECA_BADCHID, ECA_GETFAIL}
 use Rattle.ca_message.specs.declared.commands.TheConstants.{NO_CHANNEL}
 use Rattle.ca_message.specs.declared.to_client.ToClient.TheVariants as replies
-use Rattle.channel_table.specs.declared.channels.Channel.{Channel}
-use Rattle.channel_table.specs.declared.channels.Reach.{Reach}
+use Rattle.named_rows.specs.declared.channels.Channel.{Channel}
+use Rattle.named_rows.specs.declared.channels.Reach.{Reach}
 use Rattle.channel_table.specs.declared.sessions.Session.{Session}
-use Rattle.channel_table.specs.Channels.{is_channel, is_channel_of, is_not_channel, with_reach_and_rights}
+use Rattle.named_rows.specs.Channels.{is_channel, is_channel_of, is_not_channel, with_reach_and_rights}
 use Rattle.channel_table.specs.ClientRows.{channel_count, has_channel, read_count}
-use Rattle.channel_table.specs.Reads.{is_not_read_on}
+use Rattle.named_rows.specs.Reads.{is_not_read_on}
 use Rattle.channel_table.specs.Sessions.{is_numbered}
-use Rattle.channel_table.specs.Subs.{is_not_sub_on}
-use Rattle.link_table.specs.declared.links.Link.{Link}
+use Rattle.named_rows.specs.Subs.{is_not_sub_on}
+use Rattle.link_table.specs.declared.links.LinkRow.{LinkRow}
 use Rattle.link_table.specs.declared.counter.Counter.TheVariants.{Sid as CountsSids}
 use Rattle.link_table.specs.declared.counter.TheConstants.{LAST_NUMBER}
 use Rattle.link_table.specs.Counters.{given_out, next_number}
@@ -30,7 +30,7 @@ use Rattle.gateway_state.specs.declared.reading.Given.{Given}
 use Rattle.gateway_state.specs.declared.reading.Native.{Native}
 use Rattle.gateway_state.specs.Gateway.{Gateway}
 use Rattle.gateway_state.specs.Quantities.{Code, Count, Dtype, Ioid, SessionNumber, Sid}
-use Rattle.gateway_state.specs.declared.search.Search.{Search}
+use Rattle.gateway_state.specs.declared.search.RememberedSearch.{RememberedSearch}
 use Rattle.gateway_state.specs.Searches.{left_by_channel, with_search, without_search}
 use Rattle.gateway_state.specs.Rights.{channel_of, lead_in, rights_of}
 use Rattle.gateway_state.specs.Telling.{told, marked}
@@ -110,7 +110,7 @@ with_channel number cid name real rights w = record w {
 }
 
 -- the rights on a link that the policy leaves to who was led to it
-abbrev pub rights_on : Gateway → Lead → Link → ℕ
+abbrev pub rights_on : Gateway → Lead → LinkRow → ℕ
 rights_on w lead link = bit_and link.rights (group_rights w.policy.groups lead.group)
 
 -- the client's channel is made, with these rights, and the client is told of both
@@ -120,11 +120,11 @@ created_with number cid name real rights native w =
     (told number (replies.AccessRights cid rights) (with_channel number cid name real rights w))
 
 -- the client's channel on a variable whose native type and count are known
-abbrev pub created : ℕ → ℕ → List ℕ → Lead → Link → Native → Gateway → Gateway
+abbrev pub created : ℕ → ℕ → List ℕ → Lead → LinkRow → Native → Gateway → Gateway
 created number cid name lead link native w = created_with number cid name lead.real (rights_on w lead link) native w
 
 -- the search for a name that goes once a client opens a channel on it: that of its connection's address
-abbrev pub search_left_by : Option Session → List ℕ → Gateway → Option Search
+abbrev pub search_left_by : Option Session → List ℕ → Gateway → Option RememberedSearch
 search_left_by None name w = None
 search_left_by (Some row) name w = left_by_channel w.limits row.peer name w.searches
 

@@ -13,7 +13,7 @@ use Rattle.gateway_state.specs.declared.limits.Limits.{Limits}
 use Rattle.gateway_state.specs.declared.limits.TheConstants.{SEARCH_LIMIT, UPDATE_BYTES}
 use Rattle.rule_desk.specs.declared.policy.Policy.{Policy}
 use Rattle.gateway_state.specs.declared.connections.Connection.{Connection}
-use Rattle.gateway_state.specs.declared.search.Search.{Search}
+use Rattle.gateway_state.specs.declared.search.RememberedSearch.{RememberedSearch}
 
 -- all that the gateway knows, as whole lists of rows
 pub record Gateway : Type 0 where
@@ -24,7 +24,7 @@ pub record Gateway : Type 0 where
   pub clients : ClientRows
   pub upstream : LinkRows
   pub cache : List LastMessage
-  pub searches : List Search
+  pub searches : List RememberedSearch
   pub last_age : LastAge
 
 -- what holds until it is told otherwise

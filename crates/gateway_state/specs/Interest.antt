@@ -1,9 +1,9 @@
 -- What the readers of a variable want together.
 use Rattle.std.specs.Prelude.{ℕ, List, ◌++◌, Bool, true, false, ◌==◌, ◌&&◌, nat_lt, nat_le, map, filter, if◌then◌else◌, Option, Some, None, option_map}
-use Rattle.channel_table.specs.declared.channels.Channel.{Channel}
-use Rattle.channel_table.specs.declared.subs.ClientSub.{ClientSub}
-use Rattle.channel_table.specs.Demand.{own_ask, reach_ask}
-use Rattle.link_table.specs.declared.links.Link.{Link}
+use Rattle.named_rows.specs.declared.channels.Channel.{Channel}
+use Rattle.named_rows.specs.declared.subs.ClientSub.{ClientSub}
+use Rattle.named_rows.specs.Demand.{own_ask, reach_ask}
+use Rattle.link_table.specs.declared.links.LinkRow.{LinkRow}
 use Rattle.link_table.specs.declared.links.LinkState.{LinkState}
 use Rattle.link_table.specs.declared.links.LinkState.TheVariants.{Creating, Connected, Unusable}
 use Rattle.link_table.specs.declared.servers.Server.{Server}
@@ -24,7 +24,7 @@ use Rattle.gateway_state.specs.declared.limits.TheConstants.{UPDATE_MINOR}
 use Rattle.gateway_state.specs.Gateway.{Gateway}
 use Rattle.gateway_state.specs.Quantities.{Count, Minor}
 use Rattle.gateway_state.specs.Rights.{channel_of, rights_of, may_read}
-use Rattle.channel_table.specs.Channels.{is_on}
+use Rattle.named_rows.specs.Channels.{is_on}
 use Rattle.gateway_state.specs.Variables.{link_of}
 
 -- a channel on the variable that had a read accepted, and that may still read, is a reader of it
@@ -97,12 +97,12 @@ sent_for Values minor native count = sent_count minor native count
 sent_for Properties minor native count = count
 
 -- a link's subscription for a subject, while it is connected
-abbrev pub present : Subject → Link → LinkState → Option Subscription
+abbrev pub present : Subject → LinkRow → LinkState → Option Subscription
 present subject link Creating = None
 present subject link (Connected sid dtype count) = sub_at subject link.subscriptions
 present subject link Unusable = None
 
-abbrev pub subscription_in : Subject → Option Link → Option Subscription
+abbrev pub subscription_in : Subject → Option LinkRow → Option Subscription
 subscription_in subject None = None
 subscription_in subject (Some link) = present subject link link.state
 

@@ -6,13 +6,13 @@ use Rattle.rows.specs.Rows.{change_first, remove_first}
 use Rattle.ca_message.specs.declared.codes.TheConstants.{ECA_NORDACCESS}
 use Rattle.ca_message.specs.declared.to_client.ToClient.TheVariants as replies
 use Rattle.ca_message.specs.declared.to_server.ToServer.TheVariants as requests
-use Rattle.channel_table.specs.declared.channels.Channel.{Channel}
-use Rattle.channel_table.specs.declared.channels.Reach.{Reach}
-use Rattle.channel_table.specs.declared.reads.WaitingRead.{WaitingRead}
-use Rattle.channel_table.specs.Channels.{is_channel, with_reach_and_rights}
-use Rattle.channel_table.specs.Reads.{same_read}
-use Rattle.channel_table.specs.Subs.{is_sub_on}
-use Rattle.link_table.specs.declared.links.Link.{Link}
+use Rattle.named_rows.specs.declared.channels.Channel.{Channel}
+use Rattle.named_rows.specs.declared.channels.Reach.{Reach}
+use Rattle.named_rows.specs.declared.reads.WaitingRead.{WaitingRead}
+use Rattle.named_rows.specs.Channels.{is_channel, with_reach_and_rights}
+use Rattle.named_rows.specs.Reads.{same_read}
+use Rattle.named_rows.specs.Subs.{is_sub_on}
+use Rattle.link_table.specs.declared.links.LinkRow.{LinkRow}
 use Rattle.link_table.specs.declared.links.LinkState.{LinkState}
 use Rattle.link_table.specs.declared.links.LinkState.TheVariants.{Creating, Connected, Unusable}
 use Rattle.link_table.specs.declared.links.Subject.{Subject}
@@ -90,36 +90,36 @@ type_for Values dtype = time_of dtype
 type_for Properties dtype = ctrl_of dtype
 
 -- the present subscription for a subject is given up
-abbrev pub cancelled : Subject → Link → ℕ → ℕ → Option Subscription → List LinkNotice
+abbrev pub cancelled : Subject → LinkRow → ℕ → ℕ → Option Subscription → List LinkNotice
 cancelled subject link sid dtype None = []
 cancelled subject link sid dtype (Some sub) = Cancelled subject link.server link.cid sid (type_for subject dtype) sub ∷ []
 
 -- what is wanted of a subject is asked for; with nothing wanted what it told last goes
-abbrev pub subscribed : Subject → Minor → Link → Sid → Dtype → Count → Option Want → List LinkNotice
+abbrev pub subscribed : Subject → Minor → LinkRow → Sid → Dtype → Count → Option Want → List LinkNotice
 subscribed subject minor link sid dtype native None = Unread subject link.cid ∷ []
 subscribed subject minor link sid dtype native (Some want) =
     Subscribed subject link.server link.cid sid (type_for subject dtype) want (sent_for subject minor native want.count) ∷ []
 
 -- what a server is owed where this is wanted of a subject, and that is its subscription
-abbrev pub notices_between : Subject → Minor → Link → Sid → Dtype → Count → Option Want → Option Subscription → List LinkNotice
+abbrev pub notices_between : Subject → Minor → LinkRow → Sid → Dtype → Count → Option Want → Option Subscription → List LinkNotice
 notices_between subject minor link sid dtype native want sub =
     if is_for want sub then []
     else cancelled subject link sid dtype sub ++ subscribed subject minor link sid dtype native want
 
 -- what the server of a connected link is owed about a subject
-abbrev pub subject_notices : Subject → Gateway → Link → Sid → Dtype → Count → List LinkNotice
+abbrev pub subject_notices : Subject → Gateway → LinkRow → Sid → Dtype → Count → List LinkNotice
 subject_notices subject w link sid dtype native =
     notices_between subject (minor_of w link.server) link sid dtype native
     (wanted_for subject w link.name dtype native) (sub_at subject link.subscriptions)
 
 -- about both, values first
-abbrev pub interest_notices : Gateway → Link → LinkState → List LinkNotice
+abbrev pub interest_notices : Gateway → LinkRow → LinkState → List LinkNotice
 interest_notices w link Creating = []
 interest_notices w link Unusable = []
 interest_notices w link (Connected sid dtype native) =
     subject_notices Values w link sid dtype native ++ subject_notices Properties w link sid dtype native
 
-abbrev pub link_notices_of : Gateway → Link → List LinkNotice
+abbrev pub link_notices_of : Gateway → LinkRow → List LinkNotice
 link_notices_of w link =
     interest_notices w link link.state
     ++ (if is_wanted w link.name then [] else Dropped link.server link.cid link.state ∷ [])

@@ -1,13 +1,13 @@
 -- What clients may do with their channels.
 -- (that rights let a client read is said where it is counted)
-pub use Rattle.channel_table.specs.Demand.{may_read}
+pub use Rattle.named_rows.specs.Demand.{may_read}
 use Rattle.std.specs.Prelude.{ℕ, List, Bool, false, ◌&&◌, bit_and, Option, Some, None}
 use Rattle.std.specs.List.{find}
-use Rattle.channel_table.specs.declared.channels.Channel.{Channel}
+use Rattle.named_rows.specs.declared.channels.Channel.{Channel}
 use Rattle.channel_table.specs.declared.sessions.Session.{Session}
-use Rattle.channel_table.specs.Channels.{is_channel}
+use Rattle.named_rows.specs.Channels.{is_channel}
 use Rattle.channel_table.specs.Sessions.{is_numbered}
-use Rattle.link_table.specs.declared.links.Link.{Link}
+use Rattle.link_table.specs.declared.links.LinkRow.{LinkRow}
 use Rattle.pv_alias.specs.declared.lead.Lead.{Lead}
 use Rattle.rule_desk.specs.declared.policy.Policy.{Policy}
 use Rattle.gateway_state.specs.Gateway.{Gateway}
@@ -22,7 +22,7 @@ lead_for policy name (Some row) = lead_of policy row.host name
 abbrev pub lead_in : Gateway → ℕ → List ℕ → Option Lead
 lead_in w number name = lead_for w.policy name (find (is_numbered number) w.clients.sessions)
 
-abbrev pub link_rights : Option Link → ℕ
+abbrev pub link_rights : Option LinkRow → ℕ
 link_rights None = 0
 link_rights (Some link) = link.rights
 
@@ -30,7 +30,7 @@ link_rights (Some link) = link.rights
 abbrev pub rights_of : Gateway → Channel → ℕ
 rights_of w c = bit_and (link_rights (link_of w c.real)) (rights_left w.policy (lead_in w c.session c.asked))
 
-abbrev pub link_connected : Option Link → Bool
+abbrev pub link_connected : Option LinkRow → Bool
 link_connected None = false
 link_connected (Some link) = is_connected link.state
 

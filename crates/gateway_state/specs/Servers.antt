@@ -10,14 +10,14 @@ use Rattle.ca_message.specs.declared.reply.ServerReply.TheVariants as says
 use Rattle.ca_message.specs.declared.to_client.ToClient.TheVariants as replies
 use Rattle.ca_message.specs.declared.to_server.ToServer.TheVariants as requests
 use Rattle.ca_message.specs.ServerReply.{reply_of}
-use Rattle.channel_table.specs.declared.reads.WaitingRead.{WaitingRead}
-use Rattle.channel_table.specs.declared.subs.ClientSub.{ClientSub}
-use Rattle.channel_table.specs.Reads.{same_read}
+use Rattle.named_rows.specs.declared.reads.WaitingRead.{WaitingRead}
+use Rattle.named_rows.specs.declared.subs.ClientSub.{ClientSub}
+use Rattle.named_rows.specs.Reads.{same_read}
 use Rattle.dbr_layout.specs.Dbr.{dbr_of}
 use Rattle.dbr_layout.specs.declared.fault.LayoutFault.{LayoutFault}
 use Rattle.dbr_layout.specs.View.{Shown, shown}
 use Rattle.value_cache.specs.Held.{Held, with_properties, with_value}
-use Rattle.link_table.specs.declared.links.Link.{Link}
+use Rattle.link_table.specs.declared.links.LinkRow.{LinkRow}
 use Rattle.link_table.specs.declared.links.LinkState.{LinkState}
 use Rattle.link_table.specs.declared.links.LinkState.TheVariants.{Creating, Connected, Unusable}
 use Rattle.link_table.specs.declared.links.Subject.{Subject}
@@ -96,12 +96,12 @@ is_usable dtype count = nat_lt dtype PLAIN_TYPES && nat_lt 0 count && fits_paylo
 abbrev pub channel_returned : ℕ → ℕ → ℕ → Gateway → Gateway
 channel_returned server sid cid w = asked server (requests.ClearChannel sid cid) w
 
-abbrev pub answered_creating : ServerNumber → Cid → Sid → Dtype → Count → Link → Gateway → Gateway
+abbrev pub answered_creating : ServerNumber → Cid → Sid → Dtype → Count → LinkRow → Gateway → Gateway
 answered_creating server cid sid dtype count link w =
     if is_usable dtype count then with_link_state server cid (Connected sid dtype count) link.rights w
     else channel_returned server sid cid (with_link_state server cid Unusable link.rights w)
 
-abbrev pub created_for : ServerNumber → Cid → Sid → Dtype → Count → Option Link → Gateway → Gateway
+abbrev pub created_for : ServerNumber → Cid → Sid → Dtype → Count → Option LinkRow → Gateway → Gateway
 created_for server cid sid dtype count None w = channel_returned server sid cid w
 created_for server cid sid dtype count (Some link) w =
     if is_creating link.state then answered_creating server cid sid dtype count link w else w
@@ -113,7 +113,7 @@ channel_made w server cid sid dtype count =
 
 -- ACCESS_RIGHTS
 
-abbrev pub rights_given : ℕ → ℕ → ℕ → Option Link → Gateway → Gateway
+abbrev pub rights_given : ℕ → ℕ → ℕ → Option LinkRow → Gateway → Gateway
 rights_given server cid rights None w = w
 rights_given server cid rights (Some link) w = with_link_state server cid link.state rights w
 
@@ -127,14 +127,14 @@ abbrev pub without_link : ℕ → ℕ → Gateway → Gateway
 without_link server cid w =
     record (without_cached cid w) { upstream = record w.upstream { links = filter (is_not_link server cid) w.upstream.links } }
 
-abbrev pub failed_for : ℕ → ℕ → Option Link → Gateway → Gateway
+abbrev pub failed_for : ℕ → ℕ → Option LinkRow → Gateway → Gateway
 failed_for server cid None w = w
 failed_for server cid (Some link) w = if is_creating link.state then without_link server cid w else w
 
 abbrev pub creation_refused : Gateway → ℕ → ℕ → Gateway
 creation_refused w server cid = failed_for server cid (find (is_link server cid) w.upstream.links) w
 
-abbrev pub gone_for : ℕ → ℕ → Option Link → Gateway → Gateway
+abbrev pub gone_for : ℕ → ℕ → Option LinkRow → Gateway → Gateway
 gone_for server cid None w = w
 gone_for server cid (Some link) w = without_link server cid w
 
@@ -207,14 +207,14 @@ concerns Properties w cid dtype count payload sub = asks_for PROPERTY_EVENT sub
 abbrev pub concerned_owed : List ℕ → (ClientSub → Bool) → Gateway → Gateway
 concerned_owed name passes w = owed_to_all w (concerned w name passes)
 
-abbrev pub updated_connected : Subject → Link → Dtype → Count → Dtype → Count → List ℕ → Gateway → Gateway
+abbrev pub updated_connected : Subject → LinkRow → Dtype → Count → Dtype → Count → List ℕ → Gateway → Gateway
 updated_connected subject link native asked_with dtype count payload w =
     if is_heard subject native asked_with dtype count payload
     then with_held link.server link.cid (held_with subject dtype count payload asked_with)
     (concerned_owed link.name (concerns subject w link.cid dtype count payload) w)
     else w
 
-abbrev pub updated_link : Subject → Link → LinkState → Option Subscription → ℕ → ℕ → List ℕ → Gateway → Gateway
+abbrev pub updated_link : Subject → LinkRow → LinkState → Option Subscription → ℕ → ℕ → List ℕ → Gateway → Gateway
 updated_link subject link (Connected sid native native_count) (Some sub) dtype count payload w =
     updated_connected subject link native sub.count dtype count payload w
 updated_link subject link (Connected sid native native_count) None dtype count payload w = w
@@ -222,17 +222,17 @@ updated_link subject link Creating sub dtype count payload w = w
 updated_link subject link Unusable sub dtype count payload w = w
 
 -- what a server tells of a subject on a link
-abbrev pub updated_under : Subject → ℕ → ℕ → ℕ → List ℕ → Link → Gateway → Gateway
+abbrev pub updated_under : Subject → ℕ → ℕ → ℕ → List ℕ → LinkRow → Gateway → Gateway
 updated_under subject status dtype count payload link w =
     if status == ECA_NORMAL
     then updated_link subject link link.state (sub_at subject link.subscriptions) dtype count payload w
     else reads_failed (fails_without subject (native_in link.state)) w link.name
 
 -- the subject of a link's subscription that has this ID
-abbrev pub subject_of : ℕ → Link → Subject
+abbrev pub subject_of : ℕ → LinkRow → Subject
 subject_of id link = if has_id id link.subscriptions.values then Values else Properties
 
-abbrev pub updated_by : SubId → Code → Dtype → Count → List ℕ → Option Link → Gateway → Gateway
+abbrev pub updated_by : SubId → Code → Dtype → Count → List ℕ → Option LinkRow → Gateway → Gateway
 updated_by id status dtype count payload None w = w
 updated_by id status dtype count payload (Some link) w =
     updated_under (subject_of id link) status dtype count payload link w

@@ -2,15 +2,15 @@
 use Rattle.std.specs.Prelude.{ℕ, List, [], ◌∷◌, ◌++◌, length, filter, false, ◌||◌, nat_le, if◌then◌else◌}
 use Rattle.ca_message.specs.declared.to_client.ToClient.TheVariants as replies
 use Rattle.ca_message.specs.declared.to_server.ToServer.TheVariants as requests
-use Rattle.channel_table.specs.Channels.{is_not_channel_of}
-use Rattle.channel_table.specs.Reads.{is_not_read_of}
+use Rattle.named_rows.specs.Channels.{is_not_channel_of}
+use Rattle.named_rows.specs.Reads.{is_not_read_of}
 use Rattle.channel_table.specs.Sessions.{is_not_numbered}
-use Rattle.channel_table.specs.Subs.{is_not_sub_of}
+use Rattle.named_rows.specs.Subs.{is_not_sub_of}
 use Rattle.link_table.specs.Links.{is_not_of}
 use Rattle.link_table.specs.Servers.{is_not_server}
 use Rattle.link_table.specs.Writes.{is_not_write_of, is_not_write_to}
 use Rattle.gateway_state.specs.declared.event.Dest.TheVariants.{Session, Upstream}
-use Rattle.gateway_state.specs.Asked.{stands}
+use Rattle.gateway_state.specs.Asked.{is_open}
 use Rattle.gateway_state.specs.CachedRows.{is_cached_by_another}
 use Rattle.gateway_state.specs.Connections.{is_not_to, fresh}
 use Rattle.gateway_state.specs.Gateway.{Gateway}
@@ -28,7 +28,7 @@ with_session w number host = record w {
 -- a client connected: it is greeted with VERSION. Nothing where its number stands or no place is left
 abbrev pub opened : Gateway → ℕ → List ℕ → Gateway
 opened w number host =
-    if stands w (Session number) || nat_le w.limits.sessions (length w.clients.sessions) then w
+    if is_open w (Session number) || nat_le w.limits.sessions (length w.clients.sessions) then w
     else told number replies.Version (with_session w number host)
 
 -- a client's connection is gone, and with it all its rows
@@ -60,7 +60,7 @@ introduced number w =
 -- a server is connected: the gateway introduces itself. Nothing where its number stands or no place is left
 abbrev pub up_opened : Gateway → ℕ → Gateway
 up_opened w number =
-    if stands w (Upstream number) || nat_le w.limits.servers (length w.upstream.servers) then w
+    if is_open w (Upstream number) || nat_le w.limits.servers (length w.upstream.servers) then w
     else introduced number (with_server w number)
 
 -- a server's connection is gone, and with it its links, their last messages and the writes to it

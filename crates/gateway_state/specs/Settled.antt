@@ -1,15 +1,15 @@
 -- What every state that a run reaches has: nobody is owed anything.
 use Rattle.std.specs.Prelude.{◌≡◌, ℕ, ◌≤◌, List, [], ◌∷◌, length, filter, Bool, true, false, not, ◌&&◌, ◌||◌, ◌==◌, nat_lt, Option, Some, None, option_map}
 use Rattle.std.specs.List.{find, list_all, list_any}
-use Rattle.channel_table.specs.declared.channels.Channel.{Channel}
-use Rattle.channel_table.specs.declared.reads.WaitingRead.{WaitingRead}
+use Rattle.named_rows.specs.declared.channels.Channel.{Channel}
+use Rattle.named_rows.specs.declared.reads.WaitingRead.{WaitingRead}
 use Rattle.channel_table.specs.declared.sessions.Session.{Session}
-use Rattle.channel_table.specs.declared.subs.ClientSub.{ClientSub}
-use Rattle.channel_table.specs.Channels.{is_channel}
+use Rattle.named_rows.specs.declared.subs.ClientSub.{ClientSub}
+use Rattle.named_rows.specs.Channels.{is_channel}
 use Rattle.channel_table.specs.ClientRows.{has_channel}
 use Rattle.channel_table.specs.Sessions.{is_numbered}
-use Rattle.channel_table.specs.Subs.{is_sub}
-use Rattle.link_table.specs.declared.links.Link.{Link}
+use Rattle.named_rows.specs.Subs.{is_sub}
+use Rattle.link_table.specs.declared.links.LinkRow.{LinkRow}
 use Rattle.link_table.specs.declared.links.LinkState.{LinkState}
 use Rattle.link_table.specs.declared.links.LinkState.TheVariants.{Creating, Connected, Unusable}
 use Rattle.link_table.specs.declared.links.Subject.{Subject}
@@ -24,7 +24,7 @@ use Rattle.gateway_state.specs.declared.event.Dest.TheVariants as dests
 use Rattle.gateway_state.specs.declared.interest.Sub.{Sub}
 use Rattle.gateway_state.specs.declared.reading.Native.{Native}
 use Rattle.gateway_state.specs.Answer.{cached_value, native_in}
-use Rattle.gateway_state.specs.Asked.{stands}
+use Rattle.gateway_state.specs.Asked.{is_open}
 use Rattle.gateway_state.specs.Gateway.{Gateway}
 use Rattle.gateway_state.specs.Interest.{interest_of, subscription_of, subscription_to, wanted_for}
 use Rattle.gateway_state.specs.Notices.{channel_notices, link_notices, read_notices}
@@ -50,7 +50,7 @@ abbrev pub is_same_channel : Channel → Channel → Bool
 is_same_channel c other = is_channel c.session c.sid other
 
 -- a link of the same number
-abbrev pub is_same_link : Link → Link → Bool
+abbrev pub is_same_link : LinkRow → LinkRow → Bool
 is_same_link link other = is_of_cid link.cid other
 
 -- a write to the same server under the same ID
@@ -58,17 +58,17 @@ abbrev pub is_same_write : WaitingWrite → WaitingWrite → Bool
 is_same_write write other = is_write write.server write.id other
 
 -- a link of which a subscription to this server has the ID of this one
-abbrev pub is_sharing : ℕ → Option Subscription → Link → Bool
+abbrev pub is_sharing : ℕ → Option Subscription → LinkRow → Bool
 is_sharing server None other = false
 is_sharing server (Some sub) other = has_subscription server sub.id other
 
 -- a link of the same server that has a subscription under the ID of one of this link's
-abbrev pub shares_id : Link → Link → Bool
+abbrev pub shares_id : LinkRow → LinkRow → Bool
 shares_id link other =
     is_sharing link.server link.subscriptions.values other || is_sharing link.server link.subscriptions.properties other
 
 -- the link's own subscriptions have different IDs
-abbrev pub has_two_ids : Link → Bool
+abbrev pub has_two_ids : LinkRow → Bool
 has_two_ids link = not (is_same_id link.subscriptions.values link.subscriptions.properties)
 
 abbrev pub has_sid_below : ℕ → Channel → Bool
@@ -83,7 +83,7 @@ abbrev pub HasSidsApart : Gateway → Type 0
 HasSidsApart w = AreSidsApart w.upstream.counters.again.sid w.upstream.counters.sid w.clients.channels
 
 -- no link has the number of another
-pub record AreCidsApart (again : Bool) (next : ℕ) (links : List Link) : Type 0 where
+pub record AreCidsApart (again : Bool) (next : ℕ) (links : List LinkRow) : Type 0 where
   pub apart : AreUnlike is_same_link links
   pub below : AreBelow again (has_cid_below next) links
 
@@ -91,7 +91,7 @@ abbrev pub HasCidsApart : Gateway → Type 0
 HasCidsApart w = AreCidsApart w.upstream.counters.again.cid w.upstream.counters.cid w.upstream.links
 
 -- no subscription to a server has the ID of another
-pub record AreSubIdsApart (again : Bool) (next : ℕ) (links : List Link) : Type 0 where
+pub record AreSubIdsApart (again : Bool) (next : ℕ) (links : List LinkRow) : Type 0 where
   pub own : list_all has_two_ids links ≡ true
   pub apart : AreUnlike shares_id links
   pub below : AreBelow again (has_id_below next) links
@@ -119,15 +119,15 @@ abbrev pub HasLinksApart : Gateway → Type 0
 HasLinksApart w = (name : List ℕ) → length (filter (is_named name) w.upstream.links) ≤ 1
 
 -- the link's server stands
-abbrev pub is_on_server : Gateway → Link → Bool
-is_on_server w link = stands w (dests.Upstream link.server)
+abbrev pub is_on_server : Gateway → LinkRow → Bool
+is_on_server w link = is_open w (dests.Upstream link.server)
 
 -- each link belongs to a server that stands
 abbrev pub HasLinksOnServers : Gateway → Type 0
 HasLinksOnServers w = list_all (is_on_server w) w.upstream.links ≡ true
 
 -- the link's server has a row
-abbrev pub has_server_row : Gateway → Link → Bool
+abbrev pub has_server_row : Gateway → LinkRow → Bool
 has_server_row w link = has_server link.server w.upstream
 
 -- each link's server has a row
@@ -136,7 +136,7 @@ HasServersOfLinks w = list_all (has_server_row w) w.upstream.links ≡ true
 
 -- the session has a connection
 abbrev pub is_session_connected : Gateway → Session → Bool
-is_session_connected w row = stands w (dests.Session row.number)
+is_session_connected w row = is_open w (dests.Session row.number)
 
 -- each session has a connection
 abbrev pub HasSessionsConnected : Gateway → Type 0
@@ -178,11 +178,11 @@ abbrev pub HasSubsOnChannels : Gateway → Type 0
 HasSubsOnChannels w = list_all (is_sub_on_channel w) w.clients.subs ≡ true
 
 -- the link of the variable that a channel is on
-abbrev pub link_under : Gateway → Option Channel → Option Link
+abbrev pub link_under : Gateway → Option Channel → Option LinkRow
 link_under w None = None
 link_under w (Some c) = link_of w c.real
 
-abbrev pub is_of_server : ℕ → Option Link → Bool
+abbrev pub is_of_server : ℕ → Option LinkRow → Bool
 is_of_server server None = false
 is_of_server server (Some link) = link.server == server
 
@@ -216,7 +216,7 @@ native_type_in Unusable = 0
 abbrev pub want_of : Sub → Want
 want_of sub = record { mask = sub.mask; count = sub.count }
 
-abbrev pub native_count_over : Option Link → ℕ
+abbrev pub native_count_over : Option LinkRow → ℕ
 native_count_over None = 0
 native_count_over (Some link) = native_count_in link.state
 
@@ -224,7 +224,7 @@ native_count_over (Some link) = native_count_in link.state
 abbrev pub native_count_of : Gateway → List ℕ → ℕ
 native_count_of w name = native_count_over (link_of w name)
 
-abbrev pub native_type_over : Option Link → ℕ
+abbrev pub native_type_over : Option LinkRow → ℕ
 native_type_over None = 0
 native_type_over (Some link) = native_type_in link.state
 
@@ -246,7 +246,7 @@ IsSubscribedExactly w = (name : List ℕ)
 
 -- a link is wanted, and where it is connected it has a subscription for each subject exactly for what is
 -- wanted of it
-pub record IsInUse (w : Gateway) (link : Link) : Type 0 where
+pub record IsInUse (w : Gateway) (link : LinkRow) : Type 0 where
   pub wanted : is_wanted w link.name ≡ true
   pub subscribed : is_connected link.state ≡ true → (subject : Subject)
       → option_map want_in (sub_at subject link.subscriptions)
@@ -262,7 +262,7 @@ pub record IsKeptPosted (w : Gateway) (sub : ClientSub) : Type 0 where
 -- last doesn't cover it
 pub record IsWaiting (w : Gateway) (read : WaitingRead) : Type 0 where
   pub channel : Channel
-  pub link : Link
+  pub link : LinkRow
   pub native : Native
   pub on : channel_of w read.session read.sid ≡ Some channel
   pub over : link_of w channel.real ≡ Some link

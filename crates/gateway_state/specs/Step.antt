@@ -4,7 +4,7 @@ use Rattle.gateway_state.specs.declared.event.Dest.{Dest}
 use Rattle.gateway_state.specs.declared.event.Event.{Event}
 use Rattle.gateway_state.specs.declared.event.Event.TheVariants.{Drain}
 use Rattle.fanout.specs.declared.outbox.Out.{Out}
-use Rattle.gateway_state.specs.Asked.{stands}
+use Rattle.gateway_state.specs.Asked.{is_open}
 use Rattle.gateway_state.specs.Connections.{outbox_of, same_dest}
 use Rattle.gateway_state.specs.Direct.{direct_effect}
 use Rattle.gateway_state.specs.Gateway.{Gateway}
@@ -38,7 +38,7 @@ drained_messages w (event ∷ events) dest = taken w event dest ++ drained_messa
 
 -- the event makes the connection's row
 abbrev pub makes : Gateway → Event → Dest → Bool
-makes w event dest = not (stands w dest) && stands (step w event) dest
+makes w event dest = not (is_open w dest) && is_open (step w event) dest
 
 -- what was delivered so far, once more events ran: what they took, and what waits at the end. A row
 -- that is made anew begins anew

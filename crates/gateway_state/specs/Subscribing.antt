@@ -6,12 +6,12 @@ use Rattle.ca_header.specs.declared.header.Header.{Header}
 use Rattle.ca_message.specs.declared.codes.TheConstants.{ECA_ALLOCMEM, ECA_BADMASK, ECA_INTERNAL, ECA_NORDACCESS}
 use Rattle.ca_message.specs.declared.commands.TheConstants.{NO_CHANNEL}
 use Rattle.ca_message.specs.declared.to_client.ToClient.TheVariants as replies
-use Rattle.channel_table.specs.declared.channels.Channel.{Channel}
+use Rattle.named_rows.specs.declared.channels.Channel.{Channel}
 use Rattle.channel_table.specs.declared.sessions.Session.{Session}
-use Rattle.channel_table.specs.declared.subs.ClientSub.{ClientSub}
+use Rattle.named_rows.specs.declared.subs.ClientSub.{ClientSub}
 use Rattle.channel_table.specs.ClientRows.{sub_count}
 use Rattle.channel_table.specs.Sessions.{is_numbered}
-use Rattle.channel_table.specs.Subs.{is_sub, is_not_sub}
+use Rattle.named_rows.specs.Subs.{is_sub, is_not_sub}
 use Rattle.gateway_state.specs.declared.interest.TheConstants.{SERVED_EVENTS}
 use Rattle.gateway_state.specs.declared.notice.SubVerdict.{SubVerdict}
 use Rattle.gateway_state.specs.declared.notice.SubVerdict.TheVariants.{NoChannel, Ignored, Refused, Accepted}

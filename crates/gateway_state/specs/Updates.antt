@@ -3,11 +3,11 @@ use Rattle.std.specs.Prelude.{ℕ, List, length, filter, filter_map, bit_and, Bo
 use Rattle.std.specs.List.{find, fold}
 use Rattle.rows.specs.Rows.{change_first}
 use Rattle.ca_message.specs.declared.to_client.ToClient.TheVariants as replies
-use Rattle.channel_table.specs.declared.channels.Channel.{Channel}
+use Rattle.named_rows.specs.declared.channels.Channel.{Channel}
 use Rattle.channel_table.specs.declared.sessions.Session.{Session}
-use Rattle.channel_table.specs.declared.subs.ClientSub.{ClientSub}
+use Rattle.named_rows.specs.declared.subs.ClientSub.{ClientSub}
 use Rattle.channel_table.specs.Sessions.{is_numbered}
-use Rattle.channel_table.specs.Subs.{is_sub, with_owed}
+use Rattle.named_rows.specs.Subs.{is_sub, with_owed}
 use Rattle.dbr_layout.specs.declared.fault.LayoutFault.{LayoutFault}
 use Rattle.dbr_layout.specs.View.{Shown}
 use Rattle.value_cache.specs.Held.{Held, alarm_differs, nothing}
@@ -89,12 +89,12 @@ updates_withheld w = owed_to_all w (withheld w)
 -- UPDATES THAT ARE DUE
 
 -- an outbox takes updates: it isn't marked, and few enough messages and bytes wait in it
-abbrev pub takes_updates : Limits → Waiting → Bool
-takes_updates limits box =
+abbrev pub outbox_takes_updates : Limits → Waiting → Bool
+outbox_takes_updates limits box =
     not box.marked && nat_lt (length box.messages) UPDATE_LIMIT && nat_lt (waiting_bytes box) limits.update_bytes
 
-abbrev pub is_taking : Gateway → ℕ → Bool
-is_taking w number = takes_updates w.limits (outbox_of (ToSession number) w.connections)
+abbrev pub takes_updates : Gateway → ℕ → Bool
+takes_updates w number = outbox_takes_updates w.limits (outbox_of (ToSession number) w.connections)
 
 abbrev pub paused_in : Option Session → Bool
 paused_in None = false
@@ -127,7 +127,7 @@ update_on w sub (Some c) = if may_read (rights_of w c) then update_over w sub (c
 
 -- its session takes updates now
 abbrev pub is_open_to : Gateway → ClientSub → Bool
-is_open_to w sub = not (is_paused w sub.session) && is_taking w sub.session
+is_open_to w sub = not (is_paused w sub.session) && takes_updates w sub.session
 
 -- the update that is due to a subscription: one is owed, its session takes updates, its channel may be
 -- read, and what was told last covers its type and count
@@ -141,7 +141,7 @@ update_notices w = filter_map (update_notice w) w.clients.subs
 -- the update is given, as long as those given before it leave room for it
 abbrev pub update_told : Gateway → UpdateNotice → Gateway
 update_told w notice =
-    if is_taking w notice.session
+    if takes_updates w notice.session
     then told notice.session (replies.Update notice.id notice.dtype notice.count notice.payload)
     (with_owed_of notice.session notice.id false w)
     else w

@@ -4,15 +4,15 @@ use Rattle.std.specs.List.{list_any, find}
 use Rattle.std.specs.Ordering.{nat_cmp}
 use Rattle.std.specs.Cmp.Lexicographic.{slice_cmp}
 use Rattle.std.specs.declared.cmp.Ordering.TheVariants.{Less, Equal, Greater}
-use Rattle.channel_table.specs.declared.channels.Channel.{Channel}
-use Rattle.channel_table.specs.Channels.{is_on}
-use Rattle.link_table.specs.declared.links.Link.{Link}
+use Rattle.named_rows.specs.declared.channels.Channel.{Channel}
+use Rattle.named_rows.specs.Channels.{is_on}
+use Rattle.link_table.specs.declared.links.LinkRow.{LinkRow}
 use Rattle.link_table.specs.declared.links.LinkState.{LinkState}
 use Rattle.link_table.specs.declared.links.LinkState.TheVariants.{Creating, Connected, Unusable}
 use Rattle.link_table.specs.Links.{is_named}
 use Rattle.rule_desk.specs.declared.policy.Policy.{Policy}
 use Rattle.gateway_state.specs.declared.reading.Native.{Native}
-use Rattle.gateway_state.specs.declared.search.Search.{Search}
+use Rattle.gateway_state.specs.declared.search.RememberedSearch.{RememberedSearch}
 use Rattle.gateway_state.specs.CachedRows.{is_cached_elsewhere}
 use Rattle.gateway_state.specs.Gateway.{Gateway}
 use Rattle.gateway_state.specs.Quantities.{Sid}
@@ -20,7 +20,7 @@ use Rattle.gateway_state.specs.Resolution.{lead_of, real_in}
 use Rattle.gateway_state.specs.Searches.{leads_to}
 
 -- the link of a real name
-abbrev pub link_of : Gateway → List ℕ → Option Link
+abbrev pub link_of : Gateway → List ℕ → Option LinkRow
 link_of w name = find (is_named name) w.upstream.links
 
 abbrev pub is_linked : Gateway → List ℕ → Bool
@@ -38,19 +38,19 @@ is_creating Unusable = false
 
 -- a variable whose link is connected: the link, the server's ID of its channel, and the native type and count
 pub record ConnectedVariable : Type 0 where
-  pub link : Link
+  pub link : LinkRow
   pub sid : Sid
   pub native : Native
 
 -- the variable of a link in this state
-abbrev pub connected_in : Link → LinkState → Option ConnectedVariable
+abbrev pub connected_in : LinkRow → LinkState → Option ConnectedVariable
 connected_in link Creating = None
 connected_in link (Connected sid dtype count) =
     Some (record { link = link; sid = sid; native = record { dtype = dtype; count = count } })
 connected_in link Unusable = None
 
 -- the variable of a link, where there is one
-abbrev pub connected_over : Option Link → Option ConnectedVariable
+abbrev pub connected_over : Option LinkRow → Option ConnectedVariable
 connected_over None = None
 connected_over (Some link) = connected_in link link.state
 
@@ -74,11 +74,11 @@ is_missing w name = is_wanted w name && not (is_linked w name)
 abbrev pub channel_names : List Channel → List (List ℕ)
 channel_names channels = map (λ (c : Channel). c.real) channels
 
-abbrev pub search_name : Policy → Search → Option (List ℕ)
+abbrev pub search_name : Policy → RememberedSearch → Option (List ℕ)
 search_name policy row = real_in (lead_of policy row.host row.name)
 
 -- the real names that searches lead to
-abbrev pub search_names : Policy → List Search → List (List ℕ)
+abbrev pub search_names : Policy → List RememberedSearch → List (List ℕ)
 search_names policy searches = filter_map (search_name policy) searches
 
 -- the name is one of these

@@ -8,7 +8,7 @@ use Rattle.ca_message.specs.declared.to_client.ToClient.TheVariants as replies
 use Rattle.ca_message.specs.declared.to_server.ToServer.TheVariants as requests
 use Rattle.ca_message.specs.declared.written.WriteFault.{WriteFault}
 use Rattle.ca_message.specs.Written.{Written, refusal_code, written}
-use Rattle.channel_table.specs.declared.channels.Channel.{Channel}
+use Rattle.named_rows.specs.declared.channels.Channel.{Channel}
 use Rattle.link_table.specs.declared.writes.WaitingWrite.{WaitingWrite}
 use Rattle.link_table.specs.LinkRows.{write_count}
 use Rattle.link_table.specs.declared.counter.Counter.TheVariants.{Write as CountsWrites}

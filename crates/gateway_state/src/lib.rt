@@ -31,7 +31,7 @@ pub use interest::{
 pub use last_age::LastAge;
 pub use last_value::LastValue;
 pub use limits::{LOWEST_MINOR, Limits, SEARCH_LIMIT, UPDATE_BYTES, UPDATE_LIMIT, UPDATE_MINOR};
-pub use limits_met::{Fullest, Limit, LimitsMet};
+pub use limits_met::{Fullest, LimitsMet, RowLimit};
 pub use notice::{
     ChannelNotice, LinkNotice, ReadNotice, ReadVerdict, SubVerdict, UpdateNotice, WriteVerdict,
 };
@@ -39,4 +39,4 @@ pub use reading::{Given, Native, Reading};
 pub use resolution::{is_real, lead_of, rights_left};
 pub use row_counts::RowCounts;
 pub use rule_desk::Policy;
-pub use search::Search;
+pub use search::RememberedSearch;

@@ -2,7 +2,7 @@
 
 /// A limit at which the rows refuse something, or hold it back.
 #[derive(Clone, Copy)]
-pub enum Limit {
+pub enum RowLimit {
     Names,
     Channels,
     Subs,
@@ -56,17 +56,17 @@ impl LimitsMet {
     };
 
     /// One of them was met once more.
-    pub fn meet(&mut self, limit: Limit) {
+    pub fn meet(&mut self, limit: RowLimit) {
         match limit {
-            Limit::Names => raise(&mut self.names),
-            Limit::Channels => raise(&mut self.channels),
-            Limit::Subs => raise(&mut self.subs),
-            Limit::Reads => raise(&mut self.reads),
-            Limit::Writes => raise(&mut self.writes),
-            Limit::Links => raise(&mut self.links),
-            Limit::Sessions => raise(&mut self.sessions),
-            Limit::Servers => raise(&mut self.servers),
-            Limit::Held => raise(&mut self.held),
+            RowLimit::Names => raise(&mut self.names),
+            RowLimit::Channels => raise(&mut self.channels),
+            RowLimit::Subs => raise(&mut self.subs),
+            RowLimit::Reads => raise(&mut self.reads),
+            RowLimit::Writes => raise(&mut self.writes),
+            RowLimit::Links => raise(&mut self.links),
+            RowLimit::Sessions => raise(&mut self.sessions),
+            RowLimit::Servers => raise(&mut self.servers),
+            RowLimit::Held => raise(&mut self.held),
         }
     }
 }

@@ -3,7 +3,7 @@ use pv_name::{Host, Name};
 
 /// A name that somebody at a host looks for.
 #[derive(Drop)]
-pub struct Search {
+pub struct RememberedSearch {
     pub host: Host,
     pub name: Name,
     /// Whether it was made since the last `Event::Age`.

@@ -22,5 +22,5 @@ pub use numbers::is_older;
 pub use reads::{cached_as, reach_with};
 pub use refusals::{read_refusal, value_refusal};
 pub use rights::{may_read, may_write};
-pub use types::meant_count;
+pub use types::{meant_count, time_of};
 pub use updates::{asks_for, fails_without, is_concerned, is_heard, subject_of};

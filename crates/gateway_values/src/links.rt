@@ -6,7 +6,7 @@ ghost use Rattle.gateway_state.specs.Variables.{connected_in, is_connected, is_c
 
 use crate::types::{fits_payload, time_of};
 use gateway_state::{Native, PLAIN_TYPES};
-use link_table::{Link, LinkState};
+use link_table::{LinkRow, LinkState};
 use std::marker::Model;
 
 /// Whether a server made the link's channel, and it can be used.
@@ -32,7 +32,7 @@ pub fn is_creating(state: LinkState) -> bool
 /// A variable whose link is connected.
 #[derive(Drop)]
 pub struct ConnectedVariable<'a> {
-    pub link: &'a Link,
+    pub link: &'a LinkRow,
     /// The server's ID of its channel.
     pub sid: u32,
     pub native: Native,
@@ -47,7 +47,7 @@ impl<'a> Model for ConnectedVariable<'a> {
 }
 
 /// The variable of a link that is connected.
-pub fn connected(link: &Link) -> Option<ConnectedVariable<'_>>
+pub fn connected(link: &LinkRow) -> Option<ConnectedVariable<'_>>
     ensures { result ≡ connected_in link.now link.now.state }
 {
     match link.state {

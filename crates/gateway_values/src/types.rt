@@ -28,7 +28,7 @@ pub(crate) fn fits_payload(dtype: u16, count: u32) -> bool
 }
 
 /// The number of a plain type's TIME form; any other number stays.
-pub(crate) fn time_of(dtype: u16) -> u16
+pub fn time_of(dtype: u16) -> u16
     ensures { result ≡ time_of dtype }
 {
     if dtype < PLAIN_TYPES {

@@ -8,10 +8,10 @@ use crate::types::{ctrl_of, needs_by_number, time_of};
 use channel_table::{ClientSub, WaitingRead};
 use dbr_layout::{Props, View};
 use gateway_state::{ALARM_EVENTS, Native, VALUE_EVENTS};
-use link_table::{Link, Subject};
+use link_table::{LinkRow, Subject};
 
 /// The subject of a link's subscription that has this ID.
-pub fn subject_of(id: u32, link: &Link) -> Subject
+pub fn subject_of(id: u32, link: &LinkRow) -> Subject
     ensures { result ≡ subject_of id link.now }
 {
     match link.subscriptions.values {

@@ -7,7 +7,7 @@ use Rattle.std.proofs.lemmas.List.Folds.{list_any-append}
 use Rattle.link_table.specs.declared.counter.Counter.{Counter}
 use Rattle.link_table.specs.declared.counter.Counter.TheVariants.{Sid, Cid, Subscription as Sub, Write}
 use Rattle.link_table.specs.declared.counter.TheConstants.{LAST_NUMBER}
-use Rattle.link_table.specs.declared.links.Link.{Link}
+use Rattle.link_table.specs.declared.links.LinkRow.{LinkRow}
 use Rattle.link_table.specs.declared.links.Subscription.{Subscription}
 use Rattle.link_table.specs.declared.writes.WaitingWrite.{WaitingWrite}
 use Rattle.link_table.specs.Counters.{are_over, began_again, counter_of, given_out, is_over}
@@ -25,7 +25,7 @@ or_none : (b : Bool) → b ≡ (b || false)
 or_none true = refl
 or_none false = refl
 
-cids_had : (n : ℕ) (links : List Link) → list_any (is_of_cid n) links ≡ member n (map cid_of links)
+cids_had : (n : ℕ) (links : List LinkRow) → list_any (is_of_cid n) links ≡ member n (map cid_of links)
 cids_had n [] = refl
 cids_had n (link ∷ links) = ap (λ t. eqb link.cid n || t) (cids_had n links)
 
@@ -42,7 +42,7 @@ either_had n None (Some sub) = or_none (eqb sub.id n)
 either_had n (Some sub) None = refl
 either_had n (Some sub) (Some more) = ap (λ t. eqb sub.id n || t) (or_none (eqb more.id n))
 
-subs_had : (server n : ℕ) (links : List Link) → list_any (has_subscription server n) links ≡ member n (flat_map sub_ids (filter (is_of server) links))
+subs_had : (server n : ℕ) (links : List LinkRow) → list_any (has_subscription server n) links ≡ member n (flat_map sub_ids (filter (is_of server) links))
 subs_had server n [] = refl
 subs_had server n (link ∷ links) =
     let rest = subs_had server n links in
@@ -65,7 +65,7 @@ one_at_most : (sub : Option Subscription) → length (ids_in sub) ≤ 1
 one_at_most None = omega arith
 one_at_most (Some sub) = omega arith
 
-two_each : (links : List Link) → length (flat_map sub_ids links) ≤ 2 * length links
+two_each : (links : List LinkRow) → length (flat_map sub_ids links) ≤ 2 * length links
 two_each [] = omega arith
 two_each (link ∷ links) =
     let rest = two_each links in
@@ -75,10 +75,10 @@ two_each (link ∷ links) =
     let other = one_at_most link.subscriptions.properties in
     omega (arith, rest, all, both, one, other)
 
-pub cids_counted : (links : List Link) (count : ℕ) → count ≡ length links → length (map cid_of links) ≤ 2 * count
+pub cids_counted : (links : List LinkRow) (count : ℕ) → count ≡ length links → length (map cid_of links) ≤ 2 * count
 cids_counted links count is = let as_many = length-map links cid_of in omega (arith, is, as_many)
 
-pub subs_counted : (server : ℕ) (links : List Link) (count : ℕ) → count ≡ length (filter (is_of server) links) → length (flat_map sub_ids (filter (is_of server) links)) ≤ 2 * count
+pub subs_counted : (server : ℕ) (links : List LinkRow) (count : ℕ) → count ≡ length (filter (is_of server) links) → length (flat_map sub_ids (filter (is_of server) links)) ≤ 2 * count
 subs_counted server links count is = let few = two_each (filter (is_of server) links) in omega (arith, is, few)
 
 pub writes_counted : (server : ℕ) (writes : List WaitingWrite) (count : ℕ) → count ≡ length (filter (is_write_to server) writes) → length (map id_of (filter (is_write_to server) writes)) ≤ 2 * count

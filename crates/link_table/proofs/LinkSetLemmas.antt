@@ -12,7 +12,7 @@ use Rattle.row_index.specs.declared.key.Key.{Key}
 use Rattle.row_index.specs.Lists.{of, AddsTo, RemovesFrom, SameLists}
 use Rattle.row_index.specs.Rows.{lacks_key, row_of, value_at, put_at}
 use Rattle.row_index.proofs.Keys.{apart_with_more, apart_with_fewer, apart_with_put}
-use Rattle.link_table.specs.declared.links.Link.{Link}
+use Rattle.link_table.specs.declared.links.LinkRow.{LinkRow}
 use Rattle.link_table.specs.declared.links.Subject.{Subject}
 use Rattle.link_table.specs.declared.links.Subject.TheVariants.{Values, Properties}
 use Rattle.link_table.specs.declared.links.Subscription.{Subscription}
@@ -26,15 +26,15 @@ use Rattle.link_table.proofs.NameLemmas.{is_same, is_same_decides, first_of_adde
 use Rattle.link_table.proofs.SubLemmas.{subscribed_tells, subscribed_passes, its_own, has_one, on_another, one_subject, found_either_first, found_either_second, second_none, moved_leads, subs_without, same_sub_key, kept_key, subs_moved, parted_moved, parted_without}
 
 -- what a link says by its name
-named_tells : (name : List ℕ) (row : Link) → is_named name row ≡ true → name_of row ≡ Some name
+named_tells : (name : List ℕ) (row : LinkRow) → is_named name row ≡ true → name_of row ≡ Some name
 named_tells name row h = ap Some ((bytes_eq-Decides row.name name).0 h)
 
-named_passes : (name : List ℕ) (row : Link) → name_of row ≡ Some name → is_named name row ≡ true
+named_passes : (name : List ℕ) (row : LinkRow) → name_of row ≡ Some name → is_named name row ≡ true
 named_passes name row e = (bytes_eq-Decides row.name name).1 (same_Some row.name name e)
 
-module _ (links : List (Key × Link)) (keyed : links ≡ map (entry_by key_of) (map row_of links)) where
+module _ (links : List (Key × LinkRow)) (keyed : links ≡ map (entry_by key_of) (map row_of links)) where
   -- a link stands under its own key
-  pub key_at : (k : Key) (row : Link) → value_at k links ≡ Some row → key_of row ≡ k
+  pub key_at : (k : Key) (row : LinkRow) → value_at k links ≡ Some row → key_of row ≡ k
   key_at k row there =
       let passes = found_passes (is_link k.owner k.id) (map row_of links) row (sym (row_at key_of k links keyed) ∙ there) in
       let parts = and_parts (row.server == k.owner) (row.cid == k.id) passes in
@@ -43,13 +43,13 @@ module _ (links : List (Key × Link)) (keyed : links ≡ map (entry_by key_of) (
       (λ i. key (owner i) (id i))
 
   -- with the one under a key changed
-  pub rows_with_put : (k : Key) (f : Link → Link) → ((row : Link) → key_of (f row) ≡ key_of row) → (row : Link) → value_at k links ≡ Some row → map row_of (put_at k links (f row)) ≡ change_first (is_link k.owner k.id) f (map row_of links)
+  pub rows_with_put : (k : Key) (f : LinkRow → LinkRow) → ((row : LinkRow) → key_of (f row) ≡ key_of row) → (row : LinkRow) → value_at k links ≡ Some row → map row_of (put_at k links (f row)) ≡ change_first (is_link k.owner k.id) f (map row_of links)
   rows_with_put k f keeps row there = (keyed_by key_of _ _ (keyed_with_put key_of k f keeps row links keyed there)).1
 
-  pub rows_with_none_put : (k : Key) (f : Link → Link) → value_at k links ≡ None → map row_of links ≡ change_first (is_link k.owner k.id) f (map row_of links)
+  pub rows_with_none_put : (k : Key) (f : LinkRow → LinkRow) → value_at k links ≡ None → map row_of links ≡ change_first (is_link k.owner k.id) f (map row_of links)
   rows_with_none_put k f none = sym (change_first_unfound (is_link k.owner k.id) f (map row_of links) (sym (row_at key_of k links keyed) ∙ none))
 
-module _ (links : List (Key × Link)) (names : List (List ℕ × List Key)) (leads : Leads) (indexed : AreIndexed links names leads) where
+module _ (links : List (Key × LinkRow)) (names : List (List ℕ × List Key)) (leads : Leads) (indexed : AreIndexed links names leads) where
   -- a name leads to the first link for it
   found_by_name : (name : List ℕ) → option_and_then (λ k. value_at k links) (first_of names name) ≡ find (is_named name) (map row_of links)
   found_by_name name = found_by_index name_of (is_named name) name (named_tells name) (named_passes name) links indexed.keyed indexed.apart (first_of names) indexed.by_name
@@ -63,7 +63,7 @@ module _ (links : List (Key × Link)) (names : List (List ℕ × List Key)) (lea
   found_by_sub server id =
       let k = key id server in
       let rows = map row_of links in
-      let at : Key → Option Link = λ x. value_at x links in
+      let at : Key → Option LinkRow = λ x. value_at x links in
       elim (value_at k leads.values) as (λ v. value_at k leads.values ≡ v → option_and_then at (option_or v (value_at k leads.properties)) ≡ find (has_subscription server id) rows) [
         | None ↦ λ e. found_to Properties server id ∙ sym (found_either_second (has_sub_to Values server id) (has_sub_to Properties server id) rows (sym (found_to Values server id) ∙ ap (option_and_then at) e))
         | Some x ↦ λ e.
@@ -72,10 +72,10 @@ module _ (links : List (Key × Link)) (names : List (List ℕ × List Key)) (lea
       ] refl
 
   -- the same, by the key that is found and what stands there
-  pub named_at : (name : List ℕ) (led : Option Key) (found : Option Link) → first_of names name ≡ led → found ≡ option_and_then (λ k. value_at k links) led → found ≡ find (is_named name) (map row_of links)
+  pub named_at : (name : List ℕ) (led : Option Key) (found : Option LinkRow) → first_of names name ≡ led → found ≡ option_and_then (λ k. value_at k links) led → found ≡ find (is_named name) (map row_of links)
   named_at name led found e is = is ∙ ap (option_and_then (λ k. value_at k links)) (sym e) ∙ found_by_name name
 
-  pub subscribed_at : (server id : ℕ) (led : Option Key) (found : Option Link) → led_by (key id server) leads ≡ led → found ≡ option_and_then (λ k. value_at k links) led → found ≡ find (has_subscription server id) (map row_of links)
+  pub subscribed_at : (server id : ℕ) (led : Option Key) (found : Option LinkRow) → led_by (key id server) leads ≡ led → found ≡ option_and_then (λ k. value_at k links) led → found ≡ find (has_subscription server id) (map row_of links)
   subscribed_at server id led found e is = is ∙ ap (option_and_then (λ k. value_at k links)) (sym e) ∙ found_by_sub server id
 
   -- a name that no link has leads nowhere
@@ -83,7 +83,7 @@ module _ (links : List (Key × Link)) (names : List (List ℕ × List Key)) (lea
   unnamed name new = led_nowhere name_of (is_named name) name (named_passes name) links indexed.keyed (first_of names) indexed.by_name (found_none (is_named name) (map row_of links) new)
 
   -- where a link on a subject has no subscription of an ID, and nothing else has, that ID leads nowhere
-  pub unused : (server cid : ℕ) (subject : Subject) (sub : Option Subscription) (row : Link) → value_at (key server cid) links ≡ Some row → is_same_id (sub_at subject row.subscriptions) sub ≡ false → IfSome sub (λ s. list_any (has_other_sub server cid subject s.id) (map row_of links) ≡ false) → (to : Subject) → IsFree (sub_key server sub) (leads_at to leads)
+  pub unused : (server cid : ℕ) (subject : Subject) (sub : Option Subscription) (row : LinkRow) → value_at (key server cid) links ≡ Some row → is_same_id (sub_at subject row.subscriptions) sub ≡ false → IfSome sub (λ s. list_any (has_other_sub server cid subject s.id) (map row_of links) ≡ false) → (to : Subject) → IsFree (sub_key server sub) (leads_at to leads)
   unused server cid subject None row there differs new to = tt
   unused server cid subject (Some s) row there differs new to =
       let k = key s.id server in
@@ -99,17 +99,17 @@ module _ (links : List (Key × Link)) (names : List (List ℕ × List Key)) (lea
                   let own = its_own server cid subject to s.id other has fails in
                   let its : x ≡ key server cid = sym (key_at links indexed.keyed x other at) ∙ (λ i. key (own.0 i) (own.1 i)) in
                   let same : other ≡ row = same_Some other row (sym at ∙ ap (λ y. value_at y links) its ∙ there) in
-                  absurd (false≢true (sym differs ∙ ap (λ (r : Link). has_id s.id (sub_at subject r.subscriptions)) (sym same) ∙ own.2))
+                  absurd (false≢true (sym differs ∙ ap (λ (r : LinkRow). has_id s.id (sub_at subject r.subscriptions)) (sym same) ∙ own.2))
             ] refl said
       ] refl
 
-module _ (links : List (Key × Link)) (names : List (List ℕ × List Key)) (leads : Leads) (indexed : AreIndexed links names leads) where
-  leads_there : (subject : Subject) (server id : ℕ) (row : Link) → value_at (key_of row) links ≡ Some row → has_sub_to subject server id row ≡ true → value_at (key id server) (leads_at subject leads) ≡ Some (key_of row)
+module _ (links : List (Key × LinkRow)) (names : List (List ℕ × List Key)) (leads : Leads) (indexed : AreIndexed links names leads) where
+  leads_there : (subject : Subject) (server id : ℕ) (row : LinkRow) → value_at (key_of row) links ≡ Some row → has_sub_to subject server id row ≡ true → value_at (key id server) (leads_at subject leads) ≡ Some (key_of row)
   leads_there subject server id row there has =
       (indexed.by_sub subject).leads (key_of row) (key id server) (ap (option_and_then (sub_of subject)) there ∙ subscribed_tells subject server id row has)
 
   -- a link that has an ID beside a subscription of that ID is another, and so on another subject
-  none_beside : (server cid : ℕ) (subject : Subject) (id : ℕ) (row other : Link) → is_link server cid row ≡ true → value_at (key_of row) links ≡ Some row → has_sub_to subject server id row ≡ true → value_at (key_of other) links ≡ Some other → has_other_sub server cid subject id other ≡ true → false ≡ true
+  none_beside : (server cid : ℕ) (subject : Subject) (id : ℕ) (row other : LinkRow) → is_link server cid row ≡ true → value_at (key_of row) links ≡ Some row → has_sub_to subject server id row ≡ true → value_at (key_of other) links ≡ Some other → has_other_sub server cid subject id other ≡ true → false ≡ true
   none_beside server cid subject id row other its there has at beside =
       let led = leads_there subject server id row there has in
       elim (is_link server cid other) as (λ t. is_link server cid other ≡ t → has_subscription server id (cond t (with_subscription subject None other) other) ≡ true → false ≡ true) [
@@ -129,7 +129,7 @@ module _ (links : List (Key × Link)) (names : List (List ℕ × List Key)) (lea
   pub ids_apart : HasIdsApart (map row_of links)
   ids_apart server cid subject =
       let rows = map row_of links in
-      let at : Link → Option Subscription = λ row. sub_at subject row.subscriptions in
+      let at : LinkRow → Option Subscription = λ row. sub_at subject row.subscriptions in
       let P : Option Subscription → Type 0 = λ o. IfSome o (λ sub. list_any (has_other_sub server cid subject sub.id) rows ≡ false) in
       elim (find (is_link server cid) rows) as (λ o. find (is_link server cid) rows ≡ o → P (option_and_then at o)) [
         | None ↦ λ e. tt
@@ -172,9 +172,9 @@ indexed_none names none = record {
   parted = λ k. refl;
 }
 
-module _ (links : List (Key × Link)) (names names' : List (List ℕ × List Key)) (leads : Leads) (indexed : AreIndexed links names leads) where
+module _ (links : List (Key × LinkRow)) (names names' : List (List ℕ × List Key)) (leads : Leads) (indexed : AreIndexed links names leads) where
   -- a link more, with a new key and name, and no subscription
-  pub indexed_with_more : (row : Link) → value_at (key_of row) links ≡ None → first_of names row.name ≡ None → ((subject : Subject) → sub_of subject row ≡ None) → AddsTo row.name (key_of row) names names' → AreIndexed (links ++ (key_of row, row) ∷ []) names' leads
+  pub indexed_with_more : (row : LinkRow) → value_at (key_of row) links ≡ None → first_of names row.name ≡ None → ((subject : Subject) → sub_of subject row ≡ None) → AddsTo row.name (key_of row) names names' → AreIndexed (links ++ (key_of row, row) ∷ []) names' leads
   indexed_with_more row new unnamed bare adds = record {
     apart = apart_with_more links (key_of row) row new indexed.apart;
     keyed = (keyed_by key_of _ _ (keyed_with_more key_of links row indexed.keyed)).0;
@@ -185,7 +185,7 @@ module _ (links : List (Key × Link)) (names names' : List (List ℕ × List Key
   }
 
   -- without the link under a key
-  pub indexed_with_fewer : (k : Key) (row : Link) → value_at k links ≡ Some row → RemovesFrom row.name k names names' → AreIndexed (filter (lacks_key k) links) names' (forgotten row.server row.subscriptions leads)
+  pub indexed_with_fewer : (k : Key) (row : LinkRow) → value_at k links ≡ Some row → RemovesFrom row.name k names names' → AreIndexed (filter (lacks_key k) links) names' (forgotten row.server row.subscriptions leads)
   indexed_with_fewer k row there removes =
       let led : first_of names row.name ≡ Some k = indexed.by_name.leads k row.name (ap (option_and_then name_of) there) in
       record {
@@ -197,9 +197,9 @@ module _ (links : List (Key × Link)) (names names' : List (List ℕ × List Key
         parted = parted_without row leads indexed.parted;
       }
 
-module _ (links : List (Key × Link)) (names : List (List ℕ × List Key)) (leads : Leads) (indexed : AreIndexed links names leads) where
+module _ (links : List (Key × LinkRow)) (names : List (List ℕ × List Key)) (leads : Leads) (indexed : AreIndexed links names leads) where
   -- the link under a key with another subscription on a subject
-  pub indexed_with_sub : (k : Key) (subject : Subject) (sub : Option Subscription) (row : Link) → value_at k links ≡ Some row → ((to : Subject) → IsFree (sub_key row.server sub) (leads_at to leads)) → AreIndexed (put_at k links (with_subscription subject sub row)) names (moved_leads subject (sub_of subject row) (sub_key row.server sub) k leads)
+  pub indexed_with_sub : (k : Key) (subject : Subject) (sub : Option Subscription) (row : LinkRow) → value_at k links ≡ Some row → ((to : Subject) → IsFree (sub_key row.server sub) (leads_at to leads)) → AreIndexed (put_at k links (with_subscription subject sub row)) names (moved_leads subject (sub_of subject row) (sub_key row.server sub) k leads)
   indexed_with_sub k subject sub row there free = record {
     apart = apart_with_put k links (with_subscription subject sub row) indexed.apart;
     keyed = (keyed_by key_of _ _ (keyed_with_put key_of k (with_subscription subject sub) (λ x. refl) row links indexed.keyed there)).0;
@@ -210,7 +210,7 @@ module _ (links : List (Key × Link)) (names : List (List ℕ × List Key)) (lea
   }
 
   -- the link under a key changed, but for its key, its name and the IDs of its subscriptions
-  pub indexed_with_kept : (k : Key) (f : Link → Link) → ((row : Link) → key_of (f row) ≡ key_of row) → (row : Link) → (f row).name ≡ row.name → ((subject : Subject) → sub_of subject (f row) ≡ sub_of subject row) → value_at k links ≡ Some row → AreIndexed (put_at k links (f row)) names leads
+  pub indexed_with_kept : (k : Key) (f : LinkRow → LinkRow) → ((row : LinkRow) → key_of (f row) ≡ key_of row) → (row : LinkRow) → (f row).name ≡ row.name → ((subject : Subject) → sub_of subject (f row) ≡ sub_of subject row) → value_at k links ≡ Some row → AreIndexed (put_at k links (f row)) names leads
   indexed_with_kept k f keeps row named same there = record {
     apart = apart_with_put k links (f row) indexed.apart;
     keyed = (keyed_by key_of _ _ (keyed_with_put key_of k f keeps row links indexed.keyed there)).0;
@@ -221,7 +221,7 @@ module _ (links : List (Key × Link)) (names : List (List ℕ × List Key)) (lea
   }
 
   -- the same, also where the ID is the one that it had
-  pub indexed_with_renewed : (k : Key) (subject : Subject) (sub : Option Subscription) (row : Link) → value_at k links ≡ Some row → row.server ≡ k.owner → (is_same_id (sub_at subject row.subscriptions) sub ≡ false → (to : Subject) → IsFree (sub_key k.owner sub) (leads_at to leads)) → AreIndexed (put_at k links (with_subscription subject sub row)) names (renewed subject (sub_at subject row.subscriptions) sub k leads)
+  pub indexed_with_renewed : (k : Key) (subject : Subject) (sub : Option Subscription) (row : LinkRow) → value_at k links ≡ Some row → row.server ≡ k.owner → (is_same_id (sub_at subject row.subscriptions) sub ≡ false → (to : Subject) → IsFree (sub_key k.owner sub) (leads_at to leads)) → AreIndexed (put_at k links (with_subscription subject sub row)) names (renewed subject (sub_at subject row.subscriptions) sub k leads)
   indexed_with_renewed k subject sub row there own free =
       let was = sub_at subject row.subscriptions in
       let new = with_subscription subject sub row in
@@ -233,7 +233,7 @@ module _ (links : List (Key × Link)) (names : List (List ℕ × List Key)) (lea
       ] refl
 
 -- lists of names in which each name has the same keys
-pub indexed_as : (links : List (Key × Link)) (names names' : List (List ℕ × List Key)) (leads : Leads) → AreIndexed links names leads → SameLists names names' → AreIndexed links names' leads
+pub indexed_as : (links : List (Key × LinkRow)) (names names' : List (List ℕ × List Key)) (leads : Leads) → AreIndexed links names leads → SameLists names names' → AreIndexed links names' leads
 indexed_as links names names' leads indexed same =
     let first : (n : List ℕ) → first_of names' n ≡ first_of names n = λ n. ap (λ keys. slice_get keys 0) (same n) in
     record {

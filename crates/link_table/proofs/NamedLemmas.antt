@@ -7,7 +7,7 @@ use Rattle.std.proofs.lemmas.Slice.Eq.{bytes_eq-Decides}
 use Rattle.row_index.specs.declared.key.Key.{Key}
 use Rattle.row_index.specs.Rows.{same_key, has_one_of, row_of, value_at, HasKeysApart}
 use Rattle.row_index.proofs.Keys.{same_key_is_same, same_key_itself}
-use Rattle.link_table.specs.declared.links.Link.{Link}
+use Rattle.link_table.specs.declared.links.LinkRow.{LinkRow}
 use Rattle.link_table.specs.LinkIndex.{first_of, name_of, told_at, LeadEachWay}
 use Rattle.link_table.specs.Links.{is_named_any}
 
@@ -26,10 +26,10 @@ same_answer false true there back = back refl
 same_answer false false there back = refl
 
 -- the row of an entry is the one under its key
-abbrev IsThere : List (Key × Link) → Key × Link → Type 0
+abbrev IsThere : List (Key × LinkRow) → Key × LinkRow → Type 0
 IsThere links entry = value_at entry.0 links ≡ Some entry.1
 
-there_later : (first : Key × Link) (links : List (Key × Link)) → value_at first.0 links ≡ None → (entry : Key × Link) → IsThere links entry → IsThere (first ∷ links) entry
+there_later : (first : Key × LinkRow) (links : List (Key × LinkRow)) → value_at first.0 links ≡ None → (entry : Key × LinkRow) → IsThere links entry → IsThere (first ∷ links) entry
 there_later first links new entry there = by (same_key first.0 entry.0) refl
   where
     by : (same : Bool) → same_key first.0 entry.0 ≡ same → option_map row_of (cond same (Some first) (find (λ e. same_key e.0 entry.0) links)) ≡ Some entry.1
@@ -38,7 +38,7 @@ there_later first links new entry there = by (same_key first.0 entry.0) refl
         absurd cc
     by false same = there
 
-each_there : (links : List (Key × Link)) → HasKeysApart links → Each (IsThere links) links
+each_there : (links : List (Key × LinkRow)) → HasKeysApart links → Each (IsThere links) links
 each_there [] apart = tt
 each_there (entry ∷ links) apart = (
   rw (same_key_itself entry.0) refl,
@@ -46,7 +46,7 @@ each_there (entry ∷ links) apart = (
 )
 
 -- tests that agree on each entry keep the same rows
-rows_kept : (p : Key × Link → Bool) (q : Link → Bool) (links : List (Key × Link)) → Each (λ entry. p entry ≡ q entry.1) links → map row_of (filter p links) ≡ filter q (map row_of links)
+rows_kept : (p : Key × LinkRow → Bool) (q : LinkRow → Bool) (links : List (Key × LinkRow)) → Each (λ entry. p entry ≡ q entry.1) links → map row_of (filter p links) ≡ filter q (map row_of links)
 rows_kept p q [] each = refl
 rows_kept p q (entry ∷ links) each =
     ap (λ t. map row_of (cond t (entry ∷ filter p links) (filter p links))) each.0
@@ -68,20 +68,20 @@ any_led : (k : Key) (led : Option Key) (keys : List Key) → list_any (λ key. s
 any_led k None keys = refl
 any_led k (Some key) keys = one_first (same_key k key) (list_any (λ other. same_key k other) keys)
 
-module _ (links : List (Key × Link)) (names : List (List ℕ × List Key)) (way : LeadEachWay (told_at name_of links) (first_of names)) where
-  said : (entry : Key × Link) → IsThere links entry → told_at name_of links entry.0 ≡ Some entry.1.name
+module _ (links : List (Key × LinkRow)) (names : List (List ℕ × List Key)) (way : LeadEachWay (told_at name_of links) (first_of names)) where
+  said : (entry : Key × LinkRow) → IsThere links entry → told_at name_of links entry.0 ≡ Some entry.1.name
   said entry there = ap (option_and_then name_of) there
 
   -- the name of a link leads to its key
-  named : (entry : Key × Link) → IsThere links entry → (name : List ℕ) → bytes_eq name entry.1.name ≡ true → first_of names name ≡ Some entry.0
+  named : (entry : Key × LinkRow) → IsThere links entry → (name : List ℕ) → bytes_eq name entry.1.name ≡ true → first_of names name ≡ Some entry.0
   named entry there name alike = ap (first_of names) ((bytes_eq-Decides name entry.1.name).0 alike) ∙ way.leads entry.0 entry.1.name (said entry there)
 
-  unnamed : (entry : Key × Link) → IsThere links entry → (name : List ℕ) (alike : Bool) → bytes_eq name entry.1.name ≡ alike → first_of names name ≡ None → false ≡ alike
+  unnamed : (entry : Key × LinkRow) → IsThere links entry → (name : List ℕ) (alike : Bool) → bytes_eq name entry.1.name ≡ alike → first_of names name ≡ None → false ≡ alike
   unnamed entry there name true alike none = let wrong : None ≡ Some entry.0 = sym none ∙ named entry there name alike in cc
   unnamed entry there name false alike none = refl
 
   -- the key that a name leads to is that of the link for it
-  one_named : (entry : Key × Link) → IsThere links entry → (name : List ℕ) (led : Option Key) → first_of names name ≡ led → list_any (λ key. same_key entry.0 key) (cons_option led []) ≡ bytes_eq name entry.1.name
+  one_named : (entry : Key × LinkRow) → IsThere links entry → (name : List ℕ) (led : Option Key) → first_of names name ≡ led → list_any (λ key. same_key entry.0 key) (cons_option led []) ≡ bytes_eq name entry.1.name
   one_named entry there name None none = unnamed entry there name (bytes_eq name entry.1.name) refl none
   one_named entry there name (Some key) led =
       or_none (same_key entry.0 key)
@@ -93,7 +93,7 @@ module _ (links : List (Key × Link)) (names : List (List ℕ × List Key)) (way
       let is : key ≡ entry.0 = same_Some key entry.0 (sym led ∙ named entry there name alike) in
       ap (same_key entry.0) is ∙ same_key_itself entry.0)
 
-  is_among : (entry : Key × Link) → IsThere links entry → (asked : List (List ℕ)) → has_one_of (filter_map (first_of names) asked) entry ≡ is_named_any asked entry.1
+  is_among : (entry : Key × LinkRow) → IsThere links entry → (asked : List (List ℕ)) → has_one_of (filter_map (first_of names) asked) entry ≡ is_named_any asked entry.1
   is_among entry there [] = refl
   is_among entry there (name ∷ asked) =
       any_led entry.0 (first_of names name) (filter_map (first_of names) asked)

@@ -5,7 +5,7 @@ use Rattle.std.specs.List.{filter, list_all, list_any}
 use Rattle.std.proofs.lemmas.Bool.{eqb-true, or_left, or_right}
 use Rattle.std.proofs.lemmas.List.Folds.{list_any-append, list_all-append}
 use Rattle.rows.specs.Rows.{change_first}
-use Rattle.link_table.specs.declared.links.Link.{Link}
+use Rattle.link_table.specs.declared.links.LinkRow.{LinkRow}
 use Rattle.link_table.specs.declared.servers.Server.{Server}
 use Rattle.link_table.specs.Links.{is_link, is_not_of, is_of}
 use Rattle.link_table.specs.Numbers.{is_of_cid}
@@ -71,32 +71,32 @@ module _ {A : Type 0} where
       by false false is kept any rest = rest any
 
 -- a server more
-pub servers_more : (servers : List Server) (server : Server) (links : List Link) → HaveServers servers links → HaveServers (servers ++ server ∷ []) links
+pub servers_more : (servers : List Server) (server : Server) (links : List LinkRow) → HaveServers servers links → HaveServers (servers ++ server ∷ []) links
 servers_more servers server links have =
     all_so (is_on_one servers) (is_on_one (servers ++ server ∷ []))
     (λ link on. list_any-append (is_server link.server) servers (server ∷ []) ∙ or_left (list_any (is_server link.server) servers) (list_any (is_server link.server) (server ∷ [])) on) links have
 
 -- a server with another minor version
-pub servers_put : (servers : List Server) (number minor : ℕ) (links : List Link) → HaveServers servers links → HaveServers (change_first (is_server number) (with_minor minor) servers) links
+pub servers_put : (servers : List Server) (number minor : ℕ) (links : List LinkRow) → HaveServers servers links → HaveServers (change_first (is_server number) (with_minor minor) servers) links
 servers_put servers number minor links have =
     all_so (is_on_one servers) (is_on_one (change_first (is_server number) (with_minor minor) servers))
     (λ link on. any_changed (is_server link.server) (is_server number) (with_minor minor) (λ server. refl) servers ∙ on) links have
 
 -- a link more, whose server stands
-pub links_more : (servers : List Server) (links : List Link) (link : Link) → list_any (is_server link.server) servers ≡ true → HaveServers servers links → HaveServers servers (links ++ link ∷ [])
+pub links_more : (servers : List Server) (links : List LinkRow) (link : LinkRow) → list_any (is_server link.server) servers ≡ true → HaveServers servers links → HaveServers servers (links ++ link ∷ [])
 links_more servers links link stands have =
     list_all-append (is_on_one servers) links (link ∷ []) ∙ (λ i. have i && (stands i && true))
 
 -- a link that changes, but not its server
-pub links_put : (servers : List Server) (links : List Link) (p : Link → Bool) (f : Link → Link) → ((link : Link) → is_on_one servers (f link) ≡ is_on_one servers link) → HaveServers servers links → HaveServers servers (change_first p f links)
+pub links_put : (servers : List Server) (links : List LinkRow) (p : LinkRow → Bool) (f : LinkRow → LinkRow) → ((link : LinkRow) → is_on_one servers (f link) ≡ is_on_one servers link) → HaveServers servers links → HaveServers servers (change_first p f links)
 links_put servers links p f same have = all_changed (is_on_one servers) p f same links ∙ have
 
 -- some of the links
-pub links_fewer : (servers : List Server) (links : List Link) (q : Link → Bool) → HaveServers servers links → HaveServers servers (filter q links)
+pub links_fewer : (servers : List Server) (links : List LinkRow) (q : LinkRow → Bool) → HaveServers servers links → HaveServers servers (filter q links)
 links_fewer servers links q have = all_kept (is_on_one servers) q links have
 
 -- a server goes with its links
-pub servers_fewer : (servers : List Server) (number : ℕ) (links : List Link) → HaveServers servers links → HaveServers (filter (is_not_server number) servers) (filter (is_not_of number) links)
+pub servers_fewer : (servers : List Server) (number : ℕ) (links : List LinkRow) → HaveServers servers links → HaveServers (filter (is_not_server number) servers) (filter (is_not_of number) links)
 servers_fewer servers number [] have = refl
 servers_fewer servers number (link ∷ links) have =
     let parts = both (is_on_one servers link) (list_all (is_on_one servers) links) have in
@@ -116,10 +116,10 @@ same_answer true b there back = sym (there refl)
 same_answer false true there back = back refl
 same_answer false false there back = refl
 
-abbrev has_link_of : List Link → ℕ → Server → Bool
+abbrev has_link_of : List LinkRow → ℕ → Server → Bool
 has_link_of links cid server = list_any (is_link server.number cid) links
 
-walked : (servers : List Server) (cid : ℕ) (links : List Link) → HaveServers servers links → list_any (is_of_cid cid) links ≡ true → list_any (has_link_of links cid) servers ≡ true
+walked : (servers : List Server) (cid : ℕ) (links : List LinkRow) → HaveServers servers links → list_any (is_of_cid cid) links ≡ true → list_any (has_link_of links cid) servers ≡ true
 walked servers cid [] have any = absurd (true≢false (sym any))
 walked servers cid (link ∷ links) have any =
     let parts = both (is_on_one servers link) (list_all (is_on_one servers) links) have in
@@ -135,7 +135,7 @@ walked servers cid (link ∷ links) have any =
         (λ server there. or_right (is_link server.number cid link) (list_any (is_link server.number cid) links) there) servers (rest any)
 
 -- a link has a number where one of a server that stands does
-pub cids_known : (servers : List Server) (cid : ℕ) (links : List Link) → HaveServers servers links → list_any (λ server. list_any (is_link server.number cid) links) servers ≡ list_any (is_of_cid cid) links
+pub cids_known : (servers : List Server) (cid : ℕ) (links : List LinkRow) → HaveServers servers links → list_any (λ server. list_any (is_link server.number cid) links) servers ≡ list_any (is_of_cid cid) links
 cids_known servers cid links have =
     same_answer (list_any (has_link_of links cid) servers) (list_any (is_of_cid cid) links)
     (λ any.

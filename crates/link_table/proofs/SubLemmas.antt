@@ -7,7 +7,7 @@ use Rattle.std.proofs.lemmas.Option.{same_Some}
 use Rattle.row_index.specs.declared.key.Key.{Key}
 use Rattle.row_index.specs.Rows.{same_key, lacks_key, value_at, put_at}
 use Rattle.row_index.proofs.Keys.{same_key_flips}
-use Rattle.link_table.specs.declared.links.Link.{Link}
+use Rattle.link_table.specs.declared.links.LinkRow.{LinkRow}
 use Rattle.link_table.specs.declared.links.Subject.{Subject}
 use Rattle.link_table.specs.declared.links.Subject.TheVariants.{Values, Properties}
 use Rattle.link_table.specs.declared.links.Subscription.{Subscription}
@@ -22,7 +22,7 @@ apart_subjects same =
     false≢true (sym (ap is_values same))
 
 -- what a link says by its subscription on a subject
-pub subscribed_tells : (subject : Subject) (server id : ℕ) (row : Link) → has_sub_to subject server id row ≡ true → sub_of subject row ≡ Some (key id server)
+pub subscribed_tells : (subject : Subject) (server id : ℕ) (row : LinkRow) → has_sub_to subject server id row ≡ true → sub_of subject row ≡ Some (key id server)
 subscribed_tells subject server id row h =
     elim (sub_at subject row.subscriptions) as (λ o. (row.server == server && has_id id o) ≡ true → sub_key row.server o ≡ Some (key id server)) [
       | None ↦ λ e. absurd (false≢true (and_parts (row.server == server) false e).1)
@@ -33,7 +33,7 @@ subscribed_tells subject server id row h =
           (λ i. Some (key (same i) (owner i)))
     ] h
 
-pub subscribed_passes : (subject : Subject) (server id : ℕ) (row : Link) → sub_of subject row ≡ Some (key id server) → has_sub_to subject server id row ≡ true
+pub subscribed_passes : (subject : Subject) (server id : ℕ) (row : LinkRow) → sub_of subject row ≡ Some (key id server) → has_sub_to subject server id row ≡ true
 subscribed_passes subject server id row h =
     elim (sub_at subject row.subscriptions) as (λ o. sub_key row.server o ≡ Some (key id server) → (row.server == server && has_id id o) ≡ true) [
       | None ↦ λ e. cc
@@ -49,18 +49,18 @@ same_sub_key server None (Some s) same = absurd (false≢true same)
 same_sub_key server (Some was) (Some s) same = ap (λ id. Some (key id server)) (sym (eqb-true was.id s.id same))
 
 -- a link that has a subscription on one of two subjects
-has_either : (subject : Subject) (server id : ℕ) (row : Link) → has_sub_to subject server id row ≡ true → has_subscription server id row ≡ false → false ≡ true
+has_either : (subject : Subject) (server id : ℕ) (row : LinkRow) → has_sub_to subject server id row ≡ true → has_subscription server id row ≡ false → false ≡ true
 has_either Values server id row has none = sym (or_parts (has_sub_to Values server id row) (has_sub_to Properties server id row) none).0 ∙ has
 has_either Properties server id row has none = sym (or_parts (has_sub_to Values server id row) (has_sub_to Properties server id row) none).1 ∙ has
 
-same_subject : (subject to : Subject) (server id : ℕ) (row : Link) → has_sub_to to server id row ≡ true → has_subscription server id (with_subscription subject None row) ≡ false → has_id id (sub_at subject row.subscriptions) ≡ true
+same_subject : (subject to : Subject) (server id : ℕ) (row : LinkRow) → has_sub_to to server id row ≡ true → has_subscription server id (with_subscription subject None row) ≡ false → has_id id (sub_at subject row.subscriptions) ≡ true
 same_subject Values Values server id row has none = (and_parts (is_of server row) (has_id id row.subscriptions.values) has).1
 same_subject Values Properties server id row has none = absurd (false≢true (has_either Properties server id (with_subscription Values None row) has none))
 same_subject Properties Values server id row has none = absurd (false≢true (has_either Values server id (with_subscription Properties None row) has none))
 same_subject Properties Properties server id row has none = (and_parts (is_of server row) (has_id id row.subscriptions.properties) has).1
 
 -- a subscription that is no other's is the one of the link and the subject
-pub its_own : (server cid : ℕ) (subject to : Subject) (id : ℕ) (row : Link) → has_sub_to to server id row ≡ true → has_other_sub server cid subject id row ≡ false → (row.server ≡ server) × (row.cid ≡ cid) × (has_id id (sub_at subject row.subscriptions) ≡ true)
+pub its_own : (server cid : ℕ) (subject to : Subject) (id : ℕ) (row : LinkRow) → has_sub_to to server id row ≡ true → has_other_sub server cid subject id row ≡ false → (row.server ≡ server) × (row.cid ≡ cid) × (has_id id (sub_at subject row.subscriptions) ≡ true)
 its_own server cid subject to id row has none =
     elim (is_link server cid row) as (λ t. is_link server cid row ≡ t → has_subscription server id (cond t (with_subscription subject None row) row) ≡ false → (row.server ≡ server) × (row.cid ≡ cid) × (has_id id (sub_at subject row.subscriptions) ≡ true)) [
       | true ↦ λ is h.
@@ -69,7 +69,7 @@ its_own server cid subject to id row has none =
       | false ↦ λ is h. absurd (false≢true (has_either to server id row has h))
     ] refl none
 
-not_without : (subject : Subject) (server id : ℕ) (row : Link) → has_subscription server id row ≡ false → has_subscription server id (with_subscription subject None row) ≡ false
+not_without : (subject : Subject) (server id : ℕ) (row : LinkRow) → has_subscription server id row ≡ false → has_subscription server id (with_subscription subject None row) ≡ false
 not_without subject server id row none =
     let parts = or_parts (has_sub_to Values server id row) (has_sub_to Properties server id row) none in
     let bare : (is_of server row && false) ≡ false = elim (is_of server row) as (λ t. (t && false) ≡ false) [ true ↦ refl | false ↦ refl ] in
@@ -77,7 +77,7 @@ not_without subject server id row none =
     [ Values ↦ or_from (is_of server row && false) (has_sub_to Properties server id row) bare parts.1 | Properties ↦ or_from (has_sub_to Values server id row) (is_of server row && false) parts.0 bare ]
 
 -- an ID that no subscription has is no other's
-pub none_other : (server cid : ℕ) (subject : Subject) (id : ℕ) (rows : List Link) → list_any (has_subscription server id) rows ≡ false → list_any (has_other_sub server cid subject id) rows ≡ false
+pub none_other : (server cid : ℕ) (subject : Subject) (id : ℕ) (rows : List LinkRow) → list_any (has_subscription server id) rows ≡ false → list_any (has_other_sub server cid subject id) rows ≡ false
 none_other server cid subject id [] none = refl
 none_other server cid subject id (row ∷ rows) none =
     let parts = or_parts (has_subscription server id row) (list_any (has_subscription server id) rows) none in
@@ -86,13 +86,13 @@ none_other server cid subject id (row ∷ rows) none =
     or_from (has_other_sub server cid subject id row) (list_any (has_other_sub server cid subject id) rows) here (none_other server cid subject id rows parts.1)
 
 -- a link that has a subscription on either subject has it on one
-pub has_one : (server id : ℕ) (row : Link) → has_subscription server id row ≡ true → (subject : Subject) × (has_sub_to subject server id row ≡ true)
+pub has_one : (server id : ℕ) (row : LinkRow) → has_subscription server id row ≡ true → (subject : Subject) × (has_sub_to subject server id row ≡ true)
 has_one server id row has =
     elim (has_sub_to Values server id row) as (λ t. has_sub_to Values server id row ≡ t → (t || has_sub_to Properties server id row) ≡ true → (subject : Subject) × (has_sub_to subject server id row ≡ true))
     [ true ↦ λ is h. (Values, is) | false ↦ λ is h. (Properties, h) ] refl has
 
 -- what stays of a link's subscriptions without the one on a subject is on the other
-pub on_another : (subject to : Subject) (server id : ℕ) (row : Link) → has_sub_to to server id (with_subscription subject None row) ≡ true → (to ≢ subject) × (has_sub_to to server id row ≡ true)
+pub on_another : (subject to : Subject) (server id : ℕ) (row : LinkRow) → has_sub_to to server id (with_subscription subject None row) ≡ true → (to ≢ subject) × (has_sub_to to server id row ≡ true)
 on_another Values Values server id row has = absurd (false≢true (and_parts (is_of server row) false has).1)
 on_another Values Properties server id row has = (λ same. apart_subjects (sym same), has)
 on_another Properties Values server id row has = (λ same. apart_subjects same, has)
@@ -128,7 +128,7 @@ second_none v None x there parted = refl
 second_none v (Some y) x there parted = absurd (false≢true (sym parted ∙ ap (λ o. is_some o && true) there))
 
 -- what subscriptions on a subject lead to, without a link
-subs_with_fewer : (subject : Subject) (k : Key) (row : Link) (led : Option Key) (links : List (Key × Link)) (subs : List (Key × Key)) → LeadEachWay (told_at (sub_of subject) links) (λ j. value_at j subs) → value_at k links ≡ Some row → sub_of subject row ≡ led → LeadEachWay (told_at (sub_of subject) (filter (lacks_key k) links)) (λ j. value_at j (without_led led subs))
+subs_with_fewer : (subject : Subject) (k : Key) (row : LinkRow) (led : Option Key) (links : List (Key × LinkRow)) (subs : List (Key × Key)) → LeadEachWay (told_at (sub_of subject) links) (λ j. value_at j subs) → value_at k links ≡ Some row → sub_of subject row ≡ led → LeadEachWay (told_at (sub_of subject) (filter (lacks_key k) links)) (λ j. value_at j (without_led led subs))
 subs_with_fewer subject k row None links subs way there says = silent_removed (sub_of subject) k row links (λ j. value_at j subs) way there says
 subs_with_fewer subject k row (Some j) links subs way there says =
     told_removed (sub_of subject) same_key same_key_decides k row j links (λ x. value_at x subs) (λ x. value_at x (filter (lacks_key j) subs)) way there says (value_of_removed j subs) (λ y h. value_beside_removed y j subs h)
@@ -140,7 +140,7 @@ apart_since i j k subs led free =
     [ true ↦ λ h. let is : j ≡ i = (same_key_decides j i).0 h in let clash : None ≡ Some k = sym free ∙ ap (λ x. value_at x subs) is ∙ led in cc | false ↦ λ h. refl ] refl
 
 -- with another subscription of a link
-subs_with_put : (subject : Subject) (k : Key) (row new : Link) (was led : Option Key) (links : List (Key × Link)) (subs : List (Key × Key)) → LeadEachWay (told_at (sub_of subject) links) (λ j. value_at j subs) → value_at k links ≡ Some row → sub_of subject row ≡ was → sub_of subject new ≡ led → IsFree led subs → LeadEachWay (told_at (sub_of subject) (put_at k links new)) (λ j. value_at j (without_led was (with_led led k subs)))
+subs_with_put : (subject : Subject) (k : Key) (row new : LinkRow) (was led : Option Key) (links : List (Key × LinkRow)) (subs : List (Key × Key)) → LeadEachWay (told_at (sub_of subject) links) (λ j. value_at j subs) → value_at k links ≡ Some row → sub_of subject row ≡ was → sub_of subject new ≡ led → IsFree led subs → LeadEachWay (told_at (sub_of subject) (put_at k links new)) (λ j. value_at j (without_led was (with_led led k subs)))
 subs_with_put subject k row new None None links subs way there said says free = same_put (sub_of subject) k row new links (λ j. value_at j subs) way there (says ∙ sym said)
 subs_with_put subject k row new None (Some j) links subs way there said says free =
     told_put (sub_of subject) same_key same_key_decides k row new j links (λ x. value_at x subs) (λ x. value_at x (subs ++ (j, k) ∷ [])) way there said says free (value_of_added j k subs free) (λ y h. value_beside_added y j k subs h)
@@ -156,13 +156,13 @@ abbrev pub moved_leads : Subject → Option Key → Option Key → Key → Leads
 moved_leads subject was led k leads = with_leads subject (without_led was (with_led led k (leads_at subject leads))) leads
 
 -- a subscription of the same ID leaves what each subject says
-pub kept_key : (subject to : Subject) (sub : Option Subscription) (row : Link) → sub_key row.server sub ≡ sub_of subject row → sub_of to (with_subscription subject sub row) ≡ sub_of to row
+pub kept_key : (subject to : Subject) (sub : Option Subscription) (row : LinkRow) → sub_key row.server sub ≡ sub_of subject row → sub_of to (with_subscription subject sub row) ≡ sub_of to row
 kept_key Values Values sub row same = same
 kept_key Values Properties sub row same = refl
 kept_key Properties Values sub row same = refl
 kept_key Properties Properties sub row same = same
 
-module _ (links : List (Key × Link)) (leads : Leads) (way : (subject : Subject) → LeadEachWay (told_at (sub_of subject) links) (λ j. value_at j (leads_at subject leads))) (k : Key) (row : Link) (there : value_at k links ≡ Some row) where
+module _ (links : List (Key × LinkRow)) (leads : Leads) (way : (subject : Subject) → LeadEachWay (told_at (sub_of subject) links) (λ j. value_at j (leads_at subject leads))) (k : Key) (row : LinkRow) (there : value_at k links ≡ Some row) where
   pub subs_without : (subject : Subject) → LeadEachWay (told_at (sub_of subject) (filter (lacks_key k) links)) (λ j. value_at j (leads_at subject (forgotten row.server row.subscriptions leads)))
   subs_without Values = subs_with_fewer Values k row (sub_of Values row) links leads.values (way Values) there refl
   subs_without Properties = subs_with_fewer Properties k row (sub_of Properties row) links leads.properties (way Properties) there refl
@@ -212,7 +212,7 @@ parted_moved Properties was led k leads parted free j =
     flipped (is_some (value_at j (without_led was (with_led led k leads.properties)))) (is_some (value_at j leads.values))
     (parted_beside j k was led leads.properties leads.values (free Values) (flipped (is_some (value_at j leads.values)) (is_some (value_at j leads.properties)) (parted j)))
 
-pub parted_without : (row : Link) (leads : Leads) → AreParted leads → AreParted (forgotten row.server row.subscriptions leads)
+pub parted_without : (row : LinkRow) (leads : Leads) → AreParted leads → AreParted (forgotten row.server row.subscriptions leads)
 parted_without row leads parted j =
     let values = without_led (sub_of Values row) leads.values in
     let once = parted_beside j j (sub_of Values row) None leads.values leads.properties tt (parted j) in

@@ -5,7 +5,7 @@ use Rattle.std.specs.Option.{option_and_then, option_or, option_to_list, is_some
 use Rattle.row_index.specs.declared.key.Key.{Key}
 use Rattle.row_index.specs.Lists.{of}
 use Rattle.row_index.specs.Rows.{row_of, value_at, lacks_key, HasKeysApart}
-use Rattle.link_table.specs.declared.links.Link.{Link}
+use Rattle.link_table.specs.declared.links.LinkRow.{LinkRow}
 use Rattle.link_table.specs.declared.links.Subject.{Subject}
 use Rattle.link_table.specs.declared.links.Subject.TheVariants.{Values, Properties}
 use Rattle.link_table.specs.declared.links.Subscription.{Subscription}
@@ -18,11 +18,11 @@ abbrev pub key : ℕ → ℕ → Key
 key owner id = record { owner = owner; id = id }
 
 -- the key of a link: its server and its ID
-abbrev pub key_of : Link → Key
+abbrev pub key_of : LinkRow → Key
 key_of row = key row.server row.cid
 
 -- the name of a link
-abbrev pub name_of : Link → Option (List ℕ)
+abbrev pub name_of : LinkRow → Option (List ℕ)
 name_of row = Some row.name
 
 -- the key of a subscription on this server, if there is one: its ID and the server
@@ -31,7 +31,7 @@ sub_key server None = None
 sub_key server (Some s) = Some (key s.id server)
 
 -- the key of the present subscription of a link on a subject
-abbrev pub sub_of : Subject → Link → Option Key
+abbrev pub sub_of : Subject → LinkRow → Option Key
 sub_of subject row = sub_key row.server (sub_at subject row.subscriptions)
 
 -- what the keys of subscriptions lead to, for each subject
@@ -90,7 +90,7 @@ abbrev pub LeadsBack : {A B : Type 0} → (A → Option B) → (B → Option A) 
 LeadsBack {A} {B} f g = (a : A) (b : B) → f a ≡ Some b → g b ≡ Some a
 
 -- what the link under a key has of this kind
-abbrev pub told_at : {B : Type 0} → (Link → Option B) → List (Key × Link) → Key → Option B
+abbrev pub told_at : {B : Type 0} → (LinkRow → Option B) → List (Key × LinkRow) → Key → Option B
 told_at told links k = option_and_then told (value_at k links)
 
 -- the key that stands first under a name
@@ -103,7 +103,7 @@ pub record LeadEachWay {A B : Type 0} (f : A → Option B) (g : B → Option A) 
   pub is_led_to : LeadsBack g f
 
 -- each link stands under its key, and its name and its subscriptions lead to it and to none else
-pub record AreIndexed (links : List (Key × Link)) (names : List (List ℕ × List Key)) (leads : Leads) : Type 0 where
+pub record AreIndexed (links : List (Key × LinkRow)) (names : List (List ℕ × List Key)) (leads : Leads) : Type 0 where
   pub apart : HasKeysApart links
   pub keyed : links ≡ map (entry_by key_of) (map row_of links)
   pub single : (name : List ℕ) → of names name ≡ option_to_list (first_of names name)

@@ -1,7 +1,7 @@
 -- The value of the table of servers and links.
 use Rattle.std.specs.Prelude.{ℕ, List, Bool}
 use Rattle.std.specs.List.{list_any, count_by}
-use Rattle.link_table.specs.declared.links.Link.{Link}
+use Rattle.link_table.specs.declared.links.LinkRow.{LinkRow}
 use Rattle.link_table.specs.declared.servers.Server.{Server}
 use Rattle.link_table.specs.declared.writes.WaitingWrite.{WaitingWrite}
 use Rattle.link_table.specs.Links.{is_link}
@@ -26,7 +26,7 @@ pub record Counters : Type 0 where
 -- the rows, each list in the order in which they were added, and the numbers
 pub record LinkRows : Type 0 where
   pub servers : List Server
-  pub links : List Link
+  pub links : List LinkRow
   pub writes : List WaitingWrite
   pub counters : Counters
 

@@ -4,7 +4,7 @@ use Rattle.std.specs.List.{filter, flat_map, list_all, list_any}
 use Rattle.link_table.specs.declared.counter.Counter.{Counter}
 use Rattle.link_table.specs.declared.counter.Counter.TheVariants.{Sid, Cid, Subscription as Sub, Write}
 use Rattle.link_table.specs.declared.counter.TheConstants.{LAST_NUMBER}
-use Rattle.link_table.specs.declared.links.Link.{Link}
+use Rattle.link_table.specs.declared.links.LinkRow.{LinkRow}
 use Rattle.link_table.specs.declared.links.Subscription.{Subscription}
 use Rattle.link_table.specs.declared.writes.WaitingWrite.{WaitingWrite}
 use Rattle.link_table.specs.Counters.{began_again, counter_of, next_number}
@@ -15,10 +15,10 @@ use Rattle.link_table.specs.Writes.{is_write, is_write_to}
 -- WHAT ROWS HAVE
 
 -- a link of this number, whichever its server is
-abbrev pub is_of_cid : ℕ → Link → Bool
+abbrev pub is_of_cid : ℕ → LinkRow → Bool
 is_of_cid cid link = link.cid == cid
 
-abbrev pub cid_of : Link → ℕ
+abbrev pub cid_of : LinkRow → ℕ
 cid_of link = link.cid
 
 abbrev pub ids_in : Option Subscription → List ℕ
@@ -26,7 +26,7 @@ ids_in None = []
 ids_in (Some sub) = sub.id ∷ []
 
 -- the IDs of a link's subscriptions
-abbrev pub sub_ids : Link → List ℕ
+abbrev pub sub_ids : LinkRow → List ℕ
 sub_ids link = ids_in link.subscriptions.values ++ ids_in link.subscriptions.properties
 
 abbrev pub id_of : WaitingWrite → ℕ
@@ -81,7 +81,7 @@ fitting_one (Some number) = fitting number
 
 -- BELOW THE COUNTERS
 
-abbrev pub has_cid_below : ℕ → Link → Bool
+abbrev pub has_cid_below : ℕ → LinkRow → Bool
 has_cid_below next link = nat_lt link.cid next
 
 abbrev pub is_sub_below : ℕ → Option Subscription → Bool
@@ -89,7 +89,7 @@ is_sub_below next None = true
 is_sub_below next (Some sub) = nat_lt sub.id next
 
 -- the link's subscriptions have IDs below this one
-abbrev pub has_id_below : ℕ → Link → Bool
+abbrev pub has_id_below : ℕ → LinkRow → Bool
 has_id_below next link = is_sub_below next link.subscriptions.values && is_sub_below next link.subscriptions.properties
 
 abbrev pub has_write_id_below : ℕ → WaitingWrite → Bool

@@ -1,7 +1,7 @@
 -- The rows of servers.
 use Rattle.std.specs.Prelude.{◌≡◌, ℕ, List, Bool, true, not, ◌==◌}
 use Rattle.std.specs.List.{list_all, list_any}
-use Rattle.link_table.specs.declared.links.Link.{Link}
+use Rattle.link_table.specs.declared.links.LinkRow.{LinkRow}
 use Rattle.link_table.specs.declared.servers.Server.{Server}
 
 -- the row of this server
@@ -17,9 +17,9 @@ abbrev pub with_minor : ℕ → Server → Server
 with_minor minor row = record row { minor = minor }
 
 -- the link's server stands
-abbrev pub is_on_one : List Server → Link → Bool
+abbrev pub is_on_one : List Server → LinkRow → Bool
 is_on_one servers row = list_any (is_server row.server) servers
 
 -- each link's server stands
-abbrev pub HaveServers : List Server → List Link → Type 0
+abbrev pub HaveServers : List Server → List LinkRow → Type 0
 HaveServers servers links = list_all (is_on_one servers) links ≡ true

@@ -41,7 +41,7 @@ mod table;
 mod writes;
 
 pub use counter::{Counter, LAST_NUMBER, begins_again, fitting, turned};
-pub use links::{Link, LinkState, Subject, Subscription, Subscriptions};
+pub use links::{LinkRow, LinkState, Subject, Subscription, Subscriptions};
 pub use servers::Server;
 pub use table::{LINK_LIMIT, Links, SERVER_LIMIT, TableFault, WRITE_LIMIT};
 pub use writes::WaitingWrite;

@@ -6,7 +6,7 @@ ghost use Rattle.rows.specs.Rows.{change_first};
 ghost use Rattle.link_table.specs.Links.{is_link, is_not_link, is_of, is_not_of, is_named, is_named_any, has_other_sub, has_subscription, new_link, with_state, with_subscription, HasIdsApart};
 ghost use Rattle.link_table.specs.LinkIndex.{first_of};
 
-use crate::links::{Link, LinkState, Subject, Subscription, Subscriptions};
+use crate::links::{LinkRow, LinkState, Subject, Subscription, Subscriptions};
 use crate::sub_leads::SubLeads;
 use pv_name::Name;
 use row_index::{Key, NameLists, RowMap};
@@ -17,7 +17,7 @@ use std::marker::Model;
 /// the same ID, so each of these leads to one link.
 #[derive(Drop)]
 pub(crate) struct LinkSet {
-    rows: RowMap<Link>,
+    rows: RowMap<LinkRow>,
     /// The key of the link for a name.
     by_name: NameLists,
     /// The key of the link that has a subscription.
@@ -26,11 +26,11 @@ pub(crate) struct LinkSet {
 
 impl Model for LinkSet {
     ghost use Rattle.std.specs.Prelude.{List, map};
-    ghost use Rattle.link_table.specs.declared.links.Link.{Link};
+    ghost use Rattle.link_table.specs.declared.links.LinkRow.{LinkRow};
     ghost use Rattle.row_index.specs.Rows.{row_of};
     ghost use Rattle.link_table.specs.LinkIndex.{AreIndexed};
 
-    ghost Value = { List Link };
+    ghost Value = { List LinkRow };
 
     ghost view = { λ s. map row_of s.rows };
 
@@ -64,7 +64,7 @@ impl LinkSet {
         })
     }
 
-    pub(crate) fn by_cid(&self, server: u32, cid: u32) -> Option<&Link>
+    pub(crate) fn by_cid(&self, server: u32, cid: u32) -> Option<&LinkRow>
         ensures { option_copied result ≡ find (is_link server cid) self.now }
     {
         self.rows.get(Key {
@@ -73,7 +73,7 @@ impl LinkSet {
         })
     }
 
-    pub(crate) fn by_name(&self, name: &Name) -> Option<&Link>
+    pub(crate) fn by_name(&self, name: &Name) -> Option<&LinkRow>
         ensures { option_copied result ≡ find (is_named name.now) self.now }
     {
         match self.by_name.of(name).first() {
@@ -82,7 +82,7 @@ impl LinkSet {
         }
     }
 
-    pub(crate) fn by_sub(&self, server: u32, id: u32) -> Option<&Link>
+    pub(crate) fn by_sub(&self, server: u32, id: u32) -> Option<&LinkRow>
         ensures { option_copied result ≡ find (has_subscription server id) self.now }
     {
         match self.leads.get(Key {
@@ -94,19 +94,19 @@ impl LinkSet {
         }
     }
 
-    pub(crate) fn link(&self, n: usize) -> Option<&Link>
+    pub(crate) fn link(&self, n: usize) -> Option<&LinkRow>
         ensures { option_copied result ≡ slice_get self.now n }
     {
         self.rows.row(n)
     }
 
-    pub(crate) fn links(&self, alloc: Global) -> Result<Vec<&Link>, AllocError>
+    pub(crate) fn links(&self, alloc: Global) -> Result<Vec<&LinkRow>, AllocError>
         ensures { IfOk result (λ links. map (λ link. link.now) links.items ≡ self.now) }
     {
         self.rows.rows(alloc)
     }
 
-    pub(crate) fn named(&self, alloc: Global, names: &[Name]) -> Result<Vec<&Link>, AllocError>
+    pub(crate) fn named(&self, alloc: Global, names: &[Name]) -> Result<Vec<&LinkRow>, AllocError>
         ensures { IfOk result (λ links. map (λ link. link.now) links.items ≡ filter (is_named_any names.now) self.now) }
     {
         let keys = keys_named(&self.by_name, alloc, names)?;
@@ -119,7 +119,7 @@ impl LinkSet {
         self.rows.count_of(server)
     }
 
-    pub(crate) fn nth_of(&self, server: u32, n: usize) -> Option<&Link>
+    pub(crate) fn nth_of(&self, server: u32, n: usize) -> Option<&LinkRow>
         ensures { option_copied result ≡ slice_get (filter (is_of server) self.now) n }
     {
         self.rows.of(server, n)
@@ -258,10 +258,10 @@ fn key_named(by_name: &NameLists, name: &Name) -> Option<Key>
 }
 
 // A link of which the server is just asked for the channel.
-fn new_link(server: u32, cid: u32, name: Name) -> Link
+fn new_link(server: u32, cid: u32, name: Name) -> LinkRow
     ensures { result ≡ new_link server cid name }
 {
-    Link {
+    LinkRow {
         cid,
         server,
         name,

@@ -6,7 +6,7 @@ use pv_name::Name;
 
 /// The gateway's channel on one server, for one process variable.
 #[derive(Debug, Drop)]
-pub struct Link {
+pub struct LinkRow {
     /// The gateway's ID of the channel.
     pub cid: u32,
     /// The number of its server.

@@ -13,7 +13,7 @@ mod numbers;
 
 use crate::counter::NextNumbers;
 use crate::link_set::LinkSet;
-use crate::links::{Link, LinkState, Subject, Subscription};
+use crate::links::{LinkRow, LinkState, Subject, Subscription};
 use crate::servers::{self, Server};
 use crate::writes::{WaitingWrite, Writes};
 use pv_name::Name;
@@ -88,28 +88,28 @@ impl Links {
     }
 
     /// The link of this server with this CID.
-    pub fn by_cid(&self, server: u32, cid: u32) -> Option<&Link>
+    pub fn by_cid(&self, server: u32, cid: u32) -> Option<&LinkRow>
         ensures { option_copied result ≡ find (is_link server cid) self.now.links }
     {
         self.links.by_cid(server, cid)
     }
 
     /// The link for the variable of this name.
-    pub fn by_name(&self, name: &Name) -> Option<&Link>
+    pub fn by_name(&self, name: &Name) -> Option<&LinkRow>
         ensures { option_copied result ≡ find (is_named name.now) self.now.links }
     {
         self.links.by_name(name)
     }
 
     /// The link of this server of which a present subscription has this ID, on whichever subject.
-    pub fn by_sub(&self, server: u32, id: u32) -> Option<&Link>
+    pub fn by_sub(&self, server: u32, id: u32) -> Option<&LinkRow>
         ensures { option_copied result ≡ find (has_subscription server id) self.now.links }
     {
         self.links.by_sub(server, id)
     }
 
     /// The n-th link, counted from 0 in the order of adding. Where CIDs rise, this is their order.
-    pub fn link(&self, n: usize) -> Option<&Link>
+    pub fn link(&self, n: usize) -> Option<&LinkRow>
         ensures found { option_copied result ≡ slice_get self.now.links n }
         ensures by_cid { CidsRiseFrom 0 self.now.links → option_copied result ≡ nth_by_cid n self.now.links }
     {
@@ -121,7 +121,7 @@ impl Links {
     /// # Errors
     ///
     /// Memory for the list was refused.
-    pub fn links(&self, alloc: Global) -> Result<Vec<&Link>, AllocError>
+    pub fn links(&self, alloc: Global) -> Result<Vec<&LinkRow>, AllocError>
         ensures { IfOk result (λ links. map (λ link. link.now) links.items ≡ self.now.links) }
     {
         self.links.links(alloc)
@@ -139,7 +139,7 @@ impl Links {
     /// # Errors
     ///
     /// Memory for the list was refused.
-    pub fn links_named(&self, alloc: Global, names: &[Name]) -> Result<Vec<&Link>, AllocError>
+    pub fn links_named(&self, alloc: Global, names: &[Name]) -> Result<Vec<&LinkRow>, AllocError>
         ensures { IfOk result (λ links. map (λ link. link.now) links.items ≡ filter (is_named_any names.now) self.now.links) }
     {
         self.links.named(alloc, names)
@@ -161,7 +161,7 @@ impl Links {
 
     /// The server's nth link, counted from 0 in the order of adding. The links of others are not
     /// looked at.
-    pub fn link_of(&self, server: u32, n: usize) -> Option<&Link>
+    pub fn link_of(&self, server: u32, n: usize) -> Option<&LinkRow>
         ensures { option_copied result ≡ slice_get (filter (is_of server) self.now.links) n }
     {
         self.links.nth_of(server, n)

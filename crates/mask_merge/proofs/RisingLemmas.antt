@@ -6,15 +6,15 @@ use Rattle.std.proofs.lemmas.List.Quantifiers.{position-Some}
 use Rattle.rows.specs.Rows.{remove_first}
 use Rattle.rows.proofs.RowLemmas.{remove_is_remove_first}
 use Rattle.mask_merge.specs.Counts.{put_rising, is_count, last_of}
-use Rattle.mask_merge.specs.Kept.{IsRising}
+use Rattle.mask_merge.specs.Kept.{NeverFalls}
 
 -- the first is at most the last
-first_below : (x : ℕ) (xs : List ℕ) → IsRising (x ∷ xs) → x ≤ last_of x xs
+first_below : (x : ℕ) (xs : List ℕ) → NeverFalls (x ∷ xs) → x ≤ last_of x xs
 first_below x [] rising = omega arith
 first_below x (y ∷ ys) rising = let rest = first_below y ys rising.1 in let here = rising.0 in omega arith
 
 -- a count that is no less than the last stands behind it
-put_last : (n x : ℕ) (xs : List ℕ) → IsRising (x ∷ xs) → last_of x xs ≤ n → put_rising n (x ∷ xs) ≡ (x ∷ xs) ++ (n ∷ [])
+put_last : (n x : ℕ) (xs : List ℕ) → NeverFalls (x ∷ xs) → last_of x xs ≤ n → put_rising n (x ∷ xs) ≡ (x ∷ xs) ++ (n ∷ [])
 put_last n x [] rising most = grind (arith, nat_tests, most)
 put_last n x (y ∷ ys) rising most =
     let rest = put_last n y ys rising.1 most in
@@ -23,7 +23,7 @@ put_last n x (y ∷ ys) rising most =
     grind (arith, nat_tests, rest, here, below, most)
 
 -- the last is the first that is like it, among others that are
-last_removed : (x : ℕ) (xs : List ℕ) → IsRising (x ∷ xs) → remove (x ∷ xs) (length xs) ≡ remove_first (is_count (last_of x xs)) (x ∷ xs)
+last_removed : (x : ℕ) (xs : List ℕ) → NeverFalls (x ∷ xs) → remove (x ∷ xs) (length xs) ≡ remove_first (is_count (last_of x xs)) (x ∷ xs)
 last_removed x [] rising = grind (arith, nat_tests)
 last_removed x (y ∷ ys) rising =
     let rest = last_removed y ys rising.1 in
@@ -49,7 +49,7 @@ last_found : (x : ℕ) (xs : List ℕ) (last : ℕ) → slice_get (x ∷ xs) (le
 last_found x xs last found = some_is (sym (at_last x xs) ∙ sym (ap (λ k. slice_get (x ∷ xs) k) (end_is x xs)) ∙ found)
 
 -- where none is greater than a count, it stands behind all
-pub put_at_end : (n last : ℕ) (xs : List ℕ) → IsRising xs → slice_get xs (length xs - 1) ≡ Some last → last ≤ n → insert xs (length xs) n ≡ put_rising n xs
+pub put_at_end : (n last : ℕ) (xs : List ℕ) → NeverFalls xs → slice_get xs (length xs - 1) ≡ Some last → last ≤ n → insert xs (length xs) n ≡ put_rising n xs
 put_at_end n last [] rising found most = absurd cc
 put_at_end n last (x ∷ xs) rising found most =
     let same : last_of x xs ≡ last = last_found x xs last found in
@@ -57,7 +57,7 @@ put_at_end n last (x ∷ xs) rising found most =
     insert_last n (x ∷ xs) ∙ sym (put_last n x xs rising up)
 
 -- and the greatest is taken from the end
-pub removed_at_end : (n last : ℕ) (xs : List ℕ) → IsRising xs → slice_get xs (length xs - 1) ≡ Some last → last ≡ n → remove xs (length xs - 1) ≡ remove_first (is_count n) xs
+pub removed_at_end : (n last : ℕ) (xs : List ℕ) → NeverFalls xs → slice_get xs (length xs - 1) ≡ Some last → last ≡ n → remove xs (length xs - 1) ≡ remove_first (is_count n) xs
 removed_at_end n last [] rising found is = absurd cc
 removed_at_end n last (x ∷ xs) rising found is =
     let same : last_of x xs ≡ n = last_found x xs last found ∙ is in
@@ -74,32 +74,32 @@ taken_by p xs (Some k) e = (remove_is_remove_first p xs k (sym e), (position-Som
 
 -- counts rise with one more, and with one less
 
-put_under : (x n y : ℕ) (ys : List ℕ) → x ≤ y → x < n → IsRising (put_rising n (y ∷ ys)) → IsRising (x ∷ put_rising n (y ∷ ys))
+put_under : (x n y : ℕ) (ys : List ℕ) → x ≤ y → x < n → NeverFalls (put_rising n (y ∷ ys)) → NeverFalls (x ∷ put_rising n (y ∷ ys))
 put_under x n y ys low less rest =
-    elim (nat_lt y n) as (λ t. IsRising (cond t (y ∷ put_rising n ys) (n ∷ y ∷ ys)) → IsRising (x ∷ cond t (y ∷ put_rising n ys) (n ∷ y ∷ ys)))
+    elim (nat_lt y n) as (λ t. NeverFalls (cond t (y ∷ put_rising n ys) (n ∷ y ∷ ys)) → NeverFalls (x ∷ cond t (y ∷ put_rising n ys) (n ∷ y ∷ ys)))
     [ true ↦ λ r. (low, r) | false ↦ λ r. (omega (arith, less), r) ] rest
 
-pub put_keeps : (n : ℕ) (xs : List ℕ) → IsRising xs → IsRising (put_rising n xs)
+pub put_keeps : (n : ℕ) (xs : List ℕ) → NeverFalls xs → NeverFalls (put_rising n xs)
 put_keeps n [] rising = tt
 put_keeps n (x ∷ []) rising =
-    elim (nat_lt x n) as (λ t. nat_lt x n ≡ t → IsRising (cond t (x ∷ n ∷ []) (n ∷ x ∷ [])))
+    elim (nat_lt x n) as (λ t. nat_lt x n ≡ t → NeverFalls (cond t (x ∷ n ∷ []) (n ∷ x ∷ [])))
     [ true ↦ λ e. let less : x < n = ltb-true x n e in (omega (arith, less), tt) | false ↦ λ e. (ltb-false x n e, tt) ] refl
 put_keeps n (x ∷ y ∷ ys) rising =
     let rest = put_keeps n (y ∷ ys) rising.1 in
-    elim (nat_lt x n) as (λ t. nat_lt x n ≡ t → IsRising (cond t (x ∷ put_rising n (y ∷ ys)) (n ∷ x ∷ y ∷ ys)))
+    elim (nat_lt x n) as (λ t. nat_lt x n ≡ t → NeverFalls (cond t (x ∷ put_rising n (y ∷ ys)) (n ∷ x ∷ y ∷ ys)))
     [ true ↦ λ e. put_under x n y ys rising.0 (ltb-true x n e) rest | false ↦ λ e. (ltb-false x n e, rising) ] refl
 
-passed_over : (x y : ℕ) (ys : List ℕ) → x ≤ y → IsRising (y ∷ ys) → IsRising (x ∷ ys)
+passed_over : (x y : ℕ) (ys : List ℕ) → x ≤ y → NeverFalls (y ∷ ys) → NeverFalls (x ∷ ys)
 passed_over x y [] low rising = tt
 passed_over x y (z ∷ zs) low rising = let next = rising.0 in (omega (arith, low, next), rising.1)
 
-pub removed_keeps : (p : ℕ → Bool) (xs : List ℕ) → IsRising xs → IsRising (remove_first p xs)
+pub removed_keeps : (p : ℕ → Bool) (xs : List ℕ) → NeverFalls xs → NeverFalls (remove_first p xs)
 removed_keeps p [] rising = tt
-removed_keeps p (x ∷ []) rising = elim (p x) as (λ t. IsRising (cond t [] (x ∷ []))) [ true ↦ tt | false ↦ tt ]
+removed_keeps p (x ∷ []) rising = elim (p x) as (λ t. NeverFalls (cond t [] (x ∷ []))) [ true ↦ tt | false ↦ tt ]
 removed_keeps p (x ∷ y ∷ ys) rising =
     let rest = removed_keeps p (y ∷ ys) rising.1 in
-    elim (p x) as (λ t. IsRising (cond t (y ∷ ys) (x ∷ remove_first p (y ∷ ys)))) [
+    elim (p x) as (λ t. NeverFalls (cond t (y ∷ ys) (x ∷ remove_first p (y ∷ ys)))) [
       | true ↦ rising.1
-      | false ↦ elim (p y) as (λ t. IsRising (cond t ys (y ∷ remove_first p ys)) → IsRising (x ∷ cond t ys (y ∷ remove_first p ys)))
+      | false ↦ elim (p y) as (λ t. NeverFalls (cond t ys (y ∷ remove_first p ys)) → NeverFalls (x ∷ cond t ys (y ∷ remove_first p ys)))
           [ true ↦ λ r. passed_over x y ys rising.0 rising.1 | false ↦ λ r. (rising.0, r) ] rest
     ]

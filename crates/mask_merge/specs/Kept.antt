@@ -1,9 +1,9 @@
 -- What a tally keeps, as counts.
 use Rattle.std.specs.Prelude.{ℕ, ◌+◌, ◌≤◌, ◌<◌, List, [], ◌∷◌, Bool, nat_le, length, vec_capacity}
-use Rattle.mask_merge.specs.declared.kept.Kept.{Kept}
+use Rattle.mask_merge.specs.declared.kept.KeptCounts.{KeptCounts}
 use Rattle.mask_merge.specs.Counts.{Counts}
 
-abbrev pub counts_of : Kept → Counts
+abbrev pub counts_of : KeptCounts → Counts
 counts_of kept =
     record { logs = kept.logs; silent = kept.silent; props = kept.props; texts = kept.texts; counts = kept.counts.items }
 
@@ -14,19 +14,19 @@ pub record AreWithin (c : Counts) : Type 0 where
   pub texts : c.texts ≤ length c.counts
 
 -- none is greater than the next
-abbrev pub IsRising : List ℕ → Type 0
-IsRising [] = Unit {0}
-IsRising (x ∷ []) = Unit {0}
-IsRising (x ∷ y ∷ ys) = (x ≤ y) × IsRising (y ∷ ys)
+abbrev pub NeverFalls : List ℕ → Type 0
+NeverFalls [] = Unit {0}
+NeverFalls (x ∷ []) = Unit {0}
+NeverFalls (x ∷ y ∷ ys) = (x ≤ y) × NeverFalls (y ∷ ys)
 
 -- and the counts rise, and there is room for each reader's
-pub record Fits (kept : Kept) : Type 0 where
+pub record Fits (kept : KeptCounts) : Type 0 where
   pub within : AreWithin (counts_of kept)
-  pub rising : IsRising kept.counts.items
+  pub rising : NeverFalls kept.counts.items
   pub room : length kept.counts.items + kept.silent ≤ vec_capacity kept.counts
 
 -- there is room for one reader more
-abbrev pub HasRoom : Kept → Type 0
+abbrev pub HasRoom : KeptCounts → Type 0
 HasRoom kept = length kept.counts.items + kept.silent < vec_capacity kept.counts
 
 abbrev pub is_not_less : ℕ → ℕ → Bool

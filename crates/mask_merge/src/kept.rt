@@ -3,13 +3,13 @@ ghost use Rattle.std.specs.Prelude.{◌≡◌, ◌≤◌, ◌<◌, ◌+◌, ◌^
 ghost use Rattle.std.specs.List.{position_or_len};
 ghost use Rattle.rows.specs.Rows.{remove_first};
 ghost use Rattle.mask_merge.specs.Counts.{asks_log, more_if, less_if, has_such, is_count, put_rising, counted_with, left_of, holds, log_mask, greatest_of, wanted_by};
-ghost use Rattle.mask_merge.specs.Kept.{counts_of, is_not_less, Fits, HasRoom, IsRising};
+ghost use Rattle.mask_merge.specs.Kept.{counts_of, is_not_less, Fits, HasRoom, NeverFalls};
 
 use crate::want::{ALWAYS_ASKED, Ask, KNOWN_EVENTS, LOG_EVENT, Want};
 use std::alloc::AllocError;
 
 #[derive(Debug, Drop)]
-pub(crate) struct Kept {
+pub(crate) struct KeptCounts {
     pub(crate) logs: usize,
     pub(crate) silent: usize,
     pub(crate) props: usize,
@@ -47,7 +47,7 @@ fn has_such(asked: bool, count: usize, all: usize) -> bool
 }
 
 /// Whether such a reader can be among those that are counted.
-pub(crate) fn is_held(kept: &Kept, ask: Option<Ask>) -> bool
+pub(crate) fn is_held(kept: &KeptCounts, ask: Option<Ask>) -> bool
     ensures { result ≡ holds ask (counts_of kept.now) }
 {
     let Some(ask) = ask else {
@@ -61,7 +61,7 @@ pub(crate) fn is_held(kept: &Kept, ask: Option<Ask>) -> bool
 }
 
 /// Makes room for one reader more.
-pub(crate) fn make_room(kept: &mut Kept) -> Result<(), AllocError>
+pub(crate) fn make_room(kept: &mut KeptCounts) -> Result<(), AllocError>
     requires fits { Fits kept.old }
     ensures room { OnOk result (HasRoom kept.new) }
     ensures fits { Fits kept.new }
@@ -71,7 +71,7 @@ pub(crate) fn make_room(kept: &mut Kept) -> Result<(), AllocError>
 }
 
 /// Counts one reader more. There is room for it, so no memory is taken.
-pub(crate) fn count_in(kept: &mut Kept, ask: Option<Ask>)
+pub(crate) fn count_in(kept: &mut KeptCounts, ask: Option<Ask>)
     requires fits { Fits kept.old }
     requires room { HasRoom kept.old }
     ensures fits { Fits kept.new }
@@ -88,7 +88,7 @@ pub(crate) fn count_in(kept: &mut Kept, ask: Option<Ask>)
 }
 
 /// Counts one reader less, which leaves room for another.
-pub(crate) fn count_out(kept: &mut Kept, ask: Option<Ask>)
+pub(crate) fn count_out(kept: &mut KeptCounts, ask: Option<Ask>)
     requires fits { Fits kept.old }
     requires held { holds ask (counts_of kept.old) ≡ true }
     ensures fits { Fits kept.new }
@@ -121,7 +121,7 @@ fn place_for(counts: &[u32], count: u32) -> usize
 /// Where a count is put: behind all others where none is greater, so that most are put there without a walk.
 #[tactic(auto, using(crate::proofs::PlaceLemmas::put_at_place, crate::proofs::PlaceLemmas::place_within, crate::proofs::RisingLemmas::put_at_end))]
 fn place_to_put(counts: &[u32], count: u32) -> usize
-    requires rising { IsRising counts.now }
+    requires rising { NeverFalls counts.now }
     ensures put { insert counts.now result count ≡ put_rising count counts.now }
     ensures within { result ≤ length counts.now }
 {
@@ -132,7 +132,7 @@ fn place_to_put(counts: &[u32], count: u32) -> usize
 }
 
 fn put(counts: &mut Vec<u32>, count: u32)
-    requires rising { IsRising counts.old.items }
+    requires rising { NeverFalls counts.old.items }
     requires room { vec_len counts.old < vec_capacity counts.old }
     ensures items { counts.new.items ≡ put_rising count counts.old.items }
     ensures room { vec_capacity counts.old ≤ vec_capacity counts.new }
@@ -150,7 +150,7 @@ fn place_of(counts: &[u32], count: u32) -> Option<usize>
 /// From where a count is taken away: from the end where it is the greatest, which moves none of the others.
 #[tactic(auto, using(rows::proofs::RowLemmas::remove_is_remove_first, rows::proofs::RowLemmas::remove_first_none, crate::proofs::RisingLemmas::removed_at_end))]
 fn place_to_take(counts: &[u32], count: u32) -> Option<usize>
-    requires rising { IsRising counts.now }
+    requires rising { NeverFalls counts.now }
     ensures taken { IfSome result (λ place. (remove counts.now place ≡ remove_first (is_count count) counts.now) × (place < length counts.now)) }
     ensures none { IsNone result → remove_first (is_count count) counts.now ≡ counts.now }
 {
@@ -161,7 +161,7 @@ fn place_to_take(counts: &[u32], count: u32) -> Option<usize>
 }
 
 fn take_away(counts: &mut Vec<u32>, count: u32)
-    requires rising { IsRising counts.old.items }
+    requires rising { NeverFalls counts.old.items }
     ensures items { counts.new.items ≡ remove_first (is_count count) counts.old.items }
     ensures room { vec_capacity counts.new ≡ vec_capacity counts.old }
 {

@@ -2,7 +2,7 @@
 ghost use Rattle.std.specs.Prelude.{◌≡◌, false, Some, None, IsTrue, OnOk, OnErr};
 ghost use Rattle.mask_merge.specs.Counts.{nothing_counted, is_nothing, ask_for, counted_with, counted_without, exchanged, wanted, wanted_of, props_wanted};
 
-use crate::kept::{Kept, count_in, count_out, is_held, make_room, wanted_by};
+use crate::kept::{KeptCounts, count_in, count_out, is_held, make_room, wanted_by};
 use crate::want::{Ask, Want};
 use std::alloc::{AllocError, Global};
 use std::marker::Model;
@@ -11,7 +11,7 @@ use std::marker::Model;
 /// now, and how many elements each of the others wants. A contract sees it as these counts.
 #[derive(Debug, Drop)]
 pub struct Tally {
-    kept: Kept,
+    kept: KeptCounts,
 }
 
 impl Model for Tally {
@@ -31,7 +31,7 @@ impl Tally {
         ensures { result ≡ nothing_counted }
     {
         Tally {
-            kept: Kept {
+            kept: KeptCounts {
                 logs: 0,
                 silent: 0,
                 props: 0,

@@ -3,17 +3,17 @@ ghost use Rattle.std.specs.Prelude.{◌≡◌, filter, is_some, IfOk, OnOk};
 ghost use Rattle.gateway_state.specs.Aged.{age_told, aged, are_properties_overdue, is_asked_before, is_link_overdue, link_given_up, links_given_up, properties_given_up, properties_given_up_on, searches_forgotten};
 ghost use Rattle.gateway_state.specs.Updates.{held_by};
 
-use crate::lists::find;
-use crate::state::Rows;
 use crate::update::fail_reads;
-use crate::upstream::{MessageOf, copy_link};
 use gateway_state::LastAge;
 use gateway_values::{is_connected, is_creating, is_older, native_in};
-use link_table::{Counter, Link, Subject, Subscription};
+use link_table::{Counter, LinkRow, Subject, Subscription};
+use plain_rows::lists::find;
+use plain_rows::state::PlainRows;
+use plain_rows::upstream::{MessageOf, copy_link};
 use std::alloc::AllocError;
 
 /// Time passed.
-pub(crate) fn age(rows: &mut Rows) -> Result<(), AllocError>
+pub(crate) fn age(rows: &mut PlainRows) -> Result<(), AllocError>
     ensures { OnOk result (rows.new ≡ aged rows.old) }
 {
     give_up_properties(rows)?;
@@ -25,7 +25,7 @@ pub(crate) fn age(rows: &mut Rows) -> Result<(), AllocError>
 // Properties that servers were asked for
 
 /// Whether something was asked for before the last age.
-fn is_asked_before(rows: &Rows, subscription: Option<Subscription>) -> bool
+fn is_asked_before(rows: &PlainRows, subscription: Option<Subscription>) -> bool
     ensures { result ≡ is_asked_before rows.now subscription }
 {
     match subscription {
@@ -38,7 +38,7 @@ fn is_asked_before(rows: &Rows, subscription: Option<Subscription>) -> bool
 }
 
 /// Whether a link's properties were told.
-fn has_properties(rows: &Rows, cid: u32) -> bool
+fn has_properties(rows: &PlainRows, cid: u32) -> bool
     ensures { result ≡ is_some (held_by rows.now cid).properties }
 {
     match find(&rows.cache, MessageOf { cid }) {
@@ -48,7 +48,7 @@ fn has_properties(rows: &Rows, cid: u32) -> bool
 }
 
 /// Whether a link's properties were asked for before the last age, and weren't told.
-fn are_properties_overdue(rows: &Rows, link: &Link) -> bool
+fn are_properties_overdue(rows: &PlainRows, link: &LinkRow) -> bool
     ensures { result ≡ are_properties_overdue rows.now link.now }
 {
     is_connected(link.state)
@@ -56,7 +56,7 @@ fn are_properties_overdue(rows: &Rows, link: &Link) -> bool
         && !has_properties(rows, link.cid)
 }
 
-fn links_without_properties(rows: &Rows) -> Result<Vec<Link>, AllocError>
+fn links_without_properties(rows: &PlainRows) -> Result<Vec<LinkRow>, AllocError>
     ensures { IfOk result (λ links. links.items ≡ filter (are_properties_overdue rows.now) rows.now.upstream.links) }
 {
     let mut links = Vec::new(rows.alloc);
@@ -69,14 +69,14 @@ fn links_without_properties(rows: &Rows) -> Result<Vec<Link>, AllocError>
 }
 
 /// The reads that wait for the properties of a link's variable can't be had.
-fn give_up_properties_on(rows: &mut Rows, link: &Link) -> Result<(), AllocError>
+fn give_up_properties_on(rows: &mut PlainRows, link: &LinkRow) -> Result<(), AllocError>
     ensures { OnOk result (rows.new ≡ properties_given_up_on rows.old link.now) }
 {
     fail_reads(rows, Subject::Properties, native_in(link.state), &link.name)
 }
 
 /// None of those that are overdue can.
-fn give_up_properties(rows: &mut Rows) -> Result<(), AllocError>
+fn give_up_properties(rows: &mut PlainRows) -> Result<(), AllocError>
     ensures { OnOk result (rows.new ≡ properties_given_up rows.old) }
 {
     let links = links_without_properties(rows)?;
@@ -89,14 +89,14 @@ fn give_up_properties(rows: &mut Rows) -> Result<(), AllocError>
 // Channels that servers were asked for
 
 /// Whether a server was asked for a link's channel before the last age, and hasn't answered.
-fn is_link_overdue(rows: &Rows, link: &Link) -> bool
+fn is_link_overdue(rows: &PlainRows, link: &LinkRow) -> bool
     ensures { result ≡ is_link_overdue rows.now link.now }
 {
     let next = rows.numbers.next(Counter::Cid);
     is_creating(link.state) && is_older(rows.last_age.cid, next, link.cid)
 }
 
-fn overdue_links(rows: &Rows) -> Result<Vec<Link>, AllocError>
+fn overdue_links(rows: &PlainRows) -> Result<Vec<LinkRow>, AllocError>
     ensures { IfOk result (λ links. links.items ≡ filter (is_link_overdue rows.now) rows.now.upstream.links) }
 {
     let mut links = Vec::new(rows.alloc);
@@ -108,14 +108,14 @@ fn overdue_links(rows: &Rows) -> Result<Vec<Link>, AllocError>
     Ok(links)
 }
 
-fn give_up_link(rows: &mut Rows, link: &Link)
+fn give_up_link(rows: &mut PlainRows, link: &LinkRow)
     ensures { rows.new ≡ link_given_up rows.old link.now }
 {
     rows.remove_link(link.server, link.cid);
 }
 
 /// The links that are overdue go, so that their names are missing again.
-fn give_up_links(rows: &mut Rows) -> Result<(), AllocError>
+fn give_up_links(rows: &mut PlainRows) -> Result<(), AllocError>
     ensures { OnOk result (rows.new ≡ links_given_up rows.old) }
 {
     let links = overdue_links(rows)?;
@@ -128,7 +128,7 @@ fn give_up_links(rows: &mut Rows) -> Result<(), AllocError>
 // Searches
 
 /// What stands now stood at this age.
-fn tell_age(rows: &mut Rows)
+fn tell_age(rows: &mut PlainRows)
     ensures { rows.new ≡ age_told rows.old }
 {
     rows.last_age = LastAge {
@@ -138,7 +138,7 @@ fn tell_age(rows: &mut Rows)
 }
 
 /// The searches that weren't made since the last age are forgotten.
-fn forget_searches(rows: &mut Rows) -> Result<(), AllocError>
+fn forget_searches(rows: &mut PlainRows) -> Result<(), AllocError>
     ensures { OnOk result (rows.new ≡ searches_forgotten rows.old) }
 {
     rows.searches.forget_stale(rows.alloc)

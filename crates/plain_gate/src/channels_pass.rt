@@ -1,19 +1,19 @@
 //! The pass over channels: what clients are owed about them.
 ghost use Rattle.std.specs.Prelude.{◌≡◌, true, filter, IfOk, OnOk};
-ghost use Rattle.channel_table.specs.Subs.{is_sub_on};
+ghost use Rattle.named_rows.specs.Subs.{is_sub_on};
 ghost use Rattle.gateway_state.specs.Notices.{channel_notice, channel_notices, channel_told, channels_told, loses_reading, reading_ended};
 ghost use Rattle.gateway_state.specs.Rights.{channel_of};
 
-use crate::clients::put_channel;
-use crate::state::Rows;
 use ca_message::ToClient;
 use channel_table::{Channel, ClientSub};
 use gateway_state::ChannelNotice;
 use gateway_values::may_read;
+use plain_rows::clients::put_channel;
+use plain_rows::state::PlainRows;
 use std::alloc::AllocError;
 
 /// What is owed about a channel: that it is gone, or that its rights changed.
-fn channel_notice(rows: &Rows, channel: &Channel) -> Result<Option<ChannelNotice>, AllocError>
+fn channel_notice(rows: &PlainRows, channel: &Channel) -> Result<Option<ChannelNotice>, AllocError>
     ensures { IfOk result (λ notice. notice ≡ channel_notice rows.now channel.now) }
 {
     let (session, sid, cid) = (channel.session, channel.sid, channel.cid);
@@ -33,7 +33,7 @@ fn channel_notice(rows: &Rows, channel: &Channel) -> Result<Option<ChannelNotice
     }))
 }
 
-fn channel_notices(rows: &Rows) -> Result<Vec<ChannelNotice>, AllocError>
+fn channel_notices(rows: &PlainRows) -> Result<Vec<ChannelNotice>, AllocError>
     ensures { IfOk result (λ notices. notices.items ≡ channel_notices rows.now) }
 {
     let mut notices = Vec::new(rows.alloc);
@@ -45,21 +45,19 @@ fn channel_notices(rows: &Rows) -> Result<Vec<ChannelNotice>, AllocError>
     Ok(notices)
 }
 
-impl Rows {
-    /// Whether a channel could be read, and may not be with these rights, where that is told.
-    fn loses_reading(&self, session: u32, sid: u32, rights: u32) -> bool
-        ensures { result ≡ loses_reading self.now rights (channel_of self.now session sid) }
-    {
-        self.limits.tells_unreadable
-            && match self.channel_of(session, sid) {
-                Some(channel) => may_read(channel.rights_told) && !may_read(rights),
-                None => false,
-            }
-    }
+/// Whether a channel could be read, and may not be with these rights, where that is told.
+fn loses_reading(rows: &PlainRows, session: u32, sid: u32, rights: u32) -> bool
+    ensures { result ≡ loses_reading rows.now rights (channel_of rows.now session sid) }
+{
+    rows.limits.tells_unreadable
+        && match rows.channel_of(session, sid) {
+            Some(channel) => may_read(channel.rights_told) && !may_read(rights),
+            None => false,
+        }
 }
 
 /// The subscriptions on a channel.
-fn subs_on(rows: &Rows, session: u32, sid: u32) -> Result<Vec<ClientSub>, AllocError>
+fn subs_on(rows: &PlainRows, session: u32, sid: u32) -> Result<Vec<ClientSub>, AllocError>
     ensures { IfOk result (λ subs. subs.items ≡ filter (is_sub_on session sid) rows.now.clients.subs) }
 {
     let mut subs = Vec::new(rows.alloc);
@@ -72,7 +70,7 @@ fn subs_on(rows: &Rows, session: u32, sid: u32) -> Result<Vec<ClientSub>, AllocE
 }
 
 /// Tells each subscription on a channel that the channel may not be read.
-fn end_reading(rows: &mut Rows, session: u32, sid: u32) -> Result<(), AllocError>
+fn end_reading(rows: &mut PlainRows, session: u32, sid: u32) -> Result<(), AllocError>
     ensures { OnOk result (rows.new ≡ reading_ended session sid true rows.old) }
 {
     for sub in &subs_on(rows, session, sid)? {
@@ -81,7 +79,7 @@ fn end_reading(rows: &mut Rows, session: u32, sid: u32) -> Result<(), AllocError
     Ok(())
 }
 
-fn tell_channel(rows: &mut Rows, notice: ChannelNotice) -> Result<(), AllocError>
+fn tell_channel(rows: &mut PlainRows, notice: ChannelNotice) -> Result<(), AllocError>
     ensures { OnOk result (rows.new ≡ channel_told rows.old notice) }
 {
     match notice {
@@ -96,7 +94,7 @@ fn tell_channel(rows: &mut Rows, notice: ChannelNotice) -> Result<(), AllocError
             reach,
             rights,
         } => {
-            let ends = rows.loses_reading(session, sid, rights);
+            let ends = loses_reading(rows, session, sid, rights);
             put_channel(&mut rows.channels, session, sid, reach, rights);
             rows.tell(session, ToClient::AccessRights { cid, rights })?;
             if ends {
@@ -108,7 +106,7 @@ fn tell_channel(rows: &mut Rows, notice: ChannelNotice) -> Result<(), AllocError
 }
 
 /// Tells clients of channels that are gone, and of rights that changed.
-pub(crate) fn tell_channels(rows: &mut Rows) -> Result<(), AllocError>
+pub(crate) fn tell_channels(rows: &mut PlainRows) -> Result<(), AllocError>
     ensures { OnOk result (rows.new ≡ channels_told rows.old) }
 {
     let notices = channel_notices(rows)?;

@@ -5,12 +5,8 @@ ghost use Rattle.gateway_state.specs.Numbers.{is_past_numbers};
 ghost use Rattle.gateway_state.specs.Requests.{client_said, requested, unreadable};
 ghost use Rattle.gateway_state.specs.Telling.{told};
 
-use crate::clients::{fix_host, name_host, name_user, pause};
-use crate::connections::mark;
 use crate::create_channel::{create_channel, fail_creation};
-use crate::numbers::Refusal;
 use crate::read::hear_read;
-use crate::state::Rows;
 use crate::subscribe::{cancel_subscription, new_sub, refuse_short, subscribe_client};
 use crate::write::{hear_write, hear_write_notify};
 use ca_header::{Header, Message};
@@ -21,12 +17,20 @@ use ca_message::commands::{
 use ca_message::{ClearChannel, ClientRequest, HostText, NameText, ToClient, read_request};
 use channel_table::User;
 use gateway_state::{Dest, LOWEST_MINOR};
+use plain_rows::clients::{fix_host, name_host, name_user, pause};
+use plain_rows::connections::mark;
+use plain_rows::numbers::PlainRefusal;
+use plain_rows::state::PlainRows;
 use std::alloc::AllocError;
 
 /// A client sent a message.
-pub(crate) fn hear_client(rows: &mut Rows, number: u32, message: Message) -> Result<(), Refusal>
+pub(crate) fn hear_client(
+    rows: &mut PlainRows,
+    number: u32,
+    message: Message,
+) -> Result<(), PlainRefusal>
     ensures ok { OnOk result (rows.new ≡ client_said rows.old number message) }
-    ensures used_up { IsErrOf result Refusal.NumbersUsedUp → is_past_numbers (client_said rows.old number message) ≡ true }
+    ensures used_up { IsErrOf result PlainRefusal.NumbersUsedUp → is_past_numbers (client_said rows.old number message) ≡ true }
 {
     match read_request(&message.head, &message.payload) {
         Ok(request) => hear_request(rows, number, request, &message),
@@ -36,13 +40,13 @@ pub(crate) fn hear_client(rows: &mut Rows, number: u32, message: Message) -> Res
 
 /// A client asked for something.
 fn hear_request(
-    rows: &mut Rows,
+    rows: &mut PlainRows,
     number: u32,
     request: ClientRequest<'_>,
     message: &Message,
-) -> Result<(), Refusal>
+) -> Result<(), PlainRefusal>
     ensures ok { OnOk result (rows.new ≡ requested rows.old number message.now (Ok request.entry)) }
-    ensures used_up { IsErrOf result Refusal.NumbersUsedUp → is_past_numbers (requested rows.old number message.now (Ok request.entry)) ≡ true }
+    ensures used_up { IsErrOf result PlainRefusal.NumbersUsedUp → is_past_numbers (requested rows.old number message.now (Ok request.entry)) ≡ true }
 {
     let head = &message.head;
     match request {
@@ -64,7 +68,7 @@ fn hear_request(
 }
 
 /// A client gets its own message back.
-fn echo(rows: &mut Rows, number: u32, message: &Message) -> Result<(), AllocError>
+fn echo(rows: &mut PlainRows, number: u32, message: &Message) -> Result<(), AllocError>
     ensures { OnOk result (rows.new ≡ told number (ToClient.Echo message.now) rows.old) }
 {
     let payload = message.payload.slice(..)?;
@@ -76,7 +80,7 @@ fn echo(rows: &mut Rows, number: u32, message: &Message) -> Result<(), AllocErro
 }
 
 /// A client said which minor version it speaks.
-fn hear_version(rows: &mut Rows, number: u32, minor: u32)
+fn hear_version(rows: &mut PlainRows, number: u32, minor: u32)
     ensures { rows.new ≡ versioned rows.old number minor }
 {
     if minor < LOWEST_MINOR {
@@ -85,7 +89,11 @@ fn hear_version(rows: &mut Rows, number: u32, minor: u32)
 }
 
 /// A client said who uses it.
-fn hear_client_name(rows: &mut Rows, number: u32, name: &NameText<'_>) -> Result<(), AllocError>
+fn hear_client_name(
+    rows: &mut PlainRows,
+    number: u32,
+    name: &NameText<'_>,
+) -> Result<(), AllocError>
     ensures { OnOk result (rows.new ≡ client_named number name.now rows.old) }
 {
     let user = User::new(rows.alloc, name.as_slice())?;
@@ -94,7 +102,7 @@ fn hear_client_name(rows: &mut Rows, number: u32, name: &NameText<'_>) -> Result
 }
 
 /// A client said where it is.
-fn hear_host_name(rows: &mut Rows, number: u32, host: &HostText<'_>) -> Result<(), AllocError>
+fn hear_host_name(rows: &mut PlainRows, number: u32, host: &HostText<'_>) -> Result<(), AllocError>
     ensures { OnOk result (rows.new ≡ host_named number host.now rows.old) }
 {
     let host = host.to_host(rows.alloc)?;
@@ -104,7 +112,7 @@ fn hear_host_name(rows: &mut Rows, number: u32, host: &HostText<'_>) -> Result<(
 
 /// A client gives up a channel.
 fn clear_channel(
-    rows: &mut Rows,
+    rows: &mut PlainRows,
     number: u32,
     clear: ClearChannel,
     head: &Header,
@@ -121,7 +129,7 @@ fn clear_channel(
 
 /// A message that is no request: texts that can't be read are ignored, but a CREATE_CHAN fails;
 /// a short EVENT_ADD is refused over its channel.
-fn hear_unreadable(rows: &mut Rows, number: u32, head: &Header) -> Result<(), AllocError>
+fn hear_unreadable(rows: &mut PlainRows, number: u32, head: &Header) -> Result<(), AllocError>
     ensures { OnOk result (rows.new ≡ unreadable rows.old number head.now) }
 {
     if head.command == CA_PROTO_CREATE_CHAN {

@@ -6,19 +6,19 @@ ghost use Rattle.gateway_state.specs.declared.config.TheConstants.{LAST_FIRST};
 ghost use Rattle.gateway_state.specs.Numbers.{is_past_numbers, runs_out};
 ghost use Rattle.gateway_state.specs.Step.{step, run, taken};
 ghost use Rattle.gateway_state.specs.Answer.{reading};
-ghost use Rattle.gateway_state.specs.Asked.{stands, ends, queued, queued_bytes};
+ghost use Rattle.gateway_state.specs.Asked.{is_open, must_end, queued, queued_bytes};
 ghost use Rattle.gateway_state.specs.Interest.{property_subscription_of, subscription_of};
 ghost use Rattle.gateway_state.specs.Rights.{rights_asked};
 ghost use Rattle.gateway_state.specs.Variables.{asks};
 ghost use Rattle.gateway_calls.specs.Searching.{IsSearched};
 
-use crate::numbers::Refusal;
-use crate::state::Rows;
 use crate::step::{drain, step};
 use fanout::Out;
 use gateway_calls::{AskFault, Failed, GatewayCalls, NoMemory, StepFault};
 use gateway_state::{Config, Dest, Event, Limits, Policy, Reading, RowCounts, Sub};
 use link_table::Subject;
+use plain_rows::numbers::PlainRefusal;
+use plain_rows::state::PlainRows;
 use pv_name::{Host, Name};
 use pv_search::{SearchAnswer, answer};
 use std::alloc::{AllocError, Global};
@@ -28,7 +28,7 @@ use std::marker::Model;
 /// The gateway over plain lists, one event at a time. A refused step leaves it failed for good.
 #[derive(Drop)]
 pub struct PlainGate {
-    rows: Option<Rows>,
+    rows: Option<PlainRows>,
 }
 
 impl Model for PlainGate {
@@ -58,7 +58,7 @@ impl PlainGate {
         ensures { IfOk result (λ gate. gate ≡ Some (initial config policy)) }
     {
         Ok(PlainGate {
-            rows: Some(Rows::new(alloc, config, policy)),
+            rows: Some(PlainRows::new(alloc, config, policy)),
         })
     }
 
@@ -73,7 +73,7 @@ impl PlainGate {
         requires highest { config.first ≤ LAST_FIRST }
         ensures { IfOk result (λ gate. gate ≡ Some (step (initial config policy) (Event.Limit limits))) }
     {
-        let mut rows = Rows::new(alloc, config, policy);
+        let mut rows = PlainRows::new(alloc, config, policy);
         match step(&mut rows, Event::Limit(limits)) {
             Ok(()) => Ok(PlainGate { rows: Some(rows) }),
             Err(_) => Err(AllocError),
@@ -122,14 +122,14 @@ impl GatewayCalls for PlainGate {
 
     fn is_open(&mut self, dest: Dest) -> Result<bool, Failed> {
         match &self.rows {
-            Some(rows) => Ok(rows.stands(dest)),
+            Some(rows) => Ok(rows.is_open(dest)),
             None => Err(Failed),
         }
     }
 
     fn must_end(&mut self, dest: Dest) -> Result<bool, Failed> {
         match &self.rows {
-            Some(rows) => Ok(rows.ends(dest)),
+            Some(rows) => Ok(rows.must_end(dest)),
             None => Err(Failed),
         }
     }
@@ -220,6 +220,13 @@ impl GatewayCalls for PlainGate {
         }
     }
 
+    fn link_count_of(&mut self, server: u32) -> Result<usize, Failed> {
+        match &self.rows {
+            Some(rows) => Ok(rows.link_count_of(server)),
+            None => Err(Failed),
+        }
+    }
+
     fn server_of(&mut self, session: u32, sid: u32) -> Result<Option<u32>, Failed> {
         match &self.rows {
             Some(rows) => Ok(rows.server_of(session, sid)),
@@ -239,7 +246,7 @@ impl GatewayCalls for PlainGate {
 }
 
 /// What a host's datagram comes to: those names pass that lead to connected variables.
-fn search(rows: &Rows, host: &Host, datagram: &[u8]) -> Result<SearchAnswer, AllocError>
+fn search(rows: &PlainRows, host: &Host, datagram: &[u8]) -> Result<SearchAnswer, AllocError>
     ensures { IfOk result (λ answer. IsSearched rows.now host.now datagram.now answer) }
 {
     let is_found = |name: &Name| rows.is_found(host, name);
@@ -248,15 +255,15 @@ fn search(rows: &Rows, host: &Host, datagram: &[u8]) -> Result<SearchAnswer, All
 }
 
 /// Gives up for good: a step was refused, and is half done.
-fn give_up(rows: &mut Option<Rows>, refusal: Refusal) -> StepFault
+fn give_up(rows: &mut Option<PlainRows>, refusal: PlainRefusal) -> StepFault
     ensures cause { result ≢ StepFault.Failed }
-    ensures used_up { result ≡ StepFault.NumbersUsedUp ↔ refusal ≡ Refusal.NumbersUsedUp }
-    ensures out_of_memory { result ≡ StepFault.OutOfMemory ↔ refusal ≡ Refusal.OutOfMemory }
+    ensures used_up { result ≡ StepFault.NumbersUsedUp ↔ refusal ≡ PlainRefusal.NumbersUsedUp }
+    ensures out_of_memory { result ≡ StepFault.OutOfMemory ↔ refusal ≡ PlainRefusal.OutOfMemory }
     ensures failed { rows.new ≡ None }
 {
     *rows = None;
     match refusal {
-        Refusal::OutOfMemory => StepFault::OutOfMemory,
-        Refusal::NumbersUsedUp => StepFault::NumbersUsedUp,
+        PlainRefusal::OutOfMemory => StepFault::OutOfMemory,
+        PlainRefusal::NumbersUsedUp => StepFault::NumbersUsedUp,
     }
 }

@@ -2,46 +2,31 @@
 //!
 //! `PlainGate` has the calls of `gateway_core::Engine` under the same clauses, and shares only types,
 //! definitions and what is worked out of values alone (`gateway_values`) with it. It keeps all rows in
-//! lists, finds each row from the front, and after each event makes all passes (channels, withheld
-//! updates, links, reads, updates) over all rows; what is wanted of a variable it works out each time
-//! from the list of its readers. Beside its rows it keeps what searches lead to, so that whether a name is
-//! missing takes no memory. So it is simple where the engine is quick: no index, no count beside
+//! lists (`plain_rows`), finds each row from the front, and after each event makes all passes (channels,
+//! withheld updates, links, reads, updates) over all rows; what is wanted of a variable it works out each
+//! time from the list of its readers. So it is simple where the engine is quick: no index, no count beside
 //! the rows, and nothing that says what an event touched. That both meet the same clauses is proved of
 //! each by itself. What no clause says, as whether memory was refused, is seen by running both on the
 //! same events and comparing.
 //!
-//! The layers: lists of any rows, looked through from the front by keys (`lists`); the rows and their
-//! keys (`state`, `searches`, `clients`, `upstream`, `connections`, `numbers`,
-//! `taken`); what is asked of them (`names`,
-//! `values`, `interest`); what an event does by itself (`opening`, `client`, `server`, `ages`); the passes;
-//! `step`, and the gate itself.
+//! The layers: what an event does by itself (`opening`, `client`, `server`, `ages`); the passes; `step`, and
+//! the gate itself.
 #![tactic(auto)]
 
 mod ages;
 mod channels_pass;
 mod client;
-mod clients;
-mod connections;
 mod create_channel;
 mod gate;
-mod interest;
 mod links_pass;
-mod lists;
-mod names;
-mod numbers;
 mod opening;
 mod read;
 mod reads_pass;
-mod searches;
 mod server;
-mod state;
 mod step;
 mod subscribe;
-mod taken;
 mod update;
 mod updates_pass;
-mod upstream;
-mod values;
 mod write;
 
 pub use gate::PlainGate;

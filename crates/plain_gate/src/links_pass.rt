@@ -3,24 +3,24 @@ ghost use Rattle.std.specs.Prelude.{◌≡◌, ◌++◌, true, fold, IfOk, IsErr
 ghost use Rattle.gateway_state.specs.Notices.{dropped, forgotten, interest_notices, link_notices, link_notices_of, link_told, links_told, subject_notices, subscribed_to};
 ghost use Rattle.gateway_state.specs.Numbers.{is_past_numbers};
 
-use crate::lists::remove;
-use crate::numbers::Refusal;
-use crate::state::Rows;
-use crate::upstream::{MessageOf, drop_properties, put_subscription};
 use ca_message::ToServer;
 use gateway_state::LinkNotice;
 use gateway_values::{is_for, sent_for, type_for};
-use link_table::{Counter, Link, LinkState, Subject, Subscription};
+use link_table::{Counter, LinkRow, LinkState, Subject, Subscription};
 use mask_merge::Want;
+use plain_rows::lists::remove;
+use plain_rows::numbers::PlainRefusal;
+use plain_rows::state::PlainRows;
+use plain_rows::upstream::{MessageOf, drop_properties, put_subscription};
 use std::alloc::AllocError;
 
 /// What a server is owed about a subject of a connected link: its subscription is exchanged where
 /// something else is wanted.
 fn add_subject_notices(
-    rows: &Rows,
+    rows: &PlainRows,
     notices: &mut Vec<LinkNotice>,
     subject: Subject,
-    link: &Link,
+    link: &LinkRow,
     sid: u32,
     dtype: u16,
     native: u32,
@@ -62,9 +62,9 @@ fn add_subject_notices(
 
 /// What a server is owed because of what the readers of a connected link's variable want, values first.
 fn add_interest_notices(
-    rows: &Rows,
+    rows: &PlainRows,
     notices: &mut Vec<LinkNotice>,
-    link: &Link,
+    link: &LinkRow,
 ) -> Result<(), AllocError>
     ensures { OnOk result (notices.new.items ≡ notices.old.items ++ interest_notices rows.now link.now link.now.state) }
 {
@@ -76,9 +76,9 @@ fn add_interest_notices(
 }
 
 fn add_link_notices(
-    rows: &Rows,
+    rows: &PlainRows,
     notices: &mut Vec<LinkNotice>,
-    link: &Link,
+    link: &LinkRow,
 ) -> Result<(), AllocError>
     ensures { OnOk result (notices.new.items ≡ notices.old.items ++ link_notices_of rows.now link.now) }
 {
@@ -93,7 +93,7 @@ fn add_link_notices(
     Ok(())
 }
 
-fn link_notices(rows: &Rows) -> Result<Vec<LinkNotice>, AllocError>
+fn link_notices(rows: &PlainRows) -> Result<Vec<LinkNotice>, AllocError>
     ensures { IfOk result (λ notices. notices.items ≡ link_notices rows.now) }
 {
     let mut notices = Vec::new(rows.alloc);
@@ -105,7 +105,7 @@ fn link_notices(rows: &Rows) -> Result<Vec<LinkNotice>, AllocError>
 
 #[tactic(auto, unfolding(gateway_state::specs::Telling::sent, gateway_state::specs::Numbers::is_past_numbers))]
 fn subscribe(
-    rows: &mut Rows,
+    rows: &mut PlainRows,
     subject: Subject,
     server: u32,
     cid: u32,
@@ -113,12 +113,12 @@ fn subscribe(
     dtype: u16,
     want: Want,
     sent: u32,
-) -> Result<(), Refusal>
+) -> Result<(), PlainRefusal>
     ensures ok { OnOk result (rows.new ≡ subscribed_to subject server cid sid dtype want sent rows.old) }
-    ensures used_up { IsErrOf result Refusal.NumbersUsedUp → is_past_numbers (subscribed_to subject server cid sid dtype want sent rows.old) ≡ true }
+    ensures used_up { IsErrOf result PlainRefusal.NumbersUsedUp → is_past_numbers (subscribed_to subject server cid sid dtype want sent rows.old) ≡ true }
 {
     let Some(id) = rows.give_out(Counter::Subscription, server) else {
-        return Err(Refusal::NumbersUsedUp);
+        return Err(PlainRefusal::NumbersUsedUp);
     };
     let Want { mask, count } = want;
     let subscription = Subscription {
@@ -140,7 +140,7 @@ fn subscribe(
 }
 
 /// What a link was told of a subject last goes.
-fn forget(rows: &mut Rows, subject: Subject, cid: u32)
+fn forget(rows: &mut PlainRows, subject: Subject, cid: u32)
     ensures { rows.new ≡ forgotten subject cid rows.old }
 {
     match subject {
@@ -149,7 +149,12 @@ fn forget(rows: &mut Rows, subject: Subject, cid: u32)
     }
 }
 
-fn drop_link(rows: &mut Rows, server: u32, cid: u32, state: LinkState) -> Result<(), AllocError>
+fn drop_link(
+    rows: &mut PlainRows,
+    server: u32,
+    cid: u32,
+    state: LinkState,
+) -> Result<(), AllocError>
     ensures { OnOk result (rows.new ≡ dropped server cid state rows.old) }
 {
     rows.remove_link(server, cid);
@@ -161,9 +166,9 @@ fn drop_link(rows: &mut Rows, server: u32, cid: u32, state: LinkState) -> Result
     }
 }
 
-fn tell_link(rows: &mut Rows, notice: LinkNotice) -> Result<(), Refusal>
+fn tell_link(rows: &mut PlainRows, notice: LinkNotice) -> Result<(), PlainRefusal>
     ensures ok { OnOk result (rows.new ≡ link_told rows.old notice) }
-    ensures used_up { IsErrOf result Refusal.NumbersUsedUp → is_past_numbers (link_told rows.old notice) ≡ true }
+    ensures used_up { IsErrOf result PlainRefusal.NumbersUsedUp → is_past_numbers (link_told rows.old notice) ≡ true }
 {
     match notice {
         LinkNotice::Cancelled {
@@ -200,9 +205,9 @@ fn tell_link(rows: &mut Rows, notice: LinkNotice) -> Result<(), Refusal>
     }
 }
 
-fn tell_each(rows: &mut Rows, notices: &[LinkNotice]) -> Result<(), Refusal>
+fn tell_each(rows: &mut PlainRows, notices: &[LinkNotice]) -> Result<(), PlainRefusal>
     ensures ok { OnOk result (rows.new ≡ fold link_told rows.old notices.now) }
-    ensures used_up { IsErrOf result Refusal.NumbersUsedUp → is_past_numbers (fold link_told rows.old notices.now) ≡ true }
+    ensures used_up { IsErrOf result PlainRefusal.NumbersUsedUp → is_past_numbers (fold link_told rows.old notices.now) ≡ true }
 {
     for notice in notices {
         tell_link(rows, *notice)?;
@@ -211,9 +216,9 @@ fn tell_each(rows: &mut Rows, notices: &[LinkNotice]) -> Result<(), Refusal>
 }
 
 /// Asks servers for what is wanted of each variable, and drops links that are no longer wanted.
-pub(crate) fn tell_links(rows: &mut Rows) -> Result<(), Refusal>
+pub(crate) fn tell_links(rows: &mut PlainRows) -> Result<(), PlainRefusal>
     ensures ok { OnOk result (rows.new ≡ links_told rows.old) }
-    ensures used_up { IsErrOf result Refusal.NumbersUsedUp → is_past_numbers (links_told rows.old) ≡ true }
+    ensures used_up { IsErrOf result PlainRefusal.NumbersUsedUp → is_past_numbers (links_told rows.old) ≡ true }
 {
     let notices = link_notices(rows)?;
     tell_each(rows, &notices)

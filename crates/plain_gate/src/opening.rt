@@ -4,24 +4,24 @@ ghost use Rattle.ca_message.specs.declared.to_server.ToServer.TheVariants as req
 ghost use Rattle.gateway_state.specs.Sessions.{introduced, lost, opened, up_lost, up_opened};
 ghost use Rattle.gateway_state.specs.Telling.{asked};
 
-use crate::clients::{ChannelsOf, ReadsOf, SessionNumbered, SubsOf};
-use crate::connections::ConnectionTo;
-use crate::lists::remove;
-use crate::state::Rows;
-use crate::upstream::{LinksOf, MessagesBy, ServerNumbered, WritesOf, WritesTo};
 use ca_message::{NameText, ToClient, ToServer};
 use channel_table::{Session, User};
 use fanout::Outbox;
 use gateway_state::{Connection, Dest};
 use link_table::Server;
+use plain_rows::clients::{ChannelsOf, ReadsOf, SessionNumbered, SubsOf};
+use plain_rows::connections::ConnectionTo;
+use plain_rows::lists::remove;
+use plain_rows::state::PlainRows;
+use plain_rows::upstream::{LinksOf, MessagesBy, ServerNumbered, WritesOf, WritesTo};
 use pv_name::{Host, Name};
 use std::alloc::AllocError;
 
 /// A client connected from an address.
-pub(crate) fn open_session(rows: &mut Rows, number: u32, host: Host) -> Result<(), AllocError>
+pub(crate) fn open_session(rows: &mut PlainRows, number: u32, host: Host) -> Result<(), AllocError>
     ensures { OnOk result (rows.new ≡ opened rows.old number host) }
 {
-    if rows.stands(Dest::Session(number)) || rows.sessions.len() >= rows.limits.sessions {
+    if rows.is_open(Dest::Session(number)) || rows.sessions.len() >= rows.limits.sessions {
         return Ok(());
     }
     rows.connections.push(Connection {
@@ -40,7 +40,7 @@ pub(crate) fn open_session(rows: &mut Rows, number: u32, host: Host) -> Result<(
 }
 
 /// A client's connection is gone.
-pub(crate) fn lose_session(rows: &mut Rows, number: u32)
+pub(crate) fn lose_session(rows: &mut PlainRows, number: u32)
     ensures { rows.new ≡ lost rows.old number }
 {
     let session = number;
@@ -54,10 +54,10 @@ pub(crate) fn lose_session(rows: &mut Rows, number: u32)
 }
 
 /// A server is connected.
-pub(crate) fn open_server(rows: &mut Rows, number: u32) -> Result<(), AllocError>
+pub(crate) fn open_server(rows: &mut PlainRows, number: u32) -> Result<(), AllocError>
     ensures { OnOk result (rows.new ≡ up_opened rows.old number) }
 {
-    if rows.stands(Dest::Upstream(number)) || rows.servers.len() >= rows.limits.servers {
+    if rows.is_open(Dest::Upstream(number)) || rows.servers.len() >= rows.limits.servers {
         return Ok(());
     }
     rows.connections.push(Connection {
@@ -69,7 +69,7 @@ pub(crate) fn open_server(rows: &mut Rows, number: u32) -> Result<(), AllocError
 }
 
 /// Says the gateway's version and names to a server.
-fn introduce(rows: &mut Rows, number: u32) -> Result<(), AllocError>
+fn introduce(rows: &mut PlainRows, number: u32) -> Result<(), AllocError>
     ensures { OnOk result (rows.new ≡ introduced number rows.old) }
 {
     let client_name = rows.config.client_name.copy()?;
@@ -79,20 +79,20 @@ fn introduce(rows: &mut Rows, number: u32) -> Result<(), AllocError>
     say_host_name(rows, number, &host_name)
 }
 
-fn say_client_name(rows: &mut Rows, number: u32, name: &Name) -> Result<(), AllocError>
+fn say_client_name(rows: &mut PlainRows, number: u32, name: &Name) -> Result<(), AllocError>
     ensures { OnOk result (rows.new ≡ asked number (requests.ClientName name.now) rows.old) }
 {
     rows.ask(number, ToServer::ClientName(NameText::from(name)))
 }
 
-fn say_host_name(rows: &mut Rows, number: u32, name: &Name) -> Result<(), AllocError>
+fn say_host_name(rows: &mut PlainRows, number: u32, name: &Name) -> Result<(), AllocError>
     ensures { OnOk result (rows.new ≡ asked number (requests.HostName name.now) rows.old) }
 {
     rows.ask(number, ToServer::HostName(NameText::from(name)))
 }
 
 /// A server's connection is gone.
-pub(crate) fn lose_server(rows: &mut Rows, number: u32)
+pub(crate) fn lose_server(rows: &mut PlainRows, number: u32)
     ensures { rows.new ≡ up_lost rows.old number }
 {
     let server = number;

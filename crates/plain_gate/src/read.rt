@@ -3,20 +3,20 @@ ghost use Rattle.std.specs.Prelude.{◌≡◌, Some, IfOk, OnOk};
 ghost use Rattle.gateway_state.specs.Answer.{cached_value};
 ghost use Rattle.gateway_state.specs.Clients.{accepted, is_one_too_many, read_asked, read_verdict, verdict_over};
 
-use crate::clients::{ReadsOf, put_channel};
-use crate::lists::count;
-use crate::state::Rows;
 use ca_header::Header;
 use ca_message::ReadNotify;
 use ca_message::codes::ECA_GETFAIL;
 use channel_table::{Channel, Reach, WaitingRead};
 use gateway_state::ReadVerdict;
 use gateway_values::{ConnectedVariable, reach_with, read_refusal};
+use plain_rows::clients::{ReadsOf, put_channel};
+use plain_rows::lists::count;
+use plain_rows::state::PlainRows;
 use std::alloc::AllocError;
 
 /// Whether a read isn't covered, and as many reads of the session wait as may.
 fn is_one_too_many(
-    rows: &Rows,
+    rows: &PlainRows,
     channel: &Channel,
     variable: &ConnectedVariable<'_>,
     read: WaitingRead,
@@ -37,7 +37,7 @@ fn is_one_too_many(
 }
 
 fn read_verdict_over(
-    rows: &Rows,
+    rows: &PlainRows,
     channel: &Channel,
     variable: &ConnectedVariable<'_>,
     read: WaitingRead,
@@ -59,7 +59,7 @@ fn read_verdict_over(
 }
 
 /// What becomes of a read.
-fn read_verdict(rows: &Rows, read: WaitingRead) -> Result<ReadVerdict, AllocError>
+fn read_verdict(rows: &PlainRows, read: WaitingRead) -> Result<ReadVerdict, AllocError>
     ensures { IfOk result (λ verdict. verdict ≡ read_verdict rows.now read.session read.sid read.dtype read.count) }
 {
     let Some(channel) = rows.channel_of(read.session, read.sid) else {
@@ -72,7 +72,7 @@ fn read_verdict(rows: &Rows, read: WaitingRead) -> Result<ReadVerdict, AllocErro
 }
 
 fn accept_read(
-    rows: &mut Rows,
+    rows: &mut PlainRows,
     read: WaitingRead,
     reach: Reach,
     rights: u32,
@@ -86,7 +86,7 @@ fn accept_read(
 
 /// A client wants a value.
 pub(crate) fn hear_read(
-    rows: &mut Rows,
+    rows: &mut PlainRows,
     number: u32,
     read: ReadNotify,
     head: &Header,

@@ -3,20 +3,20 @@ ghost use Rattle.std.specs.Prelude.{◌≡◌, IfOk, OnOk};
 ghost use Rattle.gateway_state.specs.Notices.{answered_over, read_notice, read_notices, read_told, reads_told};
 ghost use Rattle.gateway_state.specs.Variables.{connected};
 
-use crate::clients::remove_read;
-use crate::state::Rows;
 use ca_message::ToClient;
 use ca_message::codes::ECA_NORDACCESS;
 use channel_table::WaitingRead;
 use gateway_state::ReadNotice;
 use gateway_values::may_read;
+use plain_rows::clients::remove_read;
+use plain_rows::state::PlainRows;
 use pv_name::Name;
 use std::alloc::AllocError;
 use std::collections::VecDeque;
 
 /// The answer to a read that is covered.
 fn answer_over(
-    rows: &Rows,
+    rows: &PlainRows,
     read: WaitingRead,
     name: &Name,
 ) -> Result<Option<ReadNotice>, AllocError>
@@ -33,7 +33,7 @@ fn answer_over(
 }
 
 /// What is owed about a read: its refusal where the channel can't be read any more, or its answer.
-fn read_notice(rows: &Rows, read: WaitingRead) -> Result<Option<ReadNotice>, AllocError>
+fn read_notice(rows: &PlainRows, read: WaitingRead) -> Result<Option<ReadNotice>, AllocError>
     ensures { IfOk result (λ notice. notice ≡ read_notice rows.now read) }
 {
     let Some(channel) = rows.channel_of(read.session, read.sid) else {
@@ -46,7 +46,7 @@ fn read_notice(rows: &Rows, read: WaitingRead) -> Result<Option<ReadNotice>, All
     }
 }
 
-fn read_notices(rows: &Rows) -> Result<VecDeque<ReadNotice>, AllocError>
+fn read_notices(rows: &PlainRows) -> Result<VecDeque<ReadNotice>, AllocError>
     ensures { IfOk result (λ notices. notices.items ≡ read_notices rows.now) }
 {
     let mut notices = VecDeque::new(rows.alloc);
@@ -58,7 +58,7 @@ fn read_notices(rows: &Rows) -> Result<VecDeque<ReadNotice>, AllocError>
     Ok(notices)
 }
 
-fn tell_read(rows: &mut Rows, notice: ReadNotice) -> Result<(), AllocError>
+fn tell_read(rows: &mut PlainRows, notice: ReadNotice) -> Result<(), AllocError>
     ensures { OnOk result (rows.new ≡ read_told rows.old notice) }
 {
     match notice {
@@ -80,7 +80,7 @@ fn tell_read(rows: &mut Rows, notice: ReadNotice) -> Result<(), AllocError>
 }
 
 /// Answers reads that are covered, and refuses those whose right is gone.
-pub(crate) fn tell_reads(rows: &mut Rows) -> Result<(), AllocError>
+pub(crate) fn tell_reads(rows: &mut PlainRows) -> Result<(), AllocError>
     ensures { OnOk result (rows.new ≡ reads_told rows.old) }
 {
     let mut notices = read_notices(rows)?;

@@ -3,22 +3,26 @@ ghost use Rattle.std.specs.Prelude.{◌≡◌, true, IsErrOf, OnOk};
 ghost use Rattle.gateway_state.specs.Numbers.{is_past_numbers};
 ghost use Rattle.gateway_state.specs.Servers.{channel_dropped, channel_made, channel_returned, creation_refused, found, linked, rights_said, server_said};
 
-use crate::lists::find;
-use crate::numbers::Refusal;
-use crate::state::Rows;
 use crate::update::update;
-use crate::upstream::{LinkAt, put_minor, put_state};
 use crate::write::end_write;
 use ca_header::Message;
 use ca_message::{NameText, ServerReply, ToServer, read_reply};
 use gateway_state::Dest;
 use gateway_values::{is_creating, is_usable};
-use link_table::{Counter, Link, LinkState, Subscriptions};
+use link_table::{Counter, LinkRow, LinkState, Subscriptions};
+use plain_rows::lists::find;
+use plain_rows::numbers::PlainRefusal;
+use plain_rows::state::PlainRows;
+use plain_rows::upstream::{LinkAt, put_minor, put_state};
 use pv_name::Name;
 use std::alloc::AllocError;
 
 /// A server sent a message.
-pub(crate) fn hear_server(rows: &mut Rows, server: u32, message: &Message) -> Result<(), AllocError>
+pub(crate) fn hear_server(
+    rows: &mut PlainRows,
+    server: u32,
+    message: &Message,
+) -> Result<(), AllocError>
     ensures { OnOk result (rows.new ≡ server_said rows.old server message.now) }
 {
     match read_reply(&message.head, &message.payload) {
@@ -61,7 +65,7 @@ pub(crate) fn hear_server(rows: &mut Rows, server: u32, message: &Message) -> Re
 }
 
 /// The gateway gives up a channel that it doesn't want.
-fn return_channel(rows: &mut Rows, server: u32, sid: u32, cid: u32) -> Result<(), AllocError>
+fn return_channel(rows: &mut PlainRows, server: u32, sid: u32, cid: u32) -> Result<(), AllocError>
     ensures { OnOk result (rows.new ≡ channel_returned server sid cid rows.old) }
 {
     rows.ask(server, ToServer::ClearChannel { sid, cid })
@@ -69,7 +73,7 @@ fn return_channel(rows: &mut Rows, server: u32, sid: u32, cid: u32) -> Result<()
 
 /// A server made a channel.
 fn make_channel(
-    rows: &mut Rows,
+    rows: &mut PlainRows,
     server: u32,
     cid: u32,
     sid: u32,
@@ -95,7 +99,7 @@ fn make_channel(
 }
 
 /// A server said what may be done with a channel.
-fn hear_rights(rows: &mut Rows, server: u32, cid: u32, rights: u32)
+fn hear_rights(rows: &mut PlainRows, server: u32, cid: u32, rights: u32)
     ensures { rows.new ≡ rights_said rows.old server cid rights }
 {
     if let Some(link) = find(&rows.links, LinkAt { server, cid }) {
@@ -105,7 +109,7 @@ fn hear_rights(rows: &mut Rows, server: u32, cid: u32, rights: u32)
 }
 
 /// A server didn't make a channel.
-fn hear_refusal(rows: &mut Rows, server: u32, cid: u32)
+fn hear_refusal(rows: &mut PlainRows, server: u32, cid: u32)
     ensures { rows.new ≡ creation_refused rows.old server cid }
 {
     if let Some(link) = find(&rows.links, LinkAt { server, cid }) {
@@ -116,7 +120,7 @@ fn hear_refusal(rows: &mut Rows, server: u32, cid: u32)
 }
 
 /// A server dropped a channel.
-fn hear_disconnect(rows: &mut Rows, server: u32, cid: u32)
+fn hear_disconnect(rows: &mut PlainRows, server: u32, cid: u32)
     ensures { rows.new ≡ channel_dropped rows.old server cid }
 {
     if let Some(_) = find(&rows.links, LinkAt { server, cid }) {
@@ -125,9 +129,9 @@ fn hear_disconnect(rows: &mut Rows, server: u32, cid: u32)
 }
 
 /// A server has a variable.
-pub(crate) fn find_at(rows: &mut Rows, name: &Name, server: u32) -> Result<(), Refusal>
+pub(crate) fn find_at(rows: &mut PlainRows, name: &Name, server: u32) -> Result<(), PlainRefusal>
     ensures ok { OnOk result (rows.new ≡ found rows.old name.now server) }
-    ensures used_up { IsErrOf result Refusal.NumbersUsedUp → is_past_numbers (found rows.old name.now server) ≡ true }
+    ensures used_up { IsErrOf result PlainRefusal.NumbersUsedUp → is_past_numbers (found rows.old name.now server) ≡ true }
 {
     let limit = rows.limits.links;
     if rows.is_missing(name) && rows.acts(Dest::Upstream(server)) && rows.links.len() < limit {
@@ -139,14 +143,14 @@ pub(crate) fn find_at(rows: &mut Rows, name: &Name, server: u32) -> Result<(), R
 
 /// Makes a link, and asks the server for a channel.
 #[tactic(auto, unfolding(gateway_state::specs::Telling::sent, gateway_state::specs::Numbers::is_past_numbers))]
-fn make_link(rows: &mut Rows, server: u32, name: &Name) -> Result<(), Refusal>
+fn make_link(rows: &mut PlainRows, server: u32, name: &Name) -> Result<(), PlainRefusal>
     ensures ok { OnOk result (rows.new ≡ linked rows.old server name.now) }
-    ensures used_up { IsErrOf result Refusal.NumbersUsedUp → is_past_numbers (linked rows.old server name.now) ≡ true }
+    ensures used_up { IsErrOf result PlainRefusal.NumbersUsedUp → is_past_numbers (linked rows.old server name.now) ≡ true }
 {
     let Some(cid) = rows.give_out(Counter::Cid, server) else {
-        return Err(Refusal::NumbersUsedUp);
+        return Err(PlainRefusal::NumbersUsedUp);
     };
-    let link = Link {
+    let link = LinkRow {
         cid,
         server,
         name: name.copy()?,
@@ -158,7 +162,7 @@ fn make_link(rows: &mut Rows, server: u32, name: &Name) -> Result<(), Refusal>
         },
     };
     if rows.links.push(link).is_err() {
-        return Err(Refusal::OutOfMemory);
+        return Err(PlainRefusal::OutOfMemory);
     }
     let said = ToServer::CreateChannel {
         cid,

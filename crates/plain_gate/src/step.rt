@@ -7,49 +7,53 @@ ghost use Rattle.gateway_state.specs.Step.{consequences, step, taken};
 use crate::ages::age;
 use crate::channels_pass::tell_channels;
 use crate::client::hear_client;
-use crate::connections::take;
 use crate::links_pass::tell_links;
-use crate::numbers::Refusal;
 use crate::opening::{lose_server, lose_session, open_server, open_session};
 use crate::reads_pass::tell_reads;
 use crate::server::{find_at, hear_server};
-use crate::state::Rows;
 use crate::updates_pass::{tell_updates, withhold_updates};
 use ca_message::ToServer;
 use fanout::Out;
 use gateway_state::{Dest, Event, lead_of};
+use plain_rows::connections::take;
+use plain_rows::numbers::PlainRefusal;
+use plain_rows::state::PlainRows;
 use pv_name::{Host, Name};
 use std::alloc::AllocError;
 
 /// Performs one event.
 #[tactic(auto, using(gateway_state::proofs::NumberLemmas::consequences_past), unfolding(gateway_state::specs::Step::step))]
-pub(crate) fn step(rows: &mut Rows, event: Event) -> Result<(), Refusal>
+pub(crate) fn step(rows: &mut PlainRows, event: Event) -> Result<(), PlainRefusal>
     ensures ok { OnOk result (rows.new ≡ step rows.old event) }
-    ensures used_up { IsErrOf result Refusal.NumbersUsedUp → is_past_numbers (step rows.old event) ≡ true }
+    ensures used_up { IsErrOf result PlainRefusal.NumbersUsedUp → is_past_numbers (step rows.old event) ≡ true }
     ensures in_range { OnOk result (is_past_numbers rows.new ≡ false) }
 {
     perform(rows, event)?;
-    follow(rows)?;
+    tell_consequences(rows)?;
     rows.numbers_are_in_range();
     Ok(())
 }
 
 /// Takes the oldest messages of an outbox, in order. This is an event too.
 #[tactic(auto, using(gateway_state::proofs::NumberLemmas::consequences_past), unfolding(gateway_state::specs::Step::step))]
-pub(crate) fn drain(rows: &mut Rows, dest: Dest, count: usize) -> Result<Vec<Out>, Refusal>
+pub(crate) fn drain(
+    rows: &mut PlainRows,
+    dest: Dest,
+    count: usize,
+) -> Result<Vec<Out>, PlainRefusal>
     ensures ok { OnOk result (rows.new ≡ step rows.old (Event.Drain dest count)) }
     ensures found { IfOk result (λ outs. outs.items ≡ taken rows.old (Event.Drain dest count) dest) }
-    ensures used_up { IsErrOf result Refusal.NumbersUsedUp → is_past_numbers (step rows.old (Event.Drain dest count)) ≡ true }
+    ensures used_up { IsErrOf result PlainRefusal.NumbersUsedUp → is_past_numbers (step rows.old (Event.Drain dest count)) ≡ true }
     ensures in_range { OnOk result (is_past_numbers rows.new ≡ false) }
 {
     let outs = take_out(rows, dest, count)?;
-    follow(rows)?;
+    tell_consequences(rows)?;
     rows.numbers_are_in_range();
     Ok(outs)
 }
 
 /// The oldest messages of an outbox go, and are handed out in order.
-fn take_out(rows: &mut Rows, dest: Dest, count: usize) -> Result<Vec<Out>, AllocError>
+fn take_out(rows: &mut PlainRows, dest: Dest, count: usize) -> Result<Vec<Out>, AllocError>
     ensures ok { OnOk result (rows.new ≡ drained rows.old dest count) }
     ensures found { IfOk result (λ outs. outs.items ≡ taken rows.old (Event.Drain dest count) dest) }
 {
@@ -58,9 +62,9 @@ fn take_out(rows: &mut Rows, dest: Dest, count: usize) -> Result<Vec<Out>, Alloc
 
 /// What follows from an event: all passes, over all rows.
 #[tactic(auto, using(gateway_state::proofs::NumberLemmas::links_told_past))]
-fn follow(rows: &mut Rows) -> Result<(), Refusal>
+fn tell_consequences(rows: &mut PlainRows) -> Result<(), PlainRefusal>
     ensures ok { OnOk result (rows.new ≡ consequences rows.old) }
-    ensures used_up { IsErrOf result Refusal.NumbersUsedUp → is_past_numbers (consequences rows.old) ≡ true }
+    ensures used_up { IsErrOf result PlainRefusal.NumbersUsedUp → is_past_numbers (consequences rows.old) ≡ true }
 {
     tell_channels(rows)?;
     withhold_updates(rows)?;
@@ -71,9 +75,9 @@ fn follow(rows: &mut Rows) -> Result<(), Refusal>
 }
 
 /// What the event does by itself.
-fn perform(rows: &mut Rows, event: Event) -> Result<(), Refusal>
+fn perform(rows: &mut PlainRows, event: Event) -> Result<(), PlainRefusal>
     ensures ok { OnOk result (rows.new ≡ direct_effect rows.old event) }
-    ensures used_up { IsErrOf result Refusal.NumbersUsedUp → is_past_numbers (direct_effect rows.old event) ≡ true }
+    ensures used_up { IsErrOf result PlainRefusal.NumbersUsedUp → is_past_numbers (direct_effect rows.old event) ≡ true }
 {
     match event {
         Event::Opened(number, host) => Ok(open_session(rows, number, host)?),
@@ -121,7 +125,7 @@ fn perform(rows: &mut Rows, event: Event) -> Result<(), Refusal>
 }
 
 /// Somebody at a host looks for a name, which is remembered where it leads somewhere.
-fn search_for(rows: &mut Rows, host: &Host, name: &Name) -> Result<(), AllocError>
+fn search_for(rows: &mut PlainRows, host: &Host, name: &Name) -> Result<(), AllocError>
     ensures { OnOk result (rows.new ≡ searched host.now name.now rows.old) }
 {
     match lead_of(rows.alloc, rows.searches.policy(), host, name)? {

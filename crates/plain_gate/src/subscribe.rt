@@ -4,9 +4,6 @@ ghost use Rattle.gateway_state.specs.Rights.{channel_of};
 ghost use Rattle.gateway_state.specs.Subscribing.{is_on_sid, new_sub, short_subscription, sub_of, sub_verdict, subscription_asked, subscription_cancelled, subscription_refusal};
 ghost use Rattle.gateway_state.specs.Updates.{is_unreadable};
 
-use crate::clients::{SubAt, SubsOf};
-use crate::lists::{count, find, remove};
-use crate::state::Rows;
 use ca_header::Header;
 use ca_message::codes::{ECA_ALLOCMEM, ECA_BADMASK, ECA_INTERNAL};
 use ca_message::commands::NO_CHANNEL;
@@ -14,6 +11,9 @@ use ca_message::{EventAdd, EventCancel, ToClient};
 use channel_table::ClientSub;
 use gateway_state::{Native, SERVED_EVENTS, SubVerdict};
 use gateway_values::{may_read, value_refusal};
+use plain_rows::clients::{SubAt, SubsOf};
+use plain_rows::lists::{count, find, remove};
+use plain_rows::state::PlainRows;
 use std::alloc::AllocError;
 
 /// A new subscription, which is owed an update.
@@ -32,7 +32,7 @@ pub(crate) fn new_sub(session: u32, add: EventAdd) -> ClientSub
 }
 
 /// Why a subscription is refused, the first reason that applies.
-fn subscription_refusal(rows: &Rows, sub: ClientSub, native: Native) -> Option<u32>
+fn subscription_refusal(rows: &PlainRows, sub: ClientSub, native: Native) -> Option<u32>
     ensures { result ≡ subscription_refusal rows.now sub native }
 {
     let same = SubAt {
@@ -58,7 +58,7 @@ fn subscription_refusal(rows: &Rows, sub: ClientSub, native: Native) -> Option<u
 }
 
 /// What becomes of an EVENT_ADD.
-fn sub_verdict(rows: &Rows, sub: ClientSub) -> SubVerdict
+fn sub_verdict(rows: &PlainRows, sub: ClientSub) -> SubVerdict
     ensures { result ≡ sub_verdict rows.now sub }
 {
     let Some(channel) = rows.channel_of(sub.session, sub.sid) else {
@@ -75,7 +75,7 @@ fn sub_verdict(rows: &Rows, sub: ClientSub) -> SubVerdict
 }
 
 /// Whether a subscription's channel may not be read.
-fn is_unreadable(rows: &Rows, sub: ClientSub) -> Result<bool, AllocError>
+fn is_unreadable(rows: &PlainRows, sub: ClientSub) -> Result<bool, AllocError>
     ensures { IfOk result (λ bars. bars ≡ is_unreadable rows.now (channel_of rows.now sub.session sub.sid)) }
 {
     match rows.channel_of(sub.session, sub.sid) {
@@ -86,7 +86,7 @@ fn is_unreadable(rows: &Rows, sub: ClientSub) -> Result<bool, AllocError>
 
 /// A client wants updates.
 pub(crate) fn subscribe_client(
-    rows: &mut Rows,
+    rows: &mut PlainRows,
     sub: ClientSub,
     head: &Header,
 ) -> Result<(), AllocError>
@@ -107,7 +107,11 @@ pub(crate) fn subscribe_client(
 }
 
 /// An EVENT_ADD without all of its fields: the ERROR says which channel it names.
-pub(crate) fn refuse_short(rows: &mut Rows, number: u32, head: &Header) -> Result<(), AllocError>
+pub(crate) fn refuse_short(
+    rows: &mut PlainRows,
+    number: u32,
+    head: &Header,
+) -> Result<(), AllocError>
     ensures { OnOk result (rows.new ≡ short_subscription rows.old number head.now) }
 {
     let cid = match rows.channel_of(number, head.p1) {
@@ -118,7 +122,7 @@ pub(crate) fn refuse_short(rows: &mut Rows, number: u32, head: &Header) -> Resul
 }
 
 /// Whether the session's subscription of an ID is on this channel.
-fn is_sub_on(rows: &Rows, number: u32, id: u32, sid: u32) -> bool
+fn is_sub_on(rows: &PlainRows, number: u32, id: u32, sid: u32) -> bool
     ensures { result ≡ is_on_sid sid (sub_of rows.now number id) }
 {
     match find(
@@ -135,7 +139,7 @@ fn is_sub_on(rows: &Rows, number: u32, id: u32, sid: u32) -> bool
 
 /// A client gives up a subscription, which must be on the channel that it names.
 pub(crate) fn cancel_subscription(
-    rows: &mut Rows,
+    rows: &mut PlainRows,
     number: u32,
     cancel: EventCancel,
     head: &Header,

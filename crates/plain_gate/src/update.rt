@@ -3,24 +3,24 @@ ghost use Rattle.std.specs.Prelude.{◌≡◌, ◌&&◌, filter, IfOk, OnOk};
 ghost use Rattle.gateway_state.specs.Servers.{concerns, fails_without, has_other_alarm, read_failed, reads_failed, updated, waits_for};
 ghost use Rattle.gateway_state.specs.Updates.{concerned};
 
-use crate::clients::remove_read;
-use crate::lists::find;
-use crate::state::Rows;
-use crate::upstream::{LinkSubscribed, MessageOf};
 use bytes::Bytes;
 use ca_message::codes::{ECA_GETFAIL, ECA_NORMAL};
 use channel_table::{ClientSub, WaitingRead};
 use dbr_layout::View;
 use gateway_state::Native;
 use gateway_values::{asks_for, fails_without, is_concerned, is_heard, native_in, subject_of};
-use link_table::{Link, LinkState, Subject};
+use link_table::{LinkRow, LinkState, Subject};
 use mask_merge::PROPERTY_EVENT;
+use plain_rows::clients::remove_read;
+use plain_rows::lists::find;
+use plain_rows::state::PlainRows;
+use plain_rows::upstream::{LinkSubscribed, MessageOf};
 use pv_name::Name;
 use std::alloc::AllocError;
 
 /// The reads that wait for a variable and fail without a subject, in the order of asking.
 fn reads_without(
-    rows: &Rows,
+    rows: &PlainRows,
     subject: Subject,
     native: Option<Native>,
     name: &Name,
@@ -39,7 +39,7 @@ fn reads_without(
 }
 
 /// A read can't be had.
-fn fail_read(rows: &mut Rows, read: WaitingRead) -> Result<(), AllocError>
+fn fail_read(rows: &mut PlainRows, read: WaitingRead) -> Result<(), AllocError>
     ensures { OnOk result (rows.new ≡ read_failed rows.old read) }
 {
     remove_read(&mut rows.reads, read);
@@ -48,7 +48,7 @@ fn fail_read(rows: &mut Rows, read: WaitingRead) -> Result<(), AllocError>
 
 /// None of the reads that wait for a variable and fail without a subject can be had.
 pub(crate) fn fail_reads(
-    rows: &mut Rows,
+    rows: &mut PlainRows,
     subject: Subject,
     native: Option<Native>,
     name: &Name,
@@ -63,7 +63,7 @@ pub(crate) fn fail_reads(
 }
 
 /// Whether the alarm of an update differs from that of the value that is held of a link, or none is.
-fn has_other_alarm(rows: &Rows, cid: u32, dtype: u16, count: u32, payload: &[u8]) -> bool
+fn has_other_alarm(rows: &PlainRows, cid: u32, dtype: u16, count: u32, payload: &[u8]) -> bool
     ensures { result ≡ has_other_alarm rows.now cid dtype count payload.now }
 {
     let Ok(view) = View::new(dtype, count, payload) else {
@@ -78,7 +78,7 @@ fn has_other_alarm(rows: &Rows, cid: u32, dtype: u16, count: u32, payload: &[u8]
 /// Whether an update concerns a subscription: a value by its events, properties one that asks for
 /// theirs.
 fn concerns(
-    rows: &Rows,
+    rows: &PlainRows,
     subject: Subject,
     cid: u32,
     dtype: u16,
@@ -96,9 +96,9 @@ fn concerns(
 
 /// The subscriptions to a variable that an update of it concerns.
 fn concerned(
-    rows: &Rows,
+    rows: &PlainRows,
     subject: Subject,
-    link: &Link,
+    link: &LinkRow,
     dtype: u16,
     count: u32,
     payload: &[u8],
@@ -118,7 +118,7 @@ fn concerned(
 
 /// An update came under a subscription's ID.
 pub(crate) fn update(
-    rows: &mut Rows,
+    rows: &mut PlainRows,
     server: u32,
     id: u32,
     status: u32,

@@ -1,21 +1,21 @@
 //! The passes over subscriptions: updates that are withheld from now on, and updates that are due.
 ghost use Rattle.std.specs.Prelude.{◌≡◌, IfOk, OnOk};
-ghost use Rattle.gateway_state.specs.Updates.{is_open_to, is_paused, is_taking, is_withheld, update_notice, update_notices, update_over, update_told, updates_told, updates_withheld, withheld};
+ghost use Rattle.gateway_state.specs.Updates.{is_open_to, is_paused, takes_updates, is_withheld, update_notice, update_notices, update_over, update_told, updates_told, updates_withheld, withheld};
 ghost use Rattle.gateway_state.specs.Variables.{connected};
 
-use crate::clients::{SessionNumbered, put_owed};
-use crate::lists::find;
-use crate::state::Rows;
 use ca_message::ToClient;
 use channel_table::ClientSub;
 use gateway_state::{Dest, UPDATE_LIMIT, UpdateNotice};
 use gateway_values::may_read;
+use plain_rows::clients::{SessionNumbered, put_owed};
+use plain_rows::lists::find;
+use plain_rows::state::PlainRows;
 use pv_name::Name;
 use std::alloc::AllocError;
 use std::collections::VecDeque;
 
 /// Whether a subscription's channel may not be read, and nothing is owed to it yet.
-fn is_withheld(rows: &Rows, sub: &ClientSub) -> Result<bool, AllocError>
+fn is_withheld(rows: &PlainRows, sub: &ClientSub) -> Result<bool, AllocError>
     ensures { IfOk result (λ answer. answer ≡ is_withheld rows.now sub.now) }
 {
     match rows.channel_of(sub.session, sub.sid) {
@@ -24,7 +24,7 @@ fn is_withheld(rows: &Rows, sub: &ClientSub) -> Result<bool, AllocError>
     }
 }
 
-fn withheld(rows: &Rows) -> Result<Vec<ClientSub>, AllocError>
+fn withheld(rows: &PlainRows) -> Result<Vec<ClientSub>, AllocError>
     ensures { IfOk result (λ subs. subs.items ≡ withheld rows.now) }
 {
     let mut subs = Vec::new(rows.alloc);
@@ -37,7 +37,7 @@ fn withheld(rows: &Rows) -> Result<Vec<ClientSub>, AllocError>
 }
 
 /// Owes the latest value to subscriptions whose channels may not be read.
-pub(crate) fn withhold_updates(rows: &mut Rows) -> Result<(), AllocError>
+pub(crate) fn withhold_updates(rows: &mut PlainRows) -> Result<(), AllocError>
     ensures { OnOk result (rows.new ≡ updates_withheld rows.old) }
 {
     let subs = withheld(rows)?;
@@ -45,7 +45,7 @@ pub(crate) fn withhold_updates(rows: &mut Rows) -> Result<(), AllocError>
     Ok(())
 }
 
-fn is_paused(rows: &Rows, number: u32) -> bool
+fn is_paused(rows: &PlainRows, number: u32) -> bool
     ensures { result ≡ is_paused rows.now number }
 {
     match find(&rows.sessions, SessionNumbered { number }) {
@@ -55,24 +55,24 @@ fn is_paused(rows: &Rows, number: u32) -> bool
 }
 
 /// Whether a session's outbox takes updates.
-fn is_taking(rows: &Rows, number: u32) -> bool
-    ensures { result ≡ is_taking rows.now number }
+fn takes_updates(rows: &PlainRows, number: u32) -> bool
+    ensures { result ≡ takes_updates rows.now number }
 {
     let dest = Dest::Session(number);
-    !rows.ends(dest)
+    !rows.must_end(dest)
         && rows.queued(dest) < UPDATE_LIMIT
         && rows.queued_bytes(dest) < rows.limits.update_bytes
 }
 
 /// Whether a subscription's session takes updates now.
-fn is_open_to(rows: &Rows, sub: &ClientSub) -> bool
+fn is_open_to(rows: &PlainRows, sub: &ClientSub) -> bool
     ensures { result ≡ is_open_to rows.now sub.now }
 {
-    !is_paused(rows, sub.session) && is_taking(rows, sub.session)
+    !is_paused(rows, sub.session) && takes_updates(rows, sub.session)
 }
 
 fn update_over(
-    rows: &Rows,
+    rows: &PlainRows,
     sub: &ClientSub,
     name: &Name,
 ) -> Result<Option<UpdateNotice>, AllocError>
@@ -96,7 +96,7 @@ fn update_over(
 
 /// The update that is due to a subscription.
 #[tactic(auto, unfolding(gateway_state::specs::Updates::update_notice))]
-fn update_notice(rows: &Rows, sub: &ClientSub) -> Result<Option<UpdateNotice>, AllocError>
+fn update_notice(rows: &PlainRows, sub: &ClientSub) -> Result<Option<UpdateNotice>, AllocError>
     ensures { IfOk result (λ notice. notice ≡ update_notice rows.now sub.now) }
 {
     if !(sub.owed && is_open_to(rows, sub)) {
@@ -112,7 +112,7 @@ fn update_notice(rows: &Rows, sub: &ClientSub) -> Result<Option<UpdateNotice>, A
     }
 }
 
-fn update_notices(rows: &Rows) -> Result<VecDeque<UpdateNotice>, AllocError>
+fn update_notices(rows: &PlainRows) -> Result<VecDeque<UpdateNotice>, AllocError>
     ensures { IfOk result (λ notices. notices.items ≡ update_notices rows.now) }
 {
     let mut notices = VecDeque::new(rows.alloc);
@@ -125,10 +125,10 @@ fn update_notices(rows: &Rows) -> Result<VecDeque<UpdateNotice>, AllocError>
 }
 
 /// Gives an update, as long as those given before it leave room for it.
-fn tell_update(rows: &mut Rows, notice: UpdateNotice) -> Result<(), AllocError>
+fn tell_update(rows: &mut PlainRows, notice: UpdateNotice) -> Result<(), AllocError>
     ensures { OnOk result (rows.new ≡ update_told rows.old notice) }
 {
-    if !is_taking(rows, notice.session) {
+    if !takes_updates(rows, notice.session) {
         return Ok(());
     }
     put_owed(&mut rows.subs, notice.session, notice.id, false);
@@ -142,7 +142,7 @@ fn tell_update(rows: &mut Rows, notice: UpdateNotice) -> Result<(), AllocError>
 }
 
 /// Gives the updates that are due.
-pub(crate) fn tell_updates(rows: &mut Rows) -> Result<(), AllocError>
+pub(crate) fn tell_updates(rows: &mut PlainRows) -> Result<(), AllocError>
     ensures { OnOk result (rows.new ≡ updates_told rows.old) }
 {
     let mut notices = update_notices(rows)?;

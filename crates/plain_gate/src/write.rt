@@ -3,10 +3,6 @@ ghost use Rattle.std.specs.Prelude.{◌≡◌, true, IfOk, IsErrOf, OnOk};
 ghost use Rattle.gateway_state.specs.Numbers.{is_past_numbers};
 ghost use Rattle.gateway_state.specs.Writing.{new_write, next_write_id, with_write, write_answered, write_asked, write_ended, write_handed_on, write_judged, write_notify_asked, write_verdict};
 
-use crate::lists::{count, find, remove};
-use crate::numbers::Refusal;
-use crate::state::Rows;
-use crate::upstream::{WriteAt, WritesOf};
 use ca_header::Header;
 use ca_message::codes::{ECA_NOWTACCESS, ECA_PUTFAIL};
 use ca_message::{ToClient, ToServer, Write, WriteFault, WriteNotify, WrittenValue};
@@ -14,6 +10,10 @@ use channel_table::Channel;
 use gateway_state::WriteVerdict;
 use gateway_values::may_write;
 use link_table::{Counter, WaitingWrite};
+use plain_rows::lists::{count, find, remove};
+use plain_rows::numbers::PlainRefusal;
+use plain_rows::state::PlainRows;
+use plain_rows::upstream::{WriteAt, WritesOf};
 use std::alloc::AllocError;
 
 /// What a client writes: to which of its channels, and which type and how many elements it says.
@@ -27,7 +27,7 @@ struct ClientWrite {
 
 /// A value that isn't fit to be handed on is refused first, then a write without the right.
 fn judge<'a>(
-    rows: &Rows,
+    rows: &PlainRows,
     channel: &Channel,
     server: u32,
     sid: u32,
@@ -53,7 +53,7 @@ fn judge<'a>(
 
 /// What becomes of a write.
 fn write_verdict<'a>(
-    rows: &Rows,
+    rows: &PlainRows,
     write: ClientWrite,
     payload: &'a [u8],
 ) -> Result<WriteVerdict<'a>, AllocError>
@@ -72,7 +72,7 @@ fn write_verdict<'a>(
 
 /// A client writes a value, and wants no reply.
 pub(crate) fn hear_write(
-    rows: &mut Rows,
+    rows: &mut PlainRows,
     number: u32,
     write: &Write<'_>,
     head: &Header,
@@ -97,7 +97,7 @@ pub(crate) fn hear_write(
 
 /// The client is told how its write ended.
 fn answer_write(
-    rows: &mut Rows,
+    rows: &mut PlainRows,
     write: ClientWrite,
     ioid: u32,
     status: u32,
@@ -115,13 +115,18 @@ fn answer_write(
 
 /// Notes that the write waits, under the next ID, which it gives.
 #[tactic(auto, unfolding(gateway_state::specs::Numbers::is_past_numbers))]
-fn add_write(rows: &mut Rows, write: ClientWrite, ioid: u32, server: u32) -> Result<u32, Refusal>
+fn add_write(
+    rows: &mut PlainRows,
+    write: ClientWrite,
+    ioid: u32,
+    server: u32,
+) -> Result<u32, PlainRefusal>
     ensures ok { OnOk result (rows.new ≡ with_write (new_write rows.old server write.session write.sid write.dtype write.count ioid) rows.old) }
     ensures id { IfOk result (λ id. id ≡ next_write_id rows.old server) }
-    ensures used_up { IsErrOf result Refusal.NumbersUsedUp → is_past_numbers (with_write (new_write rows.old server write.session write.sid write.dtype write.count ioid) rows.old) ≡ true }
+    ensures used_up { IsErrOf result PlainRefusal.NumbersUsedUp → is_past_numbers (with_write (new_write rows.old server write.session write.sid write.dtype write.count ioid) rows.old) ≡ true }
 {
     let Some(id) = rows.give_out(Counter::Write, server) else {
-        return Err(Refusal::NumbersUsedUp);
+        return Err(PlainRefusal::NumbersUsedUp);
     };
     let waiting = WaitingWrite {
         server,
@@ -134,22 +139,22 @@ fn add_write(rows: &mut Rows, write: ClientWrite, ioid: u32, server: u32) -> Res
     };
     match rows.writes.push(waiting) {
         Ok(()) => Ok(id),
-        Err(_) => Err(Refusal::OutOfMemory),
+        Err(_) => Err(PlainRefusal::OutOfMemory),
     }
 }
 
 /// Hands the write on, unless as many writes of the session wait as may.
 #[tactic(auto, unfolding(gateway_state::specs::Numbers::is_past_numbers, gateway_state::specs::Telling::sent))]
 fn hand_on(
-    rows: &mut Rows,
+    rows: &mut PlainRows,
     write: ClientWrite,
     ioid: u32,
     server: u32,
     sid: u32,
     value: WrittenValue<'_>,
-) -> Result<(), Refusal>
+) -> Result<(), PlainRefusal>
     ensures ok { OnOk result (rows.new ≡ write_handed_on write.session write.sid ioid write.dtype write.count server sid value.entry rows.old) }
-    ensures used_up { IsErrOf result Refusal.NumbersUsedUp → is_past_numbers (write_handed_on write.session write.sid ioid write.dtype write.count server sid value.entry rows.old) ≡ true }
+    ensures used_up { IsErrOf result PlainRefusal.NumbersUsedUp → is_past_numbers (write_handed_on write.session write.sid ioid write.dtype write.count server sid value.entry rows.old) ≡ true }
 {
     let waiting = WritesOf {
         session: write.session,
@@ -168,13 +173,13 @@ fn hand_on(
 
 /// A client writes a value, and wants to be told how that ended.
 pub(crate) fn hear_write_notify(
-    rows: &mut Rows,
+    rows: &mut PlainRows,
     number: u32,
     write: &WriteNotify<'_>,
     head: &Header,
-) -> Result<(), Refusal>
+) -> Result<(), PlainRefusal>
     ensures ok { OnOk result (rows.new ≡ write_notify_asked number write.now.sid write.now.ioid write.now.dtype write.now.count write.now.value head.now rows.old) }
-    ensures used_up { IsErrOf result Refusal.NumbersUsedUp → is_past_numbers (write_notify_asked number write.now.sid write.now.ioid write.now.dtype write.now.count write.now.value head.now rows.old) ≡ true }
+    ensures used_up { IsErrOf result PlainRefusal.NumbersUsedUp → is_past_numbers (write_notify_asked number write.now.sid write.now.ioid write.now.dtype write.now.count write.now.value head.now rows.old) ≡ true }
 {
     let ioid = write.ioid;
     let its = ClientWrite {
@@ -195,7 +200,7 @@ pub(crate) fn hear_write_notify(
 
 /// A server says how a write ended: the client that asked for it is told, under its own ID of it.
 pub(crate) fn end_write(
-    rows: &mut Rows,
+    rows: &mut PlainRows,
     server: u32,
     id: u32,
     status: u32,

@@ -2,12 +2,12 @@
 use Rattle.std.proofs.Common.{ℕ, List, [], ◌∷◌, Bool}
 use Rattle.std.specs.List.{AllZip}
 use Rattle.pv_search.specs.declared.answering.SearchAnswer.{SearchAnswer}
-use Rattle.pv_search.specs.declared.search.Search.{Search}
+use Rattle.pv_search.specs.declared.search.SearchRequest.{SearchRequest}
 use Rattle.pv_search.specs.Answer.{IsAnswer}
 
 module _ (answers others : List ℕ → Bool → Type 0) (weaker : (name : List ℕ) (passes : Bool) → answers name passes → others name passes) where
-  zip_weaker : (searches : List Search) (passes : List Bool)
-      → AllZip (λ (s : Search) (b : Bool). answers s.name b) searches passes → AllZip (λ (s : Search) (b : Bool). others s.name b) searches passes
+  zip_weaker : (searches : List SearchRequest) (passes : List Bool)
+      → AllZip (λ (s : SearchRequest) (b : Bool). answers s.name b) searches passes → AllZip (λ (s : SearchRequest) (b : Bool). others s.name b) searches passes
   zip_weaker [] [] all = all
   zip_weaker [] (b ∷ passes) all = all
   zip_weaker (s ∷ searches) [] all = all

@@ -14,7 +14,7 @@ use Rattle.ca_header.proofs.Framings.{framing_of}
 use Rattle.ca_header.proofs.Fronts.{begins-front_at, faulty-front_at, partial-front_at}
 use Rattle.ca_header.proofs.Messages.{IsCut, cut-front_at}
 use Rattle.ca_message.specs.declared.commands.TheConstants.{CA_PROTO_SEARCH}
-use Rattle.pv_search.specs.declared.parts.Cut.{Cut}
+use Rattle.pv_search.specs.declared.parts.FrontMessage.{FrontMessage}
 use Rattle.pv_search.specs.PartFront.{cut_of}
 use Rattle.pv_search.specs.Parts.{IsFirstPart, searches_among}
 use Rattle.pv_search.proofs.Taking.{more-framed, some_bytes}
@@ -53,7 +53,7 @@ one_more_search part m = sum_by-append _ part (m ∷ [])
 
 -- ---- the message at the front
 
-pub record IsFrontCut (bytes : List ℕ) (cut : Cut) : Type 0 where
+pub record IsFrontCut (bytes : List ℕ) (cut : FrontMessage) : Type 0 where
   pub message : Message
   pub taken : IsCut message bytes (drop cut.len bytes)
   pub text : IsSpelled message (take cut.len bytes)
@@ -80,15 +80,15 @@ front-whole bytes h n fits is =
       search = refl;
     }
 
-front-found : (bytes : List ℕ) (found : Front) (cut : Cut) → IsBytes bytes → front_at bytes ≡ found → Some cut ≡ cut_of found → IsFrontCut bytes cut
+front-found : (bytes : List ℕ) (found : Front) (cut : FrontMessage) → IsBytes bytes → front_at bytes ≡ found → Some cut ≡ cut_of found → IsFrontCut bytes cut
 front-found bytes (fronts.Whole h n) cut fits is e =
-    let there : Cut = record { len = n + h.size; is_search = h.command == CA_PROTO_SEARCH } in
+    let there : FrontMessage = record { len = n + h.size; is_search = h.command == CA_PROTO_SEARCH } in
     let same : cut ≡ there = cc in
     subst (IsFrontCut bytes) (sym same) (front-whole bytes h n fits is)
 front-found bytes fronts.Partial cut fits is e = absurd cc
 front-found bytes (fronts.Fault f) cut fits is e = absurd cc
 
-pub front-some : (bytes : List ℕ) (cut : Cut) → IsBytes bytes → Some cut ≡ cut_of (front_at bytes) → IsFrontCut bytes cut
+pub front-some : (bytes : List ℕ) (cut : FrontMessage) → IsBytes bytes → Some cut ≡ cut_of (front_at bytes) → IsFrontCut bytes cut
 front-some bytes cut fits e = front-found bytes (front_at bytes) cut fits refl e
 
 ended-found : (bytes : List ℕ) (found : Front) → IsBytes bytes → front_at bytes ≡ found → None ≡ cut_of found → (end : Ending) × IsFramed bytes [] end
@@ -122,7 +122,7 @@ counted m is same holds = rw (sym same ∙ holds) refl
 uncounted : (m : Message) (is : Bool) → is ≡ (m.head.command == CA_PROTO_SEARCH) → is ≡ false → searches_among (m ∷ []) ≡ 0
 uncounted m is same fails = rw (sym same ∙ fails) refl
 
-cutting-on : (datagram : List ℕ) (most len searches more : ℕ) (cut : Cut) (c : IsCutting datagram most len searches) (f : IsFrontCut (drop len datagram) cut)
+cutting-on : (datagram : List ℕ) (most len searches more : ℕ) (cut : FrontMessage) (c : IsCutting datagram most len searches) (f : IsFrontCut (drop len datagram) cut)
     → more ≡ searches + searches_among (f.message ∷ []) → more ≤ most → IsCutting datagram most (len + cut.len) more
 cutting-on datagram most len searches more cut c f is few =
     record {
@@ -137,12 +137,12 @@ cutting-on datagram most len searches more cut c f is few =
       few = few;
     }
 
-pub cutting-search : (datagram : List ℕ) (most len searches : ℕ) (cut : Cut) → IsCutting datagram most len searches → IsFrontCut (drop len datagram) cut
+pub cutting-search : (datagram : List ℕ) (most len searches : ℕ) (cut : FrontMessage) → IsCutting datagram most len searches → IsFrontCut (drop len datagram) cut
     → cut.is_search ≡ true → searches < most → IsCutting datagram most (len + cut.len) (searches + 1)
 cutting-search datagram most len searches cut c f holds less =
     cutting-on datagram most len searches (searches + 1) cut c f (ap (λ (n : ℕ). searches + n) (sym (counted f.message cut.is_search f.search holds))) (omega arith)
 
-pub cutting-other : (datagram : List ℕ) (most len searches : ℕ) (cut : Cut) → IsCutting datagram most len searches → IsFrontCut (drop len datagram) cut
+pub cutting-other : (datagram : List ℕ) (most len searches : ℕ) (cut : FrontMessage) → IsCutting datagram most len searches → IsFrontCut (drop len datagram) cut
     → cut.is_search ≡ false → IsCutting datagram most (len + cut.len) searches
 cutting-other datagram most len searches cut c f fails =
     let none = uncounted f.message cut.is_search f.search fails in
@@ -169,7 +169,7 @@ too_many part m next ms later most searches count full one e =
     let same : m ≡ next = cc in
     subst (λ (x : Message). most < searches_among (part ++ x ∷ [])) same (let all = one_more_search part m in omega arith)
 
-pub cutting-full : (datagram : List ℕ) (most len searches : ℕ) (cut : Cut) → IsCutting datagram most len searches → IsFrontCut (drop len datagram) cut
+pub cutting-full : (datagram : List ℕ) (most len searches : ℕ) (cut : FrontMessage) → IsCutting datagram most len searches → IsFrontCut (drop len datagram) cut
     → cut.is_search ≡ true → searches ≡ most → IsFirstPart datagram most len
 cutting-full datagram most len searches cut c f holds full =
     let rest : List ℕ = drop len datagram in

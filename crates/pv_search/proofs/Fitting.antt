@@ -8,14 +8,14 @@ use Rattle.ca_header.specs.Header.{canonical_header, extended_header, message_te
 use Rattle.ca_header.specs.declared.header.Header.{Header}
 use Rattle.ca_message.specs.Padding.{nul_ended}
 use Rattle.pv_name.specs.Name.{IsName}
-use Rattle.pv_search.specs.declared.asks.Ask.{Ask}
+use Rattle.pv_search.specs.declared.asks.NameAsk.{NameAsk}
 use Rattle.pv_search.specs.declared.asks.AskDatagram.{AskDatagram}
 use Rattle.pv_search.specs.declared.asks.TheConstants.{ASK_LIMIT}
 use Rattle.pv_search.specs.Ask.{ask}
 use Rattle.pv_search.specs.Asks.{IsAddedIf, IsAskDatagram, asks_text}
 use Rattle.pv_search.specs.Version.{version}
 
-abbrev pub said : Ask → List ℕ
+abbrev pub said : NameAsk → List ℕ
 said a = message_text (ask a.name a.cid)
 
 -- ---- a search is short
@@ -46,20 +46,20 @@ ask_short name cid is_name =
 -- ---- the searches so far
 
 -- the datagram has those of the first so many asks
-pub record IsAsking (asks : List Ask) (i asked : ℕ) (bytes : List ℕ) : Type 0 where
+pub record IsAsking (asks : List NameAsk) (i asked : ℕ) (bytes : List ℕ) : Type 0 where
   pub same : asked ≡ i
   pub text : bytes ≡ asks_text (take i asks)
   pub fits : length bytes ≤ ASK_LIMIT
 
-pub asking-begins : (asks : List Ask) → IsAsking asks 0 0 (message_text version)
+pub asking-begins : (asks : List NameAsk) → IsAsking asks 0 0 (message_text version)
 asking-begins asks = record { same = refl; text = refl; fits = omega arith }
 
-one_more : (asks : List Ask) (i : ℕ) (a : Ask) → i < length asks → a ≡ get_or asks i a → asks_text (take (i + 1) asks) ≡ asks_text (take i asks) ++ said a
+one_more : (asks : List NameAsk) (i : ℕ) (a : NameAsk) → i < length asks → a ≡ get_or asks i a → asks_text (take (i + 1) asks) ≡ asks_text (take i asks) ++ said a
 one_more asks i a within is =
-    ap asks_text (take_more asks i a within ∙ ap (λ (x : Ask). take i asks ++ x ∷ []) (sym is))
+    ap asks_text (take_more asks i a within ∙ ap (λ (x : NameAsk). take i asks ++ x ∷ []) (sym is))
     ∙ sym (flat_map_more said (message_text version) (take i asks) a)
 
-pub asking-more : (asks : List Ask) (i asked : ℕ) (a : Ask) (old new : List ℕ) (fits : Bool) → i < length asks → a ≡ get_or asks i a
+pub asking-more : (asks : List NameAsk) (i asked : ℕ) (a : NameAsk) (old new : List ℕ) (fits : Bool) → i < length asks → a ≡ get_or asks i a
     → fits ≡ true → IsAddedIf fits old (said a) new → IsAsking asks i asked old → IsAsking asks (i + 1) (asked + 1) new
 asking-more asks i asked a old new fits within is fit tried so_far =
     let added : IsAddedIf true old (said a) new = subst (λ (b : Bool). IsAddedIf b old (said a) new) fit tried in
@@ -70,18 +70,18 @@ asking-more asks i asked a old new fits within is fit tried so_far =
     }
 
 -- fewer asks are no longer a text
-no_longer : (asks : List Ask) (m n : ℕ) → m ≤ n → length (asks_text (take m asks)) ≤ length (asks_text (take n asks))
+no_longer : (asks : List NameAsk) (m n : ℕ) → m ≤ n → length (asks_text (take m asks)) ≤ length (asks_text (take n asks))
 no_longer asks m n le =
-    let rest : List Ask = drop m (take n asks) in
-    let split : take n asks ≡ take m asks ++ rest = sym (take-append-drop m (take n asks)) ∙ ap (λ (t : List Ask). t ++ rest) (take-take m n asks le) in
+    let rest : List NameAsk = drop m (take n asks) in
+    let split : take n asks ≡ take m asks ++ rest = sym (take-append-drop m (take n asks)) ∙ ap (λ (t : List NameAsk). t ++ rest) (take-take m n asks le) in
     let more : length (flat_map said (take m asks ++ rest)) ≡ length (flat_map said (take m asks)) + length (flat_map said rest) =
     ap length (flat_map-append said (take m asks) rest) ∙ length-append (flat_map said (take m asks)) (flat_map said rest) in
-    let there : length (flat_map said (take n asks)) ≡ length (flat_map said (take m asks)) + length (flat_map said rest) = ap (λ (t : List Ask). length (flat_map said t)) split ∙ more in
+    let there : length (flat_map said (take n asks)) ≡ length (flat_map said (take m asks)) + length (flat_map said rest) = ap (λ (t : List NameAsk). length (flat_map said t)) split ∙ more in
     let fewer : length (asks_text (take m asks)) ≡ length (message_text version) + length (flat_map said (take m asks)) = length-append (message_text version) (flat_map said (take m asks)) in
     let all : length (asks_text (take n asks)) ≡ length (message_text version) + length (flat_map said (take n asks)) = length-append (message_text version) (flat_map said (take n asks)) in
     omega arith
 
-most_of : (asks : List Ask) (i n asked : ℕ) → asked ≡ i → ASK_LIMIT < length (asks_text (take (i + 1) asks)) → length (asks_text (take n asks)) ≤ ASK_LIMIT → n ≤ asked
+most_of : (asks : List NameAsk) (i n asked : ℕ) → asked ≡ i → ASK_LIMIT < length (asks_text (take (i + 1) asks)) → length (asks_text (take n asks)) ≤ ASK_LIMIT → n ≤ asked
 most_of asks i n asked count long short =
     elim (cases_lt i n) as (λ _. n ≤ asked) [
       | inl more ↦ let le = no_longer asks (i + 1) n (omega arith) in absurd (omega arith)
@@ -89,7 +89,7 @@ most_of asks i n asked count long short =
     ]
 
 -- the next one does not fit
-pub asking-full : (asks : List Ask) (i asked : ℕ) (a : Ask) (old : List ℕ) (datagram : AskDatagram) (fits : Bool) → i < length asks → a ≡ get_or asks i a
+pub asking-full : (asks : List NameAsk) (i asked : ℕ) (a : NameAsk) (old : List ℕ) (datagram : AskDatagram) (fits : Bool) → i < length asks → a ≡ get_or asks i a
     → fits ≡ false → IsAddedIf fits old (said a) datagram.text → datagram.asked ≡ asked → IsAsking asks i asked old → IsAskDatagram asks datagram
 asking-full asks i asked a old datagram fits within is unfit tried said_so so_far =
     let added : IsAddedIf false old (said a) datagram.text = subst (λ (b : Bool). IsAddedIf b old (said a) datagram.text) unfit tried in
@@ -104,7 +104,7 @@ asking-full asks i asked a old datagram fits within is unfit tried said_so so_fa
     }
 
 -- all of them fit
-pub asking-all : (asks : List Ask) (i asked : ℕ) (datagram : AskDatagram) → length asks ≤ i → i ≤ length asks → datagram.asked ≡ asked → IsAsking asks i asked datagram.text
+pub asking-all : (asks : List NameAsk) (i asked : ℕ) (datagram : AskDatagram) → length asks ≤ i → i ≤ length asks → datagram.asked ≡ asked → IsAsking asks i asked datagram.text
     → IsAskDatagram asks datagram
 asking-all asks i asked datagram all within said_so so_far =
     let count : datagram.asked ≡ i = said_so ∙ so_far.same in
@@ -116,7 +116,7 @@ asking-all asks i asked datagram all within said_so so_far =
     }
 
 -- the first one fits
-pub first_fits : (asks : List Ask) (i asked : ℕ) (a : Ask) (old new : List ℕ) (fits : Bool) → IsName a.name → fits ≡ false → IsAddedIf fits old (said a) new → IsAsking asks i asked old → 0 < asked
+pub first_fits : (asks : List NameAsk) (i asked : ℕ) (a : NameAsk) (old new : List ℕ) (fits : Bool) → IsName a.name → fits ≡ false → IsAddedIf fits old (said a) new → IsAsking asks i asked old → 0 < asked
 first_fits asks i asked a old new fits is_name unfit tried so_far =
     let added : IsAddedIf false old (said a) new = subst (λ (b : Bool). IsAddedIf b old (said a) new) unfit tried in
     elim (cases_lt 0 i) as (λ _. 0 < asked) [

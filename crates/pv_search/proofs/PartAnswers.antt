@@ -14,7 +14,7 @@ use Rattle.ca_header.proofs.Fields.{IsBytes-drop, IsBytes-take}
 use Rattle.ca_header.proofs.Framings.{unique}
 use Rattle.ca_message.specs.declared.commands.TheConstants.{CA_PROTO_SEARCH}
 use Rattle.pv_search.specs.declared.answering.SearchAnswer.{SearchAnswer}
-use Rattle.pv_search.specs.declared.search.Search.{Search}
+use Rattle.pv_search.specs.declared.search.SearchRequest.{SearchRequest}
 use Rattle.pv_search.specs.Answer.{IsAnswer, IsTested, cids_passed, names}
 use Rattle.pv_search.specs.Parts.{AreAnswers, IsFirstPart, joined, joined_answers, nothing_answered, searches_among, with_answer}
 use Rattle.pv_search.specs.Picked.{IsPicked, picked_from}
@@ -116,15 +116,15 @@ nothing_picked pick datagram most some f =
 -- ---- what is answered
 
 module _ (answers : List ℕ → Bool → Type 0) where
-  tested-joined : (xs ys : List Search) (ps qs : List Bool)
-      → AllZip (λ (s : Search) (b : Bool). answers s.name b) xs ps → AllZip (λ (s : Search) (b : Bool). answers s.name b) ys qs
-      → AllZip (λ (s : Search) (b : Bool). answers s.name b) (xs ++ ys) (ps ++ qs)
+  tested-joined : (xs ys : List SearchRequest) (ps qs : List Bool)
+      → AllZip (λ (s : SearchRequest) (b : Bool). answers s.name b) xs ps → AllZip (λ (s : SearchRequest) (b : Bool). answers s.name b) ys qs
+      → AllZip (λ (s : SearchRequest) (b : Bool). answers s.name b) (xs ++ ys) (ps ++ qs)
   tested-joined [] ys [] qs p q = q
   tested-joined [] ys (b ∷ ps) qs p q = absurd p
   tested-joined (s ∷ xs) ys [] qs p q = absurd p
   tested-joined (s ∷ xs) ys (b ∷ ps) qs p q = (p.0, tested-joined xs ys ps qs p.1 q)
 
-  passed-joined : (xs ys : List Search) (ps qs : List Bool) → AllZip (λ (s : Search) (b : Bool). answers s.name b) xs ps
+  passed-joined : (xs ys : List SearchRequest) (ps qs : List Bool) → AllZip (λ (s : SearchRequest) (b : Bool). answers s.name b) xs ps
       → cids_passed (xs ++ ys) (ps ++ qs) ≡ cids_passed xs ps ++ cids_passed ys qs
   passed-joined [] ys [] qs p = refl
   passed-joined [] ys (b ∷ ps) qs p = absurd p
@@ -132,7 +132,7 @@ module _ (answers : List ℕ → Bool → Type 0) where
   passed-joined (s ∷ xs) ys (true ∷ ps) qs p = ap (λ (cids : List ℕ). s.cid ∷ cids) (passed-joined xs ys ps qs p.1)
   passed-joined (s ∷ xs) ys (false ∷ ps) qs p = passed-joined xs ys ps qs p.1
 
-  both-tested : (xs ys : List Search) (cids more : List ℕ) → IsTested answers xs cids → IsTested answers ys more → IsTested answers (xs ++ ys) (cids ++ more)
+  both-tested : (xs ys : List SearchRequest) (cids more : List ℕ) → IsTested answers xs cids → IsTested answers ys more → IsTested answers (xs ++ ys) (cids ++ more)
   both-tested xs ys cids more p q =
       record {
         passes = p.passes ++ q.passes;
@@ -143,15 +143,15 @@ module _ (answers : List ℕ → Bool → Type 0) where
       }
 
   -- what was said before, and what is read and said of the rest
-  record IsRest (datagram : List ℕ) (port : ℕ) (before : List Search) (sofar : List ℕ) (all : SearchAnswer) : Type 0 where
-    searches : List Search
+  record IsRest (datagram : List ℕ) (port : ℕ) (before : List SearchRequest) (sofar : List ℕ) (all : SearchAnswer) : Type 0 where
+    searches : List SearchRequest
     cids : List ℕ
     picked : IsPicked search_of datagram searches
     tested : IsTested answers searches cids
     asked : all.asked ≡ names (before ++ searches)
     reply : all.reply ≡ search_reply port (sofar ++ cids)
 
-  rest-answered : (datagram : List ℕ) (most port : ℕ) (parts : List SearchAnswer) (before : List Search) (sofar : List ℕ) (said : SearchAnswer)
+  rest-answered : (datagram : List ℕ) (most port : ℕ) (parts : List SearchAnswer) (before : List SearchRequest) (sofar : List ℕ) (said : SearchAnswer)
       → IsBytes datagram → 0 < most → said.asked ≡ names before → said.reply ≡ search_reply port sofar → AreAnswers answers most port datagram parts
       → IsRest datagram port before sofar (joined_answers said parts)
   rest-answered datagram most port [] before sofar said fits some asked reply are =
@@ -167,7 +167,7 @@ module _ (answers : List ℕ → Bool → Type 0) where
       let n = are.0 in
       let a = are.2 in
       let named : said.asked ++ part.asked ≡ names (before ++ a.searches) =
-      ap (λ (t : List (List ℕ)). t ++ part.asked) asked ∙ ap (λ (t : List (List ℕ)). names before ++ t) a.asked ∙ sym (map-append (λ (s : Search). s.name) before a.searches) in
+      ap (λ (t : List (List ℕ)). t ++ part.asked) asked ∙ ap (λ (t : List (List ℕ)). names before ++ t) a.asked ∙ sym (map-append (λ (s : SearchRequest). s.name) before a.searches) in
       let replied : joined said.reply part.reply ≡ search_reply port (sofar ++ a.cids) =
       ap (λ (t : List ℕ). joined t part.reply) reply ∙ ap (joined (search_reply port sofar)) a.reply ∙ reply-joined port sofar a.cids in
       let on = rest-answered (drop n datagram) most port parts (before ++ a.searches) (sofar ++ a.cids) (with_answer said part) (IsBytes-drop n datagram fits) some named replied are.3 in

@@ -16,8 +16,8 @@ use Rattle.ca_message.specs.Wire.{IsWholeMessage}
 use Rattle.ca_message.proofs.ReadBack.{word_read_back}
 use Rattle.pv_name.specs.Name.{IsName}
 use Rattle.pv_name.specs.declared.name.TheConstants.{NAME_LIMIT}
-use Rattle.pv_search.specs.declared.asks.Ask.{Ask}
-use Rattle.pv_search.specs.declared.search.Search.{Search}
+use Rattle.pv_search.specs.declared.asks.NameAsk.{NameAsk}
+use Rattle.pv_search.specs.declared.search.SearchRequest.{SearchRequest}
 use Rattle.pv_search.specs.Ask.{ask, ask_text}
 use Rattle.pv_search.specs.Asks.{asked_searches, asks_text}
 use Rattle.pv_search.specs.Found.{found_cid}
@@ -86,23 +86,23 @@ search_read_back name cid is_name fits =
 
 -- ---- several searches
 
-abbrev ask_of : Ask → Message
+abbrev ask_of : NameAsk → Message
 ask_of a = ask a.name a.cid
 
-spelled-asks : (asks : List Ask) → AreAsks asks → AreSpelled (map ask_of asks) (flat_map (λ (a : Ask). message_text (ask a.name a.cid)) asks)
+spelled-asks : (asks : List NameAsk) → AreAsks asks → AreSpelled (map ask_of asks) (flat_map (λ (a : NameAsk). message_text (ask a.name a.cid)) asks)
 spelled-asks [] all = refl
 spelled-asks (a ∷ asks) all =
-    (message_text (ask_of a), flat_map (λ (x : Ask). message_text (ask x.name x.cid)) asks, spelled-sent (ask_of a) (fits-ask a.name a.cid all.0 all.1) (whole-ask a.name a.cid all.0), spelled-asks asks all.2, refl)
+    (message_text (ask_of a), flat_map (λ (x : NameAsk). message_text (ask x.name x.cid)) asks, spelled-sent (ask_of a) (fits-ask a.name a.cid all.0 all.1) (whole-ask a.name a.cid all.0), spelled-asks asks all.2, refl)
 
-picked-asks : (asks : List Ask) → AreAsks asks → asked_searches asks ≡ picked_from search_of (map ask_of asks)
+picked-asks : (asks : List NameAsk) → AreAsks asks → asked_searches asks ≡ picked_from search_of (map ask_of asks)
 picked-asks [] all = refl
 picked-asks (a ∷ asks) all =
-    ap (λ (xs : List Search). record { cid = a.cid; name = a.name } ∷ xs) (picked-asks asks all.2)
+    ap (λ (xs : List SearchRequest). record { cid = a.cid; name = a.name } ∷ xs) (picked-asks asks all.2)
     ∙ sym (ap (λ found. cons_option (search_for a.cid found) (picked_from search_of (map ask_of asks))) (word_read_back NAME_LIMIT a.name all.0))
 
-pub searches_read_back : (asks : List Ask) → AreAsks asks → IsPicked search_of (asks_text asks) (asked_searches asks)
+pub searches_read_back : (asks : List NameAsk) → AreAsks asks → IsPicked search_of (asks_text asks) (asked_searches asks)
 searches_read_back asks all =
-    let text = flat_map (λ (a : Ask). message_text (ask a.name a.cid)) asks in
+    let text = flat_map (λ (a : NameAsk). message_text (ask a.name a.cid)) asks in
     record {
       messages = version ∷ map ask_of asks;
       end = Rest [];

@@ -1,19 +1,19 @@
 -- Datagrams that ask for several names (Channel Access Protocol Specification, "Searching").
 use Rattle.std.specs.Prelude.{◌≡◌, ℕ, ◌<◌, ◌≤◌, Bool, true, false, List, ◌++◌, length, take, flat_map, map}
 use Rattle.ca_header.specs.Header.{message_text}
-use Rattle.pv_search.specs.declared.asks.Ask.{Ask}
+use Rattle.pv_search.specs.declared.asks.NameAsk.{NameAsk}
 use Rattle.pv_search.specs.declared.asks.AskDatagram.{AskDatagram}
 use Rattle.pv_search.specs.declared.asks.TheConstants.{ASK_LIMIT}
-use Rattle.pv_search.specs.declared.search.Search.{Search}
+use Rattle.pv_search.specs.declared.search.SearchRequest.{SearchRequest}
 use Rattle.pv_search.specs.Ask.{ask}
 use Rattle.pv_search.specs.Version.{version}
 
 -- the version, and then the search for each name under its own CID
-abbrev pub asks_text : List Ask → List ℕ
-asks_text asks = message_text version ++ flat_map (λ (a : Ask). message_text (ask a.name a.cid)) asks
+abbrev pub asks_text : List NameAsk → List ℕ
+asks_text asks = message_text version ++ flat_map (λ (a : NameAsk). message_text (ask a.name a.cid)) asks
 
 -- the datagram asks for the first so many of these, and for one more it would be too long
-pub record IsAskDatagram (asks : List Ask) (datagram : AskDatagram) : Type 0 where
+pub record IsAskDatagram (asks : List NameAsk) (datagram : AskDatagram) : Type 0 where
   pub text : datagram.text ≡ asks_text (take datagram.asked asks)
   pub within : datagram.asked ≤ length asks
   pub fits : length datagram.text ≤ ASK_LIMIT
@@ -25,5 +25,5 @@ IsAddedIf true old message new = (new ≡ old ++ message) × (length new ≤ ASK
 IsAddedIf false old message new = (new ≡ old) × (ASK_LIMIT < length (old ++ message))
 
 -- the searches that a server reads
-abbrev pub asked_searches : List Ask → List Search
-asked_searches asks = map (λ (a : Ask). record { cid = a.cid; name = a.name }) asks
+abbrev pub asked_searches : List NameAsk → List SearchRequest
+asked_searches asks = map (λ (a : NameAsk). record { cid = a.cid; name = a.name }) asks

@@ -6,6 +6,7 @@ pub mod Laws
 pub mod PartFront
 pub mod Parts
 pub mod Picked
+pub mod Replies
 pub mod Reply
 pub mod Search
 pub mod Version

@@ -6,7 +6,7 @@ ghost use Rattle.pv_search.specs.Answer.{HasUnanswered, IsAnswer, IsTested, name
 use crate::NoMemory;
 use crate::datagram::Datagram;
 use crate::reply::search_reply;
-use crate::search::{Search, searches_in};
+use crate::search::{SearchRequest, searches_in};
 use pv_name::Name;
 use std::alloc::Global;
 use std::marker::Model;
@@ -77,7 +77,7 @@ struct Tested {
 
 fn test_names<F: Fn(&Name) -> Result<bool, NoMemory>>(
     alloc: Global,
-    searches: &[Search<'_>],
+    searches: &[SearchRequest<'_>],
     test: F,
 ) -> Result<Tested, NoMemory>
     requires { F.IsAlwaysCallable test }

@@ -17,7 +17,7 @@ pub const ASK_LIMIT: usize = 1_400;
 
 /// A name that is asked for, and the CID that replies to it are for.
 #[derive(Debug, Drop)]
-pub struct Ask {
+pub struct NameAsk {
     pub name: Name,
     pub cid: u32,
 }
@@ -32,7 +32,7 @@ pub struct AskDatagram {
 }
 
 /// A datagram that asks servers for the first of these, as many as fit. One always fits.
-pub fn ask_datagram(alloc: Global, asks: &[Ask]) -> Result<AskDatagram, NoMemory>
+pub fn ask_datagram(alloc: Global, asks: &[NameAsk]) -> Result<AskDatagram, NoMemory>
     ensures datagram { IfOk result (λ datagram. IsAskDatagram asks.now datagram) }
     ensures some { IfOk result (λ datagram. 0 < length asks.now → 0 < datagram.asked) }
 {
@@ -54,7 +54,7 @@ pub fn ask_datagram(alloc: Global, asks: &[Ask]) -> Result<AskDatagram, NoMemory
 }
 
 /// Adds the search for the name, if the datagram isn't too long with it.
-fn add_if_it_fits(alloc: Global, text: &mut Vec<u8>, asked: &Ask) -> Result<bool, NoMemory>
+fn add_if_it_fits(alloc: Global, text: &mut Vec<u8>, asked: &NameAsk) -> Result<bool, NoMemory>
     ensures added { IfOk result (λ fits. IsAddedIf fits text.old.items (message_text (ask asked.now.name asked.now.cid)) text.new.items) }
     ensures name { OnOk result (IsName asked.now.name) }
 {

@@ -4,10 +4,10 @@ ghost use Rattle.ca_header.specs.Spelling.{IsBytes};
 ghost use Rattle.pv_name.specs.Name.{IsName};
 ghost use Rattle.pv_search.specs.declared.answering.SearchAnswer.{SearchAnswer};
 ghost use Rattle.pv_search.specs.declared.asking.TheConstants.{DONT_REPLY};
-ghost use Rattle.pv_search.specs.declared.asks.Ask.{Ask};
+ghost use Rattle.pv_search.specs.declared.asks.NameAsk.{NameAsk};
 ghost use Rattle.pv_search.specs.declared.asks.TheConstants.{ASK_LIMIT};
 ghost use Rattle.pv_search.specs.declared.reply.TheConstants.{SENDER_ADDRESS};
-ghost use Rattle.pv_search.specs.declared.search.Search.{Search};
+ghost use Rattle.pv_search.specs.declared.search.SearchRequest.{SearchRequest};
 ghost use Rattle.pv_search.specs.Answer.{IsAnswer};
 ghost use Rattle.pv_search.specs.Ask.{ask_text};
 ghost use Rattle.pv_search.specs.Asks.{asked_searches, asks_text};
@@ -27,7 +27,7 @@ pub fn numbers_are_these()
 
 /// A datagram is read in one way.
 pub fn datagrams_are_read_in_one_way()
-    ensures searches { (datagram : List ℕ) (xs ys : List Search) → IsBytes datagram
+    ensures searches { (datagram : List ℕ) (xs ys : List SearchRequest) → IsBytes datagram
         → IsPicked search_of datagram xs → IsPicked search_of datagram ys → xs ≡ ys }
     ensures replies { (datagram xs ys : List ℕ) → IsBytes datagram
         → IsPicked found_cid datagram xs → IsPicked found_cid datagram ys → xs ≡ ys }
@@ -42,8 +42,8 @@ pub fn searches_are_read_back()
 /// A datagram that asks for one name is the one that asks for that name, and one that asks for several is
 /// read as the searches for these, in order.
 pub fn several_searches_are_read_back()
-    ensures one { (asked : Ask) → asks_text (asked ∷ []) ≡ ask_text asked.name asked.cid }
-    ensures several { (asks : List Ask) → AreAsks asks → IsPicked search_of (asks_text asks) (asked_searches asks) }
+    ensures one { (asked : NameAsk) → asks_text (asked ∷ []) ≡ ask_text asked.name asked.cid }
+    ensures several { (asks : List NameAsk) → AreAsks asks → IsPicked search_of (asks_text asks) (asked_searches asks) }
 {}
 
 /// What answers the parts of a datagram, joined, answers the datagram, where a test answers a name by any

@@ -8,7 +8,8 @@
 //!   answered as a whole.
 //! - [`ask_text`] is the datagram that asks servers for a name, and [`ask_datagram`] one that asks for
 //!   several, as many as fit.
-//! - [`read_found`] gives the CIDs of the replies in a server's datagram.
+//! - [`read_found`] gives the CIDs of the replies in a server's datagram, and [`read_replies`] also where
+//!   each says that the server is.
 //!
 //! A datagram is framed as a stream is; other messages, names that can't be read, and what follows the
 //! last whole message are passed over. It is read in one way (`laws::datagrams_are_read_in_one_way`),
@@ -28,10 +29,11 @@
 
 pub use answering::{Names, SearchAnswer, answer};
 pub use asking::{DONT_REPLY, ask_text};
-pub use asks::{ASK_LIMIT, Ask, AskDatagram, ask_datagram};
+pub use asks::{ASK_LIMIT, AskDatagram, NameAsk, ask_datagram};
 pub use datagram::Datagram;
 pub use found::read_found;
 pub use parts::first_part;
+pub use replies::{Reply, read_replies};
 pub use reply::SENDER_ADDRESS;
 
 mod answering;
@@ -42,6 +44,7 @@ mod found;
 pub mod laws;
 mod message;
 mod parts;
+mod replies;
 mod reply;
 mod search;
 

@@ -9,14 +9,14 @@ use ca_message::commands::CA_PROTO_SEARCH;
 
 /// The message at the front of some bytes.
 #[derive(Clone, Copy)]
-struct Cut {
+struct FrontMessage {
     /// How many bytes it has, its header counted.
     len: usize,
     is_search: bool,
 }
 
 /// That message, if it is whole.
-fn front_message(bytes: &[u8]) -> Option<Cut>
+fn front_message(bytes: &[u8]) -> Option<FrontMessage>
     ensures { result ≡ cut_of (front_at bytes.now) }
 {
     let Head::Got(head, head_len) = read_head(bytes) else {
@@ -27,7 +27,7 @@ fn front_message(bytes: &[u8]) -> Option<Cut>
         return None;
     }
     let is_search = head.command == CA_PROTO_SEARCH;
-    Some(Cut { len, is_search })
+    Some(FrontMessage { len, is_search })
 }
 
 /// How many bytes the first part of a datagram has: its first messages, as many as have at most `most`

@@ -11,20 +11,20 @@ use std::alloc::Global;
 
 /// A client's search for a name, which it calls `cid`. The name is a slice of the datagram.
 #[derive(Drop)]
-pub(crate) struct Search<'a> {
+pub(crate) struct SearchRequest<'a> {
     pub(crate) cid: u32,
     pub(crate) name: NameText<'a>,
 }
 
 /// The search that a message is. Neither its type nor its count is looked at.
-fn search_in<'a>(head: &Header, payload: &'a [u8]) -> Option<Search<'a>>
+fn search_in<'a>(head: &Header, payload: &'a [u8]) -> Option<SearchRequest<'a>>
     ensures { result ≡ search_of head.now payload.now }
 {
     if head.command != CA_PROTO_SEARCH {
         return None;
     }
     match NameText::read(payload) {
-        Ok(name) => Some(Search { cid: head.p1, name }),
+        Ok(name) => Some(SearchRequest { cid: head.p1, name }),
         Err(_) => None,
     }
 }
@@ -34,7 +34,7 @@ fn search_in<'a>(head: &Header, payload: &'a [u8]) -> Option<Search<'a>>
 pub(crate) fn searches_in<'a>(
     alloc: Global,
     datagram: &'a [u8],
-) -> Result<Vec<Search<'a>>, NoMemory>
+) -> Result<Vec<SearchRequest<'a>>, NoMemory>
     ensures { IfOk result (λ searches. IsPicked search_of datagram.now searches.items) }
 {
     let mut searches = Vec::new(alloc);

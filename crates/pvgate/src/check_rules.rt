@@ -1,17 +1,17 @@
 //! The program `check-rules`.
 
 use crate::arguments::CheckRules;
-use crate::fault::Fault;
+use crate::fault::ProgramFault;
 use crate::heavy::first_heavy;
 use pv_name::{Host, Name};
-use rule_check::{Asked, Note, Said, check, status};
+use rule_desk::{Note, Question, Said, check, status};
 use std::alloc::Global;
 use std::io::BufWriter;
 use std::{fs, io};
 
 /// Checks the files that the command line names, and prints what is wrong or what they answer. What is
 /// noted of the rule file goes to standard error, and what a faulty line said. Returns the status that the program ends with.
-pub fn check_rules(rt: &HostRuntime, arguments: &CheckRules<'_>) -> Result<u8, Fault> {
+pub fn check_rules(rt: &HostRuntime, arguments: &CheckRules<'_>) -> Result<u8, ProgramFault> {
     let alloc = rt.alloc();
     let asked = read_asked(alloc, arguments)?;
     let rules = read_file(rt, arguments.rules)?;
@@ -44,29 +44,29 @@ pub fn check_rules(rt: &HostRuntime, arguments: &CheckRules<'_>) -> Result<u8, F
         }
     }
     if ended == status::STREAM_FAILED {
-        return Err(Fault::Output);
+        return Err(ProgramFault::Output);
     }
     if ended == status::FAILED {
-        return Err(Fault::OutOfMemory);
+        return Err(ProgramFault::OutOfMemory);
     }
     Ok(ended)
 }
 
 /// The host is tested even where no name is asked for.
-fn read_asked(alloc: Global, arguments: &CheckRules<'_>) -> Result<Option<Asked>, Fault> {
-    let host = Host::read(alloc, arguments.host.as_bytes()).map_err(Fault::host)?;
+fn read_asked(alloc: Global, arguments: &CheckRules<'_>) -> Result<Option<Question>, ProgramFault> {
+    let host = Host::read(alloc, arguments.host.as_bytes()).map_err(ProgramFault::host)?;
     match arguments.name {
         Some(text) => {
-            let name = Name::read(alloc, text.as_bytes()).map_err(Fault::name)?;
-            Ok(Some(Asked { name, host }))
+            let name = Name::read(alloc, text.as_bytes()).map_err(ProgramFault::name)?;
+            Ok(Some(Question { name, host }))
         }
         None => Ok(None),
     }
 }
 
-fn read_file(rt: &HostRuntime, path: &str) -> Result<String, Fault> {
+fn read_file(rt: &HostRuntime, path: &str) -> Result<String, ProgramFault> {
     match fs::read_to_string(rt, path) {
         Ok(text) => Ok(text),
-        Err(fault) => Err(Fault::file(rt.alloc(), path, fault)),
+        Err(fault) => Err(ProgramFault::file(rt.alloc(), path, fault)),
     }
 }

@@ -2,13 +2,15 @@
 
 use pv_name::NameFault;
 use replay::status;
+use server_book::NetFault;
 use std::alloc::{AllocError, Global};
 use std::io;
+use std::net::SocketAddr;
 use thiserror::Error;
 
 /// Why a program ends before it does its work.
 #[derive(Debug, Drop, Error)]
-pub enum Fault {
+pub enum ProgramFault {
     #[error("the name is bad: {0}")]
     BadName(NameFault),
     #[error("the host is bad: {0}")]
@@ -19,6 +21,28 @@ pub enum Fault {
     /// An address that is none.
     #[error("the address is bad, as 127.0.0.1:5064 is good: {0}")]
     BadAddress(String),
+    #[error("the host isn't known: {0}")]
+    UnknownHost(String),
+    /// A net that is none, and why.
+    #[error("the net is bad, as 10.0.0.0/8 is good: {0}: {1}")]
+    BadNet(String, NetFault),
+    #[error("--from says where found servers are, and is nothing without --search")]
+    NetsAlone,
+    #[error("--hear-beacons is nothing without --search")]
+    HearingAlone,
+    #[error("--idle says when found servers are left, and is nothing without --search")]
+    IdleAlone,
+    /// Nobody else hears what is sent to LISTEN.
+    #[error("the address of --search is LISTEN itself: {0}")]
+    SearchOfListen(String),
+    /// Clients take them for the gateway's where they come from its host.
+    #[error("beacons go from an IPv4 LISTEN to IPv4 addresses: {0}")]
+    BeaconsByIpv4(String),
+    /// One socket asks all servers.
+    #[error("with --search all UPSTREAMs and addresses are IPv4, or all IPv6")]
+    TwoFamilies,
+    #[error("with --search an UPSTREAM is named once: {0}")]
+    UpstreamTwice(SocketAddr),
     /// A number of MiB that is none.
     #[error("the number of MiB is bad, as 256 is good: {0}")]
     BadMost(String),
@@ -48,62 +72,73 @@ pub enum Fault {
     OutOfMemory,
 }
 
-impl Fault {
+impl ProgramFault {
     /// The status that the program ends with.
     pub fn status(&self) -> u8 {
         match self {
-            Fault::BadName(_)
-            | Fault::BadHost(_)
-            | Fault::BadAddress(_)
-            | Fault::BadMost(_)
-            | Fault::BadSeconds(_)
-            | Fault::BadLevel(_)
-            | Fault::BadSeats(_)
-            | Fault::BadNumber(_, _)
-            | Fault::TooManyUpstreams(_) => status::BAD_INPUT,
-            Fault::File(_, _) | Fault::Listen(_) | Fault::Reports(_) | Fault::Output =>
-                status::STREAM_FAILED,
-            Fault::OutOfMemory => status::FAILED,
+            ProgramFault::BadName(_)
+            | ProgramFault::BadHost(_)
+            | ProgramFault::BadAddress(_)
+            | ProgramFault::BadMost(_)
+            | ProgramFault::BadNet(_, _)
+            | ProgramFault::NetsAlone
+            | ProgramFault::HearingAlone
+            | ProgramFault::IdleAlone
+            | ProgramFault::SearchOfListen(_)
+            | ProgramFault::BeaconsByIpv4(_)
+            | ProgramFault::TwoFamilies
+            | ProgramFault::UpstreamTwice(_)
+            | ProgramFault::BadSeconds(_)
+            | ProgramFault::BadLevel(_)
+            | ProgramFault::BadSeats(_)
+            | ProgramFault::BadNumber(_, _)
+            | ProgramFault::TooManyUpstreams(_) => status::BAD_INPUT,
+            ProgramFault::File(_, _)
+            | ProgramFault::UnknownHost(_)
+            | ProgramFault::Listen(_)
+            | ProgramFault::Reports(_)
+            | ProgramFault::Output => status::STREAM_FAILED,
+            ProgramFault::OutOfMemory => status::FAILED,
         }
     }
 
-    pub fn name(fault: NameFault) -> Fault {
+    pub fn name(fault: NameFault) -> ProgramFault {
         match fault {
-            NameFault::OutOfMemory => Fault::OutOfMemory,
-            fault => Fault::BadName(fault),
+            NameFault::OutOfMemory => ProgramFault::OutOfMemory,
+            fault => ProgramFault::BadName(fault),
         }
     }
 
-    pub fn host(fault: NameFault) -> Fault {
+    pub fn host(fault: NameFault) -> ProgramFault {
         match fault {
-            NameFault::OutOfMemory => Fault::OutOfMemory,
-            fault => Fault::BadHost(fault),
+            NameFault::OutOfMemory => ProgramFault::OutOfMemory,
+            fault => ProgramFault::BadHost(fault),
         }
     }
 
     /// A file at the path can't be read.
-    pub fn file(alloc: Global, path: &str, fault: io::Error) -> Fault {
+    pub fn file(alloc: Global, path: &str, fault: io::Error) -> ProgramFault {
         if fault.kind() == io::ErrorKind::OutOfMemory {
-            return Fault::OutOfMemory;
+            return ProgramFault::OutOfMemory;
         }
         match String::from_str(alloc, path) {
-            Ok(path) => Fault::File(path, fault),
-            Err(_) => Fault::OutOfMemory,
+            Ok(path) => ProgramFault::File(path, fault),
+            Err(_) => ProgramFault::OutOfMemory,
         }
     }
 }
 
-impl From<io::Error> for Fault {
-    fn from(fault: io::Error) -> Fault {
+impl From<io::Error> for ProgramFault {
+    fn from(fault: io::Error) -> ProgramFault {
         match fault.kind() {
-            io::ErrorKind::OutOfMemory => Fault::OutOfMemory,
-            _ => Fault::Output,
+            io::ErrorKind::OutOfMemory => ProgramFault::OutOfMemory,
+            _ => ProgramFault::Output,
         }
     }
 }
 
-impl From<AllocError> for Fault {
-    fn from(_e: AllocError) -> Fault {
-        Fault::OutOfMemory
+impl From<AllocError> for ProgramFault {
+    fn from(_e: AllocError) -> ProgramFault {
+        ProgramFault::OutOfMemory
     }
 }

@@ -6,11 +6,12 @@ mod check_rules;
 mod fault;
 mod heavy;
 mod site;
+mod texts;
 
 use arguments::{Body, Program, Replay};
 use check_rules::check_rules;
 use clap::error::ErrorKind;
-use fault::Fault;
+use fault::ProgramFault;
 use replay::{replay_from, replay_plain_from, status};
 use serve::open;
 use site::{Site, ended, read_first, read_site};
@@ -31,14 +32,7 @@ fn main(rt: HostRuntime) -> ExitCode {
     let status = match begin(&rt) {
         Ok(Begun::Ended(status)) => status,
         Ok(Begun::Serve(site)) => {
-            match open(
-                rt,
-                rt.alloc(),
-                site.listen,
-                site.servers,
-                site.files,
-                site.options,
-            ) {
+            match open(rt, rt.alloc(), site.addresses, site.files, site.options) {
                 Ok(status) => status,
                 Err(fault) => told(&rt, ended(fault)),
             }
@@ -57,7 +51,7 @@ fn main(rt: HostRuntime) -> ExitCode {
 }
 
 // The status, once a fault is told.
-fn told(rt: &HostRuntime, ended: Result<u8, Fault>) -> u8 {
+fn told(rt: &HostRuntime, ended: Result<u8, ProgramFault>) -> u8 {
     match ended {
         Ok(status) => status,
         Err(fault) => {
@@ -75,7 +69,7 @@ fn begin(rt: &HostRuntime) -> io::Result<Begun> {
         Ok(Program::CheckRules(arguments)) => {
             Ok(Begun::Ended(told(rt, check_rules(rt, &arguments))))
         }
-        Ok(Program::Serve(arguments)) => match read_site(alloc, &arguments) {
+        Ok(Program::Serve(arguments)) => match read_site(rt, alloc, &arguments) {
             Ok(site) => Ok(Begun::Serve(site)),
             Err(fault) => Ok(Begun::Ended(told(rt, Err(fault)))),
         },

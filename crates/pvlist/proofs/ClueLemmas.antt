@@ -25,8 +25,8 @@ use Rattle.regex_syntax.proofs.Written.{is_some-option_map}
 use Rattle.regex_syntax.specs.Brackets.{Nested}
 use Rattle.regex_syntax.specs.Grammar.{Names, group_count, read}
 use Rattle.pvlist.specs.declared.clues.Clues.{Clues}
-use Rattle.pvlist.specs.declared.clues.Place.{Place}
-use Rattle.pvlist.specs.declared.clues.Place.TheVariants.{Start, End, Anywhere}
+use Rattle.pvlist.specs.declared.clues.TextPlace.{TextPlace}
+use Rattle.pvlist.specs.declared.clues.TextPlace.TheVariants.{Start, End, Anywhere}
 use Rattle.pvlist.specs.Clues.{is_there, stands_in, has_one, AreClues, AreCluesOf}
 
 -- ---- two trees that are read from one text
@@ -116,7 +116,7 @@ stands_of_match re texts filled needles name i j bytes m =
 
 -- ---- the clues of a tree
 
-has_known : (place : Place) (texts : Option (Vec (Vec ℕ Global) Global)) (name : List ℕ)
+has_known : (place : TextPlace) (texts : Option (Vec (Vec ℕ Global) Global)) (name : List ℕ)
     → IfSome texts (λ them. list_any (is_there place name) (needles_of them) ≡ true) → has_one place texts name ≡ true
 has_known place None name h = refl
 has_known place (Some them) name h = h

@@ -7,8 +7,8 @@ use Rattle.std.proofs.lemmas.List.Elements.{filter_map-append}
 use Rattle.std.proofs.lemmas.List.Sums.{position_or_len_is}
 use Rattle.std.specs.List.{AllZip, last_or, onto_first, position_or_len, slice_split}
 use Rattle.std.specs.Str.Lines.{lines, lines_of_parts}
-use Rattle.pvlist.specs.declared.fault.LineFault.{LineFault}
-use Rattle.pvlist.specs.declared.fault.LineFault.TheVariants.{Cause, OutOfMemory}
+use Rattle.pvlist.specs.declared.fault.RuleLineFault.{RuleLineFault}
+use Rattle.pvlist.specs.declared.fault.RuleLineFault.TheVariants.{Cause, OutOfMemory}
 use Rattle.pvlist.specs.declared.fault.RuleCause.{RuleCause}
 use Rattle.pvlist.specs.declared.groups.GroupLine.{GroupLine}
 use Rattle.pvlist.specs.declared.line.Item.{Item}
@@ -59,7 +59,7 @@ parted_at all n line short is =
     sym (take-append-drop n all) ∙ ap (λ rest. take n all ++ rest) (drop-cons all n line short ∙ ap (λ x. x ∷ drop (suc n) all) (sym is))
 
 -- a line that is refused after those before it
-pub first_fault : {S : Type 0} (Says : List (List ℕ) → S → Type 0) (Refuses : S → List ℕ → RuleCause → Type 0) (all : List (List ℕ)) (n : ℕ) (line : List ℕ) (said : S) (fault : LineFault)
+pub first_fault : {S : Type 0} (Says : List (List ℕ) → S → Type 0) (Refuses : S → List ℕ → RuleCause → Type 0) (all : List (List ℕ)) (n : ℕ) (line : List ℕ) (said : S) (fault : RuleLineFault)
     → n < length all → line ≡ get_or all n line → Says (take n all) said → ((cause : RuleCause) → fault ≡ Cause cause → Refuses said line cause)
     → IsFileFault Says Refuses all (fault_at (n + 1) fault)
 first_fault Says Refuses all n line said (Cause cause) short is says refuses = record {
@@ -161,7 +161,7 @@ IsRulingOf-more syntax all line old new h taken = rw taken.after (record {
   closed = closed-more taken.said old h.closed;
 })
 
-pub refuses_line : (syntax : Syntax) (old : Ruling) (line : List ℕ) (fault : LineFault) → IsLineFault syntax old line fault → (cause : RuleCause) → fault ≡ Cause cause → RefusesLine syntax old line cause
+pub refuses_line : (syntax : Syntax) (old : Ruling) (line : List ℕ) (fault : RuleLineFault) → IsLineFault syntax old line fault → (cause : RuleCause) → fault ≡ Cause cause → RefusesLine syntax old line cause
 refuses_line syntax old line fault h cause is = rw is at h
 
 -- ---- group files
@@ -186,6 +186,6 @@ AreGroupsOf-more all line old new h taken = rw taken.after (record {
   few = group_few-more taken.said old taken.room h.few;
 })
 
-pub refuses_group_line : (old : List GroupLine) (line : List ℕ) (fault : LineFault) → group.IsFaultOf (group.group_entry (group.is_full old) line) fault
+pub refuses_group_line : (old : List GroupLine) (line : List ℕ) (fault : RuleLineFault) → group.IsFaultOf (group.group_entry (group.is_full old) line) fault
     → (cause : RuleCause) → fault ≡ Cause cause → group.RefusesLine old line cause
 refuses_group_line old line fault h cause is = rw is at h

@@ -2,8 +2,8 @@
 use Rattle.std.proofs.Common.{◌≡◌, ℕ, Bool, true, false, cond, ◌&&◌, List, [], ◌∷◌, ◌++◌, Option, Some, None, refl, sym, ap, ◌∙◌}
 use Rattle.std.specs.List.{list_all}
 use Rattle.pv_name.specs.Host.{is_host}
-use Rattle.pvlist.specs.declared.fault.LineFault.{LineFault}
-use Rattle.pvlist.specs.declared.fault.LineFault.TheVariants.{Cause, OutOfMemory}
+use Rattle.pvlist.specs.declared.fault.RuleLineFault.{RuleLineFault}
+use Rattle.pvlist.specs.declared.fault.RuleLineFault.TheVariants.{Cause, OutOfMemory}
 use Rattle.pvlist.specs.declared.fault.RuleCause.TheVariants.{BadFrom, BadReference}
 use Rattle.pvlist.specs.declared.syntax.Syntax.{Syntax}
 use Rattle.regex.specs.declared.string.regex.Regex.{Regex}
@@ -12,7 +12,7 @@ use Rattle.pvlist.specs.Fault.{Lacks}
 use Rattle.pvlist.specs.RuleLine.{alias_entry, host_word, hosts_among, IsFaultOf}
 
 -- an alias without a real name, whose pattern is fine
-pub alias_without_real : (syntax : Syntax) (pattern : List ℕ) (group : Option (List ℕ)) (found : Option (List ℕ)) (regex : Regex) (fault : LineFault)
+pub alias_without_real : (syntax : Syntax) (pattern : List ℕ) (group : Option (List ℕ)) (found : Option (List ℕ)) (regex : Regex) (fault : RuleLineFault)
     → IsCompiled syntax pattern regex → Lacks BadReference found fault → IsFaultOf syntax pattern (alias_entry (Some group) found) fault
 alias_without_real syntax pattern group found regex (Cause cause) compiled lacks =
     let accepted : IsAccepted syntax pattern = record { regex = regex; compiled = compiled } in
@@ -35,7 +35,7 @@ list_all-missed (x ∷ before) word rest h = by (is_host x) (list_all-missed bef
     by false step = refl
 
 -- words that have one which is no host
-pub hosts_lacking : (before : List (List ℕ)) (word : List ℕ) (rest : List (List ℕ)) (first : List ℕ) (words : List (List ℕ)) (fault : LineFault)
+pub hosts_lacking : (before : List (List ℕ)) (word : List ℕ) (rest : List (List ℕ)) (first : List ℕ) (words : List (List ℕ)) (fault : RuleLineFault)
     → before ++ word ∷ rest ≡ first ∷ words → Lacks BadFrom (host_word word) fault → Lacks BadFrom (hosts_among (first ∷ words)) fault
 hosts_lacking before word rest first words (Cause cause) all lacks =
     let missed : list_all is_host (first ∷ words) ≡ false = ap (list_all is_host) (sym all) ∙ list_all-missed before word rest (no_host word lacks.1) in

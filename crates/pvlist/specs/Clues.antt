@@ -6,8 +6,8 @@ use Rattle.regex.specs.Patterns.{Re, Matches, find_str}
 use Rattle.regex.specs.Strings.{regex_pattern}
 use Rattle.regex.specs.declared.string.regex.Regex.{Regex}
 use Rattle.regex_extract.specs.Needles.{needles_of}
-use Rattle.pvlist.specs.declared.clues.Place.{Place}
-use Rattle.pvlist.specs.declared.clues.Place.TheVariants.{Start, End, Anywhere}
+use Rattle.pvlist.specs.declared.clues.TextPlace.{TextPlace}
+use Rattle.pvlist.specs.declared.clues.TextPlace.TheVariants.{Start, End, Anywhere}
 use Rattle.pvlist.specs.declared.clues.Clues.{Clues}
 
 -- the text stands somewhere in the name
@@ -16,13 +16,13 @@ stands_in [] text = false
 stands_in (b ∷ rest) text = starts_with nat_eq (b ∷ rest) text || stands_in rest text
 
 -- the text stands at the place
-abbrev pub is_there : Place → List ℕ → List ℕ → Bool
+abbrev pub is_there : TextPlace → List ℕ → List ℕ → Bool
 is_there Start name text = starts_with nat_eq name text
 is_there End name text = ends_with nat_eq name text
 is_there Anywhere name text = stands_in name text
 
 -- one of the texts does, or none is known
-abbrev pub has_one : Place → Option (Vec (Vec ℕ Global) Global) → List ℕ → Bool
+abbrev pub has_one : TextPlace → Option (Vec (Vec ℕ Global) Global) → List ℕ → Bool
 has_one place None name = true
 has_one place (Some texts) name = list_any (is_there place name) (needles_of texts)
 

@@ -2,8 +2,8 @@
 use Rattle.std.specs.Prelude.{◌≡◌, ℕ, ◌≤◌, Bool, false, nat_lt, nat_le, if◌then◌else◌, List, [], ◌∷◌, ◌++◌, length, filter_map, Option, Some, None, Result, Ok, Err}
 use Rattle.std.specs.List.{AllZip}
 use Rattle.std.specs.Str.Lines.{lines}
-use Rattle.pvlist.specs.declared.fault.LineFault.{LineFault}
-use Rattle.pvlist.specs.declared.fault.LineFault.TheVariants.{Cause, OutOfMemory}
+use Rattle.pvlist.specs.declared.fault.RuleLineFault.{RuleLineFault}
+use Rattle.pvlist.specs.declared.fault.RuleLineFault.TheVariants.{Cause, OutOfMemory}
 use Rattle.pvlist.specs.declared.fault.RuleCause.{RuleCause}
 use Rattle.pvlist.specs.declared.fault.RuleCause.TheVariants.{LineTooLong, TooManyLines, BadGroup}
 use Rattle.pvlist.specs.declared.fault.RuleFault.{RuleFault}
@@ -60,7 +60,7 @@ abbrev pub IsGroupFault : List ℕ → RuleFault → Type 0
 IsGroupFault text fault = IsFileFault AreGroupsOf RefusesLine (lines text) fault
 
 -- the cause of an entry, or memory ran out
-abbrev pub IsFaultOf : Result (Option GroupLine) RuleCause → LineFault → Type 0
+abbrev pub IsFaultOf : Result (Option GroupLine) RuleCause → RuleLineFault → Type 0
 IsFaultOf drawn (Cause cause) = drawn ≡ Err cause
 IsFaultOf drawn OutOfMemory = Unit {0}
 

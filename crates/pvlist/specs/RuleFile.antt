@@ -2,7 +2,7 @@
 use Rattle.std.specs.Prelude.{◌≡◌, ℕ, ◌≤◌, Bool, false, nat_le, List, [], ◌∷◌, ◌++◌, length, filter_map, Option, Some, None}
 use Rattle.std.specs.List.{AllZip, last_or}
 use Rattle.std.specs.Str.Lines.{lines}
-use Rattle.pvlist.specs.declared.fault.LineFault.{LineFault}
+use Rattle.pvlist.specs.declared.fault.RuleLineFault.{RuleLineFault}
 use Rattle.pvlist.specs.declared.fault.RuleCause.{RuleCause}
 use Rattle.pvlist.specs.declared.fault.RuleFault.{RuleFault}
 use Rattle.pvlist.specs.declared.line.Item.{Item}
@@ -60,5 +60,5 @@ pub record TakesLine (syntax : Syntax) (line : List ℕ) (old new : Ruling) : Ty
   pub after : new ≡ with_item old said
 
 -- why the line is not taken up
-abbrev pub IsLineFault : Syntax → Ruling → List ℕ → LineFault → Type 0
+abbrev pub IsLineFault : Syntax → Ruling → List ℕ → RuleLineFault → Type 0
 IsLineFault syntax old line fault = IsFaultOf syntax (first_word (words line)) (entry syntax (is_full old) line) fault

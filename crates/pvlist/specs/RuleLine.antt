@@ -6,8 +6,8 @@ use Rattle.pv_name.specs.Group.{is_group}
 use Rattle.pv_name.specs.Host.{is_host}
 use Rattle.pvlist.specs.declared.fault.RuleCause.{RuleCause}
 use Rattle.pvlist.specs.declared.fault.RuleCause.TheVariants.{LineTooLong, BadOrder, NoVerb, TooManyLines, BadFrom, BadGroup, BadPattern, BadReference}
-use Rattle.pvlist.specs.declared.fault.LineFault.{LineFault}
-use Rattle.pvlist.specs.declared.fault.LineFault.TheVariants.{Cause, OutOfMemory}
+use Rattle.pvlist.specs.declared.fault.RuleLineFault.{RuleLineFault}
+use Rattle.pvlist.specs.declared.fault.RuleLineFault.TheVariants.{Cause, OutOfMemory}
 use Rattle.pvlist.specs.declared.keyword.Keyword.{Keyword}
 use Rattle.pvlist.specs.declared.keyword.Keyword.TheVariants as keyword
 use Rattle.pvlist.specs.declared.line.Item.{Item}
@@ -137,7 +137,7 @@ IsCauseOf syntax pattern drawn BadReference = (drawn ≡ Ok (Drafted None)) × I
 IsCauseOf syntax pattern drawn cause = drawn ≡ Err cause
 
 -- the pattern has no regular expression, or memory ran out
-abbrev pub IsPatternFault : Syntax → List ℕ → LineFault → Type 0
+abbrev pub IsPatternFault : Syntax → List ℕ → RuleLineFault → Type 0
 IsPatternFault syntax pattern (Cause cause) = (cause ≡ BadPattern) × IsRefused syntax pattern
 IsPatternFault syntax pattern OutOfMemory = Unit {0}
 
@@ -147,7 +147,7 @@ HasRoom full (item.Row row) = full ≡ false
 HasRoom full _ = Unit {0}
 
 -- the cause of an entry, or memory ran out
-abbrev pub IsFaultOf : Syntax → List ℕ → Result Entry RuleCause → LineFault → Type 0
+abbrev pub IsFaultOf : Syntax → List ℕ → Result Entry RuleCause → RuleLineFault → Type 0
 IsFaultOf syntax pattern drawn (Cause cause) = IsCauseOf syntax pattern drawn cause
 IsFaultOf syntax pattern drawn OutOfMemory = Unit {0}
 

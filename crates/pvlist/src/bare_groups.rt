@@ -7,7 +7,7 @@ ghost use Rattle.pvlist.specs.Translation.{is_closing};
 ghost use Rattle.pvlist.specs.Words.{words};
 
 use crate::keyword::Keyword;
-use crate::words::Words;
+use crate::words::RuleWords;
 
 /// The number of the first row of a rule file, counted from 1, whose pattern has `(`, `)` or `|`
 /// outside brackets with no backslash before it as an escape: in the escaped syntax they stand for
@@ -28,7 +28,7 @@ pub fn first_bare_group(text: &str) -> Option<usize>
 fn is_bare_row(line: &str) -> bool
     ensures { result ≡ is_bare_row (words line.now) }
 {
-    let mut words = Words::new(line);
+    let mut words = RuleWords::new(line);
     let Some(pattern) = words.next() else {
         return false;
     };

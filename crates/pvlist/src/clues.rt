@@ -25,7 +25,7 @@ pub(crate) struct Clues {
 
 /// Where in a name a text stands.
 #[derive(Clone, Copy)]
-enum Place {
+enum TextPlace {
     Start,
     End,
     Anywhere,
@@ -61,9 +61,9 @@ impl Clues {
     pub(crate) fn are_in(&self, name: &[u8]) -> bool
         ensures { result ≡ has_clues self.now name.now }
     {
-        has_one(Place::Start, &self.starts, name)
-            && has_one(Place::End, &self.ends, name)
-            && has_one(Place::Anywhere, &self.inside, name)
+        has_one(TextPlace::Start, &self.starts, name)
+            && has_one(TextPlace::End, &self.ends, name)
+            && has_one(TextPlace::Anywhere, &self.inside, name)
     }
 }
 
@@ -91,7 +91,7 @@ fn few(texts: Option<Needles>) -> Option<Needles>
 }
 
 // Whether one of the texts stands at the place.
-fn has_one(place: Place, texts: &Option<Needles>, name: &[u8]) -> bool
+fn has_one(place: TextPlace, texts: &Option<Needles>, name: &[u8]) -> bool
     ensures { result ≡ has_one place texts.now name.now }
 {
     let Some(texts) = texts else {
@@ -105,13 +105,13 @@ fn has_one(place: Place, texts: &Option<Needles>, name: &[u8]) -> bool
     false
 }
 
-fn is_there(place: Place, name: &[u8], text: &[u8]) -> bool
+fn is_there(place: TextPlace, name: &[u8], text: &[u8]) -> bool
     ensures { result ≡ is_there place name.now text.now }
 {
     match place {
-        Place::Start => name.starts_with(text),
-        Place::End => name.ends_with(text),
-        Place::Anywhere => stands_in(name, text),
+        TextPlace::Start => name.starts_with(text),
+        TextPlace::End => name.ends_with(text),
+        TextPlace::Anywhere => stands_in(name, text),
     }
 }
 

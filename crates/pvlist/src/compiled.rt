@@ -4,7 +4,7 @@ ghost use Rattle.pvlist.specs.Captures.{group_count};
 ghost use Rattle.pvlist.specs.Compiled.{IsCompiled};
 ghost use Rattle.pvlist.specs.RuleLine.{IsPatternFault};
 
-use crate::fault::{LineFault, RuleCause};
+use crate::fault::{RuleCause, RuleLineFault};
 use crate::pattern::Pattern;
 use crate::syntax::Syntax;
 use crate::translation::translate_counted;
@@ -20,7 +20,11 @@ pub(crate) struct Compiled {
 }
 
 impl Compiled {
-    pub(crate) fn new(alloc: Global, pattern: &str, syntax: Syntax) -> Result<Compiled, LineFault>
+    pub(crate) fn new(
+        alloc: Global,
+        pattern: &str,
+        syntax: Syntax,
+    ) -> Result<Compiled, RuleLineFault>
         ensures ok { IfOk result (λ compiled. IsCompiled syntax pattern.now compiled.pattern) }
         ensures groups { IfOk result (λ compiled. compiled.groups ≡ group_count syntax pattern.now) }
         ensures err { IfErr result (IsPatternFault syntax pattern.now) }
@@ -31,8 +35,8 @@ impl Compiled {
                 pattern: Pattern::new(alloc, regex)?,
                 groups: translated.groups,
             }),
-            Err(regex::Error::OutOfMemory) => Err(LineFault::OutOfMemory),
-            Err(_) => Err(LineFault::Cause(RuleCause::BadPattern)),
+            Err(regex::Error::OutOfMemory) => Err(RuleLineFault::OutOfMemory),
+            Err(_) => Err(RuleLineFault::Cause(RuleCause::BadPattern)),
         }
     }
 }

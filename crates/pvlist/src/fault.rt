@@ -123,66 +123,66 @@ impl fmt::Display for RuleCause {
 
 /// Why a line is not read.
 #[derive(Clone, Copy, Debug, PartialEq, Eq)]
-pub(crate) enum LineFault {
+pub(crate) enum RuleLineFault {
     Cause(RuleCause),
     OutOfMemory,
 }
 
-impl LineFault {
+impl RuleLineFault {
     /// The fault of the file whose line of this number, counted from 1, has this one.
     pub(crate) fn at(self, line: usize) -> RuleFault
         ensures { result ≡ fault_at line self }
     {
         match self {
-            LineFault::Cause(cause) => RuleFault::At(line, cause),
-            LineFault::OutOfMemory => RuleFault::OutOfMemory,
+            RuleLineFault::Cause(cause) => RuleFault::At(line, cause),
+            RuleLineFault::OutOfMemory => RuleFault::OutOfMemory,
         }
     }
 }
 
-impl From<RuleCause> for LineFault {
+impl From<RuleCause> for RuleLineFault {
     ghost use Rattle.std.specs.Prelude.{◌≡◌};
-    ghost use Rattle.pvlist.specs.declared.fault.LineFault.TheVariants.{Cause};
+    ghost use Rattle.pvlist.specs.declared.fault.RuleLineFault.TheVariants.{Cause};
 
     ghost from_gives = { λ cause fault. fault ≡ Cause cause };
 
-    fn from(cause: RuleCause) -> LineFault {
-        LineFault::Cause(cause)
+    fn from(cause: RuleCause) -> RuleLineFault {
+        RuleLineFault::Cause(cause)
     }
 }
 
-impl From<AllocError> for LineFault {
+impl From<AllocError> for RuleLineFault {
     ghost use Rattle.std.specs.Prelude.{◌≡◌};
-    ghost use Rattle.pvlist.specs.declared.fault.LineFault.TheVariants.{OutOfMemory};
+    ghost use Rattle.pvlist.specs.declared.fault.RuleLineFault.TheVariants.{OutOfMemory};
 
     ghost from_gives = { λ _ fault. fault ≡ OutOfMemory };
 
-    fn from(_e: AllocError) -> LineFault {
-        LineFault::OutOfMemory
+    fn from(_e: AllocError) -> RuleLineFault {
+        RuleLineFault::OutOfMemory
     }
 }
 
-impl<T: Drop> From<AllocFailed<T>> for LineFault {
+impl<T: Drop> From<AllocFailed<T>> for RuleLineFault {
     ghost use Rattle.std.specs.Prelude.{◌≡◌};
-    ghost use Rattle.pvlist.specs.declared.fault.LineFault.TheVariants.{OutOfMemory};
+    ghost use Rattle.pvlist.specs.declared.fault.RuleLineFault.TheVariants.{OutOfMemory};
 
     ghost from_gives = { λ _ fault. fault ≡ OutOfMemory };
 
-    fn from(_e: AllocFailed<T>) -> LineFault {
-        LineFault::OutOfMemory
+    fn from(_e: AllocFailed<T>) -> RuleLineFault {
+        RuleLineFault::OutOfMemory
     }
 }
 
-impl From<TranslateFault> for LineFault {
+impl From<TranslateFault> for RuleLineFault {
     ghost use Rattle.std.specs.Prelude.{◌≡◌};
     ghost use Rattle.pvlist.specs.Fault.{of_translation};
 
     ghost from_gives = { λ given fault. fault ≡ of_translation given };
 
-    fn from(fault: TranslateFault) -> LineFault {
+    fn from(fault: TranslateFault) -> RuleLineFault {
         match fault {
-            TranslateFault::BadPattern => LineFault::Cause(RuleCause::BadPattern),
-            TranslateFault::OutOfMemory => LineFault::OutOfMemory,
+            TranslateFault::BadPattern => RuleLineFault::Cause(RuleCause::BadPattern),
+            TranslateFault::OutOfMemory => RuleLineFault::OutOfMemory,
         }
     }
 }

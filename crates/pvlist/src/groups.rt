@@ -4,7 +4,7 @@ ghost use Rattle.std.specs.Str.Lines.{lines};
 ghost use Rattle.pvlist.specs.Groups.{rights_of, right_bits};
 ghost use Rattle.pvlist.specs.GroupFile.{group_entry, is_full, AreGroupsOf, IsGroupFault, IsFaultOf, TakesLine};
 
-use crate::fault::{LineFault, RuleFault};
+use crate::fault::{RuleFault, RuleLineFault};
 use crate::group_line::read_group_line;
 use crate::line::ROW_LIMIT;
 use pv_name::Group;
@@ -72,7 +72,7 @@ impl Groups {
     }
 
     // Takes up what the next line of a file says.
-    fn take_line(&mut self, alloc: Global, line: &str) -> Result<(), LineFault>
+    fn take_line(&mut self, alloc: Global, line: &str) -> Result<(), RuleLineFault>
         ensures ok { OnOk result (TakesLine line.now self.old self.new) }
         ensures err { IfErr result (IsFaultOf (group_entry (is_full self.old) line.now)) }
     {

@@ -4,7 +4,7 @@ ghost use Rattle.pvlist.specs.Keywords.{is_keyword, is_order_line, keyword_of, o
 
 use crate::groups::GroupRight;
 use crate::rules::Order;
-use crate::words::Words;
+use crate::words::RuleWords;
 
 /// What a row does with a name, by its second word.
 #[derive(Clone, Copy, Debug, PartialEq, Eq)]
@@ -46,7 +46,7 @@ pub(crate) fn is_order_line(first: &str, second: &str) -> bool
 }
 
 /// The order that the rest of an order line gives.
-pub(crate) fn read_order(mut words: Words) -> Option<Order>
+pub(crate) fn read_order(mut words: RuleWords) -> Option<Order>
     ensures { result ≡ order_of words.entry }
 {
     let first = words.next()?;

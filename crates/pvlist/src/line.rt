@@ -3,12 +3,12 @@ ghost use Rattle.std.specs.Prelude.{false, IfOk, IfErr};
 ghost use Rattle.pvlist.specs.Words.{words, first_word};
 ghost use Rattle.pvlist.specs.RuleLine.{entry, words_entry, IsItem, IsItemOf, IsFaultOf, HasRoom};
 
-use crate::fault::{LineFault, RuleCause};
+use crate::fault::{RuleCause, RuleLineFault};
 use crate::keyword::{Keyword, is_order_line, read_order};
 use crate::row::Row;
 use crate::rules::Order;
 use crate::syntax::Syntax;
-use crate::words::Words;
+use crate::words::RuleWords;
 use std::alloc::Global;
 
 /// How many bytes a line has at most, without its end.
@@ -31,23 +31,23 @@ pub(crate) fn read_line(
     line: &str,
     syntax: Syntax,
     full: bool,
-) -> Result<Item, LineFault>
+) -> Result<Item, RuleLineFault>
     ensures ok { IfOk result (IsItem syntax line.now) }
     ensures room { IfOk result (HasRoom full) }
     ensures err { IfErr result (IsFaultOf syntax (first_word (words line.now)) (entry syntax full line.now)) }
 {
     if line.len() > LINE_LIMIT {
-        return Err(LineFault::Cause(RuleCause::LineTooLong));
+        return Err(RuleLineFault::Cause(RuleCause::LineTooLong));
     }
-    read_words(alloc, Words::new(line), syntax, full)
+    read_words(alloc, RuleWords::new(line), syntax, full)
 }
 
 fn read_words(
     alloc: Global,
-    mut words: Words,
+    mut words: RuleWords,
     syntax: Syntax,
     full: bool,
-) -> Result<Item, LineFault>
+) -> Result<Item, RuleLineFault>
     ensures ok { IfOk result (IsItemOf syntax (first_word words.entry) (words_entry syntax false words.entry)) }
     ensures room { IfOk result (HasRoom full) }
     ensures err { IfErr result (IsFaultOf syntax (first_word words.entry) (words_entry syntax full words.entry)) }
@@ -56,7 +56,7 @@ fn read_words(
         return Ok(Item::Nothing);
     };
     let Some(second) = words.next() else {
-        return Err(LineFault::Cause(RuleCause::NoVerb));
+        return Err(RuleLineFault::Cause(RuleCause::NoVerb));
     };
     if is_order_line(first, second) {
         let order = read_order(words.between_commas()).ok_or(RuleCause::BadOrder)?;
@@ -64,7 +64,7 @@ fn read_words(
     }
     let keyword = Keyword::read(second).ok_or(RuleCause::NoVerb)?;
     if full {
-        return Err(LineFault::Cause(RuleCause::TooManyLines));
+        return Err(RuleLineFault::Cause(RuleCause::TooManyLines));
     }
     let row = Row::read(alloc, first, syntax, keyword, words)?;
     Ok(Item::Row(row))

@@ -3,8 +3,8 @@ ghost use Rattle.std.specs.Prelude.{◌≡◌, ◌∷◌, string_bytes, option_m
 ghost use Rattle.pvlist.specs.Fault.{Lacks};
 ghost use Rattle.pvlist.specs.RealText.{is_reference, is_real_text, real_text_of};
 
-use crate::fault::{LineFault, RuleCause};
-use crate::words::Words;
+use crate::fault::{RuleCause, RuleLineFault};
+use crate::words::RuleWords;
 use std::alloc::Global;
 use std::marker::Model;
 
@@ -37,13 +37,13 @@ pub(crate) fn read_real_text(
     alloc: Global,
     groups: usize,
     word: Option<&str>,
-) -> Result<RealText, LineFault>
+) -> Result<RealText, RuleLineFault>
     ensures ok { IfOk result (λ real. real_text_of groups (option_map (λ w. w.now) word.entry) ≡ Some real) }
     ensures bad { IfErr result (Lacks RuleCause.BadReference (real_text_of groups (option_map (λ w. w.now) word.entry))) }
 {
     let word = word.ok_or(RuleCause::BadReference)?;
     if !is_real_text(groups, word.as_bytes()) {
-        return Err(LineFault::Cause(RuleCause::BadReference));
+        return Err(RuleLineFault::Cause(RuleCause::BadReference));
     }
     Ok(RealText {
         text: String::from_str(alloc, word)?,

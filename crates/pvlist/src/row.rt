@@ -4,7 +4,7 @@ ghost use Rattle.pvlist.specs.declared.keyword.Keyword.TheVariants.{Allow, Alias
 ghost use Rattle.pvlist.specs.RuleLine.{row_entry, IsRow, IsFaultOf};
 
 use crate::compiled::Compiled;
-use crate::fault::LineFault;
+use crate::fault::RuleLineFault;
 use crate::group_word::read_group;
 use crate::host_words::read_hosts;
 use crate::hosts::Hosts;
@@ -12,7 +12,7 @@ use crate::keyword::Keyword;
 use crate::pattern::Pattern;
 use crate::real_text::{RealText, read_real_text};
 use crate::syntax::Syntax;
-use crate::words::Words;
+use crate::words::RuleWords;
 use pv_name::Group;
 use std::alloc::Global;
 
@@ -41,8 +41,8 @@ impl Row {
         pattern: &str,
         syntax: Syntax,
         keyword: Keyword,
-        words: Words,
-    ) -> Result<Row, LineFault>
+        words: RuleWords,
+    ) -> Result<Row, RuleLineFault>
         ensures ok { IfOk result (IsRow syntax pattern.now (row_entry syntax pattern.now keyword words.entry)) }
         ensures err { IfErr result (IsFaultOf syntax pattern.now (row_entry syntax pattern.now keyword words.entry)) }
     {
@@ -57,8 +57,8 @@ impl Row {
         alloc: Global,
         pattern: &str,
         syntax: Syntax,
-        words: Words,
-    ) -> Result<Row, LineFault>
+        words: RuleWords,
+    ) -> Result<Row, RuleLineFault>
         ensures ok { IfOk result (IsRow syntax pattern.now (row_entry syntax pattern.now Allow words.entry)) }
         ensures err { IfErr result (IsFaultOf syntax pattern.now (row_entry syntax pattern.now Allow words.entry)) }
     {
@@ -74,8 +74,8 @@ impl Row {
         alloc: Global,
         pattern: &str,
         syntax: Syntax,
-        mut words: Words,
-    ) -> Result<Row, LineFault>
+        mut words: RuleWords,
+    ) -> Result<Row, RuleLineFault>
         ensures ok { IfOk result (IsRow syntax pattern.now (row_entry syntax pattern.now Alias words.entry)) }
         ensures err { IfErr result (IsFaultOf syntax pattern.now (row_entry syntax pattern.now Alias words.entry)) }
     {
@@ -93,8 +93,8 @@ impl Row {
         alloc: Global,
         pattern: &str,
         syntax: Syntax,
-        words: Words,
-    ) -> Result<Row, LineFault>
+        words: RuleWords,
+    ) -> Result<Row, RuleLineFault>
         ensures ok { IfOk result (IsRow syntax pattern.now (row_entry syntax pattern.now Deny words.entry)) }
         ensures err { IfErr result (IsFaultOf syntax pattern.now (row_entry syntax pattern.now Deny words.entry)) }
     {

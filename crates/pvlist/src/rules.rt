@@ -4,7 +4,7 @@ ghost use Rattle.std.specs.Str.Lines.{lines};
 ghost use Rattle.pvlist.specs.declared.rules.Order.TheVariants.{AllowDeny};
 ghost use Rattle.pvlist.specs.RuleFile.{IsRulingOf, IsRuleFault, TakesLine, IsLineFault};
 
-use crate::fault::{LineFault, RuleFault};
+use crate::fault::{RuleFault, RuleLineFault};
 use crate::line::{Item, ROW_LIMIT, read_line};
 use crate::row::Row;
 use crate::syntax::Syntax;
@@ -86,7 +86,7 @@ impl Rules {
     }
 
     // Takes up what the next line of a file says.
-    fn take_line(&mut self, alloc: Global, line: &str, syntax: Syntax) -> Result<(), LineFault>
+    fn take_line(&mut self, alloc: Global, line: &str, syntax: Syntax) -> Result<(), RuleLineFault>
         ensures ok { OnOk result (TakesLine syntax line.now self.old self.new) }
         ensures err { IfErr result (IsLineFault syntax self.old line.now) }
     {

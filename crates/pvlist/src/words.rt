@@ -7,13 +7,13 @@ use std::marker::Model;
 
 /// The words of a line, one after another. A contract sees those that are left.
 #[derive(Drop)]
-pub(crate) struct Words<'a> {
+pub(crate) struct RuleWords<'a> {
     rest: Option<&'a str>,
     // Whether commas part words, as blanks do.
     commas: bool,
 }
 
-impl<'a> Model for Words<'a> {
+impl<'a> Model for RuleWords<'a> {
     ghost use Rattle.std.specs.Prelude.{ℕ, List, option_map};
     ghost use Rattle.pvlist.specs.Separators.{words_left};
 
@@ -22,12 +22,12 @@ impl<'a> Model for Words<'a> {
     ghost view = { λ w. words_left w.commas (option_map (λ text. text.now) w.rest) };
 }
 
-impl<'a> Words<'a> {
+impl<'a> RuleWords<'a> {
     /// All words of the line, which blanks part.
     pub(crate) fn new(line: &'a str) -> Self
         ensures { result ≡ words line.now }
     {
-        Words {
+        RuleWords {
             rest: Some(without_comment(line)),
             commas: false,
         }
@@ -37,7 +37,7 @@ impl<'a> Words<'a> {
     pub(crate) fn between_commas(self) -> Self
         ensures { result ≡ between_commas self.entry }
     {
-        Words {
+        RuleWords {
             rest: self.rest,
             commas: true,
         }

@@ -1,1 +1,12 @@
 pub mod Beginning
+pub mod Script
+pub mod Reading
+pub mod Replay
+pub mod Played
+pub mod Editing
+pub mod Performing
+pub mod Player
+pub mod Printing
+pub mod Receiving
+pub mod Ending
+pub mod Performed

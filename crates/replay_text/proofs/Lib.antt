@@ -1,3 +1,2 @@
-mod OutputLemmas
+pub mod OutputLemmas
 mod WordsLemmas
-mod ValuesLemmas

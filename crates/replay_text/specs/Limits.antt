@@ -1,9 +1,10 @@
 -- The limits that a script can change.
 use Rattle.std.specs.Prelude.{ℕ, Bool, if◌then◌else◌, List, codes, bytes_eq, Option, Some, None, option_map, option_and_then}
+use Rattle.decimal_text.specs.Numbers.{number_of}
 use Rattle.gateway_state.specs.declared.limits.Limits.{Limits}
 use Rattle.replay_text.specs.declared.limit.NewLimit.{NewLimit}
 use Rattle.replay_text.specs.declared.limit.NewLimit.TheVariants.{Sessions, Servers, Links, Searches, Share, Channels, Subscriptions, Reads, Writes, Messages, UpdateBytes, MakesRoom, ReusesNumbers, PassesOverGone, TellsUnreadable}
-use Rattle.replay_text.specs.Values.{flag_of, number_of}
+use Rattle.replay_text.specs.Values.{flag_of}
 
 -- a limit that holds or doesn't, by its name
 abbrev pub flag_limit : List ℕ → Bool → Option NewLimit

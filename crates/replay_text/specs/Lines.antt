@@ -1,6 +1,7 @@
 -- What a line of a script asks for.
 use Rattle.std.specs.Prelude.{◌≡◌, ℕ, Bool, true, ◌==◌, if◌then◌else◌, List, [], ◌∷◌, codes, bytes_eq, Option, Some, None, option_map, option_and_then, Result, Ok, Err}
 use Rattle.std.specs.List.{slice_split}
+use Rattle.decimal_text.specs.Numbers.{number_of}
 use Rattle.gateway_state.specs.declared.event.Dest.{Dest}
 use Rattle.gateway_state.specs.declared.event.Dest.TheVariants as dests
 use Rattle.replay_text.specs.declared.command.Command.{Command}
@@ -10,7 +11,7 @@ use Rattle.replay_text.specs.declared.line.Line.TheVariants as lines
 use Rattle.replay_text.specs.declared.values.LineFault.{LineFault}
 use Rattle.replay_text.specs.declared.values.LineFault.TheVariants.{Bad, OutOfMemory}
 use Rattle.replay_text.specs.Limits.{limit_named}
-use Rattle.replay_text.specs.Values.{number_of, dest_of, session_of, server_of, name_of, host_of, bytes_of}
+use Rattle.replay_text.specs.Values.{dest_of, session_of, server_of, name_of, host_of, bytes_of}
 use Rattle.replay_text.specs.Words.{is_blank, first, after_first, no_word, one_word, two_words, four_words}
 
 -- a text is read exactly where it has a meaning, as what it means, but for want of memory

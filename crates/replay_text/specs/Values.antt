@@ -1,9 +1,7 @@
 -- What the words of a line stand for.
-use Rattle.std.specs.Prelude.{ℕ, Bool, true, false, ◌^◌, ◌==◌, ◌&&◌, nat_lt, if◌then◌else◌, List, [], ◌∷◌, length, bytes_eq, Option, Some, None, option_map, option_and_then}
-use Rattle.std.specs.Char.{is_digit}
-use Rattle.std.specs.List.{list_all}
-use Rattle.std.specs.Str.Parse.{digits_value}
+use Rattle.std.specs.Prelude.{ℕ, Bool, true, false, ◌==◌, if◌then◌else◌, List, [], ◌∷◌, length, bytes_eq, Option, Some, None, option_map, option_and_then}
 use Rattle.std.specs.Result.{result_ok}
+use Rattle.decimal_text.specs.Numbers.{number_of}
 use Rattle.hex.specs.Hex.{decode_of}
 use Rattle.hex.specs.declared.error.FromHexError.{FromHexError}
 use Rattle.hex.specs.declared.error.FromHexError.TheVariants as hex_faults
@@ -15,19 +13,6 @@ use Rattle.gateway_state.specs.declared.event.Dest.{Dest}
 use Rattle.gateway_state.specs.declared.event.Dest.TheVariants.{Session, Upstream}
 use Rattle.replay_text.specs.declared.values.LineFault.{LineFault}
 use Rattle.replay_text.specs.declared.values.LineFault.TheVariants.{Bad, OutOfMemory}
-
--- the number that decimal digits write: one digit or more, and nothing else
-abbrev pub numeral : List ℕ → Option ℕ
-numeral digits =
-    if nat_lt 0 (length digits) && list_all (λ digit. is_digit digit 10) digits then Some (digits_value 10 digits) else None
-
--- a number that fits so many bits
-abbrev pub fitting : ℕ → ℕ → Option ℕ
-fitting bits n = if nat_lt n (2 ^ bits) then Some n else None
-
--- the number of so many bits that a word writes
-abbrev pub number_of : ℕ → List ℕ → Option ℕ
-number_of bits word = option_and_then (fitting bits) (numeral word)
 
 -- whether something holds: `1` (49) where it does, `0` (48) where it doesn't
 abbrev pub flag_of : List ℕ → Option Bool

@@ -3,7 +3,8 @@ ghost use Rattle.std.specs.Prelude.{◌≡◌};
 ghost use Rattle.replay_text.specs.Limits.{flag_limit, limit_named, session_limit, with_limit};
 ghost use Rattle.replay_text.specs.Values.{flag_of};
 
-use crate::values::{count, flag, long_number, number};
+use crate::values::{count, flag};
+use decimal_text::{read_u32, read_u64};
 use gateway_state::Limits;
 
 /// A limit, and what it is from now on.
@@ -98,9 +99,9 @@ fn session_limit(name: &[u8], value: &[u8]) -> Option<NewLimit>
     } else if name == b"writes".as_slice() {
         Some(NewLimit::Writes(count(value)?))
     } else if name == b"messages".as_slice() {
-        Some(NewLimit::Messages(number(value)?))
+        Some(NewLimit::Messages(read_u32(value)?))
     } else if name == b"update-bytes".as_slice() {
-        Some(NewLimit::UpdateBytes(long_number(value)?))
+        Some(NewLimit::UpdateBytes(read_u64(value)?))
     } else {
         new_flag(name, flag(value)?)
     }

@@ -7,10 +7,9 @@ ghost use Rattle.replay_text.specs.Words.{is_blank};
 use crate::command::Command;
 use crate::limit::{NewLimit, new_limit};
 use crate::piece::Piece;
-use crate::values::{
-    LineFault, bytes, count, dest, host, name, number, server, session, type_number,
-};
+use crate::values::{LineFault, bytes, count, dest, host, name, server, session};
 use crate::words::Words;
+use decimal_text::{read_u16, read_u32};
 use gateway_state::Dest;
 use pv_name::{Host, Name};
 use std::alloc::Global;
@@ -240,7 +239,7 @@ fn read(words: Words) -> Option<Line>
 {
     let (of, form) = words.four()?;
     let (session, sid) = channel(of)?;
-    let (dtype, count) = (type_number(form.0)?, number(form.1)?);
+    let (dtype, count) = (read_u16(form.0)?, read_u32(form.1)?);
     Some(Line::Read {
         session,
         sid,
@@ -274,7 +273,7 @@ fn rights(words: Words) -> Option<Line>
 fn channel(words: (&[u8], &[u8])) -> Option<(u32, u32)>
     ensures { result ≡ channel_of (words.entry.0.now, words.entry.1.now) }
 {
-    Some((session(words.0)?, number(words.1)?))
+    Some((session(words.0)?, read_u32(words.1)?))
 }
 
 fn drain(words: Words) -> Option<Line>
@@ -301,5 +300,5 @@ fn age(words: Words) -> Option<Line>
 fn probe(words: Words) -> Option<Line>
     ensures { result ≡ probe_line words.entry }
 {
-    Some(Line::Probe(number(words.one()?)?))
+    Some(Line::Probe(read_u32(words.one()?)?))
 }

@@ -1,14 +1,15 @@
 //! What the words of a line stand for.
 ghost use Rattle.std.specs.Prelude.{◌≡◌};
+ghost use Rattle.decimal_text.specs.Numbers.{number_of};
 ghost use Rattle.replay_text.specs.Lines.{IsRead};
-ghost use Rattle.replay_text.specs.Values.{number_of, flag_of, dest_of, session_of, server_of, name_of, host_of, bytes_of};
+ghost use Rattle.replay_text.specs.Values.{flag_of, dest_of, session_of, server_of, name_of, host_of, bytes_of};
 
 use crate::piece::Piece;
+use decimal_text::{read_u32, read_u64};
 use gateway_state::Dest;
 use hex::FromHexError;
 use pv_name::{Host, Name, NameFault};
 use std::alloc::Global;
-use std::str;
 use thiserror::Error;
 
 /// Why a line can't be read.
@@ -54,8 +55,8 @@ pub fn dest(word: &[u8]) -> Option<Dest>
     ensures { result ≡ dest_of word.now }
 {
     match word {
-        [b's', digits @ ..] => Some(Dest::Session(number(digits)?)),
-        [b'u', digits @ ..] => Some(Dest::Upstream(number(digits)?)),
+        [b's', digits @ ..] => Some(Dest::Session(read_u32(digits)?)),
+        [b'u', digits @ ..] => Some(Dest::Upstream(read_u32(digits)?)),
         _ => None,
     }
 }
@@ -80,25 +81,11 @@ pub fn server(word: &[u8]) -> Option<u32>
     }
 }
 
-/// The number of 32 bits that a word writes: a channel's ID, or a count of elements.
-pub fn number(word: &[u8]) -> Option<u32>
-    ensures { result ≡ number_of 32 word.now }
-{
-    u32::try_from(long_number(word)?).ok()
-}
-
-/// The number of a DBR type that a word writes.
-pub fn type_number(word: &[u8]) -> Option<u16>
-    ensures { result ≡ number_of 16 word.now }
-{
-    u16::try_from(long_number(word)?).ok()
-}
-
 /// The number of messages or of lines that a word writes.
 pub fn count(word: &[u8]) -> Option<usize>
     ensures { result ≡ number_of 64 word.now }
 {
-    usize::try_from(long_number(word)?).ok()
+    usize::try_from(read_u64(word)?).ok()
 }
 
 /// Whether something holds: `1` where it does, `0` where it doesn't.
@@ -135,18 +122,5 @@ pub fn bytes(alloc: Global, word: &[u8]) -> Result<Piece, LineFault>
         b"-" => Ok(Piece::from(Vec::new(alloc))),
         b"" => Err(LineFault::Bad),
         digits => Ok(Piece::from(hex::decode(alloc, digits)?)),
-    }
-}
-
-/// The number that decimal digits write, and nothing but digits: no sign.
-pub fn long_number(digits: &[u8]) -> Option<u64>
-    ensures { result ≡ number_of 64 digits.now }
-{
-    if digits.starts_with(b"+") {
-        return None;
-    }
-    match str::from_utf8(digits) {
-        Ok(text) => text.parse().ok(),
-        Err(_) => None,
     }
 }

@@ -1,5 +1,5 @@
 -- Places that agree with slots, after each change.
-use Rattle.std.proofs.Common.{◌≡◌, ℕ, true, false, ◌+◌, ◌/◌, ◌<◌, ◌≤◌, List, [], ◌∷◌, ◌++◌, length, get_or, set, take, cond, Some, None, refl, sym, ap, subst, ◌∙◌, arith, length-append, length-set}
+use Rattle.std.proofs.Common.{◌≡◌, ℕ, true, false, ◌+◌, ◌*◌, ◌/◌, max, ◌<◌, ◌≤◌, List, [], ◌∷◌, ◌++◌, length, get_or, set, take, cond, Some, None, refl, sym, ap, subst, ◌∙◌, arith, length-append, length-set}
 use Rattle.std.proofs.lemmas.List.{take_more, length-take-le, set-get_or}
 use Rattle.std.specs.List.{find}
 use Rattle.std.specs.Map.{lookup}
@@ -75,36 +75,38 @@ module _ {V : Type 0} (slots : List (Slot V)) (i : ℕ) (d : Slot V) (places : L
   agrees_past within here agrees = rw (take_more slots i d within, here) (agrees_empty (take i slots) places agrees)
 
 -- a slot that is written as it was
-pub bounded_same : {V : Type 0} (slots : List (Slot V)) (places : List (Key × ℕ)) (i : ℕ) (slot : Slot V) → slot ≡ get_or slots i slot → IsBounded slots places → IsBounded (set slots i slot) places
-bounded_same slots places i slot here bounded =
-    subst (λ s. IsBounded s places) (sym (ap (set slots i) here ∙ set-get_or slots i slot)) bounded
+pub bounded_same : {V : Type 0} (slots : List (Slot V)) (places : List (Key × ℕ)) (spots : ℕ) (i : ℕ) (slot : Slot V) → slot ≡ get_or slots i slot → IsBounded slots places spots → IsBounded (set slots i slot) places spots
+bounded_same slots places spots i slot here bounded =
+    subst (λ s. IsBounded s places spots) (sym (ap (set slots i) here ∙ set-get_or slots i slot)) bounded
 
-module _ {V : Type 0} (key : Key) (slots : List (Slot V)) (places : List (Key × ℕ)) (bounded : IsBounded slots places) where
+module _ {V : Type 0} (key : Key) (slots : List (Slot V)) (places : List (Key × ℕ)) (spots : ℕ) (bounded : IsBounded slots places spots) where
   -- with another value there are as many slots and rows
-  pub bounded_put : (i : ℕ) (d : Slot V) (w : V) → place_of key slots ≡ Some i → IsBounded (set slots i (with_value (get_or slots i d) w)) places
+  pub bounded_put : (i : ℕ) (d : Slot V) (w : V) → place_of key slots ≡ Some i → IsBounded (set slots i (with_value (get_or slots i d) w)) places spots
   bounded_put i d w at =
       let put = agrees_put key slots places bounded.agrees i d w at in
       let long = length-set slots i (with_value (get_or slots i d) w) in
       let was = bounded.agrees.count in
       let is = put.count in
       let few = bounded.few in
-      record { agrees = put; few = omega arith }
+      let spare = bounded.spare in
+      record { agrees = put; few = omega arith; spare = omega arith }
 
   -- one slot more is one row more
-  pub bounded_more : (value : V) (new : List (Key × ℕ)) → value_at key (filled slots) ≡ None → ((q : Key) → lookup (same_key q) new ≡ cond (same_key key q) (Some (length slots)) (lookup (same_key q) places)) → length new ≡ length places + 1 → IsBounded (slots ++ Full key value ∷ []) new
-  bounded_more value new fresh updates more =
+  pub bounded_more : (value : V) (new : List (Key × ℕ)) (more_spots : ℕ) → value_at key (filled slots) ≡ None → ((q : Key) → lookup (same_key q) new ≡ cond (same_key key q) (Some (length slots)) (lookup (same_key q) places)) → length new ≡ length places + 1 → more_spots ≤ max spots (4 * length (slots ++ Full key value ∷ []) + 16) → IsBounded (slots ++ Full key value ∷ []) new more_spots
+  bounded_more value new more_spots fresh updates more room =
       let agrees = agrees_more key slots places bounded.agrees value new fresh updates more in
       let long = length-append slots (Full key value ∷ []) in
       let was = bounded.agrees.count in
       let is = agrees.count in
       let few = bounded.few in
-      record { agrees = agrees; few = omega arith }
+      let spare = bounded.spare in
+      record { agrees = agrees; few = omega arith; spare = omega (arith, room) }
 
-module _ {V : Type 0} (slots : List (Slot V)) (places : List (Key × ℕ)) (agrees : Agrees slots places) where
+module _ {V : Type 0} (slots : List (Slot V)) (places : List (Key × ℕ)) (spots : ℕ) (agrees : Agrees slots places) (spare : spots ≤ 4 * length slots + 16) where
   -- no more than half of the slots are empty
-  pub bounded_half : (n : ℕ) → n ≡ length slots → n / 2 ≤ length places → IsBounded slots places
-  bounded_half n long half = let rows = agrees.count in record { agrees = agrees; few = omega arith }
+  pub bounded_half : (n : ℕ) → n ≡ length slots → n / 2 ≤ length places → IsBounded slots places spots
+  bounded_half n long half = let rows = agrees.count in record { agrees = agrees; few = omega arith; spare = spare }
 
   -- no slot is empty
-  pub bounded_tight : length slots ≡ length (filled slots) → IsBounded slots places
-  bounded_tight tight = record { agrees = agrees; few = omega arith }
+  pub bounded_tight : length slots ≡ length (filled slots) → IsBounded slots places spots
+  bounded_tight tight = record { agrees = agrees; few = omega arith; spare = spare }

@@ -1,9 +1,9 @@
 -- Lists under names, as a map holds them.
-use Rattle.std.proofs.Common.{◌≡◌, ℕ, List, [], ◌∷◌, Bool, true, false, cond, Option, Some, None, refl, sym, ap, ◌∙◌, ◌++◌, ◌==◌, true≢false, bytes_eq, length, arith}
+use Rattle.std.proofs.Common.{◌≡◌, ◌≤◌, ◌+◌, ◌*◌, max, nat_eq, ℕ, List, [], ◌∷◌, Bool, true, false, cond, Option, Some, None, refl, sym, ap, ◌∙◌, ◌++◌, ◌==◌, true≢false, bytes_eq, length, arith}
 use Rattle.std.specs.Cmp.Lexicographic.{bytes_decides}
 use Rattle.std.specs.Map.{lookup}
 use Rattle.std.specs.Option.{unwrap_or}
-use Rattle.row_index.specs.Lists.{listed, HasNoEmptyList}
+use Rattle.row_index.specs.Lists.{listed, HasNoEmptyList, IsKept}
 
 module _ {K X : Type 0} (eq : K → K → Bool) (same : (a b : K) → eq a b ≡ true → a ≡ b) where
   -- the list that the map has under a name
@@ -87,3 +87,11 @@ no_items (x ∷ xs) e = absurd (omega arith)
 
 pub same_bytes : (a b : List ℕ) → bytes_eq a b ≡ true → a ≡ b
 same_bytes a b e = (bytes_decides a b).0 e
+
+-- with as many lists there may be as many spots for hints
+pub kept_as_long : (old new : List (ℕ × List ℕ)) (spots : ℕ) → IsKept old spots → HasNoEmptyList nat_eq new → length new ≡ length old → IsKept new spots
+kept_as_long old new spots kept filled same = let spare = kept.spare in record { filled = filled; spare = omega (arith, same, spare) }
+
+-- and with more lists more
+pub kept_longer : (old new : List (ℕ × List ℕ)) (spots more more_spots : ℕ) → IsKept old spots → HasNoEmptyList nat_eq new → length new ≡ length old + more → more_spots ≤ max spots (4 * length new + 16) → IsKept new more_spots
+kept_longer old new spots more more_spots kept filled longer room = let spare = kept.spare in record { filled = filled; spare = omega (arith, longer, room, spare) }

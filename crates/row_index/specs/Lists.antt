@@ -1,5 +1,5 @@
 -- Lists, each under a name or a number.
-use Rattle.std.specs.Prelude.{◌≡◌, ℕ, List, [], ◌∷◌, ◌++◌, Bool, not, bytes_eq, ◌==◌, nat_eq, None, if◌then◌else◌}
+use Rattle.std.specs.Prelude.{◌≡◌, ◌≤◌, ◌+◌, ◌*◌, ℕ, List, [], ◌∷◌, ◌++◌, length, Bool, not, bytes_eq, ◌==◌, nat_eq, None, if◌then◌else◌}
 use Rattle.std.specs.List.{filter}
 use Rattle.std.specs.Map.{lookup}
 use Rattle.std.specs.Option.{unwrap_or}
@@ -18,6 +18,11 @@ module _ {K X : Type 0} (eq : K → K → Bool) where
   -- a name under which nothing is listed has no list
   abbrev pub HasNoEmptyList : List (K × List X) → Type 0
   HasNoEmptyList lists = (n : K) → listed lists n ≡ [] → lookup (eq n) lists ≡ None
+
+-- no owner has an empty list, and so many spots for hints are at most four for each list, and 16
+pub record IsKept (lists : List (ℕ × List ℕ)) (spots : ℕ) : Type 0 where
+  pub filled : HasNoEmptyList nat_eq lists
+  pub spare : spots ≤ 4 * length lists + 16
 
 -- the list with one more, as its last
 abbrev pub with_last : {X : Type 0} → X → List X → List X

@@ -57,7 +57,9 @@ module _ {V : Type 0} where
     pub count : length places ≡ length (filled slots)
     pub apart : HasKeysApart (filled slots)
 
-  -- the same, and slots are at most twice as many as rows, and one
-  pub record IsBounded (slots : List (Slot V)) (places : List (Key × ℕ)) : Type 0 where
+  -- the same, and slots are at most twice as many as rows, and one; and so many spots for hints are at most four for each
+  -- slot, and 16
+  pub record IsBounded (slots : List (Slot V)) (places : List (Key × ℕ)) (spots : ℕ) : Type 0 where
     pub agrees : Agrees slots places
     pub few : length slots ≤ 2 * length (filled slots) + 1
+    pub spare : spots ≤ 4 * length slots + 16

@@ -14,7 +14,11 @@
 //! - An [`OwnerKeys`] has such a list for each owner, by its number: the keys of rows that an owner has
 //!   and that stand under the keys of others.
 //! - [`NameHints`] beside a map by names spare it most of its hashing. Nothing is promised of them but that
-//!   what they find is what the map has.
+//!   what they find is what the map has, and how many spots they take.
+//!
+//! What goes leaves room behind, of which invariants say how much: slots are at most twice the rows and one, of
+//! a list at most half went, and spots for hints are at most four for each slot, or list, and 16. For names, whose
+//! map stands elsewhere, the clauses of `note` and `note_last` say it.
 //!
 //! `add` may be refused memory, and then changes nothing. `remove` takes none. A contract sees a
 //! `RowMap` as the list of its entries, each a key and a value (`specs/Rows.antt`), `NameLists` by the

@@ -1,11 +1,13 @@
 //! Hints of where names stand in a map.
-ghost use Rattle.std.specs.Prelude.{◌≡◌, ◌<◌, bytes_eq, length};
+ghost use Rattle.std.specs.Prelude.{◌≡◌, ◌<◌, ◌≤◌, ◌+◌, ◌*◌, max, bytes_eq, length};
+ghost use Rattle.std.specs.Bool.{OnTrue, OnFalse};
 ghost use Rattle.std.specs.Option.{option_copied};
-ghost use Rattle.indexmap.specs.IndexMap.{get};
+ghost use Rattle.indexmap.specs.IndexMap.{get, index_map_len};
 
 use indexmap::IndexMap;
 use pv_name::Name;
 use std::alloc::Global;
+use std::marker::Model;
 
 /// No place: no entry is so far back.
 const NOWHERE: u32 = u32::MAX;
@@ -18,15 +20,26 @@ const SPREAD: u64 = 0x9E37_79B9_7F4A_7C15;
 
 /// Where names were put: a look-up that finds its name there is spared the map's own hashing and probing.
 /// Each name has two spots. A hint may be old, or that of another name: whoever takes one looks at the entry
-/// there first. So a wrong one costs no more than time, and nothing is promised of hints.
+/// there first. So a wrong one costs no more than time, and nothing is promised of hints but how much memory
+/// they take: contracts see the number of spots.
 #[derive(Drop)]
 pub struct NameHints {
     spots: Vec<u32>,
 }
 
+impl Model for NameHints {
+    ghost use Rattle.std.specs.Prelude.{ℕ, length};
+
+    ghost Value = { ℕ };
+
+    ghost view = { λ h. length h.spots.items };
+}
+
 impl NameHints {
     /// No hint. This takes no memory.
-    pub fn new(alloc: Global) -> NameHints {
+    pub fn new(alloc: Global) -> NameHints
+        ensures { result ≡ 0 }
+    {
         NameHints {
             spots: Vec::new(alloc),
         }
@@ -72,9 +85,45 @@ impl NameHints {
         }
     }
 
-    /// Notes where the name stands that this place has now, if any: at its first spot, unless a place that
-    /// has a name is noted there.
-    pub fn note<V>(&mut self, map: &IndexMap<Name, V>, place: usize) {
+    /// Notes where the name stands that this place has now, if any, and where all others do if too many spots
+    /// are left over. This takes no memory.
+    pub fn note<V>(&mut self, map: &IndexMap<Name, V>, place: usize)
+        ensures { self.new ≤ 4 * index_map_len map.now + 16 }
+    {
+        if self.is_wide(map.len()) {
+            self.note_all(map);
+        } else {
+            self.note_at(map, place);
+        }
+    }
+
+    /// Notes where the last name stands, and where all others do if there are more spots now. Where memory
+    /// is refused for these there are as many as before.
+    pub fn note_last<V>(&mut self, map: &IndexMap<Name, V>)
+        ensures { self.new ≤ max self.old (4 * index_map_len map.now + 16) }
+    {
+        if self.widen(map.len()) {
+            self.note_all(map);
+        } else {
+            self.note_at(map, map.len().saturating_sub(1));
+        }
+    }
+
+    // Notes where all names stand.
+    fn note_all<V>(&mut self, map: &IndexMap<Name, V>)
+        ensures { self.new ≤ 4 * index_map_len map.now + 16 }
+    {
+        self.begin(map.len());
+        for place in 0..map.len() {
+            self.note_at(map, place);
+        }
+    }
+
+    // Notes where the name of this place stands: at its first spot, unless a place that has a name is noted
+    // there.
+    fn note_at<V>(&mut self, map: &IndexMap<Name, V>, place: usize)
+        ensures { self.new ≡ self.old }
+    {
         let Some((name, _)) = map.get_index(place) else {
             return;
         };
@@ -87,38 +136,43 @@ impl NameHints {
         }
     }
 
-    fn put(&mut self, mix: usize, place: usize) {
+    fn put(&mut self, mix: usize, place: usize)
+        ensures { self.new ≡ self.old }
+    {
         let spot = mix & self.spots.len().wrapping_sub(1);
         if let Some(noted) = self.spots.get_mut(spot) {
             *noted = place.min(NOWHERE as usize) as u32;
         }
     }
 
-    /// Notes where the last name stands, and where all others do if there are more spots now. Where memory
-    /// is refused for these there are as many as before.
-    pub fn note_last<V>(&mut self, map: &IndexMap<Name, V>) {
-        if self.widen(map.len()) {
-            for place in 0..map.len() {
-                self.note(map, place);
-            }
-        } else {
-            self.note(map, map.len().saturating_sub(1));
-        }
-    }
-
     // Takes memory for twice the spots, unless half of them are left over by so many names, and answers
     // whether it did.
-    fn widen(&mut self, names: usize) -> bool {
+    fn widen(&mut self, names: usize) -> bool
+        ensures widened { OnTrue result (self.new ≤ 4 * names + 16) }
+        ensures same { OnFalse result (self.new ≡ self.old) }
+    {
         let spots = self.spots.len();
         if names <= spots / 2 {
             return false;
         }
         let more = spots.saturating_mul(2).max(FEWEST);
-        let widened = self.spots.resize(more, NOWHERE).is_ok();
-        if widened {
-            self.spots.fill(NOWHERE);
-        }
-        widened
+        self.spots.resize(more, NOWHERE).is_ok()
+    }
+
+    // Whether many more spots are left over than suit so many names.
+    fn is_wide(&self, names: usize) -> bool
+        ensures { OnFalse result (self.now ≤ 4 * names + 16) }
+    {
+        self.spots.len() > names.saturating_mul(4).saturating_add(FEWEST)
+    }
+
+    // Forgets all hints, and leaves no more spots than suit so many names. It takes no memory.
+    fn begin(&mut self, names: usize)
+        ensures { self.new ≤ 4 * names + 16 }
+    {
+        let suits = names.saturating_mul(2).checked_next_power_of_two();
+        self.spots.truncate(suits.unwrap_or(usize::MAX).max(FEWEST));
+        self.spots.fill(NOWHERE);
     }
 }
 

@@ -1,8 +1,8 @@
 //! Lists of IDs by owners.
-ghost use Rattle.std.specs.Prelude.{◌≡◌, ◌≤◌, ℕ, [], None, OnOk, OnErr, nat_eq, length, if◌then◌else◌};
+ghost use Rattle.std.specs.Prelude.{◌≡◌, ◌≤◌, ◌+◌, ◌*◌, max, ℕ, [], None, OnOk, OnErr, nat_eq, length, if◌then◌else◌};
 ghost use Rattle.std.specs.List.{filter};
 ghost use Rattle.std.specs.Option.{option_copied};
-ghost use Rattle.indexmap.specs.IndexMap.{get};
+ghost use Rattle.indexmap.specs.IndexMap.{get, index_map_len};
 ghost use Rattle.row_index.specs.Lists.{of_owner, is_id, is_not_id, AddsToOwner, SameOwnerLists, Changes};
 
 use crate::hints::Hints;
@@ -22,13 +22,13 @@ pub(crate) struct OwnerIds {
 
 impl Model for OwnerIds {
     ghost use Rattle.std.specs.Prelude.{ℕ, List, nat_eq};
-    ghost use Rattle.row_index.specs.Lists.{HasNoEmptyList};
+    ghost use Rattle.row_index.specs.Lists.{IsKept};
 
     ghost Value = { List (ℕ × List ℕ) };
 
     ghost view = { λ l. l.lists.entries };
 
-    ghost invariant = { λ l. HasNoEmptyList nat_eq l.lists.entries };
+    ghost invariant = { λ l. IsKept l.lists.entries l.hints };
 }
 
 impl OwnerIds {
@@ -116,28 +116,52 @@ fn alone(owner: u32) -> Key {
 }
 
 // Notes where the owner stands that this place has now, if any.
-fn note(hints: &mut Hints, lists: &IndexMap<u32, IdList>, place: usize) {
+fn note(hints: &mut Hints, lists: &IndexMap<u32, IdList>, place: usize)
+    ensures { hints.new ≡ hints.old }
+{
     if let Some((owner, _)) = lists.get_index(place) {
         hints.note_first(alone(*owner), place);
     }
 }
 
 // Notes where the last owner stands, and where all others do if there are more spots now.
-fn note_last(hints: &mut Hints, lists: &IndexMap<u32, IdList>) {
+fn note_last(hints: &mut Hints, lists: &IndexMap<u32, IdList>)
+    ensures { hints.new ≤ max hints.old (4 * index_map_len lists.now + 16) }
+{
     if hints.widen(lists.len()) {
-        for place in 0..lists.len() {
-            note(hints, lists, place);
-        }
+        note_all(hints, lists);
     } else {
         note(hints, lists, lists.len().saturating_sub(1));
     }
 }
 
+// Notes where all owners stand.
+fn note_all(hints: &mut Hints, lists: &IndexMap<u32, IdList>)
+    ensures { hints.new ≤ 4 * index_map_len lists.now + 16 }
+{
+    hints.begin(lists.len());
+    for place in 0..lists.len() {
+        note(hints, lists, place);
+    }
+}
+
+// Notes where the owner stands that this place has now, and where all do if too many spots are left over.
+fn note_moved(hints: &mut Hints, lists: &IndexMap<u32, IdList>, place: usize)
+    ensures { hints.new ≤ 4 * index_map_len lists.now + 16 }
+{
+    if hints.is_wide(lists.len()) {
+        note_all(hints, lists);
+    } else {
+        note(hints, lists, place);
+    }
+}
+
 // Takes out an owner's list. The last one stands in its place then.
 fn forget(lists: &mut IndexMap<u32, IdList>, hints: &mut Hints, owner: u32)
-    ensures { (o : ℕ) → get nat_eq lists.new o ≡ (if nat_eq owner o then None else get nat_eq lists.old o) }
+    ensures lists { (o : ℕ) → get nat_eq lists.new o ≡ (if nat_eq owner o then None else get nat_eq lists.old o) }
+    ensures hints { hints.old ≤ 4 * index_map_len lists.old + 16 → hints.new ≤ 4 * index_map_len lists.new + 16 }
 {
     if let Some((place, _, _)) = lists.swap_remove_full(&owner) {
-        note(hints, lists, place);
+        note_moved(hints, lists, place);
     }
 }

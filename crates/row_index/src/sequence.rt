@@ -1,5 +1,5 @@
 //! Lists that give up their first ones.
-ghost use Rattle.std.specs.Prelude.{◌≡◌, ◌<◌, ◌≤◌, suc, [], ◌∷◌, ◌++◌, IfOk, OnOk, OnErr, length, take, drop};
+ghost use Rattle.std.specs.Prelude.{◌≡◌, ◌<◌, ◌≤◌, ◌*◌, suc, [], ◌∷◌, ◌++◌, IfOk, OnOk, OnErr, length, take, drop};
 ghost use Rattle.std.specs.List.{filter};
 ghost use Rattle.row_index.specs.Lists.{is_key, is_not_id, is_not_key};
 
@@ -17,13 +17,13 @@ pub struct Sequence<X> {
 }
 
 impl<X> Model for Sequence<X> {
-    ghost use Rattle.std.specs.Prelude.{◌≤◌, List, length, drop};
+    ghost use Rattle.std.specs.Prelude.{◌≤◌, ◌*◌, List, length, drop};
 
     ghost Value = { List X };
 
     ghost view = { λ l. drop l.gone l.items.items };
 
-    ghost invariant = { λ l. l.gone ≤ length l.items.items };
+    ghost invariant = { λ l. 2 * l.gone ≤ length l.items.items };
 }
 
 impl<X: Copy> Sequence<X> {
@@ -76,20 +76,10 @@ impl<X: Copy> Sequence<X> {
     {
         if place == 0 {
             self.gone += 1;
-            self.tighten();
         } else {
             self.items.remove(self.gone + place);
         }
-    }
-
-    // Gives back the memory of those that went, once they are more than half.
-    fn tighten(&mut self)
-        ensures { self.new ≡ self.old }
-    {
-        if self.gone > self.items.len() / 2 {
-            squeeze(&mut self.items, self.gone);
-            self.gone = 0;
-        }
+        tighten(&mut self.items, &mut self.gone);
     }
 }
 
@@ -123,6 +113,18 @@ impl Sequence<u32> {
         squeeze(&mut self.items, self.gone);
         self.gone = 0;
         keep_other_ids(&mut self.items, id);
+    }
+}
+
+// Gives back the memory of those that went, once they are more than half.
+fn tighten<X: Copy>(items: &mut Vec<X>, gone: &mut usize)
+    requires { gone.old ≤ length items.old.items }
+    ensures same { drop gone.new items.new.items ≡ drop gone.old items.old.items }
+    ensures few { 2 * gone.new ≤ length items.new.items }
+{
+    if *gone > items.len() / 2 {
+        squeeze(items, *gone);
+        *gone = 0;
     }
 }
 

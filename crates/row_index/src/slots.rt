@@ -1,5 +1,5 @@
 //! Rows in slots, with the place of each.
-ghost use Rattle.std.specs.Prelude.{◌≡◌, ◌+◌, ◌<◌, ◌≤◌, [], ◌∷◌, ◌++◌, Some, None, if◌then◌else◌, IfOk, OnOk, OnErr, length, map, filter_map, slice_get};
+ghost use Rattle.std.specs.Prelude.{◌≡◌, ◌+◌, ◌*◌, ◌<◌, ◌≤◌, max, [], ◌∷◌, ◌++◌, Some, None, if◌then◌else◌, IfOk, OnOk, OnErr, length, map, filter_map, slice_get};
 ghost use Rattle.std.specs.Bool.{OnTrue};
 ghost use Rattle.std.specs.List.{filter};
 ghost use Rattle.std.specs.Option.{option_copied, option_copied_mut};
@@ -35,7 +35,7 @@ impl<V> Model for Slots<V> {
 
     ghost view = { λ s. filled s.slots.items };
 
-    ghost invariant = { λ s. IsBounded s.slots.items s.places.entries };
+    ghost invariant = { λ s. IsBounded s.slots.items s.places.entries s.hints };
 }
 
 impl<V> Slots<V> {
@@ -254,6 +254,7 @@ fn take_out<V: Drop>(slots: &mut Vec<Slot<V>>, places: &mut IndexMap<Key, usize>
     requires agree { Agrees slots.old.items places.old.entries }
     ensures rows { filled slots.new.items ≡ filter (lacks_key key) (filled slots.old.items) }
     ensures agree { Agrees slots.new.items places.new.entries }
+    ensures count { length slots.new.items ≡ length slots.old.items }
 {
     if let Some(place) = places.swap_remove(&key) {
         slots[place] = Slot::Empty;
@@ -304,7 +305,9 @@ fn renew<V>(slots: &[Slot<V>], places: &mut IndexMap<Key, usize>)
 }
 
 // Notes where a new row stands, and where all others do if there are more spots now.
-fn note_new<V>(hints: &mut Hints, slots: &[Slot<V>], key: Key, place: usize) {
+fn note_new<V>(hints: &mut Hints, slots: &[Slot<V>], key: Key, place: usize)
+    ensures { hints.new ≤ max hints.old (4 * length slots.now + 16) }
+{
     if hints.widen(slots.len()) {
         note_all(hints, slots);
     } else {
@@ -313,7 +316,9 @@ fn note_new<V>(hints: &mut Hints, slots: &[Slot<V>], key: Key, place: usize) {
 }
 
 // Notes where all rows stand.
-fn note_all<V>(hints: &mut Hints, slots: &[Slot<V>]) {
+fn note_all<V>(hints: &mut Hints, slots: &[Slot<V>])
+    ensures { hints.new ≤ 4 * length slots.now + 16 }
+{
     hints.begin(slots.len());
     for (place, slot) in slots.iter().enumerate() {
         if let Slot::Full(key, _) = slot {
@@ -323,7 +328,9 @@ fn note_all<V>(hints: &mut Hints, slots: &[Slot<V>]) {
 }
 
 // Notes where a row stands: at the first spot of its key, unless a row that has not gone is noted there.
-fn note<V>(hints: &mut Hints, slots: &[Slot<V>], key: Key, place: usize) {
+fn note<V>(hints: &mut Hints, slots: &[Slot<V>], key: Key, place: usize)
+    ensures { hints.new ≡ hints.old }
+{
     match slots.get(hints.first(key)) {
         Some(slot) if slot.is_full() => hints.note_second(key, place),
         _ => hints.note_first(key, place),

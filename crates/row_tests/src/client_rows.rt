@@ -13,7 +13,7 @@
 //!   one of that host, which is fixed, and is paused; what it said of its user is this; behind the rights of a channel may stand
 //!   `props`, where a read on it needs properties; the subscription is owed nothing;
 //! - `find session N`, `find channel S SID`, `find sub S ID`: the row, or `none`;
-//! - `remove` before what a row is named by;
+//! - `remove` before what a row is named by; `named`, `leave`, `end` and others that `each` says;
 //! - `count S`: how many channels, subscriptions and reads the session has;
 //! - `reads NAME`: the reads that wait on the variable;
 //! - `on NAME`: whether a channel is on the variable, how many channels, subscriptions and reads are,
@@ -29,9 +29,10 @@
 //!
 //! Numbers and words that aren't there are 0 and empty. The functions return no error, as in `link_rows`:
 //! what they tell would show one.
+use crate::each::call_each;
 use crate::listed::{list_name, list_sessions};
 use crate::seen;
-use crate::seen::Kept;
+use crate::seen::KeptValue;
 use crate::shown::{show_channel, show_read, show_session, show_sub};
 use crate::visited::VisitedRows;
 use crate::within::add_within;
@@ -43,23 +44,23 @@ use std::process::Abort;
 
 /// A table with its count of looks, and what it is listed by.
 #[derive(Drop)]
-struct Clients {
+struct TestedClients {
     alloc: Global,
     rows: VisitedRows,
-    looks: Looks,
-    names: Names,
+    looks: LooksSoFar,
+    names: TestedNames,
 }
 
 /// How many rows were looked at so far, and how many of them to list the table, or by calls that were refused.
 #[derive(Clone, Copy)]
-struct Looks {
+struct LooksSoFar {
     so_far: u64,
     skipped: u64,
 }
 
 /// The variables that are listed.
 #[derive(Drop)]
-struct Names {
+struct TestedNames {
     first: Option<Name>,
     second: Option<Name>,
 }
@@ -70,13 +71,13 @@ pub(crate) fn tells(rt: &impl Abort, alloc: Global, beginning: &str, story: &str
     seen::tells(rt, alloc, &mut clients, [beginning, story]);
 }
 
-fn new_clients(alloc: Global) -> Clients {
-    let looks = Looks {
+fn new_clients(alloc: Global) -> TestedClients {
+    let looks = LooksSoFar {
         so_far: 0,
         skipped: 0,
     };
     let names = new_names(alloc);
-    Clients {
+    TestedClients {
         alloc,
         rows: VisitedRows::new(alloc),
         looks,
@@ -84,17 +85,18 @@ fn new_clients(alloc: Global) -> Clients {
     }
 }
 
-fn new_names(alloc: Global) -> Names {
-    Names {
+fn new_names(alloc: Global) -> TestedNames {
+    TestedNames {
         first: Name::read(alloc, b"A:SP").ok(),
         second: Name::read(alloc, b"B:SP").ok(),
     }
 }
 
-impl Kept for Clients {
+impl KeptValue for TestedClients {
     fn numbers(&self, line: &str) -> (u32, u32) {
         match word(line, 0) {
             "session" | "channel" | "sub" | "read" => last_numbers(line),
+            "named" | "leave" | "end" | "unsub" | "unread" | "kept" => last_numbers(line),
             _ => (0, 0),
         }
     }
@@ -141,6 +143,9 @@ fn call(alloc: Global, rows: &mut VisitedRows, line: &str, last: u32, told: &mut
         "of" => show_of(rows, number(line, 1), told),
         "within" => add_within(alloc, rows, line, told),
         "typed" => refused(add_sub(rows, typed_sub(line)), told),
+        "named" | "leave" | "end" | "unsub" | "unread" | "kept" => {
+            call_each(alloc, rows, line, last, told);
+        }
         _ => add_one(alloc, rows, line, last, told),
     }
 }
@@ -193,7 +198,7 @@ pub(crate) fn refused(done: Result<(), TableFault>, told: &mut Told) {
 }
 
 /// Adds a session, but none that stands already.
-#[tactic(auto, using(channel_table::proofs::Lists::unfound_is_absent))]
+#[tactic(auto, using(named_rows::proofs::Lists::unfound_is_absent))]
 fn add_session(rows: &mut VisitedRows, session: Session) -> Result<(), TableFault> {
     match rows.table.session(&mut rows.visits, session.number) {
         Some(_) => Ok(()),
@@ -202,8 +207,8 @@ fn add_session(rows: &mut VisitedRows, session: Session) -> Result<(), TableFaul
 }
 
 /// Adds a channel, but none that stands already.
-#[tactic(auto, using(channel_table::proofs::Lists::unfound_is_absent))]
-fn add_channel(rows: &mut VisitedRows, channel: Channel) -> Result<(), TableFault> {
+#[tactic(auto, using(named_rows::proofs::Lists::unfound_is_absent))]
+pub(crate) fn add_channel(rows: &mut VisitedRows, channel: Channel) -> Result<(), TableFault> {
     match rows
         .table
         .channel(&mut rows.visits, channel.session, channel.sid)
@@ -214,7 +219,7 @@ fn add_channel(rows: &mut VisitedRows, channel: Channel) -> Result<(), TableFaul
 }
 
 /// Adds a subscription, but none that stands already.
-#[tactic(auto, using(channel_table::proofs::Lists::unfound_is_absent))]
+#[tactic(auto, using(named_rows::proofs::Lists::unfound_is_absent))]
 fn add_sub(rows: &mut VisitedRows, sub: ClientSub) -> Result<(), TableFault> {
     match rows.table.sub(&mut rows.visits, sub.session, sub.id) {
         Some(_) => Ok(()),
@@ -446,9 +451,8 @@ fn show_on(alloc: Global, rows: &mut VisitedRows, name: &Name, told: &mut Told) 
     for n in 0..=channels {
         rows.show_channel_on(name, n, told);
     }
-    let mut subs = Vec::new(alloc);
-    match rows.table.list_subs_to(&mut rows.visits, name, &mut subs) {
-        Ok(()) => show_subs_of_name(&subs, told),
+    match rows.table.subs_to(&mut rows.visits, alloc, name) {
+        Ok(subs) => show_subs_of_name(subs.as_slice(), told),
         Err(_) => told.line(&"out of memory"),
     }
     for n in 0..=reads {

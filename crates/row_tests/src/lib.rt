@@ -9,13 +9,23 @@ mod clients;
 #[cfg(test)]
 mod crowds;
 #[cfg(test)]
+mod each;
+#[cfg(test)]
+mod leaving;
+#[cfg(test)]
 mod limits;
 #[cfg(test)]
 mod link_rows;
 #[cfg(test)]
 mod links;
 #[cfg(test)]
+mod links_leaving;
+#[cfg(test)]
 mod listed;
+#[cfg(test)]
+mod named;
+#[cfg(test)]
+mod numbers;
 #[cfg(test)]
 mod readers;
 #[cfg(test)]

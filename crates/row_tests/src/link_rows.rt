@@ -11,6 +11,9 @@
 //!   `put sub SERVER CID ID MASK COUNT SENT`, `put props ..` of its properties, `put none SERVER CID`,
 //!   `put unlisted SERVER CID`: no subscription to its values, or to its properties; `put again SERVER CID
 //!   MASK COUNT SENT`: its subscription to values, under the ID that it has;
+//! - `each sub SERVER FIRST LAST`: each of these links gets a subscription to its values, whose ID is 1,000 more than its
+//!   own; `each props ..`: to its properties, 5,000 more; `each none ..`, `each unlisted ..`: none of either; `each
+//!   link ..`, `each write ..`: each of these goes;
 //! - `remove server N`, `remove link SERVER CID`, `remove write SERVER ID`, `remove writes SESSION SID`,
 //!   `remove session N`: its writes;
 //! - `find cid SERVER CID`, `find name NAME`, `find place N`, `find of SERVER N`, `find sub SERVER ID`: the
@@ -24,10 +27,10 @@
 //! - `give COUNTER`: its next number, for a row of server 1; `again COUNTER SERVER FIRST`: the one for a row of
 //!   this server, where numbers come again from FIRST on.
 use crate::seen;
-use crate::seen::Kept;
+use crate::seen::KeptValue;
 use crate::words::{Call, Told};
 use link_table::{
-    Counter, LAST_NUMBER, Link, LinkState, Links, Server, Subject, Subscription, TableFault,
+    Counter, LAST_NUMBER, LinkRow, LinkState, Links, Server, Subject, Subscription, TableFault,
     WaitingWrite, turned,
 };
 use pv_name::Name;
@@ -37,7 +40,7 @@ use std::process::Abort;
 const BEGINNING: &str = "add servers 1 1\nadd links 1 1 2";
 
 #[derive(Drop)]
-struct Rows {
+struct TestedLinks {
     alloc: Global,
     links: Links,
 }
@@ -45,17 +48,17 @@ struct Rows {
 /// Asserts that a story comes out as it is told.
 pub(crate) fn tells(rt: &impl Abort, alloc: Global, story: &str) {
     let links = Links::new(alloc, 1);
-    let mut rows = Rows { alloc, links };
+    let mut rows = TestedLinks { alloc, links };
     seen::tells(rt, alloc, &mut rows, [BEGINNING, story]);
 }
 
-impl Kept for Rows {
+impl KeptValue for TestedLinks {
     fn numbers(&self, line: &str) -> (u32, u32) {
         let call = Call::read(line);
         let [first, second, third, ..] = call.numbers;
         match (call.verb, call.what) {
             ("add", "servers") => (first, second),
-            ("add", _) => (second, third),
+            ("add" | "each", _) => (second, third),
             _ => (0, 0),
         }
     }
@@ -118,6 +121,7 @@ fn call(alloc: Global, links: &mut Links, line: &str, number: u32, told: &mut To
         "empty" => *links = Links::new(alloc, call.numbers[0]),
         "add" => add(alloc, links, &call, number, told),
         "put" => put(links, &call, told),
+        "each" => each(links, &call, number, told),
         "remove" => remove(links, &call),
         "find" => find(alloc, links, &call, told),
         "show" => show(links, &call, told),
@@ -165,7 +169,7 @@ fn add_link(alloc: Global, links: &mut Links, server: u32, cid: u32, told: &mut 
 }
 
 /// Adds a link, but none whose CID or name stands already.
-#[tactic(auto, using(channel_table::proofs::Lists::unfound_is_absent))]
+#[tactic(auto, using(named_rows::proofs::Lists::unfound_is_absent))]
 fn add_new_link(links: &mut Links, server: u32, cid: u32, name: Name, told: &mut Told) {
     if let Some(_) = links.by_cid(server, cid) {
         return;
@@ -177,7 +181,7 @@ fn add_new_link(links: &mut Links, server: u32, cid: u32, name: Name, told: &mut
 }
 
 /// Adds a write, but none whose ID waits at its server already.
-#[tactic(auto, using(channel_table::proofs::Lists::unfound_is_absent))]
+#[tactic(auto, using(named_rows::proofs::Lists::unfound_is_absent))]
 fn add_new_write(links: &mut Links, write: WaitingWrite, told: &mut Told) {
     if let Some(_) = links.write(write.server, write.id) {
         return;
@@ -186,7 +190,7 @@ fn add_new_write(links: &mut Links, write: WaitingWrite, told: &mut Told) {
 }
 
 /// Keeps a link's subscription on a subject, but none whose ID the server has already.
-#[tactic(auto, using(channel_table::proofs::Lists::unfound_is_absent, link_table::proofs::SubLemmas::none_other))]
+#[tactic(auto, using(named_rows::proofs::Lists::unfound_is_absent, link_table::proofs::SubLemmas::none_other))]
 fn set_sub(
     links: &mut Links,
     server: u32,
@@ -266,6 +270,36 @@ fn put(links: &mut Links, call: &Call<'_>, told: &mut Told) {
             put_again(links, server, cid, asked, told);
         }
         _ => refused(links.set_sub(server, cid, subject(call.what), None), told),
+    }
+}
+
+/// What is done to each of several links or writes.
+fn each(links: &mut Links, call: &Call<'_>, number: u32, told: &mut Told) {
+    let server = call.numbers[0];
+    match call.what {
+        "sub" => {
+            let sub = new_sub(number.saturating_add(1_000));
+            set_sub(links, server, number, Subject::Values, sub, told);
+        }
+        "props" => {
+            let sub = new_sub(number.saturating_add(5_000));
+            set_sub(links, server, number, Subject::Properties, sub, told);
+        }
+        "link" => links.remove_link(server, number),
+        "write" => links.remove_write(server, number),
+        _ => refused(
+            links.set_sub(server, number, subject(call.what), None),
+            told,
+        ),
+    }
+}
+
+fn new_sub(id: u32) -> Subscription {
+    Subscription {
+        id,
+        mask: 5,
+        count: 1,
+        sent: 0,
     }
 }
 
@@ -361,7 +395,7 @@ fn named(alloc: Global, links: &Links, call: &Call<'_>, told: &mut Told) {
     }
 }
 
-fn list_cids(links: &[&Link], told: &mut Told) {
+fn list_cids(links: &[&LinkRow], told: &mut Told) {
     for link in links {
         told.line(&link.cid);
     }

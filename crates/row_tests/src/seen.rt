@@ -16,7 +16,7 @@ const ROOM: usize = 65_536;
 const COMPARED: u32 = 200;
 
 /// A value that calls change.
-pub(crate) trait Kept {
+pub(crate) trait KeptValue {
     /// The numbers for each of which the call of a line is made.
     fn numbers(&self, line: &str) -> (u32, u32);
 
@@ -34,7 +34,7 @@ pub(crate) trait Kept {
 }
 
 /// Asserts that a story comes out as it is told.
-pub(crate) fn tells<K: Kept>(rt: &impl Abort, alloc: Global, kept: &mut K, texts: [&str; 2]) {
+pub(crate) fn tells<K: KeptValue>(rt: &impl Abort, alloc: Global, kept: &mut K, texts: [&str; 2]) {
     let mut told = Told::with_room(alloc, ROOM);
     let mut wanted = Told::with_room(alloc, ROOM);
     tell(alloc, kept, texts, &mut told, &mut wanted);
@@ -45,7 +45,7 @@ pub(crate) fn tells<K: Kept>(rt: &impl Abort, alloc: Global, kept: &mut K, texts
     assert_eq!(rt; told.text.as_str(), wanted.text.as_str());
 }
 
-fn tell<K: Kept>(
+fn tell<K: KeptValue>(
     alloc: Global,
     kept: &mut K,
     texts: [&str; 2],
@@ -83,7 +83,7 @@ impl Seen {
         self.before.is_whole && self.answer.is_whole && self.behind.is_whole
     }
 
-    fn tell<K: Kept>(&mut self, kept: &mut K, text: &str, told: &mut Told, wanted: &mut Told) {
+    fn tell<K: KeptValue>(&mut self, kept: &mut K, text: &str, told: &mut Told, wanted: &mut Told) {
         for line in text.lines() {
             match line.strip_prefix("> ") {
                 Some(answer) => wanted.line(&answer),
@@ -93,7 +93,7 @@ impl Seen {
     }
 
     /// Makes the call of a line, for each of its numbers.
-    fn calls<K: Kept>(&mut self, kept: &mut K, line: &str, told: &mut Told) {
+    fn calls<K: KeptValue>(&mut self, kept: &mut K, line: &str, told: &mut Told) {
         let (first, last) = kept.numbers(line);
         for number in first..=last {
             if self.left > 0 {
@@ -106,7 +106,7 @@ impl Seen {
     }
 
     /// Makes a call, and once more where it is refused memory.
-    fn call<K: Kept>(&mut self, kept: &mut K, line: &str, number: u32, told: &mut Told) {
+    fn call<K: KeptValue>(&mut self, kept: &mut K, line: &str, number: u32, told: &mut Told) {
         self.before.text.clear();
         kept.list(&mut self.before);
         kept.skip();

@@ -38,19 +38,19 @@ impl VisitedRows {
     }
 
     pub(crate) fn show_channel_of(&mut self, session: u32, n: usize, told: &mut Told) {
-        if let Some(row) = self.table.channel_of(&mut self.visits, session, n) {
+        if let Some(row) = self.table.nth_channel_of(&mut self.visits, session, n) {
             show_channel(row, told);
         }
     }
 
     pub(crate) fn show_sub_of(&mut self, session: u32, n: usize, told: &mut Told) {
-        if let Some(row) = self.table.sub_of(&mut self.visits, session, n) {
+        if let Some(row) = self.table.nth_sub_of(&mut self.visits, session, n) {
             show_sub(row, told);
         }
     }
 
     pub(crate) fn show_read_of(&mut self, session: u32, n: usize, told: &mut Told) {
-        if let Some(row) = self.table.read_of(&mut self.visits, session, n) {
+        if let Some(row) = self.table.nth_read_of(&mut self.visits, session, n) {
             show_read(&row, told);
         }
     }

@@ -71,6 +71,55 @@ fn what_a_reader_wanted_leaves_with_it(rt: HostRuntime) -> Result<(), Fail> {
 }
 
 #[test]
+fn counts_come_and_go_in_any_order(rt: HostRuntime) -> Result<(), Fail> {
+    let readers = [(1, 5), (1, 1), (1, 9), (1, 3), (1, 7), (1, 3)].as_slice();
+    let cases: [Case; 7] = [
+        (readers, &[], Some((5, 9))),
+        (readers, &[(1, 9)], Some((5, 7))),
+        (readers, &[(1, 3), (1, 9), (1, 1), (1, 7)], Some((5, 5))),
+        (readers, &[(1, 5), (1, 7), (1, 9)], Some((5, 3))),
+        (readers, &[(1, 9), (1, 3), (1, 7), (1, 5)], Some((5, 3))),
+        (
+            readers,
+            &[(1, 3), (1, 7), (1, 3), (1, 5), (1, 9)],
+            Some((5, 1)),
+        ),
+        (
+            readers,
+            &[(1, 1), (1, 3), (1, 5), (1, 3), (1, 9), (1, 7)],
+            None,
+        ),
+    ];
+    tells(&rt, rt.alloc(), &cases)
+}
+
+#[test]
+fn what_is_not_counted_is_not_taken_away(rt: HostRuntime) -> Result<(), Fail> {
+    let mut tally = Tally::new(rt.alloc());
+    let other = Some(Ask {
+        want: Want { mask: 2, count: 9 },
+        props: true,
+        texts: false,
+    });
+    tally.remove_silent();
+    tally.exchange(None, other);
+    tally.exchange(other, None);
+    assert!(rt; tally.is_empty());
+    tally.add(1, 3, false)?;
+    tally.remove_silent();
+    tally.exchange(None, other);
+    tally.exchange(other, None);
+    tally.remove(2, 3, false);
+    tally.remove(1, 3, true);
+    tally.remove(1, 4, false);
+    assert_eq!(rt; tally.want(), Some(Want { mask: 5, count: 3 }));
+    assert!(rt; !tally.props());
+    tally.remove(1, 3, false);
+    assert!(rt; tally.is_empty());
+    Ok(())
+}
+
+#[test]
 fn a_reader_that_may_not_read_wants_nothing(rt: HostRuntime) -> Result<(), Fail> {
     let mut tally = Tally::new(rt.alloc());
     let ask = Some(Ask {

@@ -29,7 +29,7 @@ pub(crate) fn add_within(alloc: Global, rows: &mut VisitedRows, line: &str, told
     }
 }
 
-#[tactic(auto, using(channel_table::proofs::Lists::unfound_is_absent))]
+#[tactic(auto, using(named_rows::proofs::Lists::unfound_is_absent))]
 fn add_session(rows: &mut VisitedRows, limit: usize, session: Session) -> Result<(), TableFault> {
     match rows.table.session(&mut rows.visits, session.number) {
         Some(_) => Ok(()),
@@ -37,7 +37,7 @@ fn add_session(rows: &mut VisitedRows, limit: usize, session: Session) -> Result
     }
 }
 
-#[tactic(auto, using(channel_table::proofs::Lists::unfound_is_absent))]
+#[tactic(auto, using(named_rows::proofs::Lists::unfound_is_absent))]
 fn add_channel(rows: &mut VisitedRows, limit: usize, channel: Channel) -> Result<(), TableFault> {
     match rows
         .table
@@ -48,7 +48,7 @@ fn add_channel(rows: &mut VisitedRows, limit: usize, channel: Channel) -> Result
     }
 }
 
-#[tactic(auto, using(channel_table::proofs::Lists::unfound_is_absent))]
+#[tactic(auto, using(named_rows::proofs::Lists::unfound_is_absent))]
 fn add_sub(rows: &mut VisitedRows, limit: usize, sub: ClientSub) -> Result<(), TableFault> {
     match rows.table.sub(&mut rows.visits, sub.session, sub.id) {
         Some(_) => Ok(()),

@@ -2,3 +2,8 @@ pub mod DeskState
 pub mod Edit
 pub mod Fault
 pub mod Policy
+pub mod Answer
+pub mod Check
+pub mod Note
+pub mod Output
+pub mod Said

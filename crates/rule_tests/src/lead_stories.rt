@@ -174,3 +174,31 @@ rights -
 ",
     );
 }
+
+#[test]
+fn names_are_led_in_turn(rt: HostRuntime) {
+    tells(
+        &rt,
+        rt.alloc(),
+        r"# An alias leads to names of 1 to 255 bytes, whatever was asked of it before.
+read \(.*\) ALIAS \1\1x
+> 1 rows, ALLOW, DENY
+lead desk1 «127*x», desk1 «128*x», desk1 «127*y», desk1 «255*x», desk1 x
+> «255*x» -, refused, «254*y»x -, refused, xxx -
+read \(A*\)B ALIAS \1 ops
+> 1 rows, ALLOW, DENY
+lead desk1 B, desk1 AB, desk1 B, desk1 AAB, desk1 A
+> refused, A ops, refused, AA ops, refused
+# A row that is reached again answers anew.
+| A.* ALLOW one
+| A\(.\)\(.\) ALIAS \2\1 two
+read A.*Z DENY FROM lab7
+> 3 rows, ALLOW, DENY
+lead lab7 AXZ, lab7 AZX, desk1 AXZ, lab7 AZ, lab7 AXYZ, lab7 AXYY, desk1 AXYZ, desk1 BXZ
+> refused, XZ two, ZX two, refused, refused, AXYY one, AXYZ one, refused
+# Without rules each name leads to itself.
+lead desk1 A, lab7 «255*x», desk1 A
+> A -, «255*x» -, A -
+",
+    );
+}

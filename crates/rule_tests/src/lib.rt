@@ -7,7 +7,8 @@
 //! call's text, before what stands in that call's own line. Lines that begin with `# ` are titles, and
 //! at each a policy that is open to all stands ready. From the call `plain` on, up to the next title,
 //! patterns are of the plain syntax, and elsewhere of the escaped one. `«0d»` is the character with
-//! this number, and `«63*x¶»` is 63 times that, each with the end of a line; so it is in answers, too.
+//! this number, and `«63*x¶»` is 63 times that, each with the end of a line; so it is in answers, too. In
+//! `«3*a№»` the sign № is 1, 2 and 3.
 //!
 //! The calls are said in the files that make them: `names`, `files`, `leads`, `policies`, `access`,
 //! which has its stories too. The files named `.._stories` have the others.
@@ -15,6 +16,8 @@
 
 #[cfg(test)]
 mod access;
+#[cfg(test)]
+mod access_stories;
 #[cfg(test)]
 mod file_stories;
 #[cfg(test)]
@@ -27,6 +30,8 @@ mod leads;
 mod name_stories;
 #[cfg(test)]
 mod names;
+#[cfg(test)]
+mod note_stories;
 #[cfg(test)]
 mod pattern_stories;
 #[cfg(test)]

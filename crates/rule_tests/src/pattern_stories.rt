@@ -152,3 +152,32 @@ tried X
 ",
     );
 }
+
+#[test]
+fn few_texts_are_compared(rt: HostRuntime) {
+    tells(
+        &rt,
+        rt.alloc(),
+        r"# Up to 16 texts to begin with are compared, and no more.
+| \(aa\|bb\|cc\|dd\|ee\|ff\|gg\|hh\|ii\|jj\|kk\|ll\|mm\|nn\|oo\|pp\):.* ALLOW
+read \(aa\|bb\|cc\|dd\|ee\|ff\|gg\|hh\|ii\|jj\|kk\|ll\|mm\|nn\|oo\|pp\|qq\):.* ALLOW
+> 2 rows, ALLOW, DENY
+tried pp:1
+> 1 2 of 2
+tried qq:1
+> 2 of 2
+tried z:1
+> 2 of 2
+# So many to end with.
+| .*:\(aa\|bb\|cc\|dd\|ee\|ff\|gg\|hh\|ii\|jj\|kk\|ll\|mm\|nn\|oo\|pp\) ALLOW
+read .*:\(aa\|bb\|cc\|dd\|ee\|ff\|gg\|hh\|ii\|jj\|kk\|ll\|mm\|nn\|oo\|pp\|qq\) ALLOW
+> 2 rows, ALLOW, DENY
+tried 1:pp
+> 1 2 of 2
+tried 1:z
+> 2 of 2
+lead desk1 1:pp, desk1 1:qq, desk1 1:z, desk1 1
+> 1:pp -, 1:qq -, refused, refused
+",
+    );
+}

@@ -3,6 +3,8 @@
 //! - `rules TEXT`, `groups TEXT`: the text of a file; `no-texts`: there are none;
 //! - `edit`: the desk reads the texts, and their policy holds from then on; answered only by a fault;
 //! - `shown`: whether the policy is open, its rows, its order, and how many edits the desk counts;
+//! - `said`: what the first faulty line of the texts said, `-` where none is faulty;
+//! - `note`: the note on the text of the rule file, `-` where there is none;
 //! - `check`, `check HOST NAME`: what the check writes of the texts, and its status;
 //! - `rooms FIRST LAST`, `rooms FIRST LAST HOST NAME`: the status for each writer that takes so many
 //!   bytes and then fails;
@@ -10,9 +12,8 @@
 use crate::words::{Told, two_words};
 use pv_name::{Host, Name, NameFault};
 use pvlist::{RuleFault, Rules, Syntax, TranslateFault};
-use rule_check::status::FAILED;
-use rule_check::{Asked, check};
-use rule_desk::{Desk, DeskFault, Policy};
+use rule_desk::status::FAILED;
+use rule_desk::{Desk, DeskFault, Note, Policy, Question, Said, check};
 use std::alloc::Global;
 use std::fmt::Write;
 use std::{io, str};
@@ -22,14 +23,14 @@ const PRINTED: usize = 4_096;
 
 /// The texts of a rule file and of a group file, where there are any.
 #[derive(Drop)]
-pub(crate) struct Texts {
+pub(crate) struct PolicyTexts {
     rules: Option<String>,
     groups: Option<String>,
 }
 
-impl Texts {
-    pub(crate) fn none() -> Texts {
-        Texts {
+impl PolicyTexts {
+    pub(crate) fn none() -> PolicyTexts {
+        PolicyTexts {
             rules: None,
             groups: None,
         }
@@ -53,7 +54,7 @@ impl Texts {
 pub(crate) fn call(
     alloc: Global,
     syntax: Syntax,
-    texts: &mut Texts,
+    texts: &mut PolicyTexts,
     verb: &str,
     text: &str,
     told: &mut Told,
@@ -61,7 +62,12 @@ pub(crate) fn call(
     match verb {
         "rules" => texts.rules = copied(alloc, text, told),
         "groups" => texts.groups = copied(alloc, text, told),
-        "no-texts" => *texts = Texts::none(),
+        "no-texts" => *texts = PolicyTexts::none(),
+        "said" => said(alloc, syntax, texts, told),
+        "note" => match Note::of(texts.rules().unwrap_or(""), syntax) {
+            Some(note) => told.line(&note),
+            None => told.line(&'-'),
+        },
         "check" => check_texts(alloc, syntax, texts, text, told),
         "rooms" => rooms(alloc, syntax, texts, text, told),
         _ => refusals(told),
@@ -74,7 +80,7 @@ fn copied(alloc: Global, text: &str, told: &mut Told) -> Option<String> {
     copied
 }
 
-pub(crate) fn edit(desk: &mut Desk, policy: &mut Policy, texts: &Texts, told: &mut Told) {
+pub(crate) fn edit(desk: &mut Desk, policy: &mut Policy, texts: &PolicyTexts, told: &mut Told) {
     match desk.edit(texts.rules(), texts.groups()) {
         Ok(edited) => *policy = edited,
         Err(fault) => told.line(&fault),
@@ -88,17 +94,33 @@ pub(crate) fn show(desk: &Desk, rules: &Rules, told: &mut Told) {
     told.keep(written);
 }
 
+fn said(alloc: Global, syntax: Syntax, texts: &PolicyTexts, told: &mut Told) {
+    let (rules, groups) = (texts.rules().unwrap_or(""), texts.groups());
+    match Said::of(alloc, rules, groups, syntax) {
+        Some(said) => told.line(&said),
+        None => unsaid(Desk::with_syntax(alloc, syntax), rules, groups, told),
+    }
+}
+
+/// Nothing is said of texts that are good, and of others where memory was refused.
+fn unsaid(mut desk: Desk, rules: &str, groups: Option<&str>, told: &mut Told) {
+    match desk.edit(Some(rules), groups) {
+        Ok(_) => told.line(&'-'),
+        Err(_) => told.line(&"out of memory"),
+    }
+}
+
 /// Who asks for what, nothing where that isn't said.
-fn asked(alloc: Global, text: &str) -> Result<Option<Asked>, NameFault> {
+fn asked(alloc: Global, text: &str) -> Result<Option<Question>, NameFault> {
     let Some((host, name)) = text.split_once(' ') else {
         return Ok(None);
     };
     let host = Host::read(alloc, host.as_bytes())?;
     let name = Name::read(alloc, name.as_bytes())?;
-    Ok(Some(Asked { name, host }))
+    Ok(Some(Question { name, host }))
 }
 
-fn check_texts(alloc: Global, syntax: Syntax, texts: &Texts, text: &str, told: &mut Told) {
+fn check_texts(alloc: Global, syntax: Syntax, texts: &PolicyTexts, text: &str, told: &mut Told) {
     match (asked(alloc, text), Vec::with_capacity(alloc, PRINTED)) {
         (Ok(asked), Ok(out)) => check_asked(alloc, syntax, texts, asked.as_ref(), out, told),
         _ => told.line(&"out of memory"),
@@ -108,8 +130,8 @@ fn check_texts(alloc: Global, syntax: Syntax, texts: &Texts, text: &str, told: &
 fn check_asked(
     alloc: Global,
     syntax: Syntax,
-    texts: &Texts,
-    asked: Option<&Asked>,
+    texts: &PolicyTexts,
+    asked: Option<&Question>,
     mut out: Vec<u8>,
     told: &mut Told,
 ) {
@@ -126,7 +148,7 @@ fn check_asked(
     told.keep(written);
 }
 
-fn rooms(alloc: Global, syntax: Syntax, texts: &Texts, text: &str, told: &mut Told) {
+fn rooms(alloc: Global, syntax: Syntax, texts: &PolicyTexts, text: &str, told: &mut Told) {
     let (first, text) = two_words(text);
     let (last, text) = two_words(text);
     let Ok(asked) = asked(alloc, text) else {
@@ -141,8 +163,8 @@ fn rooms(alloc: Global, syntax: Syntax, texts: &Texts, text: &str, told: &mut To
 fn check_in(
     alloc: Global,
     syntax: Syntax,
-    texts: &Texts,
-    asked: Option<&Asked>,
+    texts: &PolicyTexts,
+    asked: Option<&Question>,
     room: usize,
     told: &mut Told,
 ) {

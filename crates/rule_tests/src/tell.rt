@@ -5,7 +5,7 @@
 //! lists are the same; and behind that what the second call answers. So a story is told otherwise where memory is
 //! refused, and by one such line for each refused call if these leave everything as before.
 //! `.ci/refused_tests.py` refuses each allocation in turn.
-use crate::policies::Texts;
+use crate::policies::PolicyTexts;
 use crate::words::Told;
 use crate::{access, files, leads, names, policies};
 use access_file::Access;
@@ -23,7 +23,7 @@ const ROOM: usize = 65_536;
 struct Office {
     /// The text of the next call.
     text: Told,
-    texts: Texts,
+    texts: PolicyTexts,
     desk: Desk,
     policy: Policy,
     /// The one whose rights are listed.
@@ -123,7 +123,7 @@ fn list(office: &Office, told: &mut Told) {
 fn new_office(alloc: Global) -> Office {
     Office {
         text: Told::with_room(alloc, ROOM),
-        texts: Texts::none(),
+        texts: PolicyTexts::none(),
         desk: Desk::new(alloc),
         policy: Policy::open_to_all(alloc),
         group: Group::read(alloc, b"ops").ok(),

@@ -67,8 +67,8 @@ impl Told {
         }
     }
 
-    /// Writes `63*x`, with the end of a line for each `¶`; or the character with a number in two
-    /// hexadecimal digits.
+    /// Writes `63*x`, with the end of a line for each `¶`, and for each `№` how often it was written by then; or
+    /// the character with a number in two hexadecimal digits.
     fn repeat(&mut self, repetition: &str) {
         match repetition.split_once('*') {
             Some((times, word)) => match times.parse() {
@@ -83,14 +83,18 @@ impl Told {
     }
 
     fn write_times(&mut self, times: u32, word: &str) {
-        for _ in 0..times {
-            self.write_lines(word);
+        for time in 1..=times {
+            self.write_lines(word, time);
         }
     }
 
-    fn write_lines(&mut self, text: &str) {
+    fn write_lines(&mut self, text: &str, time: u32) {
         for letter in text.chars() {
-            self.put(&(if letter == '¶' { '\n' } else { letter }));
+            match letter {
+                '¶' => self.put(&'\n'),
+                '№' => self.put(&time),
+                _ => self.put(&letter),
+            }
         }
     }
 

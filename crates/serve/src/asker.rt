@@ -40,6 +40,10 @@ const HURRY: u64 = 8;
 /// After so many looks the next server that comes has that again.
 const CALM: u64 = 32;
 
+/// Where a server came that may have any name, those that were asked for more often than so many times are asked for after the
+/// gap behind as many: some 8 seconds.
+const SOONER_TRIES: u32 = 4;
+
 /// Under this number of a host stand names that no host sought just now.
 const NO_HOST: u128 = 0;
 
@@ -61,6 +65,9 @@ struct Asker {
     had_many: bool,
     // The look in which lost names began to come before all others.
     hurried: u64,
+    // A server came that may have any name. The look of the schedule in which one did last.
+    wants_sooner: bool,
+    sooner: u64,
     // The time, in milliseconds of the system's clock.
     now: u64,
 }
@@ -77,6 +84,8 @@ impl Asker {
             asks: Asks::new(hub.alloc),
             had_many: false,
             hurried: 0,
+            wants_sooner: false,
+            sooner: 0,
             now: 0,
         }
     }
@@ -90,17 +99,27 @@ impl Asker {
         self.now / FIRST_GAP
     }
 
-    // A server came: what it had may be found now.
-    fn hurry(&mut self) -> Result<(), NoMemory> {
+    // A server came: what it had may be found now. Where memory is refused, the names that are taken already stay in front.
+    fn hurry(&mut self) {
         let (turn, look) = (self.turn(), self.look());
         self.lost.soon(turn.saturating_sub(1), 0);
         self.schedule.soon(turn, 0);
         if look.saturating_sub(self.hurried) >= CALM {
             self.hurried = look;
             self.budget = AskBudget::new();
-            self.asks.put_off()?;
+            let _ = self.asks.put_off();
         }
-        Ok(())
+    }
+
+    // Servers came that may have any name: all together once in a look of the schedule.
+    fn seek_sooner(&mut self) {
+        let turn = self.turn();
+        if self.wants_sooner && self.sooner != turn {
+            self.wants_sooner = false;
+            self.sooner = turn;
+            self.lost.soon(turn, 0);
+            self.schedule.soon(turn, SOONER_TRIES);
+        }
     }
 
     fn lost_part(&self) -> usize {
@@ -272,8 +291,10 @@ fn back_off<R: System, H: AsHub>(
     wanted: Wanted,
 ) -> Result<(), NoMemory> {
     if wanted.soon {
-        asker.hurry()?;
+        asker.hurry();
     }
+    asker.wants_sooner |= wanted.sooner;
+    asker.seek_sooner();
     asker.note_found(wanted.found)?;
     for wish in wanted.wishes {
         asker.want(wish.host, wish.name)?;
@@ -301,7 +322,7 @@ fn ask_due<R: System, H: AsHub>(rt: R, hub: &H, asker: &mut Asker) -> Result<usi
             break;
         }
         asker.budget.send(look);
-        sent = sent.saturating_add(asker.asks.send(hub.hub())?);
+        sent = sent.saturating_add(asker.asks.send(rt, hub.hub())?);
     }
     Ok(sent)
 }

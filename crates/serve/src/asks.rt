@@ -2,8 +2,9 @@
 use crate::hub::Hub;
 use crate::machine::System;
 use pv_name::{Name, NoMemory};
-use pv_search::{Ask, ask_datagram};
+use pv_search::{NameAsk, ask_datagram};
 use std::alloc::Global;
+use std::net::SocketAddr;
 use std::thread;
 use std::time::Duration;
 
@@ -13,9 +14,9 @@ const BURST: usize = 64;
 /// Names that servers are to be asked for, each under its CID.
 #[derive(Drop)]
 pub struct Asks {
-    waiting: Vec<Ask>,
+    waiting: Vec<NameAsk>,
     // These wait until somebody takes them up again.
-    put_off: Vec<Ask>,
+    put_off: Vec<NameAsk>,
 }
 
 impl Asks {
@@ -32,7 +33,7 @@ impl Asks {
         self.waiting.is_empty() && self.put_off.is_empty()
     }
 
-    /// Puts off those that wait: others come before them.
+    /// Puts off those that wait: others come before them. At an error none is put off.
     pub fn put_off(&mut self) -> Result<(), NoMemory> {
         self.put_off.append(&mut self.waiting)?;
         Ok(())
@@ -54,23 +55,36 @@ impl Asks {
     pub fn add<R: System>(&mut self, rt: R, hub: &Hub, name: Name) -> Result<(), NoMemory> {
         let again = name.copy()?;
         let cid = hub.asked.lock(&rt).add(again)?;
-        self.waiting.push(Ask { name, cid })?;
+        self.waiting.push(NameAsk { name, cid })?;
         Ok(())
     }
 
     /// Sends each server one datagram, with as many of the names as it holds, from the first on, and answers how many
     /// these are. They are asked for then.
-    pub fn send(&mut self, hub: &Hub) -> Result<usize, NoMemory> {
+    pub fn send<R: System>(&mut self, rt: R, hub: &Hub) -> Result<usize, NoMemory> {
         let datagram = ask_datagram(hub.alloc, self.waiting.as_slice())?;
-        for server in hub.servers.as_slice() {
-            let _ = hub
-                .sockets
-                .asks()
-                .send_to(datagram.text.as_slice(), *server);
+        send_to_servers(rt, hub, datagram.text.as_slice());
+        if let Some(finding) = &hub.finding {
+            let marked = finding.own.mark(hub.alloc, datagram.text.as_slice())?;
+            send_to_all(hub, finding.discovery.targets.as_slice(), marked.as_slice());
         }
         let asked = datagram.asked.min(self.waiting.len());
         drop(self.waiting.drain(..asked));
         Ok(asked)
+    }
+}
+
+fn send_to_servers<R: System>(rt: R, hub: &Hub, text: &[u8]) {
+    for number in 1..=hub.server_count() {
+        if let Some(address) = hub.servers.at(&rt, number) {
+            let _ = hub.sockets.asks().send_to(text, address);
+        }
+    }
+}
+
+fn send_to_all(hub: &Hub, addresses: &[SocketAddr], text: &[u8]) {
+    for address in addresses {
+        let _ = hub.sockets.asks().send_to(text, *address);
     }
 }
 
@@ -83,7 +97,7 @@ pub fn ask_each<R: System>(rt: R, hub: &Hub, names: Vec<Name>) -> Result<(), NoM
         if asks.waiting.len() < BURST {
             continue;
         }
-        count = count.saturating_add(asks.send(hub)?);
+        count = count.saturating_add(asks.send(rt, hub)?);
         if count >= BURST {
             if hub.is_closing(&rt) {
                 return Ok(());
@@ -101,7 +115,7 @@ fn send_rest<R: System>(rt: R, hub: &Hub, asks: Asks) -> Result<(), NoMemory> {
         if asks.is_empty() {
             break;
         }
-        asks.send(hub)?;
+        asks.send(rt, hub)?;
     }
     Ok(())
 }

@@ -1,11 +1,11 @@
 //! Clients that connect.
 use crate::hub::{Arrival, AsHub, Hub};
-use crate::line::Line;
+use crate::line::WatchedStream;
 use crate::machine::System;
 use crate::workers::start_workers;
 use gateway_core::{Dest, Event};
 use pv_name::Host;
-use serve_state::{Notice, Refusal, is_kept_back};
+use serve_state::{Notice, RosterRefusal, is_kept_back};
 use std::fmt::Write;
 use std::net::{IpAddr, Shutdown, SocketAddr, TcpStream};
 use std::os::fd::AsRawFd;
@@ -16,11 +16,11 @@ use std::time::Duration;
 /// How many milliseconds pass after no connection could be accepted.
 const PAUSE: u64 = 20;
 
-/// Accepts clients, and hands each on at once: the system keeps few that wait to be accepted, and forgets the
+/// Accepts clients at the entrance of this place, and hands each on at once: the system keeps few that wait to be accepted, and forgets the
 /// others half.
-pub fn accept_clients<R: System, H: AsHub>(rt: R, hub: &H) {
+pub fn accept_clients<R: System, H: AsHub>(rt: R, hub: &H, place: usize) {
     for _ in rt.forever() {
-        let accepted = hub.hub().sockets.listener.accept();
+        let accepted = hub.hub().sockets.entrance(place).listener.accept();
         if hub.hub().is_closing(&rt) {
             return;
         }
@@ -45,7 +45,7 @@ fn arrive<R: System>(rt: R, hub: &Hub, stream: TcpStream, peer: SocketAddr) {
 
 // Whether its descriptor is one of those that are kept for servers.
 fn is_spare(hub: &Hub, stream: &TcpStream) -> bool {
-    let servers = hub.server_count();
+    let servers = hub.servers_kept();
     match u64::try_from(stream.as_raw_fd()) {
         Ok(descriptor) => is_kept_back(descriptor, hub.most_files, servers),
         Err(_) => false,
@@ -96,7 +96,7 @@ fn greet<'x, 's: 'x, E: 's, R: System + 's, H: AsHub + Sync + 's>(
     let _ = stream.set_nodelay(true);
     let (Ok(host), Ok(line)) = (
         host_of(hub.hub(), &peer),
-        Line::new(hub.hub().alloc, stream),
+        WatchedStream::new(hub.hub().alloc, stream),
     ) else {
         hub.hub().tell(&rt, Notice::OutOfMemory);
         return;
@@ -119,7 +119,12 @@ fn greet<'x, 's: 'x, E: 's, R: System + 's, H: AsHub + Sync + 's>(
     start_workers(rt, &*scope, &*hub, Dest::Session(number), &line);
 }
 
-fn admit<R: System>(rt: R, hub: &Hub, line: Line, peer: SocketAddr) -> Result<u32, Refusal> {
+fn admit<R: System>(
+    rt: R,
+    hub: &Hub,
+    line: WatchedStream,
+    peer: SocketAddr,
+) -> Result<u32, RosterRefusal> {
     let mut roster = hub.roster.lock(&rt);
     match hub.options.clients_of_host {
         Some(seats) => {
@@ -137,18 +142,18 @@ pub fn host_number(peer: &SocketAddr) -> u128 {
     }
 }
 
-fn tell_of<R: System>(rt: R, hub: &Hub, peer: SocketAddr, refusal: Refusal) {
+fn tell_of<R: System>(rt: R, hub: &Hub, peer: SocketAddr, refusal: RosterRefusal) {
     match refusal {
-        Refusal::Full => {
+        RosterRefusal::Full => {
             count_refused(rt, hub);
             tell_full(rt, hub, peer);
         }
-        Refusal::HostFull => hub.tell(
+        RosterRefusal::HostFull => hub.tell(
             &rt,
             Notice::ClientRefused(peer, "as many clients of its host are connected as may be"),
         ),
-        Refusal::OutOfMemory => hub.tell(&rt, Notice::ClientRefused(peer, "out of memory")),
-        Refusal::Closing | Refusal::Held => (),
+        RosterRefusal::OutOfMemory => hub.tell(&rt, Notice::ClientRefused(peer, "out of memory")),
+        RosterRefusal::Closing | RosterRefusal::Held => (),
     }
 }
 

@@ -1,17 +1,20 @@
 //! Datagrams: clients' searches, and servers' replies to asks.
 use crate::asker::milliseconds;
 use crate::clients::{host_number, host_of};
+use crate::finding::{Finding, Told, address_of};
 use crate::hub::{AsHub, Hub, Wish};
 use crate::late::{keep_late, note_found};
 use crate::machine::System;
 use crate::pace::Pace;
 use crate::searches::{has_waiting, put_search};
+use crate::sockets::Sender;
 use ask_schedule::AtOnce;
 use gateway_core::{AskFault, Event};
 use pv_name::{Host, Name, NoMemory};
-use pv_search::{Datagram, SearchAnswer, first_part, read_found};
-use serve_state::{Clashes, Notice, server_of};
-use std::net::SocketAddr;
+use pv_search::{Datagram, SearchAnswer, first_part, read_found, read_replies};
+use serve_state::{Clashes, Notice};
+use server_book::{Address, is_believed};
+use std::net::{IpAddr, Ipv4Addr, SocketAddr};
 use std::thread;
 use std::time::Duration;
 
@@ -40,8 +43,8 @@ struct Turns {
     pace: Pace,
 }
 
-/// Receives datagrams into the buffer, and hands each in. It sends nothing but a client's reply.
-pub fn receive<R: System, H: AsHub>(rt: R, hub: &H, buffer: Vec<u8>) {
+/// Receives datagrams at the entrance of this place into the buffer, and hands each in. It sends nothing but a client's reply.
+pub fn receive<R: System, H: AsHub>(rt: R, hub: &H, place: usize, buffer: Vec<u8>) {
     let mut buffer = buffer;
     let mut clashes = Clashes::new(hub.hub().alloc);
     let mut turns = Turns {
@@ -49,20 +52,37 @@ pub fn receive<R: System, H: AsHub>(rt: R, hub: &H, buffer: Vec<u8>) {
         pace: Pace::begin(rt),
     };
     for _ in rt.forever() {
-        let received = hub.hub().sockets.datagrams.socket.recv_from(&mut buffer);
+        let entrance = hub.hub().sockets.entrance(place);
+        let received = entrance.datagrams.socket.recv_from(&mut buffer);
         if hub.hub().is_closing(&rt) {
             return;
         }
         match received {
             Ok((count, from)) => {
                 let datagram = &buffer[..count];
-                match server_of(hub.hub().servers.as_slice(), &from) {
+                if is_own(hub.hub(), datagram, &from) {
+                    continue;
+                }
+                match hub.hub().servers.number_of(&rt, &from) {
                     Some(server) => hear_server(rt, hub, &mut clashes, datagram, server),
-                    None => hear_client(rt, hub, &mut turns, datagram, from),
+                    None => {
+                        let from = Sender {
+                            address: from,
+                            entrance: place,
+                        };
+                        hear_client(rt, hub, &mut turns, datagram, from)
+                    }
                 }
             }
             Err(_) => thread::sleep(&rt, Duration::from_millis(1)),
         }
+    }
+}
+
+fn is_own(hub: &Hub, datagram: &[u8], from: &SocketAddr) -> bool {
+    match &hub.finding {
+        Some(finding) => finding.own.is_own(datagram, from),
+        None => false,
     }
 }
 
@@ -77,13 +97,60 @@ pub fn receive_replies<R: System, H: AsHub>(rt: R, hub: &H, buffer: Vec<u8>) {
         }
         match received {
             Ok((count, from)) => {
-                if let Some(server) = server_of(hub.hub().servers.as_slice(), &from) {
-                    hear_server(rt, hub, &mut clashes, &buffer[..count], server);
+                let datagram = &buffer[..count];
+                if let Some(finding) = &hub.hub().finding {
+                    hear_replies(rt, hub.hub(), finding, datagram, from);
+                } else if let Some(server) = hub.hub().servers.number_of(&rt, &from) {
+                    hear_server(rt, hub, &mut clashes, datagram, server);
                 }
             }
             Err(_) => thread::sleep(&rt, Duration::from_millis(1)),
         }
     }
+}
+
+// What is believed goes to whoever finds servers.
+fn hear_replies<R: System>(rt: R, hub: &Hub, finding: &Finding, datagram: &[u8], from: SocketAddr) {
+    let Ok(replies) = read_replies(hub.alloc, datagram) else {
+        hub.tell(&rt, Notice::OutOfMemory);
+        return;
+    };
+    for reply in replies {
+        let ip = match reply.host {
+            Some(bits) => IpAddr::V4(Ipv4Addr::from_bits(bits)),
+            None => from.ip(),
+        };
+        let address = address_of(ip, reply.port);
+        if !is_heard(rt, hub, finding, host_number(&from), address) {
+            continue;
+        }
+        let cid = reply.cid;
+        if let Some(name) = asked_name(rt, hub, cid) {
+            finding.tell(&rt, Told { cid, name, address });
+        }
+    }
+    finding.came.notify_all();
+}
+
+// Whether a reply from this host counts which says that a server is at this address. The servers of the command line may be anywhere.
+fn is_heard<R: System>(
+    rt: R,
+    hub: &Hub,
+    finding: &Finding,
+    source: u128,
+    address: Address,
+) -> bool {
+    let own = address_of(hub.listen.ip(), hub.listen.port());
+    let nets = finding.discovery.nets.as_slice();
+    if is_believed(source, address, nets, own) && !hub.is_own(address) {
+        return true;
+    }
+    source == address.host && hub.servers.has(&rt, address)
+}
+
+fn asked_name<R: System>(rt: R, hub: &Hub, cid: u32) -> Option<Name> {
+    let asked = hub.asked.lock(&rt);
+    asked.find(cid)?.copy().ok()
 }
 
 fn hear_server<R: System, H: AsHub>(
@@ -109,7 +176,7 @@ fn hear_server<R: System, H: AsHub>(
         }
     }
     note_found(rt, hub.hub(), names.as_slice());
-    hub.hub().note_found(&rt, names);
+    hub.hub().note_found(&rt, names, server);
 }
 
 // Where memory is refused, it isn't noted.
@@ -130,6 +197,7 @@ fn asked_under<R: System>(rt: R, hub: &Hub, cid: u32, server: u32) -> (Option<Na
     (name, other)
 }
 
+// Two servers have a name: that is told once.
 fn tell_clash<R: System>(
     rt: R,
     hub: &Hub,
@@ -155,9 +223,9 @@ fn hear_client<R: System, H: AsHub>(
     hub: &H,
     turns: &mut Turns,
     datagram: &[u8],
-    from: SocketAddr,
+    from: Sender,
 ) {
-    let Ok(search) = Search::new(hub.hub(), datagram, from) else {
+    let Ok(search) = SearchDatagram::new(hub.hub(), datagram, from) else {
         hub.hub().tell(&rt, Notice::OutOfMemory);
         return;
     };
@@ -173,8 +241,8 @@ fn hear_at_once<R: System, H: AsHub>(
     rt: R,
     hub: &H,
     turns: &mut Turns,
-    search: Search,
-) -> Option<Search> {
+    search: SearchDatagram,
+) -> Option<SearchDatagram> {
     let mut search = search;
     for _ in rt.forever() {
         let look = milliseconds(rt, 0) / LOOK;
@@ -189,7 +257,7 @@ fn hear_at_once<R: System, H: AsHub>(
 
 /// A client's datagram, of which some is heard already.
 #[derive(Drop)]
-pub struct Search {
+pub struct SearchDatagram {
     host: Host,
     text: Vec<u8>,
     // So many bytes of it were heard.
@@ -199,14 +267,14 @@ pub struct Search {
     sought: Sought,
 }
 
-impl Search {
-    fn new(hub: &Hub, datagram: &[u8], from: SocketAddr) -> Result<Search, ()> {
+impl SearchDatagram {
+    fn new(hub: &Hub, datagram: &[u8], from: Sender) -> Result<SearchDatagram, ()> {
         let mut text = Vec::new(hub.alloc);
         if text.extend_from_slice(datagram).is_err() {
             return Err(());
         }
-        Ok(Search {
-            host: host_of(hub, &from)?,
+        Ok(SearchDatagram {
+            host: host_of(hub, &from.address)?,
             text,
             heard: 0,
             before: 0,
@@ -221,7 +289,7 @@ impl Search {
 
     /// The number of the host that it came from.
     pub fn host(&self) -> u128 {
-        host_number(&self.sought.from)
+        host_number(&self.sought.from.address)
     }
 
     /// How many bytes it takes.
@@ -233,7 +301,7 @@ impl Search {
 /// What a client's datagram came to so far.
 #[derive(Drop)]
 struct Sought {
-    from: SocketAddr,
+    from: Sender,
     reply: Datagram,
     // The names that were asked for and are missing.
     missing: Vec<Wish>,
@@ -243,8 +311,12 @@ struct Sought {
 
 /// Hears the next part, and gives the datagram back where there is another one. Behind the last one the reply is sent,
 /// and what is missing is asked for. Behind the last whole message there is none, whatever bytes are left.
-pub fn hear_part<R: System, H: AsHub>(rt: R, hub: &H, search: Search) -> Option<Search> {
-    let Search {
+pub fn hear_part<R: System, H: AsHub>(
+    rt: R,
+    hub: &H,
+    search: SearchDatagram,
+) -> Option<SearchDatagram> {
+    let SearchDatagram {
         host,
         text,
         heard,
@@ -271,7 +343,7 @@ pub fn hear_part<R: System, H: AsHub>(rt: R, hub: &H, search: Search) -> Option<
         finish(rt, hub, before, sought);
         return None;
     }
-    Some(Search {
+    Some(SearchDatagram {
         host,
         text,
         heard: heard.saturating_add(len),
@@ -329,7 +401,7 @@ fn add_reply(hub: &Hub, sought: &mut Sought, more: &Datagram) -> Result<(), NoMe
 fn send_reply(hub: &Hub, sought: &Sought) {
     let reply = sought.reply.as_slice();
     if !reply.is_empty() {
-        let _ = hub.sockets.datagrams.socket.send_to(reply, sought.from);
+        let _ = hub.sockets.reply(hub.alloc, sought.from, reply);
     }
 }
 
@@ -361,7 +433,7 @@ fn note_missing<R: System, H: AsHub>(rt: R, hub: &H, name: &Name, sought: &mut S
         sought.has_others = true;
         return;
     }
-    let host = host_number(&sought.from);
+    let host = host_number(&sought.from.address);
     let is_noted = match name.copy() {
         Ok(name) => sought.missing.push(Wish { host, name }).is_ok(),
         Err(_) => false,

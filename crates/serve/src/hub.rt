@@ -1,65 +1,34 @@
 //! What all threads share.
+use crate::beacons::Beacons;
+use crate::finding::{Came, Finding, address_of};
 use crate::late::LateInbox;
-use crate::line::Line;
+use crate::line::WatchedStream;
 use crate::logging::LogBook;
 use crate::machine::System;
-use crate::searches::Searches;
+use crate::searches::WaitingDatagrams;
+use crate::sockets::Sockets;
+use crate::upstreams::Upstreams;
 use gate_board::Gate;
 use gateway_core::Dest;
 use gateway_state::Limits;
 use log::Level;
 use pv_name::Name;
 use serve_state::{
-    Asked, Cut, FirstNumber, HostSeats, MOST_SERVERS, MostInAll, MostWaiting, Notice, Outages,
-    Patience, Roster, Scale, Seconds,
+    Cut, FirstNumber, HostSeats, MostInAll, MostWaiting, Notice, Outages, Patience, Roster, Scale,
+    Seconds, SentAsks,
 };
+use server_book::Address;
 use std::alloc::Global;
 use std::collections::VecDeque;
 use std::mem::replace;
-use std::net::{Shutdown, SocketAddr, TcpListener, TcpStream, UdpSocket};
+use std::net::{Shutdown, SocketAddr, TcpStream};
 use std::sync::{Arc, Condvar, Mutex, Wait};
 
 /// A connection's socket.
 pub type Stream = Arc<TcpStream, Global>;
 
 /// The rows of connections, each with its peer.
-pub type Rows = Roster<Line, SocketAddr>;
-
-/// A socket for datagrams, with a second handle, by which it is shut.
-#[derive(Drop)]
-pub struct Datagrams {
-    pub socket: UdpSocket,
-    pub door: TcpStream,
-}
-
-/// The sockets on LISTEN, and the one through which servers are asked, where that is another one.
-#[derive(Drop)]
-pub struct Sockets {
-    pub listener: TcpListener,
-    /// By this handle it is shut.
-    pub listener_door: TcpStream,
-    pub datagrams: Datagrams,
-    /// On a site. So replies aren't lost where clients search for more than a socket keeps.
-    pub own_asks: Option<Datagrams>,
-}
-
-impl Sockets {
-    /// Through this one servers are asked.
-    pub fn asks(&self) -> &UdpSocket {
-        match &self.own_asks {
-            Some(own) => &own.socket,
-            None => &self.datagrams.socket,
-        }
-    }
-
-    fn shut(&self) {
-        let _ = self.listener_door.shutdown(Shutdown::Both);
-        let _ = self.datagrams.door.shutdown(Shutdown::Both);
-        if let Some(own) = &self.own_asks {
-            let _ = own.door.shutdown(Shutdown::Both);
-        }
-    }
-}
+pub type PeerRows = Roster<WatchedStream, SocketAddr>;
 
 /// What a command line may say of how it serves.
 #[derive(Clone, Copy)]
@@ -112,6 +81,8 @@ pub struct Wanted {
     pub asks: bool,
     /// Each name is to be asked for as if nobody had asked for it yet.
     pub soon: bool,
+    /// Each name that was asked for often is to be asked for sooner. Nobody is woken for that.
+    pub sooner: bool,
     /// Names that clients sought, and that are missing.
     pub wishes: Vec<Wish>,
     /// Names that a server said it has. Nobody is woken for them.
@@ -124,6 +95,7 @@ impl Wanted {
         Wanted {
             asks: false,
             soon: false,
+            sooner: false,
             wishes: Vec::new(alloc),
             found: Vec::new(alloc),
             end: false,
@@ -179,25 +151,31 @@ pub struct Arrivals {
 pub struct Hub {
     pub alloc: Global,
     pub sockets: Sockets,
-    pub servers: Vec<SocketAddr>,
+    /// LISTEN, on which clients are served, where it isn't the only such address too.
+    pub listen: SocketAddr,
+    pub servers: Upstreams,
+    /// How other servers are found, where they are searched for.
+    pub finding: Option<Finding>,
+    /// How beacons are sent, where they are.
+    pub beacons: Option<Beacons>,
     pub options: Options,
     /// How many descriptors the process may have.
     pub most_files: u64,
     pub book: Arc<LogBook, Global>,
-    pub roster: Mutex<Rows>,
+    pub roster: Mutex<PeerRows>,
     /// A row has to be looked at.
     pub changed: Condvar,
     pub arrivals: Mutex<Arrivals>,
     pub arrived: Condvar,
     pub wanted: Mutex<Wanted>,
     pub asker: Condvar,
-    pub asked: Mutex<Asked>,
+    pub asked: Mutex<SentAsks>,
     pub outages: Mutex<Outages>,
     /// Searches that may be answered later.
     pub late: Mutex<LateInbox>,
     pub late_came: Condvar,
     /// Datagrams of clients of which more is to be heard.
-    pub searches: Mutex<Searches>,
+    pub searches: Mutex<WaitingDatagrams>,
     pub searched: Condvar,
     /// How many edits of the rules were taken.
     pub edits: Mutex<u64>,
@@ -211,15 +189,24 @@ impl Hub {
     pub fn new(
         alloc: Global,
         sockets: Sockets,
-        servers: Vec<SocketAddr>,
+        servers: Upstreams,
+        finding: Option<Finding>,
+        beacons: Option<Beacons>,
         options: Options,
         most_files: u64,
         book: Arc<LogBook, Global>,
     ) -> Hub {
+        let asked = match &finding {
+            Some(finding) => SentAsks::beginning(alloc, finding.own.first_cid),
+            None => SentAsks::new(alloc),
+        };
         Hub {
             alloc,
+            listen: sockets.first.address,
             sockets,
             servers,
+            finding,
+            beacons,
             options,
             most_files,
             book,
@@ -232,11 +219,11 @@ impl Hub {
             arrived: Condvar::new(),
             wanted: Mutex::new(Wanted::nothing(alloc)),
             asker: Condvar::new(),
-            asked: Mutex::new(Asked::new(alloc)),
+            asked: Mutex::new(asked),
             outages: Mutex::new(Outages::new()),
             late: Mutex::new(LateInbox::new(alloc)),
             late_came: Condvar::new(),
-            searches: Mutex::new(Searches::new(alloc)),
+            searches: Mutex::new(WaitingDatagrams::new(alloc)),
             searched: Condvar::new(),
             edits: Mutex::new(0),
             refused: Mutex::new(0),
@@ -246,7 +233,7 @@ impl Hub {
 
     /// How many servers there are.
     pub fn server_count(&self) -> u32 {
-        u32::try_from(self.servers.len()).unwrap_or(MOST_SERVERS)
+        self.servers.count()
     }
 
     /// The limits that hold.
@@ -264,6 +251,11 @@ impl Hub {
         self.asker.notify_all();
     }
 
+    /// Has missing names asked for sooner, since a server came that may have them.
+    pub fn seek_sooner<R: Wait>(&self, rt: &R) {
+        self.wanted.lock(rt).sooner = true;
+    }
+
     /// Has these names asked for, and those that may be wanted from now on, where there are others. Only who backs
     /// off looks for it.
     pub fn seek<R: Wait>(&self, rt: &R, wishes: Vec<Wish>, has_others: bool) {
@@ -278,9 +270,15 @@ impl Hub {
         self.asker.notify_all();
     }
 
-    /// Tells the asker that a server has these names. Only who backs off looks for it.
-    pub fn note_found<R: Wait>(&self, rt: &R, names: Vec<Name>) {
-        if self.options.back_off && !names.is_empty() {
+    /// Tells that the server of this number has these names: who sends beacons, and the asker, if it backs off.
+    pub fn note_found<R: Wait>(&self, rt: &R, names: Vec<Name>, number: u32) {
+        if names.is_empty() {
+            return;
+        }
+        if let Some(beacons) = &self.beacons {
+            beacons.note_names(rt, number);
+        }
+        if self.options.back_off {
             self.wanted.lock(rt).note_found(names);
         }
     }
@@ -311,9 +309,67 @@ impl Hub {
         self.asker.notify_all();
         self.late.lock(rt).end = true;
         self.late_came.notify_all();
+        if let Some(finding) = &self.finding {
+            finding.end(rt);
+        }
+        if let Some(beacons) = &self.beacons {
+            beacons.end(rt);
+        }
         self.searches.lock(rt).end = true;
         self.searched.notify_all();
         self.changed.notify_all();
+    }
+
+    /// Whether clients are served there.
+    pub fn is_own(&self, address: Address) -> bool {
+        for place in 0..self.sockets.count() {
+            let own = self.sockets.entrance(place).address;
+            if address_of(own.ip(), own.port()) == address {
+                return true;
+            }
+        }
+        false
+    }
+
+    /// The number of a server that was found by search.
+    pub fn is_found(&self, number: u32) -> bool {
+        self.finding.is_some() && number > self.server_count()
+    }
+
+    /// For how many servers descriptors are kept back. Where servers are searched for, that is half of them all at most.
+    pub fn servers_kept(&self) -> u32 {
+        match &self.finding {
+            Some(_) => {
+                let half = u32::try_from(self.most_files / 2).unwrap_or(u32::MAX);
+                self.options.scale.servers.min(half)
+            }
+            None => self.server_count(),
+        }
+    }
+
+    /// What came of the connection to a server, for whoever finds servers.
+    pub fn note_server<R: System>(&self, rt: &R, number: u32, came: Came) {
+        if let Some(finding) = &self.finding {
+            if finding.note(rt, number, came).is_err() {
+                self.tell(rt, Notice::OutOfMemory);
+            }
+        }
+    }
+
+    /// The server of this number is connected.
+    pub fn note_connected<R: System>(&self, rt: &R, number: u32) {
+        if let Some(beacons) = &self.beacons {
+            beacons.note_connected(rt, number);
+        }
+        self.note_server(rt, number, Came::Connected);
+    }
+
+    /// The server of this number is forgotten.
+    pub fn forget_server<R: Wait>(&self, rt: &R, number: u32) {
+        self.outages.lock(rt).end(number);
+        if let Some(beacons) = &self.beacons {
+            beacons.forget(rt, number);
+        }
     }
 
     /// A worker of the connection has ended.

@@ -1,6 +1,7 @@
 //! What keeps the connections' rows.
-use crate::hub::{AsHub, Hub, Rows};
-use crate::line::Line;
+use crate::finding::Came;
+use crate::hub::{AsHub, Hub, PeerRows};
+use crate::line::WatchedStream;
 use crate::machine::System;
 use crate::workers::start_workers;
 use gateway_core::{Dest, Event};
@@ -42,28 +43,34 @@ fn is_needed<R: System>(rt: R, hub: &Hub) -> bool {
     !roster.is_closing()
 }
 
-fn is_idle(roster: &Rows) -> bool {
+fn is_idle(roster: &PeerRows) -> bool {
     !roster.is_closing() && !roster.has_reached() && roster.ended_from(0).is_none()
 }
 
 // The number, the address and the connection of a server that was reached.
-fn take_reached<R: System>(rt: R, hub: &Hub) -> Option<(u32, SocketAddr, Line)> {
-    let mut roster = hub.roster.lock(&rt);
-    let place = roster.take_reached()?;
-    let row = roster.rows().get(place)?;
-    let link = row.link()?;
-    let Dest::Upstream(number) = row.dest() else {
-        return None;
-    };
-    let peer = *row.peer();
-    match link.share() {
-        Ok(line) => Some((number, peer, line)),
-        Err(_) => {
-            // It never comes to stand, and can be connected to again.
-            roster.remove(Dest::Upstream(number));
-            None
+fn take_reached<R: System>(rt: R, hub: &Hub) -> Option<(u32, SocketAddr, WatchedStream)> {
+    let (number, reached) = {
+        let mut roster = hub.roster.lock(&rt);
+        let place = roster.take_reached()?;
+        let row = roster.rows().get(place)?;
+        let link = row.link()?;
+        let Dest::Upstream(number) = row.dest() else {
+            return None;
+        };
+        let peer = *row.peer();
+        match link.share() {
+            Ok(line) => (number, Some((number, peer, line))),
+            Err(_) => {
+                // It never comes to stand, and can be connected to again.
+                roster.remove(Dest::Upstream(number));
+                (number, None)
+            }
         }
+    };
+    if reached.is_none() {
+        hub.note_server(&rt, number, Came::Failed);
     }
+    reached
 }
 
 fn serve_server<'x, 's: 'x, E: 's, R: System + 's, H: AsHub + Sync + 's>(
@@ -72,14 +79,16 @@ fn serve_server<'x, 's: 'x, E: 's, R: System + 's, H: AsHub + Sync + 's>(
     hub: &'s H,
     number: u32,
     peer: SocketAddr,
-    line: Line,
+    line: WatchedStream,
 ) {
     hub.hub().outages.lock(&rt).end(number);
     hub.hub().tell(&rt, Notice::ServerConnected(number, peer));
     let _ = hub.gate().desk(&rt, Event::UpOpened(number));
     start_workers(rt, &*scope, &*hub, Dest::Upstream(number), &line);
-    // Who connects to it again and again isn't there to write `ask`.
-    if hub.hub().options.reconnect.is_some() || hub.hub().options.back_off {
+    hub.hub().note_connected(&rt, number);
+    // Who connects to it again and again isn't there to write `ask`. Whoever finds servers has it asked by itself.
+    let asks = hub.hub().options.reconnect.is_some() || hub.hub().options.back_off;
+    if asks && !hub.hub().is_found(number) {
         hub.hub().ask(&rt);
     }
 }
@@ -111,13 +120,25 @@ fn ended_at<R: System>(rt: R, hub: &Hub, place: &mut usize) -> Option<Dest> {
 
 fn retire<R: System, H: AsHub>(rt: R, hub: &H, dest: Dest) {
     drop(hub.gate().retire(&rt, dest));
-    // Its names are looked for at the other servers.
-    if hub.hub().options.back_off && matches!(dest, Dest::Upstream(_)) {
-        hub.hub().ask(&rt);
+    if let Dest::Upstream(number) = dest {
+        seek_lost(rt, hub.hub(), number);
     }
     let removed = hub.hub().roster.lock(&rt).remove(dest);
+    if let Dest::Upstream(number) = dest {
+        hub.hub().note_server(&rt, number, Came::Lost);
+    }
     if let Some(row) = removed {
         tell_of_end(rt, hub.hub(), dest, *row.peer(), row.cut());
+    }
+}
+
+// The names of a server that is lost are looked for at the other ones. Where servers are found by search, names that none had
+// before need not be asked for sooner.
+fn seek_lost<R: System>(rt: R, hub: &Hub, number: u32) {
+    if hub.is_found(number) {
+        hub.seek(&rt, Vec::new(hub.alloc), true);
+    } else if hub.options.back_off {
+        hub.ask(&rt);
     }
 }
 
@@ -125,6 +146,12 @@ fn tell_of_end<R: System>(rt: R, hub: &Hub, dest: Dest, peer: SocketAddr, cut: O
     match (dest, cut) {
         (Dest::Session(number), None) => hub.tell(&rt, Notice::ClientGone(number, peer)),
         (Dest::Session(number), Some(why)) => hub.tell(&rt, Notice::ClientCut(number, peer, why)),
+        (Dest::Upstream(number), None) if hub.is_found(number) => {
+            hub.tell(&rt, Notice::FoundLost(number, peer))
+        }
+        (Dest::Upstream(number), Some(why)) if hub.is_found(number) => {
+            hub.tell(&rt, Notice::FoundCut(number, peer, why))
+        }
         (Dest::Upstream(number), None) => hub.tell(&rt, Notice::ServerLost(number, peer)),
         (Dest::Upstream(number), Some(why)) => hub.tell(&rt, Notice::ServerCut(number, peer, why)),
     }

@@ -4,16 +4,16 @@ use crate::clients::{host_number, host_of};
 use crate::hub::{AsHub, Hub};
 use crate::machine::System;
 use crate::pace::Pace;
+use crate::sockets::Sender;
 use ca_header::{Frame, Frames};
 use ca_message::NameText;
 use ca_message::commands::CA_PROTO_SEARCH;
 use pv_name::{Name, NoMemory};
-use pv_search::{Ask, SearchAnswer, ask_datagram, read_found};
+use pv_search::{NameAsk, SearchAnswer, ask_datagram, read_found};
 use serve_state::{LATE_LIMIT, Late, LateSearch, Notice};
 use std::alloc::{AllocError, Global};
 use std::collections::{HashSet, VecDeque};
 use std::mem::replace;
-use std::net::SocketAddr;
 use std::sync::CondvarTimeouts;
 use std::time::Duration;
 
@@ -47,13 +47,13 @@ const FOUND_LIMIT: usize = 16_384;
 /// Of so many names it is known that a server had them.
 const KNOWN_LIMIT: usize = 65_536;
 
-type Search = LateSearch<SocketAddr>;
+type PeerSearch = LateSearch<Sender>;
 
 /// What is wanted of whoever answers late.
 #[derive(Drop)]
 pub struct LateInbox {
     /// Searches that couldn't be answered.
-    waiting: Vec<Search>,
+    waiting: Vec<PeerSearch>,
     /// Names that a server told of, which may be connected soon.
     found: Vec<Name>,
     /// A server told of a name.
@@ -77,7 +77,7 @@ impl LateInbox {
     }
 
     // No more are put than are kept.
-    fn put_all(&mut self, searches: Vec<Search>) {
+    fn put_all(&mut self, searches: Vec<PeerSearch>) {
         for search in searches {
             if self.waiting.len() >= LATE_LIMIT || self.waiting.push(search).is_err() {
                 return;
@@ -97,13 +97,7 @@ impl LateInbox {
 }
 
 /// Keeps the searches of this part of a datagram that the answer doesn't answer, where late answers are given.
-pub fn keep_late<R: System>(
-    rt: R,
-    hub: &Hub,
-    part: &[u8],
-    answer: &SearchAnswer,
-    from: SocketAddr,
-) {
+pub fn keep_late<R: System>(rt: R, hub: &Hub, part: &[u8], answer: &SearchAnswer, from: Sender) {
     if !hub.options.late || answer.asked.as_slice().is_empty() {
         return;
     }
@@ -124,8 +118,8 @@ fn unanswered<R: System>(
     hub: &Hub,
     part: &[u8],
     answer: &SearchAnswer,
-    from: SocketAddr,
-) -> Result<Vec<Search>, NoMemory> {
+    from: Sender,
+) -> Result<Vec<PeerSearch>, NoMemory> {
     let found = read_found(hub.alloc, answer.reply.as_slice())?;
     let mut searches = Vec::new(hub.alloc);
     if found.len() >= answer.asked.as_slice().len() {
@@ -143,8 +137,8 @@ fn unanswered<R: System>(
         if let Ok(name) = NameText::read(payload) {
             searches.push(LateSearch {
                 from,
-                host: host_number(&from),
-                port: from.port(),
+                host: host_number(&from.address),
+                port: from.address.port(),
                 cid: head.p1,
                 name: name.to_name(hub.alloc)?,
                 since,
@@ -168,19 +162,19 @@ pub fn note_found<R: System>(rt: R, hub: &Hub, names: &[Name]) {
 
 /// Searches that wait, and how far the round over them is.
 #[derive(Drop)]
-struct Waiting {
+struct WaitingSearches {
     // Not taken in yet.
-    came: VecDeque<Search>,
-    late: Late<SocketAddr>,
+    came: VecDeque<PeerSearch>,
+    late: Late<Sender>,
     // The round goes on at this place. It begins at the first one.
     place: usize,
     // When it goes on, in milliseconds of the system's clock.
     next: u64,
 }
 
-impl Waiting {
-    fn new(alloc: Global) -> Waiting {
-        Waiting {
+impl WaitingSearches {
+    fn new(alloc: Global) -> WaitingSearches {
+        WaitingSearches {
             came: VecDeque::new(alloc),
             late: Late::new(alloc),
             place: 0,
@@ -193,7 +187,7 @@ impl Waiting {
     }
 
     // No more come than are kept.
-    fn put(&mut self, search: Search) -> Result<(), NoMemory> {
+    fn put(&mut self, search: PeerSearch) -> Result<(), NoMemory> {
         if self.came.len() >= LATE_LIMIT || self.came.push_back(search).is_ok() {
             Ok(())
         } else {
@@ -232,8 +226,8 @@ impl Waiting {
 /// that nobody answers.
 #[derive(Drop)]
 struct LateKeeper {
-    known: Waiting,
-    others: Waiting,
+    known: WaitingSearches,
+    others: WaitingSearches,
     // Names that a server had.
     found: HashSet<Name>,
     // The time, in milliseconds of the system's clock.
@@ -245,8 +239,8 @@ struct LateKeeper {
 impl LateKeeper {
     fn new(alloc: Global) -> LateKeeper {
         LateKeeper {
-            known: Waiting::new(alloc),
-            others: Waiting::new(alloc),
+            known: WaitingSearches::new(alloc),
+            others: WaitingSearches::new(alloc),
             found: HashSet::new(alloc),
             now: 0,
             quick_until: 0,
@@ -354,12 +348,12 @@ fn go_on<R: System, H: AsHub>(rt: R, hub: &H, keeper: &mut LateKeeper) -> Result
 /// Searches that stand together and came from one address.
 #[derive(Drop)]
 struct Run {
-    from: SocketAddr,
-    asks: Vec<Ask>,
+    from: Sender,
+    asks: Vec<NameAsk>,
 }
 
 // The searches from this place on, as many as came from one address and are asked of the gate at once.
-fn run_at(alloc: Global, late: &Late<SocketAddr>, place: usize) -> Result<Option<Run>, NoMemory> {
+fn run_at(alloc: Global, late: &Late<Sender>, place: usize) -> Result<Option<Run>, NoMemory> {
     let Some(first) = late.get(place) else {
         return Ok(None);
     };
@@ -374,7 +368,7 @@ fn run_at(alloc: Global, late: &Late<SocketAddr>, place: usize) -> Result<Option
         if row.from != run.from || run.asks.len() >= PART {
             break;
         }
-        run.asks.push(Ask {
+        run.asks.push(NameAsk {
             name: row.name.copy()?,
             cid: row.cid,
         })?;
@@ -386,7 +380,7 @@ fn run_at(alloc: Global, late: &Late<SocketAddr>, place: usize) -> Result<Option
 fn answer_some<R: System, H: AsHub>(
     rt: R,
     hub: &H,
-    waiting: &mut Waiting,
+    waiting: &mut WaitingSearches,
     now: u64,
     is_quick: bool,
 ) -> Result<(), NoMemory> {
@@ -415,13 +409,13 @@ fn answer_some<R: System, H: AsHub>(
 fn answer_run<R: System, H: AsHub>(
     rt: R,
     hub: &H,
-    late: &mut Late<SocketAddr>,
+    late: &mut Late<Sender>,
     run: &Run,
 ) -> Result<usize, NoMemory> {
     let alloc = hub.hub().alloc;
     let datagram = ask_datagram(alloc, run.asks.as_slice())?;
     let asked = datagram.asked.max(1);
-    let Ok(host) = host_of(hub.hub(), &run.from) else {
+    let Ok(host) = host_of(hub.hub(), &run.from.address) else {
         return Ok(asked);
     };
     let Ok(answer) = hub.gate().search(&rt, &host, datagram.text.as_slice()) else {
@@ -429,9 +423,13 @@ fn answer_run<R: System, H: AsHub>(
     };
     let reply = answer.reply.as_slice();
     if !reply.is_empty() {
-        let _ = hub.hub().sockets.datagrams.socket.send_to(reply, run.from);
+        hub.hub().sockets.reply(alloc, run.from, reply)?;
         let found = read_found(alloc, reply)?;
-        late.answered(host_number(&run.from), run.from.port(), found.as_slice());
+        late.answered(
+            host_number(&run.from.address),
+            run.from.address.port(),
+            found.as_slice(),
+        );
     }
     Ok(asked)
 }

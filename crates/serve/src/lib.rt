@@ -12,18 +12,25 @@
 //!   those that are lost;
 //! - one looks now and then whether a connection must end whose writer waits for its peer, or too much waits
 //!   for a client or for all of them, and, where it is to, whether whoever is connected is still there;
-//! - one answers searches that couldn't be answered when they came, where it is to;
+//! - where servers are searched for, one finds out which are to be connected to, and which names wait for that;
+//! - one answers searches that couldn't be answered when they came, and one sends beacons, where they are to;
 //! - two for each connection, which read and write;
+//! - where servers' beacons are heard, one hears them: nobody waits for it;
 //! - one reads the orders of standard input, one performs those that are to be repeated, where any is, one tells of
 //!   the gateway, where it is to, one writes the log, and one for each connection to a server that is being made: these
 //!   stand outside, and nobody waits for them, but for some moments at the end for the log's last lines.
 #![tactic(auto)]
 
+mod addresses;
 mod asker;
 mod asks;
+mod beacons;
 mod clients;
 mod datagrams;
 mod fault;
+mod finder;
+mod finding;
+mod hearing;
 mod hub;
 mod keeper;
 mod late;
@@ -39,19 +46,24 @@ mod reports;
 mod rules;
 mod searches;
 mod servers;
+mod sockets;
+mod upstreams;
 mod watcher;
 mod workers;
 
+pub use addresses::Addresses;
 pub use fault::ServeFault;
+pub use finding::Discovery;
 pub use hub::Options;
 pub use log::Level;
 pub use machine::{Machine, System};
 pub use opening::open;
-pub use rules::Files;
+pub use rules::RulePaths;
 pub use serve_state::{
     CLIENTS, FirstNumber, HostSeats, MOST_CLIENTS, MOST_NAMES, MOST_SERVERS, MostInAll,
     MostWaiting, Patience, SERVERS, Scale, Seconds, read_level, read_up_to,
 };
+pub use upstreams::{Upstream, look_up, names_host};
 
 /// What the exit statuses of the program mean.
 pub mod status {

@@ -69,28 +69,28 @@ impl Watched {
 
 /// A connection's socket, and what is known of its other end.
 #[derive(Drop)]
-pub struct Line {
+pub struct WatchedStream {
     pub stream: Stream,
     pub watched: Arc<Watched, Global>,
 }
 
-impl Line {
-    pub fn new(alloc: Global, stream: TcpStream) -> Result<Line, AllocError> {
+impl WatchedStream {
+    pub fn new(alloc: Global, stream: TcpStream) -> Result<WatchedStream, AllocError> {
         let Ok(stream) = Arc::new(alloc, stream) else {
             return Err(AllocError);
         };
         let Ok(watched) = Arc::new(alloc, Watched::new()) else {
             return Err(AllocError);
         };
-        Ok(Line { stream, watched })
+        Ok(WatchedStream { stream, watched })
     }
 
     /// The same connection, for somebody else.
-    pub fn share(&self) -> Result<Line, AllocError> {
+    pub fn share(&self) -> Result<WatchedStream, AllocError> {
         let stream: Result<Stream, _> = Arc::try_clone(&self.stream);
         let watched: Result<Arc<Watched, Global>, _> = Arc::try_clone(&self.watched);
         match (stream, watched) {
-            (Ok(stream), Ok(watched)) => Ok(Line { stream, watched }),
+            (Ok(stream), Ok(watched)) => Ok(WatchedStream { stream, watched }),
             _ => Err(AllocError),
         }
     }

@@ -1,7 +1,7 @@
 //! A socket as a worker sees it.
 ghost use Rattle.std.specs.Prelude.{◌≡◌, ◌≤◌, IfOk, length};
 
-use crate::line::{Line, Watched};
+use crate::line::{Watched, WatchedStream};
 use serve_state::Versions;
 use session_worker::{Link, LinkFault};
 use std::alloc::Global;
@@ -20,7 +20,7 @@ pub struct SocketLink {
 }
 
 impl SocketLink {
-    pub fn new(line: Line) -> SocketLink {
+    pub fn new(line: WatchedStream) -> SocketLink {
         SocketLink {
             stream: line.stream,
             watched: line.watched,

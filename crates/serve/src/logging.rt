@@ -4,7 +4,7 @@ use log::kv::Source;
 use log::sink::Console;
 use log::span::Spans;
 use log::{Level, Line, Log, Logged, Metadata, Record, log};
-use rule_check::Note;
+use rule_desk::Note;
 use serve_state::{LogLine, LogQueue, Notice, ToLog};
 use std::alloc::Global;
 use std::fmt::Display;
@@ -19,12 +19,12 @@ const NOTES: u8 = 255;
 
 /// The lines that wait, and whether one is being written.
 #[derive(Drop)]
-struct Waiting {
+struct WaitingLines {
     queue: LogQueue,
     is_writing: bool,
 }
 
-impl Waiting {
+impl WaitingLines {
     fn is_done(&self) -> bool {
         !self.is_writing && self.queue.is_idle()
     }
@@ -35,7 +35,7 @@ impl Waiting {
 pub struct LogBook {
     alloc: Global,
     level: Level,
-    waiting: Mutex<Waiting>,
+    waiting: Mutex<WaitingLines>,
     /// There is something to write, or nothing is left.
     changed: Condvar,
 }
@@ -45,7 +45,7 @@ impl LogBook {
         LogBook {
             alloc,
             level,
-            waiting: Mutex::new(Waiting {
+            waiting: Mutex::new(WaitingLines {
                 queue: LogQueue::new(alloc),
                 is_writing: false,
             }),

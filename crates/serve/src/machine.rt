@@ -76,6 +76,9 @@ pub trait Machine {
     /// Writes a line to standard output.
     fn print_line(&self, line: &str) -> io::Result<()>;
 
+    /// A number that nobody foresees, where the system has one.
+    fn draw(&self) -> Option<u32>;
+
     /// How many descriptors the process may have.
     fn most_files(&self) -> u64;
 }
@@ -117,6 +120,13 @@ impl Machine for HostRuntime {
 
     fn print_line(&self, line: &str) -> io::Result<()> {
         self.println(line)
+    }
+
+    fn draw(&self) -> Option<u32> {
+        let mut file = File::open(self, "/dev/urandom").ok()?;
+        let mut bytes = [0u8; 4];
+        file.read_exact(&mut bytes[..]).ok()?;
+        Some(u32::from_ne_bytes(bytes))
     }
 
     fn most_files(&self) -> u64 {

@@ -1,20 +1,27 @@
 //! From the command line to a gateway that serves.
-use crate::asker::ask_servers;
+use crate::addresses::Addresses;
+use crate::asker::{ask_servers, milliseconds};
+use crate::beacons::{Beacons, send_beacons};
 use crate::clients::{accept_clients, greet_clients};
 use crate::datagrams::{DATAGRAM_SIZE, receive, receive_replies};
 use crate::fault::ServeFault;
-use crate::hub::{AsGate, AsHub, AsRest, Datagrams, Hub, Options, Served, Sockets};
+use crate::finder::find_servers;
+use crate::finding::{Discovery, Finding, OwnAsks};
+use crate::hearing::hear_beacons;
+use crate::hub::{AsGate, AsHub, AsRest, Hub, Options, Served};
 use crate::keeper::keep_rows;
 use crate::late::answer_late;
 use crate::logging::{LogBook, Teller, write_lines};
-use crate::machine::{Machine, System, bound_sends, widen_receives};
+use crate::machine::{Machine, System};
 use crate::orders::{Orders, read_orders};
 use crate::repeating::{repeat_orders, repeats};
 use crate::reports::tell_reports;
-use crate::rules::{Files, When, read_policy, read_texts};
+use crate::rules::{RulePaths, When, read_policy, read_texts};
 use crate::searches::hear_searches;
 use crate::servers::connect;
+use crate::sockets::{Sockets, open_sockets};
 use crate::status;
+use crate::upstreams::Upstreams;
 use crate::watcher::watch;
 use crate::workers::{RULES_STACK_SIZE, STACK_SIZE};
 use gate_board::{Board, Gate};
@@ -26,8 +33,7 @@ use session_worker::{CoreEnd, serve_core};
 use std::alloc::Global;
 use std::fmt::Write;
 use std::mem::forget;
-use std::net::{Net, SocketAddr, TcpListener, TcpStream, UdpSocket};
-use std::os::fd::OwnedFd;
+use std::net::{Net, SocketAddr, TcpListener, TcpStream};
 use std::sync::Arc;
 use std::thread::{Builder, Scope, Threads, scope_env};
 use std::{io, thread};
@@ -42,30 +48,99 @@ pub fn open<
 >(
     rt: R,
     alloc: Global,
-    listen: SocketAddr,
-    servers: Vec<SocketAddr>,
-    files: Files,
+    addresses: Addresses,
+    files: RulePaths,
     options: Options,
 ) -> Result<u8, ServeFault> {
     let mut desk = Desk::with_syntax(alloc, files.syntax);
     let teller = Teller::AtStart(options.log);
     let texts = read_texts(&rt, alloc, &files, When::AtStart, teller)?;
     let policy = read_policy(&rt, alloc, &mut desk, &texts, teller)?;
-    let (sockets, address) = open_sockets(rt, listen, options.scale.site).map_err(
-        ServeFault::Listen,
-    )?;
+    let site = options.scale.site;
+    let sockets = open_sockets(rt, alloc, &addresses, site).map_err(ServeFault::Listen)?;
     let reports = open_reports(rt, options.status).map_err(ServeFault::Reports)?;
-    let gate = gate(alloc, address.port(), options.first, policy)?;
+    let gate = gate(alloc, sockets.first.address.port(), options.first, policy)?;
     let Ok(book) = Arc::new(alloc, LogBook::new(alloc, options.log)) else {
         return Err(ServeFault::OutOfMemory);
     };
     start_log(rt, &book)?;
-    let rest = Hub::new(alloc, sockets, servers, options, rt.most_files(), book);
-    tell_address(&rt, alloc, address)?;
+    let rest = rest(rt, alloc, addresses, sockets, options, book)?;
+    tell_addresses(&rt, &rest)?;
     serve(rt, alloc, gate, rest, reports, Orders { desk, files })
 }
 
+// All that threads share besides the gate.
+fn rest<R: Machine + System>(
+    rt: R,
+    alloc: Global,
+    addresses: Addresses,
+    sockets: Sockets,
+    options: Options,
+    book: Arc<LogBook, Global>,
+) -> Result<Hub, ServeFault> {
+    let Addresses {
+        listen: _,
+        more: _,
+        servers,
+        discovery,
+        beacons,
+    } = addresses;
+    let finding = match discovery {
+        Some(discovery) => Some(begin_finding(rt, alloc, &sockets, discovery, options)?),
+        None => None,
+    };
+    let beacons = if beacons.is_empty() {
+        None
+    } else {
+        Some(Beacons::new(alloc, beacons, options.scale.servers)?)
+    };
+    Ok(Hub::new(
+        alloc,
+        sockets,
+        Upstreams::new(alloc, servers)?,
+        finding,
+        beacons,
+        options,
+        rt.most_files(),
+        book,
+    ))
+}
+
+fn begin_finding<R: Machine + System>(
+    rt: R,
+    alloc: Global,
+    sockets: &Sockets,
+    discovery: Discovery,
+    options: Options,
+) -> Result<Finding, ServeFault> {
+    let own = OwnAsks {
+        port: sockets
+            .asks()
+            .local_addr()
+            .map_err(ServeFault::Listen)?
+            .port(),
+        sequence: draw(rt),
+        first_cid: draw(rt),
+    };
+    Ok(Finding::new(alloc, discovery, own, options.scale.servers)?)
+}
+
+// A number that is hard to foresee.
+fn draw<R: Machine + System>(rt: R) -> u32 {
+    match rt.draw() {
+        Some(number) => number,
+        None => u32::try_from(milliseconds(rt, 0) % 0x1_0000_0000).unwrap_or(0),
+    }
+}
+
 // Prints where it listens.
+fn tell_addresses<R: Machine>(rt: &R, rest: &Hub) -> Result<(), ServeFault> {
+    for place in 0..rest.sockets.count() {
+        tell_address(rt, rest.alloc, rest.sockets.entrance(place).address)?;
+    }
+    Ok(())
+}
+
 fn tell_address<R: Machine>(rt: &R, alloc: Global, address: SocketAddr) -> Result<(), ServeFault> {
     let mut line = String::new(alloc);
     if write!(line, "listening {address}").is_err() {
@@ -100,6 +175,8 @@ fn serve<
     }
     start_orders(rt, &hub, orders)?;
     start_reports(rt, &hub, reports)?;
+    start_finder(rt, &hub)?;
+    start_hearing(rt, &hub)?;
     let mut buffer = Vec::new(alloc);
     buffer.resize(DATAGRAM_SIZE, 0u8)?;
     let shared: &Served<G, P> = &hub;
@@ -158,6 +235,43 @@ fn start_orders<
     }
 }
 
+// The thread that finds servers, where it is to. Nobody waits for it.
+fn start_finder<
+    R: Machine + System + Threads + Net<Listener = TcpListener, Stream = TcpStream> + 'static,
+    H: AsHub + Send + Sync + Drop + 'static,
+>(rt: R, hub: &Arc<H, Global>) -> Result<(), ServeFault> {
+    if hub.hub().finding.is_none() {
+        return Ok(());
+    }
+    let again = Arc::try_clone(hub)?;
+    let finding = Builder::new()
+        .stack_size(RULES_STACK_SIZE)
+        .spawn(&rt, move || find_servers(rt, again));
+    match finding {
+        Ok(_) => Ok(()),
+        Err(_) => Err(ServeFault::OutOfMemory),
+    }
+}
+
+// The thread that hears servers' beacons, where it is to. Nobody waits for it.
+fn start_hearing<
+    R: System + Threads + Net<Listener = TcpListener, Stream = TcpStream> + 'static,
+    H: AsHub + Send + Sync + Drop + 'static,
+>(rt: R, hub: &Arc<H, Global>) -> Result<(), ServeFault> {
+    match &hub.hub().finding {
+        Some(finding) if finding.discovery.hears_beacons => (),
+        _ => return Ok(()),
+    }
+    let again = Arc::try_clone(hub)?;
+    let hearing = Builder::new()
+        .stack_size(STACK_SIZE)
+        .spawn(&rt, move || hear_beacons(rt, again));
+    match hearing {
+        Ok(_) => Ok(()),
+        Err(_) => Err(ServeFault::OutOfMemory),
+    }
+}
+
 // The thread that tells of the gateway, where it is to. Nobody waits for it.
 fn start_reports<R: System + Threads + 'static, H: AsHub + Send + Sync + Drop + 'static>(
     rt: R,
@@ -210,12 +324,7 @@ fn start_others<'x, 's: 'x, E: 's, R: System + 's, H: AsHub + Sync + 's>(
     hub: &'s H,
     buffer: Vec<u8>,
 ) -> bool {
-    let acceptor = Builder::new()
-        .stack_size(STACK_SIZE)
-        .spawn_scoped(&*scope, move || accept_clients(rt, hub));
-    let receiver = Builder::new()
-        .stack_size(RULES_STACK_SIZE)
-        .spawn_scoped(&*scope, move || receive(rt, hub, buffer));
+    let entrances = start_entrance(rt, &*scope, &*hub, 0, buffer) && start_more(rt, &*scope, &*hub);
     let searcher = Builder::new()
         .stack_size(RULES_STACK_SIZE)
         .spawn_scoped(&*scope, move || hear_searches(rt, hub));
@@ -231,13 +340,52 @@ fn start_others<'x, 's: 'x, E: 's, R: System + 's, H: AsHub + Sync + 's>(
             .stack_size(RULES_STACK_SIZE)
             .spawn_scoped(&*scope, move || answer_late(rt, hub))
             .is_ok();
-    acceptor.is_ok()
-        && receiver.is_ok()
+    let sends_beacons = hub.hub().beacons.is_none()
+        || Builder::new()
+            .stack_size(STACK_SIZE)
+            .spawn_scoped(&*scope, move || send_beacons(rt, hub))
+            .is_ok();
+    entrances
         && searcher.is_ok()
         && asker.is_ok()
         && watcher.is_ok()
         && hears_replies
         && is_late
+        && sends_beacons
+}
+
+// The two threads that serve at an entrance.
+fn start_entrance<'x, 's: 'x, E: 's, R: System + 's, H: AsHub + Sync + 's>(
+    rt: R,
+    scope: &'x Scope<'s, E>,
+    hub: &'s H,
+    place: usize,
+    buffer: Vec<u8>,
+) -> bool {
+    let acceptor = Builder::new()
+        .stack_size(STACK_SIZE)
+        .spawn_scoped(&*scope, move || accept_clients(rt, hub, place));
+    let receiver = Builder::new()
+        .stack_size(RULES_STACK_SIZE)
+        .spawn_scoped(&*scope, move || receive(rt, hub, place, buffer));
+    acceptor.is_ok() && receiver.is_ok()
+}
+
+// Those of all entrances but LISTEN.
+fn start_more<'x, 's: 'x, E: 's, R: System + 's, H: AsHub + Sync + 's>(
+    rt: R,
+    scope: &'x Scope<'s, E>,
+    hub: &'s H,
+) -> bool {
+    for place in 1..hub.hub().sockets.count() {
+        let mut buffer = Vec::new(hub.hub().alloc);
+        if buffer.resize(DATAGRAM_SIZE, 0u8).is_err()
+            || !start_entrance(rt, &*scope, &*hub, place, buffer)
+        {
+            return false;
+        }
+    }
+    true
 }
 
 // The thread that hears servers on the socket through which they are asked.
@@ -281,41 +429,6 @@ fn gate(alloc: Global, port: u16, first: FirstNumber, policy: Policy) -> Result<
     };
     let engine = Engine::new(alloc, config, policy)?;
     Ok(Gate::new(Board::new(alloc, engine)))
-}
-
-// On a site the buffers of sockets suit one, and servers are asked through a socket of its own.
-fn open_sockets<R: System + Net<Listener = TcpListener, Stream = TcpStream>>(
-    rt: R,
-    listen: SocketAddr,
-    site: bool,
-) -> io::Result<(Sockets, SocketAddr)> {
-    let listener: TcpListener = TcpListener::bind(&rt, listen)?;
-    let address = listener.local_addr()?;
-    let listener_door = TcpStream::from(OwnedFd::from(listener.try_clone()?));
-    let datagrams = open_datagrams(rt, address)?;
-    let own_asks = if site {
-        bound_sends(&listener);
-        widen_receives(&datagrams.socket);
-        Some(open_datagrams(rt, SocketAddr::new(address.ip(), 0))?)
-    } else {
-        None
-    };
-    let sockets = Sockets {
-        listener,
-        listener_door,
-        datagrams,
-        own_asks,
-    };
-    Ok((sockets, address))
-}
-
-fn open_datagrams<R: System + Net<Listener = TcpListener, Stream = TcpStream>>(
-    rt: R,
-    address: SocketAddr,
-) -> io::Result<Datagrams> {
-    let socket = UdpSocket::bind(&rt, address)?;
-    let door = TcpStream::from(OwnedFd::from(socket.try_clone()?));
-    Ok(Datagrams { socket, door })
 }
 
 fn open_reports<R: System + Net<Listener = TcpListener, Stream = TcpStream>>(

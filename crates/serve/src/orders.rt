@@ -3,12 +3,12 @@ use crate::fault::ServeFault;
 use crate::hub::{AsHub, Hub};
 use crate::logging::{LogBook, Teller};
 use crate::machine::{Machine, System};
-use crate::rules::{Files, When, read_policy, read_texts};
+use crate::rules::{RulePaths, When, read_policy, read_texts};
 use crate::servers::connect;
 use crate::status;
 use gateway_core::Event;
 use rule_desk::Desk;
-use serve_state::{Notice, Order, OrderLine, OrderLines, Try};
+use serve_state::{Notice, OperatorOrder, OrderLine, OrderLines, Try};
 use std::alloc::Global;
 use std::io::ErrorKind;
 use std::net::{Net, TcpListener, TcpStream};
@@ -22,7 +22,7 @@ const PIECE_SIZE: usize = 256;
 #[derive(Drop)]
 pub struct Orders {
     pub desk: Desk,
-    pub files: Files,
+    pub files: RulePaths,
 }
 
 /// Performs the orders of standard input until its end, which ends the gateway.
@@ -39,7 +39,7 @@ pub fn read_orders<
 fn perform_lines<
     R: Machine + System + Threads + Net<Listener = TcpListener, Stream = TcpStream> + 'static,
     H: AsHub + Send + Sync + Drop + 'static,
->(rt: R, hub: &Arc<H, Global>, desk: &mut Desk, files: &Files) -> u8 {
+>(rt: R, hub: &Arc<H, Global>, desk: &mut Desk, files: &RulePaths) -> u8 {
     let mut lines = OrderLines::new(hub.hub().alloc);
     let mut piece = [0u8; PIECE_SIZE];
     for _ in rt.forever() {
@@ -69,7 +69,7 @@ fn perform_piece<
     rt: R,
     hub: &Arc<H, Global>,
     desk: &mut Desk,
-    files: &Files,
+    files: &RulePaths,
     lines: &mut OrderLines,
     piece: &[u8],
 ) -> Option<u8> {
@@ -92,7 +92,7 @@ fn perform_line<
     rt: R,
     hub: &Arc<H, Global>,
     desk: &mut Desk,
-    files: &Files,
+    files: &RulePaths,
     line: Option<OrderLine>,
 ) -> Option<u8> {
     match line {
@@ -109,14 +109,20 @@ fn perform_line<
 fn perform<
     R: Machine + System + Threads + Net<Listener = TcpListener, Stream = TcpStream> + 'static,
     H: AsHub + Send + Sync + Drop + 'static,
->(rt: R, hub: &Arc<H, Global>, desk: &mut Desk, files: &Files, order: Order) -> Option<u8> {
+>(
+    rt: R,
+    hub: &Arc<H, Global>,
+    desk: &mut Desk,
+    files: &RulePaths,
+    order: OperatorOrder,
+) -> Option<u8> {
     let shared: &H = hub;
     match order {
-        Order::Ask => hub.hub().ask(&rt),
-        Order::Sweep => sweep(rt, shared),
-        Order::Reload => return reload(rt, shared, desk, files),
-        Order::Connect(number) => connect(rt, hub, number, Try::Ordered),
-        Order::Quit => return Some(status::GOOD),
+        OperatorOrder::Ask => hub.hub().ask(&rt),
+        OperatorOrder::Sweep => sweep(rt, shared),
+        OperatorOrder::Reload => return reload(rt, shared, desk, files),
+        OperatorOrder::Connect(number) => connect(rt, hub, number, Try::Ordered),
+        OperatorOrder::Quit => return Some(status::GOOD),
     }
     None
 }
@@ -139,7 +145,7 @@ fn reload<R: Machine + System, H: AsHub>(
     rt: R,
     hub: &H,
     desk: &mut Desk,
-    files: &Files,
+    files: &RulePaths,
 ) -> Option<u8> {
     let book: &LogBook = &hub.hub().book;
     let teller = Teller::WhileServing(book);

@@ -40,81 +40,98 @@ fn report_line<R: System, H: AsHub>(rt: R, hub: &H) -> Option<String> {
     let traffic = hub.gate().traffic(&rt);
     let servers = server_reports(rt, hub.hub()).ok()?;
     let edits = *hub.hub().edits.lock(&rt);
+    let waiting = waiting_now(rt, hub);
     let report = Report {
         servers: servers.as_slice(),
+        found: found_count(rt, hub.hub()),
         rows,
         edits,
         received: traffic.received,
         sent: traffic.sent,
-        largest_outbox: largest_outbox(rt, hub),
+        largest_outbox: waiting.largest,
         fullest: hub.gate().fullest(&rt),
         limits: hub.hub().limits(),
         met: hub.gate().limits_met(&rt),
         refused: *hub.hub().refused.lock(&rt),
-        in_all: in_all(rt, hub),
+        in_all: in_all(rt, hub.hub(), waiting.in_all),
     };
     report.line(hub.hub().alloc).ok()
 }
 
 fn server_reports<R: System>(rt: R, hub: &Hub) -> Result<Vec<ServerReport>, AllocError> {
     let mut reports = Vec::new(hub.alloc);
-    let roster = hub.roster.lock(&rt);
-    let mut number = 0u32;
-    for address in &hub.servers {
-        number = number.saturating_add(1);
-        let dest = Dest::Upstream(number);
-        let mut connected = false;
-        for row in roster.rows() {
-            connected |= row.dest() == dest && row.link().is_some();
+    for number in 1..=hub.server_count() {
+        if let Some(address) = hub.servers.told(&rt, number) {
+            reports.push(ServerReport {
+                number,
+                address,
+                connected: is_connected(rt, hub, number),
+            })?;
         }
-        reports.push(ServerReport {
-            number,
-            address: *address,
-            connected,
-        })?;
     }
     Ok(reports)
 }
 
+fn is_connected<R: System>(rt: R, hub: &Hub, number: u32) -> bool {
+    let dest = Dest::Upstream(number);
+    let roster = hub.roster.lock(&rt);
+    for row in roster.rows() {
+        if row.dest() == dest {
+            return row.link().is_some();
+        }
+    }
+    false
+}
+
+// How many servers that were found by search are connected. None where none is searched for.
+fn found_count<R: System>(rt: R, hub: &Hub) -> Option<u32> {
+    let _ = hub.finding.as_ref()?;
+    let mut count = 0u32;
+    for row in hub.roster.lock(&rt).rows() {
+        if let Dest::Upstream(number) = row.dest() {
+            if hub.is_found(number) && row.link().is_some() {
+                count = count.saturating_add(1);
+            }
+        }
+    }
+    Some(count)
+}
+
+/// How many bytes wait now.
+#[derive(Clone, Copy)]
+struct WaitingNow {
+    /// For the connection for which most wait.
+    largest: u64,
+    /// For all clients together.
+    in_all: u64,
+}
+
+fn waiting_now<R: System, H: AsHub>(rt: R, hub: &H) -> WaitingNow {
+    let mut now = WaitingNow {
+        largest: 0,
+        in_all: 0,
+    };
+    let mut place = 0usize;
+    for _ in rt.forever() {
+        let Some(dest) = dest_at(rt, hub.hub(), place) else {
+            return now;
+        };
+        let bytes = hub.gate().waiting_bytes(&rt, dest).unwrap_or(0);
+        now.largest = now.largest.max(bytes);
+        if let Dest::Session(_) = dest {
+            now.in_all = now.in_all.saturating_add(bytes);
+        }
+        place = place.saturating_add(1);
+    }
+    unreachable!()
+}
+
 // None where as much may wait for all clients together as does.
-fn in_all<R: System, H: AsHub>(rt: R, hub: &H) -> Option<InAllReport> {
-    let most = hub.hub().options.most_in_all?;
+fn in_all<R: System>(rt: R, hub: &Hub, bytes: u64) -> Option<InAllReport> {
+    let most = hub.options.most_in_all?;
     Some(InAllReport {
         most,
-        bytes: waiting_in_all(rt, hub),
-        cut: *hub.hub().cut_in_all.lock(&rt),
+        bytes,
+        cut: *hub.cut_in_all.lock(&rt),
     })
-}
-
-// How many bytes wait for all clients together.
-fn waiting_in_all<R: System, H: AsHub>(rt: R, hub: &H) -> u64 {
-    let mut all = 0u64;
-    let mut place = 0usize;
-    for _ in rt.forever() {
-        let Some(dest) = dest_at(rt, hub.hub(), place) else {
-            return all;
-        };
-        if let Dest::Session(_) = dest {
-            let bytes = hub.gate().waiting_bytes(&rt, dest).unwrap_or(0);
-            all = all.saturating_add(bytes);
-        }
-        place = place.saturating_add(1);
-    }
-    unreachable!()
-}
-
-// How many bytes wait for the connection for which most wait.
-fn largest_outbox<R: System, H: AsHub>(rt: R, hub: &H) -> u64 {
-    let mut largest = 0u64;
-    let mut place = 0usize;
-    for _ in rt.forever() {
-        let Some(dest) = dest_at(rt, hub.hub(), place) else {
-            return largest;
-        };
-        if let Ok(bytes) = hub.gate().queued_bytes(&rt, dest) {
-            largest = largest.max(bytes);
-        }
-        place = place.saturating_add(1);
-    }
-    unreachable!()
 }

@@ -4,9 +4,8 @@ use crate::logging::Teller;
 use crate::machine::{Machine, System, TextFault};
 use gateway_core::Policy;
 use pvlist::Syntax;
-use rule_check::Note;
-use rule_desk::{Desk, DeskFault};
-use serve_state::{FileCause, FileText, Notice, READINGS, Reading, Steady};
+use rule_desk::{Desk, DeskFault, Note};
+use serve_state::{FileCause, FileReading, FileText, Notice, READINGS, Steady};
 use std::alloc::Global;
 use std::fmt::Write;
 use std::time::Duration;
@@ -17,7 +16,7 @@ const PAUSE: u64 = 20;
 
 /// The paths of the rule files, and the syntax of their patterns.
 #[derive(Drop)]
-pub struct Files {
+pub struct RulePaths {
     pub rules: Option<String>,
     pub groups: Option<String>,
     pub syntax: Syntax,
@@ -25,7 +24,7 @@ pub struct Files {
 
 /// The texts of the rule files.
 #[derive(Drop)]
-pub struct Texts {
+pub struct RuleTexts {
     rules: Option<String>,
     groups: Option<String>,
 }
@@ -43,13 +42,13 @@ pub enum When {
 pub fn read_texts<R: Machine + System>(
     rt: &R,
     alloc: Global,
-    files: &Files,
+    files: &RulePaths,
     when: When,
     teller: Teller<'_>,
-) -> Result<Texts, ServeFault> {
+) -> Result<RuleTexts, ServeFault> {
     let rules = read_text(rt, alloc, &files.rules, when, teller)?;
     let groups = read_text(rt, alloc, &files.groups, when, teller)?;
-    Ok(Texts { rules, groups })
+    Ok(RuleTexts { rules, groups })
 }
 
 fn read_text<R: Machine + System>(
@@ -85,9 +84,9 @@ fn read_steady<R: Machine + System>(
     for _ in 0..READINGS {
         let text = read_once(rt, alloc, path, teller)?;
         match steady.read(text) {
-            Reading::Steady(text) => return Ok(text.into_text()),
-            Reading::Again => thread::sleep(rt, Duration::from_millis(PAUSE)),
-            Reading::Unsteady => break,
+            FileReading::Steady(text) => return Ok(text.into_text()),
+            FileReading::Again => thread::sleep(rt, Duration::from_millis(PAUSE)),
+            FileReading::Unsteady => break,
         }
     }
     Err(refuse_file(rt, path, FileCause::Unsteady, teller))
@@ -132,7 +131,7 @@ pub fn read_policy<R: Machine + System>(
     rt: &R,
     alloc: Global,
     desk: &mut Desk,
-    texts: &Texts,
+    texts: &RuleTexts,
     teller: Teller<'_>,
 ) -> Result<Policy, ServeFault> {
     let rules = texts.rules.as_ref().map(|text| text.as_str());

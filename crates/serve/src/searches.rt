@@ -1,5 +1,5 @@
 //! What isn't heard at once of clients' datagrams: of each host one part is heard in turn.
-use crate::datagrams::{Search, hear_part};
+use crate::datagrams::{SearchDatagram, hear_part};
 use crate::hub::{AsHub, Hub};
 use crate::machine::System;
 use crate::pace::Pace;
@@ -22,12 +22,12 @@ const MOST_HOSTS: usize = 1_024;
 struct OfHost {
     host: u128,
     bytes: usize,
-    waiting: VecDeque<Search>,
+    waiting: VecDeque<SearchDatagram>,
 }
 
 /// The datagrams that wait, by hosts, in the order in which it is their turn.
 #[derive(Drop)]
-pub struct Searches {
+pub struct WaitingDatagrams {
     hosts: VecDeque<OfHost>,
     bytes: usize,
     // A part is being heard.
@@ -35,10 +35,10 @@ pub struct Searches {
     pub end: bool,
 }
 
-impl Searches {
+impl WaitingDatagrams {
     /// None. It takes no memory.
-    pub fn new(alloc: Global) -> Searches {
-        Searches {
+    pub fn new(alloc: Global) -> WaitingDatagrams {
+        WaitingDatagrams {
             hosts: VecDeque::new(alloc),
             bytes: 0,
             is_heard: false,
@@ -47,7 +47,7 @@ impl Searches {
     }
 
     // The next one of the host whose turn it is. What else waits of that host comes behind all others.
-    fn take(&mut self) -> Option<Search> {
+    fn take(&mut self) -> Option<SearchDatagram> {
         let mut of_host = self.hosts.pop_front()?;
         let search = of_host.waiting.pop_front()?;
         of_host.bytes = of_host.bytes.saturating_sub(search.len());
@@ -65,7 +65,7 @@ impl Searches {
     }
 
     // Puts one behind the others of its host. Where too much waits, it is lost.
-    fn add(&mut self, alloc: Global, search: Search) -> Result<(), NoMemory> {
+    fn add(&mut self, alloc: Global, search: SearchDatagram) -> Result<(), NoMemory> {
         let (host, len) = (search.host(), search.len());
         if self.place_of(host) >= MOST_HOSTS || self.bytes.saturating_add(len) > MOST_BYTES {
             return Ok(());
@@ -86,7 +86,7 @@ impl Searches {
     }
 
     // Puts what is left of one that was taken before the others of its host, however much waits.
-    fn put_back(&mut self, alloc: Global, search: Search) -> Result<(), NoMemory> {
+    fn put_back(&mut self, alloc: Global, search: SearchDatagram) -> Result<(), NoMemory> {
         let len = search.len();
         let place = self.place_for(alloc, search.host())?;
         let Some(of_host) = self.hosts.get_mut(place) else {
@@ -133,7 +133,7 @@ pub fn has_waiting<R: System>(rt: R, hub: &Hub) -> bool {
 }
 
 /// Has a datagram heard, or the rest of it, once it is its host's turn.
-pub fn put_search<R: System>(rt: R, hub: &Hub, search: Search) {
+pub fn put_search<R: System>(rt: R, hub: &Hub, search: SearchDatagram) {
     let added = hub.searches.lock(&rt).add(hub.alloc, search);
     match added {
         Ok(()) => hub.searched.notify_all(),
@@ -157,7 +157,7 @@ pub fn hear_searches<R: System, H: AsHub>(rt: R, hub: &H) {
     }
 }
 
-fn put_back<R: System>(rt: R, hub: &Hub, search: Search) {
+fn put_back<R: System>(rt: R, hub: &Hub, search: SearchDatagram) {
     let put = hub.searches.lock(&rt).put_back(hub.alloc, search);
     if put.is_err() {
         hub.tell(&rt, Notice::OutOfMemory);
@@ -165,7 +165,7 @@ fn put_back<R: System>(rt: R, hub: &Hub, search: Search) {
 }
 
 // The next one, once one waits. None where the gateway ends.
-fn next_search<R: System>(rt: R, hub: &Hub) -> Option<Option<Search>> {
+fn next_search<R: System>(rt: R, hub: &Hub) -> Option<Option<SearchDatagram>> {
     let mut searches = hub.searches.lock(&rt);
     searches.is_heard = false;
     let mut searches = hub.searched.wait_while(&rt, searches, |searches| {

@@ -1,16 +1,21 @@
 //! Connections to servers.
+use crate::finding::Came;
 use crate::hub::{AsHub, Hub};
-use crate::line::{Line, Watched};
+use crate::line::{Watched, WatchedStream};
 use crate::machine::System;
-use crate::workers::STACK_SIZE;
+use crate::upstreams::look_up;
+use crate::workers::{RULES_STACK_SIZE, STACK_SIZE};
 use gateway_core::Dest;
-use serve_state::{Cut, Notice, Refusal, Try};
+use serve_state::{Cut, Notice, RosterRefusal, Try};
 use std::alloc::Global;
 use std::net::{Net, Shutdown, SocketAddr, TcpListener, TcpStream};
 use std::sync::Arc;
 use std::thread;
 use std::thread::{Builder, Threads};
 use std::time::Duration;
+
+/// So many seconds a server that was found by search has for its connection: what names it may be forged.
+const FOUND_PATIENCE: u64 = 5;
 
 /// So many times it is looked whether a connection that was ended is gone.
 const LOOKS: u32 = 2_000;
@@ -26,12 +31,12 @@ pub fn connect<
     R: System + Threads + Net<Listener = TcpListener, Stream = TcpStream> + 'static,
     H: AsHub + Send + Sync + Drop + 'static,
 >(rt: R, hub: &Arc<H, Global>, number: u32, tried: Try) {
-    let Some(peer) = address(hub.hub(), number) else {
+    let Some(peer) = hub.hub().servers.told(&rt, number) else {
         return;
     };
     match begin(rt, hub.hub(), number, peer) {
         Ok(()) => (),
-        Err(Refusal::Held) if tried == Try::Ordered => {
+        Err(RosterRefusal::Held) if tried == Try::Ordered => {
             replace(rt, hub, number, peer);
             return;
         }
@@ -39,7 +44,7 @@ pub fn connect<
     }
     let started = match Arc::try_clone(hub) {
         Ok(hub) => Builder::new()
-            .stack_size(STACK_SIZE)
+            .stack_size(stack_size(hub.hub(), number))
             .spawn(&rt, move || reach(rt, hub.hub(), number, peer, tried))
             .is_ok(),
         Err(_) => false,
@@ -49,7 +54,15 @@ pub fn connect<
     }
 }
 
-fn begin<R: System>(rt: R, hub: &Hub, number: u32, peer: SocketAddr) -> Result<(), Refusal> {
+// The system needs more to look a host up.
+fn stack_size(hub: &Hub, number: u32) -> usize {
+    match hub.servers.word(number) {
+        Some(_) => RULES_STACK_SIZE,
+        None => STACK_SIZE,
+    }
+}
+
+fn begin<R: System>(rt: R, hub: &Hub, number: u32, peer: SocketAddr) -> Result<(), RosterRefusal> {
     hub.roster.lock(&rt).begin_server(number, peer)
 }
 
@@ -73,7 +86,8 @@ fn replace<
     let Ok(again) = Arc::try_clone(hub) else {
         return;
     };
-    let started = Builder::new().stack_size(STACK_SIZE).spawn(
+    let size = stack_size(hub.hub(), number);
+    let started = Builder::new().stack_size(size).spawn(
         &rt,
         move || reach_once_gone(rt, again.hub(), number, peer),
     );
@@ -83,7 +97,7 @@ fn replace<
 }
 
 // The connection, where it is made.
-fn line_of<R: System>(rt: R, hub: &Hub, dest: Dest) -> Option<Line> {
+fn line_of<R: System>(rt: R, hub: &Hub, dest: Dest) -> Option<WatchedStream> {
     let roster = hub.roster.lock(&rt);
     for row in roster.rows() {
         if row.dest() == dest {
@@ -109,15 +123,58 @@ fn reach_once_gone<R: System + Net<Listener = TcpListener, Stream = TcpStream>>(
                 reach(rt, hub, number, peer, Try::Ordered);
                 return;
             }
-            Err(Refusal::Held) => thread::sleep(&rt, Duration::from_millis(PAUSE)),
+            Err(RosterRefusal::Held) => thread::sleep(&rt, Duration::from_millis(PAUSE)),
             Err(_) => return,
         }
     }
 }
 
-fn address(hub: &Hub, number: u32) -> Option<SocketAddr> {
-    let place = number.checked_sub(1)?;
-    hub.servers.get(place as usize).copied()
+/// Connects to a server that was found by search, in a thread of its own that nobody waits for.
+pub fn connect_found<
+    R: System + Threads + Net<Listener = TcpListener, Stream = TcpStream> + 'static,
+    H: AsHub + Send + Sync + Drop + 'static,
+>(rt: R, hub: &Arc<H, Global>, number: u32, peer: SocketAddr) {
+    if begin(rt, hub.hub(), number, peer).is_err() {
+        hub.hub().note_server(&rt, number, Came::Failed);
+        return;
+    }
+    let started = match Arc::try_clone(hub) {
+        Ok(hub) => Builder::new()
+            .stack_size(STACK_SIZE)
+            .spawn(&rt, move || reach_found(rt, hub.hub(), number, peer))
+            .is_ok(),
+        Err(_) => false,
+    };
+    if !started {
+        fail(rt, hub.hub(), number, peer, Try::Repeated);
+    }
+}
+
+fn reach_found<R: System + Net<Listener = TcpListener, Stream = TcpStream>>(
+    rt: R,
+    hub: &Hub,
+    number: u32,
+    peer: SocketAddr,
+) {
+    let patience = Duration::from_secs(FOUND_PATIENCE);
+    match TcpStream::connect_timeout(&rt, &peer, patience) {
+        Ok(stream) if !is_own_door(hub, peer, &stream) => {
+            take(rt, hub, number, peer, Try::Repeated, stream)
+        }
+        _ => fail(rt, hub, number, peer, Try::Repeated),
+    }
+}
+
+// Whether the connection leads to an address on which clients are served, where that is each one of the machine: no reply tells
+// which these are.
+fn is_own_door(hub: &Hub, peer: SocketAddr, stream: &TcpStream) -> bool {
+    if !is_served(hub, peer.port()) {
+        return false;
+    }
+    match stream.local_addr() {
+        Ok(own) => own.ip() == peer.ip() || peer.ip().is_loopback(),
+        Err(_) => true,
+    }
 }
 
 fn reach<R: System + Net<Listener = TcpListener, Stream = TcpStream>>(
@@ -127,16 +184,58 @@ fn reach<R: System + Net<Listener = TcpListener, Stream = TcpStream>>(
     peer: SocketAddr,
     tried: Try,
 ) {
+    let Some(peer) = looked_up(rt, hub, number, peer) else {
+        fail(rt, hub, number, peer, tried);
+        return;
+    };
     match TcpStream::connect(&rt, peer) {
-        Ok(stream) => {
-            let _ = stream.set_nodelay(true);
-            match Line::new(hub.alloc, stream) {
-                Ok(line) => {
-                    hub.roster.lock(&rt).connected(Dest::Upstream(number), line);
-                    hub.changed.notify_all();
-                }
-                Err(_) => fail(rt, hub, number, peer, tried),
-            }
+        Ok(stream) => take(rt, hub, number, peer, tried, stream),
+        Err(_) => fail(rt, hub, number, peer, tried),
+    }
+}
+
+// Where the server is, which is looked up anew where the command line names its host; the row has the address then. None where
+// it isn't known. Where servers are searched for, they are known by their first addresses, and found at others by search.
+fn looked_up<R: System + Net<Listener = TcpListener, Stream = TcpStream>>(
+    rt: R,
+    hub: &Hub,
+    number: u32,
+    peer: SocketAddr,
+) -> Option<SocketAddr> {
+    let word = match hub.servers.word(number) {
+        Some(word) if hub.finding.is_none() => word,
+        _ => return Some(peer),
+    };
+    let Some(found) = look_up(&rt, word, hub.listen.is_ipv4()) else {
+        return hub.servers.at(&rt, number);
+    };
+    if found != peer {
+        hub.servers.move_to(&rt, number, found);
+        let mut roster = hub.roster.lock(&rt);
+        roster.remove(Dest::Upstream(number));
+        roster.begin_server(number, found).ok()?;
+    }
+    Some(found)
+}
+
+// Whether clients are served at this port of each address of the machine.
+fn is_served(hub: &Hub, port: u16) -> bool {
+    for place in 0..hub.sockets.count() {
+        let own = hub.sockets.entrance(place).address;
+        if own.ip().is_unspecified() && own.port() == port {
+            return true;
+        }
+    }
+    false
+}
+
+// The connection is made.
+fn take<R: System>(rt: R, hub: &Hub, number: u32, peer: SocketAddr, tried: Try, stream: TcpStream) {
+    let _ = stream.set_nodelay(true);
+    match WatchedStream::new(hub.alloc, stream) {
+        Ok(line) => {
+            hub.roster.lock(&rt).connected(Dest::Upstream(number), line);
+            hub.changed.notify_all();
         }
         Err(_) => fail(rt, hub, number, peer, tried),
     }
@@ -146,9 +245,11 @@ fn reach<R: System + Net<Listener = TcpListener, Stream = TcpStream>>(
 fn fail<R: System>(rt: R, hub: &Hub, number: u32, peer: SocketAddr, tried: Try) {
     let is_news = hub.outages.lock(&rt).fail(number, tried);
     hub.roster.lock(&rt).remove(Dest::Upstream(number));
-    if is_news {
-        hub.tell(&rt, Notice::ServerUnreached(number, peer));
-    } else {
-        hub.tell(&rt, Notice::ServerStillUnreached(number, peer));
-    }
+    hub.note_server(&rt, number, Came::Failed);
+    let notice = match (is_news, hub.is_found(number)) {
+        (true, true) => Notice::FoundUnreached(number, peer),
+        (true, false) => Notice::ServerUnreached(number, peer),
+        (false, _) => Notice::ServerStillUnreached(number, peer),
+    };
+    hub.tell(&rt, notice);
 }

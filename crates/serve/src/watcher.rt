@@ -1,10 +1,11 @@
 //! What cuts off connections that must end while their writers wait for the peer.
 use crate::hub::{AsHub, Hub};
-use crate::line::{Line, Watched};
+use crate::line::{Watched, WatchedStream};
 use crate::machine::System;
+use gate_board::Standing;
 use gateway_core::{Dest, Event};
 use serve_state::{
-    Bound, Cut, LIMITS, Limit, LimitWatch, Notice, Patience, Rhythm, Verdict, Waiting,
+    Bound, Cut, LIMITS, Limit, LimitWatch, Notice, Patience, Rhythm, Verdict, WaitingBytes,
 };
 use std::net::{Shutdown, SocketAddr};
 use std::sync::CondvarTimeouts;
@@ -73,7 +74,7 @@ pub fn rests<R: System>(rt: R, hub: &Hub) -> bool {
 
 // A list with room for all clients, where it is watched what waits for all: so no look takes memory, which is short
 // just where much waits.
-fn room_for_all<R: System>(rt: R, hub: &Hub) -> Vec<Waiting> {
+fn room_for_all<R: System>(rt: R, hub: &Hub) -> Vec<WaitingBytes> {
     let mut waiting = Vec::new(hub.alloc);
     if hub.options.most_in_all.is_some() {
         let clients = hub.options.scale.clients as usize;
@@ -85,7 +86,7 @@ fn room_for_all<R: System>(rt: R, hub: &Hub) -> Vec<Waiting> {
 }
 
 // Shuts those that must end, and lists the clients for whom something waits that go on.
-fn look_at_all<R: System, H: AsHub>(rt: R, hub: &H, waiting: &mut Vec<Waiting>) {
+fn look_at_all<R: System, H: AsHub>(rt: R, hub: &H, waiting: &mut Vec<WaitingBytes>) {
     waiting.clear();
     let mut place = 0usize;
     for _ in rt.forever() {
@@ -106,28 +107,27 @@ fn look_at_all<R: System, H: AsHub>(rt: R, hub: &H, waiting: &mut Vec<Waiting>) 
 
 // Shuts a connection that must end. How many bytes wait for one that goes on; None too where the gateway failed.
 fn look_at<R: System, H: AsHub>(rt: R, hub: &H, dest: Dest) -> Option<u64> {
-    let must_end = hub.gate().must_end(&rt, dest).ok()?;
-    let bytes = hub.gate().waiting_bytes(&rt, dest).ok()?;
+    let Standing { must_end, waiting } = hub.gate().standing(&rt, dest).ok()?;
     let most = hub.hub().options.most_waiting;
-    if let Some(why) = most.why_shut(dest, must_end, bytes) {
+    if let Some(why) = most.why_shut(dest, must_end, waiting) {
         hub.hub().cut(&rt, dest, why);
         shut(rt, hub.hub(), dest);
         return None;
     }
-    Some(bytes)
+    Some(waiting)
 }
 
-fn list(hub: &Hub, dest: Dest, bytes: u64, waiting: &mut Vec<Waiting>) {
+fn list(hub: &Hub, dest: Dest, bytes: u64, waiting: &mut Vec<WaitingBytes>) {
     if let Dest::Session(number) = dest {
         if hub.options.most_in_all.is_some() {
             // There is room, or there was no memory.
-            let _ = waiting.push(Waiting { number, bytes });
+            let _ = waiting.push(WaitingBytes { number, bytes });
         }
     }
 }
 
 // Cuts off those for whom most waits, where more waits for all clients than may.
-fn keep_in_all<R: System, H: AsHub>(rt: R, hub: &H, waiting: &mut Vec<Waiting>) {
+fn keep_in_all<R: System, H: AsHub>(rt: R, hub: &H, waiting: &mut Vec<WaitingBytes>) {
     let Some(most) = hub.hub().options.most_in_all else {
         return;
     };
@@ -157,7 +157,8 @@ pub fn dest_at<R: System>(rt: R, hub: &Hub, place: usize) -> Option<Dest> {
     roster.rows().get(place).map(|row| row.dest())
 }
 
-fn shut<R: System>(rt: R, hub: &Hub, dest: Dest) {
+/// Ends the socket of a connection, whose workers end by that.
+pub fn shut<R: System>(rt: R, hub: &Hub, dest: Dest) {
     let roster = hub.roster.lock(&rt);
     for row in roster.rows() {
         if row.dest() == dest {
@@ -188,7 +189,11 @@ fn watch_all<R: System, H: AsHub>(rt: R, hub: &H, patience: Patience) {
 }
 
 // The first connection from this place on that is made; the place is behind it then.
-fn next_line<R: System>(rt: R, hub: &Hub, place: &mut usize) -> Option<(Dest, SocketAddr, Line)> {
+fn next_line<R: System>(
+    rt: R,
+    hub: &Hub,
+    place: &mut usize,
+) -> Option<(Dest, SocketAddr, WatchedStream)> {
     let roster = hub.roster.lock(&rt);
     let rows = roster.rows();
     for _ in 0..rows.len() {

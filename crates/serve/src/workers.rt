@@ -1,6 +1,6 @@
 //! The two workers of a connection.
 use crate::hub::AsHub;
-use crate::line::Line;
+use crate::line::WatchedStream;
 use crate::link::SocketLink;
 use crate::machine::System;
 use ca_header::FrameFault;
@@ -25,7 +25,7 @@ pub fn start_workers<'x, 's: 'x, E: 's, R: System + 's, H: AsHub + Sync + 's>(
     scope: &'x Scope<'s, E>,
     hub: &'s H,
     dest: Dest,
-    line: &Line,
+    line: &WatchedStream,
 ) -> bool {
     if let Ok((inlet, outlet)) = hub.gate().attach(&rt, dest) {
         let mut started = 0;

@@ -1,9 +1,9 @@
+mod BeaconLemmas
 mod BudgetLemmas
 mod HeadLemmas
 mod InAllLemmas
 mod LimitLemmas
 mod LogQueueLemmas
-mod NumberLemmas
 mod RhythmLemmas
 mod VersionLemmas
 mod VigilLemmas

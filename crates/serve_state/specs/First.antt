@@ -1,6 +1,6 @@
 -- The first number that the gateway gives out.
 use Rattle.std.specs.Prelude.{ℕ, List, Option, option_and_then}
-use Rattle.serve_state.specs.Orders.{number_of}
+use Rattle.decimal_text.specs.Numbers.{number_of}
 use Rattle.serve_state.specs.Scale.{within}
 
 -- the number that decimal digits write, from 1 to the last but one of 32 bits

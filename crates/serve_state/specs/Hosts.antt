@@ -1,6 +1,6 @@
 -- How many clients a host may have.
 use Rattle.std.specs.Prelude.{ℕ, ◌&&◌, nat_le, if◌then◌else◌, List, Option, Some, None, option_and_then}
-use Rattle.serve_state.specs.Orders.{number_of}
+use Rattle.decimal_text.specs.Numbers.{number_of}
 use Rattle.serve_state.specs.declared.hosts.HostSeats.{HostSeats}
 
 -- a number of clients from 1 to 1,024, who are all that can be

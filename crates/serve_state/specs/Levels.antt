@@ -2,6 +2,8 @@
 use Rattle.std.specs.Prelude.{ℕ, if◌then◌else◌, List, bytes_eq, codes, Option, Some, None}
 use Rattle.log.specs.declared.level.Level.{Level}
 use Rattle.log.specs.declared.level.Level.TheVariants.{Error, Warn, Info, Debug}
+use Rattle.serve_state.specs.declared.notice.Cut.{Cut}
+use Rattle.serve_state.specs.declared.notice.Cut.TheVariants as cut
 use Rattle.serve_state.specs.declared.notice.Notice.{Notice}
 use Rattle.serve_state.specs.declared.notice.Notice.TheVariants as notice
 
@@ -13,6 +15,20 @@ level_named word =
     else if bytes_eq word (codes "info") then Some Info
     else if bytes_eq word (codes "debug") then Some Debug
     else None
+
+-- a server is closed that nobody needs, as it should be; each other one that is cut off may be wanted
+abbrev pub cut_level : Cut → Level
+cut_level (cut.Idle seconds) = Info
+cut_level cut.Misaligned = Warn
+cut_level cut.TooLarge = Warn
+cut_level cut.TooOld = Warn
+cut_level cut.TooSlow = Warn
+cut_level (cut.TooMuch mib) = Warn
+cut_level (cut.TooMuchInAll bytes mib) = Warn
+cut_level (cut.Unanswering seconds) = Warn
+cut_level (cut.Silent seconds) = Warn
+cut_level cut.Replaced = Warn
+cut_level cut.OutOfMemory = Warn
 
 -- what stops the gateway or one of its calls is an error; what somebody may want to do something about is a warning; what is
 -- as it should be is for information; and the rest is for whoever looks for a cause
@@ -28,6 +44,11 @@ level_of (notice.LinesDropped lines) = Warn
 level_of (notice.ServerUnreached number peer) = Warn
 level_of (notice.ServerLost number peer) = Warn
 level_of (notice.ServerCut number peer why) = Warn
+level_of (notice.FoundUnreached number peer) = Warn
+level_of (notice.FoundLost number peer) = Warn
+level_of (notice.FoundCut number peer why) = cut_level why
+level_of (notice.ServersFull most) = Warn
+level_of (notice.NameAtTwo name first other) = Warn
 level_of (notice.ClientCut number peer why) = Warn
 level_of (notice.ClientRefused peer why) = Warn
 level_of (notice.NamesNearLimit names most) = Warn
@@ -82,3 +103,8 @@ kind_of notice.Aged = 27
 kind_of (notice.Watching seconds) = 28
 kind_of notice.NotWatching = 29
 kind_of (notice.ServerProbed number peer) = 30
+kind_of (notice.FoundUnreached number peer) = 31
+kind_of (notice.FoundLost number peer) = 32
+kind_of (notice.FoundCut number peer why) = 33
+kind_of (notice.ServersFull most) = 34
+kind_of (notice.NameAtTwo name first other) = 35

@@ -1,5 +1,6 @@
 pub mod AskRhythm
 pub mod Asks
+pub mod Beacons
 pub mod Clashes
 pub mod FileText
 pub mod First

@@ -1,8 +1,8 @@
 -- How much may wait for a client, and which connections are shut from outside.
 use Rattle.std.specs.Prelude.{ℕ, ◌*◌, ◌^◌, ◌==◌, nat_lt, if◌then◌else◌, List, Bool, true, false, Option, Some, None, option_and_then}
+use Rattle.decimal_text.specs.Numbers.{number_of}
 use Rattle.gateway_state.specs.declared.event.Dest.{Dest}
 use Rattle.gateway_state.specs.declared.event.Dest.TheVariants.{Session, Upstream}
-use Rattle.serve_state.specs.Orders.{number_of}
 use Rattle.serve_state.specs.declared.most.MostWaiting.{MostWaiting}
 use Rattle.serve_state.specs.declared.notice.Cut.{Cut}
 use Rattle.serve_state.specs.declared.notice.Cut.TheVariants.{TooSlow, TooMuch}

@@ -25,6 +25,7 @@ cut_text (cut.TooMuchInAll bytes mib) =
 cut_text (cut.Unanswering seconds) = codes "it said nothing for " ++ decimal seconds ++ codes " s, and nothing when it was asked"
 cut_text (cut.Silent seconds) = codes "nothing came from it or went to it for " ++ decimal seconds ++ codes " s"
 cut_text cut.Replaced = codes "it said nothing when it was asked, and is connected to again"
+cut_text (cut.Idle seconds) = codes "nobody wanted a variable of it for " ++ decimal seconds ++ codes " s"
 cut_text cut.OutOfMemory = codes "out of memory"
 
 -- why a rule file isn't taken, said of the file
@@ -69,6 +70,14 @@ notice_text (notice.ServerStillUnreached number peer) = of_server number peer (c
 notice_text (notice.ServerLost number peer) = of_server number peer (codes " lost: " ++ again_text number)
 notice_text (notice.ServerCut number peer why) =
     of_server number peer (said (codes " cut off: " ∷ cut_text why ∷ (codes "; " ++ again_text number) ∷ []))
+notice_text (notice.FoundUnreached number peer) = of_server number peer (codes ", found by search, can't be reached")
+notice_text (notice.FoundLost number peer) = of_server number peer (codes ", found by search, lost: its names are searched for")
+notice_text (notice.FoundCut number peer why) =
+    of_server number peer (said (codes ", found by search, cut off: " ∷ cut_text why ∷ codes "; its names are searched for" ∷ []))
+notice_text (notice.ServersFull most) = said (codes "one server more than " ∷ decimal most ∷ codes " was found: it isn't connected to" ∷ [])
+notice_text (notice.NameAtTwo name first other) = said (
+    socket_text first ∷ codes " and " ∷ socket_text other ∷ codes " both have " ∷ name.now
+    ∷ codes ": the first that answers serves it" ∷ [])
 notice_text (notice.ClientConnected number peer) = of_client number peer (codes " connected")
 notice_text (notice.ClientGone number peer) = of_client number peer (codes " gone")
 notice_text (notice.ClientCut number peer why) = of_client number peer (codes " cut off: " ++ cut_text why)

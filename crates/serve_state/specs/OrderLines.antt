@@ -1,7 +1,7 @@
 -- Standard input, cut into lines of at most 1,024 bytes. A line feed is 10.
 use Rattle.std.specs.Prelude.{ℕ, ◌==◌, nat_le, if◌then◌else◌, List, [], ◌∷◌, ◌++◌, length, Bool, true, false, Option, Some, None}
 use Rattle.serve_state.specs.Orders.{order_of}
-use Rattle.serve_state.specs.declared.order.Order.{Order}
+use Rattle.serve_state.specs.declared.order.OperatorOrder.{OperatorOrder}
 use Rattle.serve_state.specs.declared.order_lines.OrderLine.{OrderLine}
 use Rattle.serve_state.specs.declared.order_lines.OrderLine.TheVariants as line
 
@@ -10,7 +10,7 @@ pub record HeardState : Type 0 where
   pub held : List ℕ
   pub is_long : Bool
 
-abbrev pub order_line : Option Order → OrderLine
+abbrev pub order_line : Option OperatorOrder → OrderLine
 order_line (Some order) = line.Order order
 order_line None = line.NoOrder
 

@@ -32,12 +32,17 @@ server_text server = said (
     ∷ codes "\",\"connected\":" ∷ truth_text server.connected
     ∷ codes "}" ∷ [])
 
+-- how many servers that were found by search are connected is told where servers are searched for
+abbrev pub found_part : Option ℕ → List ℕ
+found_part None = []
+found_part (Some found) = codes ",\"upstreams_found\":" ++ decimal found
+
 -- how many clients there are, and the servers
 unfoldable pub clients_text : Report → List ℕ
 clients_text report = said (
     codes "\"clients\":" ∷ decimal report.rows.sessions
     ∷ codes ",\"upstreams\":[" ∷ with_commas server_text report.servers.now
-    ∷ codes "]" ∷ [])
+    ∷ codes "]" ∷ found_part report.found ∷ [])
 
 -- how much there is of what clients and servers have
 unfoldable pub rows_text : RowCounts → List ℕ

@@ -1,6 +1,6 @@
 -- How often an order is performed that nobody writes. Time is counted in looks, of which there are four a second.
 use Rattle.std.specs.Prelude.{◌≡◌, ℕ, zero, suc, ◌+◌, ◌-◌, ◌*◌, ◌%◌, ◌==◌, ◌&&◌, nat_le, if◌then◌else◌, Bool, List, Option, Some, None, option_and_then}
-use Rattle.serve_state.specs.Orders.{number_of}
+use Rattle.decimal_text.specs.Numbers.{number_of}
 use Rattle.serve_state.specs.declared.rhythm.Seconds.{Seconds}
 
 -- a number of seconds from 1 to a day

@@ -1,8 +1,8 @@
 -- How many clients, servers and remembered names there may be.
 use Rattle.std.specs.Prelude.{ℕ, ◌/◌, ◌&&◌, nat_le, min, max, if◌then◌else◌, List, Bool, Option, Some, None, option_and_then, true}
+use Rattle.decimal_text.specs.Numbers.{number_of}
 use Rattle.gateway_state.specs.Gateway.{usual_limits}
 use Rattle.gateway_state.specs.declared.limits.Limits.{Limits}
-use Rattle.serve_state.specs.Orders.{number_of}
 use Rattle.serve_state.specs.declared.scale.Scale.{Scale}
 
 -- a number from 1 to so many

@@ -1,7 +1,7 @@
 -- Whether who is connected is still there. Time is counted in looks, of which there are four a second.
 use Rattle.std.specs.Prelude.{◌≡◌, ℕ, zero, suc, ◌+◌, ◌*◌, ◌-◌, ◌==◌, ◌≤◌, ◌&&◌, ◌||◌, not, nat_le, nat_lt, if◌then◌else◌, List, [], ◌∷◌, take, drop, Bool, true, false, Option, Some, None, option_and_then}
 use Rattle.std.specs.List.{list_any}
-use Rattle.serve_state.specs.Orders.{number_of}
+use Rattle.decimal_text.specs.Numbers.{number_of}
 use Rattle.serve_state.specs.declared.vigil.Counts.{Counts}
 use Rattle.serve_state.specs.declared.vigil.Patience.{Patience}
 use Rattle.serve_state.specs.declared.vigil.Verdict.{Verdict}

@@ -1,6 +1,6 @@
 //! The names that servers were asked for.
 ghost use Rattle.std.specs.Prelude.{◌≡◌, ◌<◌, [], length, IfOk, IfSome, OnOk, OnErr, option_copied};
-ghost use Rattle.serve_state.specs.Asks.{AskedState, age, kept, name_under, other_server, place_under, with_answer, with_ask};
+ghost use Rattle.serve_state.specs.Asks.{AskedState, age, first_cid, kept, name_under, other_server, place_under, with_answer, with_ask};
 
 use pv_name::{Name, NoMemory};
 use std::alloc::{AllocError, Global};
@@ -15,7 +15,7 @@ const FIRST_CID: u32 = 1;
 
 /// A name that servers were asked for, and the number of the one that answered first.
 #[derive(Drop)]
-struct Ask {
+struct SentAsk {
     name: Name,
     server: Option<u32>,
 }
@@ -23,13 +23,13 @@ struct Ask {
 /// The last asks, each a name under a CID. CIDs rise from 1, and after the last 32-bit number come from 1
 /// again.
 #[derive(Drop)]
-pub struct Asked {
-    asks: VecDeque<Ask>,
+pub struct SentAsks {
+    asks: VecDeque<SentAsk>,
     // The CID of the next ask.
     next: u32,
 }
 
-impl Model for Asked {
+impl Model for SentAsks {
     ghost use Rattle.serve_state.specs.Asks.{AskedState};
 
     ghost Value = { AskedState };
@@ -37,14 +37,25 @@ impl Model for Asked {
     ghost view = { λ a. record { asks = a.asks.items; next = a.next } };
 }
 
-impl Asked {
+impl SentAsks {
     /// No asks yet. It takes no memory.
-    pub fn new(alloc: Global) -> Asked
+    pub fn new(alloc: Global) -> SentAsks
         ensures { result ≡ record { asks = []; next = 1 } }
     {
-        Asked {
+        SentAsks {
             asks: VecDeque::new(alloc),
             next: FIRST_CID,
+        }
+    }
+
+    /// No asks yet, and the first one is under this CID, 1 where it is 0: whoever can't hear asks shouldn't know their CIDs. It takes
+    /// no memory.
+    pub fn beginning(alloc: Global, cid: u32) -> SentAsks
+        ensures { result ≡ record { asks = []; next = first_cid cid } }
+    {
+        SentAsks {
+            asks: VecDeque::new(alloc),
+            next: if cid == 0 { FIRST_CID } else { cid },
         }
     }
 
@@ -58,7 +69,7 @@ impl Asked {
         if self.asks.len() == ASKED_LIMIT {
             self.asks.pop_front();
         }
-        if self.asks.push_back(Ask { name, server: None }).is_err() {
+        if self.asks.push_back(SentAsk { name, server: None }).is_err() {
             return Err(AllocError);
         }
         let cid = self.next;

@@ -3,7 +3,7 @@ ghost use Rattle.std.specs.Prelude.{◌≡◌, ◌<◌, ◌≤◌};
 ghost use Rattle.gateway_state.specs.declared.config.TheConstants.{LAST_FIRST};
 ghost use Rattle.serve_state.specs.First.{first_of};
 
-use crate::order::read_number;
+use decimal_text::read_u32;
 use gateway_state::LAST_FIRST;
 use std::marker::Model;
 
@@ -38,7 +38,7 @@ impl FirstNumber {
     pub fn read(digits: &[u8]) -> Option<FirstNumber>
         ensures { result ≡ first_of digits.now }
     {
-        match read_number(digits) {
+        match read_u32(digits) {
             Some(number) if number >= 1 && number <= LAST_FIRST => Some(FirstNumber { number }),
             _ => None,
         }

@@ -2,8 +2,8 @@
 ghost use Rattle.std.specs.Prelude.{◌≡◌};
 ghost use Rattle.serve_state.specs.Hosts.{seats_of};
 
-use crate::order::read_number;
 use crate::scale::CLIENTS;
+use decimal_text::read_u32;
 
 /// How many clients of one host may be connected at once.
 #[derive(Clone, Copy, Debug, PartialEq, Eq)]
@@ -16,7 +16,7 @@ impl HostSeats {
     pub fn read(digits: &[u8]) -> Option<HostSeats>
         ensures { result ≡ seats_of digits.now }
     {
-        match read_number(digits) {
+        match read_u32(digits) {
             Some(number) if number >= 1 && number <= CLIENTS => Some(HostSeats { number }),
             _ => None,
         }

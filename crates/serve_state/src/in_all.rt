@@ -2,9 +2,9 @@
 ghost use Rattle.std.specs.Prelude.{◌≡◌, ◌≤◌, ℕ, List, length, take};
 ghost use Rattle.std.specs.List.Sorted.{IsPermutation, IsSorted};
 ghost use Rattle.serve_state.specs.InAll.{IsCutFor, IsFewest, bytes_in_all, by_bytes, front_over, in_all_of};
-ghost use Rattle.serve_state.specs.declared.in_all.Waiting.{Waiting};
+ghost use Rattle.serve_state.specs.declared.in_all.WaitingBytes.{WaitingBytes};
 
-use crate::order::read_number;
+use decimal_text::read_u32;
 use std::cmp::Reverse;
 
 /// How many bytes a MiB has.
@@ -12,7 +12,7 @@ const MIB: u64 = 1_048_576;
 
 /// A client, by its number, and how many bytes wait for it.
 #[derive(Clone, Copy, Debug, PartialEq, Eq)]
-pub struct Waiting {
+pub struct WaitingBytes {
     pub number: u32,
     pub bytes: u64,
 }
@@ -28,7 +28,7 @@ impl MostInAll {
     pub fn read(digits: &[u8]) -> Option<MostInAll>
         ensures { result ≡ in_all_of digits.now }
     {
-        match read_number(digits) {
+        match read_u32(digits) {
             Some(mib) if mib > 0 => Some(MostInAll { mib }),
             _ => None,
         }
@@ -43,7 +43,7 @@ impl MostInAll {
 
     /// Leaves of these clients those that are to be cut off: as few as bring the others to so many bytes at most, and
     /// first those for whom most wait. It takes no memory: it is done where that is short.
-    pub fn cut(self, clients: &mut Vec<Waiting>)
+    pub fn cut(self, clients: &mut Vec<WaitingBytes>)
         ensures { IsCutFor self clients.old.items clients.new.items }
     {
         sort(clients);
@@ -53,7 +53,7 @@ impl MostInAll {
 }
 
 // Puts those first for whom most waits.
-fn sort(clients: &mut Vec<Waiting>)
+fn sort(clients: &mut Vec<WaitingBytes>)
     ensures moved { IsPermutation clients.old.items clients.new.items }
     ensures order { IsSorted by_bytes clients.new.items }
 {
@@ -61,7 +61,7 @@ fn sort(clients: &mut Vec<Waiting>)
 }
 
 // How many from the front go. It is counted from the back, so that no sum passes what may wait.
-fn place_over(most: u64, clients: &[Waiting]) -> usize
+fn place_over(most: u64, clients: &[WaitingBytes]) -> usize
     ensures within { result ≤ length clients.now }
     ensures front { take result clients.now ≡ front_over most clients.now }
 {
@@ -79,5 +79,5 @@ fn place_over(most: u64, clients: &[Waiting]) -> usize
 
 /// Where those go who are cut off what is left may wait, and with one of them fewer it may not.
 pub fn as_few_go_as_will_do()
-    ensures { (most : ℕ) (clients : List Waiting) → IsFewest most clients (front_over most clients) }
+    ensures { (most : ℕ) (clients : List WaitingBytes) → IsFewest most clients (front_over most clients) }
 {}

@@ -1,7 +1,7 @@
 //! What a serving gateway keeps beside its rows, and decides without a socket or a thread.
 //!
 //! - [`read_order`] reads a line of standard input;
-//! - [`Asked`] keeps the names that servers were asked for, with the CIDs of the asks, and who answered first;
+//! - [`SentAsks`] keeps the names that servers were asked for, with the CIDs of the asks, and who answered first;
 //! - [`AskRhythm`] says when it is found out which names are to be asked for, and [`AskBudget`] how many datagrams may ask
 //!   for them;
 //! - [`Clashes`] keeps of which names it was told that two servers answered them;
@@ -13,6 +13,7 @@
 //! - [`Vigil`] says whether who is connected is still there;
 //! - [`Late`] keeps searches that couldn't be answered when they were made;
 //! - [`Rhythm`] says at which looks an order is due that is performed every so many [`Seconds`];
+//! - [`Beacon`] says when beacons are sent, and under which IDs, and [`beacon_text`] is one;
 //! - [`Outages`] keeps of which servers it was told that they can't be reached;
 //! - [`LogQueue`] keeps the lines of the log that wait to be written;
 //! - [`OrderLines`] cuts standard input into lines;
@@ -27,6 +28,7 @@
 
 mod ask_rhythm;
 mod asked;
+mod beacon;
 mod clashes;
 mod file_text;
 mod first;
@@ -52,28 +54,29 @@ mod versions;
 mod vigil;
 
 pub use ask_rhythm::{AskBudget, AskRhythm, askings_are_apart, looks_have_four_datagrams};
-pub use asked::{ASKED_LIMIT, Asked};
+pub use asked::{ASKED_LIMIT, SentAsks};
+pub use beacon::{Beacon, beacon_text, beacons_are_counted};
 pub use clashes::Clashes;
 pub use file_text::FileText;
 pub use first::FirstNumber;
 pub use hosts::HostSeats;
-pub use in_all::{MostInAll, Waiting, as_few_go_as_will_do};
+pub use in_all::{MostInAll, WaitingBytes, as_few_go_as_will_do};
 pub use late::{LATE_LIMIT, LATE_OF_HOST, Late, LateSearch};
 pub use level::read_level;
 pub use limits::{Bound, LIMITS, Limit, LimitWatch, limits_are_told_once, told_limits_rest};
 pub use log_queue::{BYTES_LIMIT, Dropped, KIND_LIMIT, LINES_LIMIT, LogLine, LogQueue, ToLog};
 pub use most::MostWaiting;
 pub use notice::{Cut, FileCause, Notice};
-pub use order::{Order, read_order};
+pub use order::{OperatorOrder, read_order};
 pub use order_lines::{LINE_LIMIT, OrderLine, OrderLines};
 pub use outages::{Outages, Try};
 pub use peers::server_of;
 pub use report::{InAllReport, Report, ServerReport};
 pub use rhythm::{Rhythm, Seconds, rhythms_are_due_each_period};
-pub use roster::{Refusal, Roster, Row};
+pub use roster::{Roster, RosterRefusal, RosterRow};
 pub use scale::{CLIENTS, MOST_CLIENTS, MOST_NAMES, MOST_SERVERS, SERVERS, Scale, read_up_to};
 pub use spare::{OTHERS, is_kept_back};
-pub use steady::{READINGS, Reading, Steady};
+pub use steady::{FileReading, READINGS, Steady};
 pub use versions::{Versions, versions_are_heard_by_headers};
 pub use vigil::{
     Counts, Patience, Verdict, Vigil, vigils_ask_before_they_cut, vigils_go_by_silence,

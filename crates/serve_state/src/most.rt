@@ -3,7 +3,7 @@ ghost use Rattle.std.specs.Prelude.{◌≡◌};
 ghost use Rattle.serve_state.specs.Most.{is_passed, most_of, why_shut};
 
 use crate::notice::Cut;
-use crate::order::read_number;
+use decimal_text::read_u32;
 use gateway_state::Dest;
 
 /// How many bytes a MiB has.
@@ -20,7 +20,7 @@ impl MostWaiting {
     pub fn read(digits: &[u8]) -> Option<MostWaiting>
         ensures { result ≡ most_of digits.now }
     {
-        match read_number(digits) {
+        match read_u32(digits) {
             Some(mib) if mib > 0 => Some(MostWaiting { mib }),
             _ => None,
         }

@@ -1,6 +1,6 @@
 //! What is logged.
 ghost use Rattle.std.specs.Prelude.{◌≡◌};
-ghost use Rattle.serve_state.specs.Levels.{kind_of, level_of};
+ghost use Rattle.serve_state.specs.Levels.{cut_level, kind_of, level_of};
 ghost use Rattle.serve_state.specs.NoticeText.{file_cause_text};
 
 use crate::limits::Bound;
@@ -30,6 +30,8 @@ pub enum Cut {
     Silent(u32),
     /// It is a server that was asked and said nothing, and was to be connected to again.
     Replaced,
+    /// It is a server that was found by search and has had no variable of the gateway's for so many seconds.
+    Idle(u32),
     OutOfMemory,
 }
 
@@ -62,6 +64,7 @@ impl fmt::Display for Cut {
             Cut::Replaced => f.write_str(
                 "it said nothing when it was asked, and is connected to again",
             ),
+            Cut::Idle(seconds) => write!(f, "nobody wanted a variable of it for {seconds} s"),
             Cut::OutOfMemory => f.write_str("out of memory"),
         }
     }
@@ -122,6 +125,14 @@ pub enum Notice<'a> {
     ServerStillUnreached(u32, SocketAddr),
     ServerLost(u32, SocketAddr),
     ServerCut(u32, SocketAddr, Cut),
+    /// The same of a server that was found by search.
+    FoundUnreached(u32, SocketAddr),
+    FoundLost(u32, SocketAddr),
+    FoundCut(u32, SocketAddr, Cut),
+    /// As many servers are known as may be, and one more was found.
+    ServersFull(u32),
+    /// The servers at both addresses say that they have the name.
+    NameAtTwo(&'a str, SocketAddr, SocketAddr),
     ClientConnected(u32, SocketAddr),
     ClientGone(u32, SocketAddr),
     ClientCut(u32, SocketAddr, Cut),
@@ -169,10 +180,15 @@ impl<'a> Notice<'a> {
             | Notice::ServerUnreached(_, _)
             | Notice::ServerLost(_, _)
             | Notice::ServerCut(_, _, _)
+            | Notice::FoundUnreached(_, _)
+            | Notice::FoundLost(_, _)
+            | Notice::ServersFull(_)
+            | Notice::NameAtTwo(_, _, _)
             | Notice::ClientCut(_, _, _)
             | Notice::ClientRefused(_, _)
             | Notice::NamesNearLimit(_, _)
             | Notice::NameOfTwo(_, _, _) => Level::Warn,
+            Notice::FoundCut(_, _, why) => cut_level(*why),
             Notice::RulesRead(_)
             | Notice::OpenToAll
             | Notice::Reloaded
@@ -190,6 +206,16 @@ impl<'a> Notice<'a> {
             | Notice::ServerProbed(_, _)
             | Notice::NoOrder => Level::Debug,
         }
+    }
+}
+
+/// At which level it is logged that the connection to a server is cut off that was found by search.
+fn cut_level(why: Cut) -> Level
+    ensures { result ≡ cut_level why }
+{
+    match why {
+        Cut::Idle(_) => Level::Info,
+        _ => Level::Warn,
     }
 }
 
@@ -230,6 +256,11 @@ impl<'a> Notice<'a> {
             Notice::Watching(_) => 28,
             Notice::NotWatching => 29,
             Notice::ServerProbed(_, _) => 30,
+            Notice::FoundUnreached(_, _) => 31,
+            Notice::FoundLost(_, _) => 32,
+            Notice::FoundCut(_, _, _) => 33,
+            Notice::ServersFull(_) => 34,
+            Notice::NameAtTwo(_, _, _) => 35,
         }
     }
 }
@@ -252,7 +283,7 @@ impl<'a> fmt::Display for Notice<'a> {
             Notice::FileUnread(path) => write!(f, "rules refused: {path} can't be read"),
             Notice::FileRefused(path, cause) => write!(f, "rules refused: {path} {cause}"),
             Notice::LimitMet(limit, times) => {
-                let met = Met {
+                let met = MetTimes {
                     limit: *limit,
                     times: *times,
                 };
@@ -287,6 +318,34 @@ impl<'a> fmt::Display for Notice<'a> {
                     "upstream {number} ({peer}) cut off: {why}; write `connect {number}`, and then `ask`, to try again"
                 )
             }
+            Notice::FoundUnreached(number, peer) => {
+                write!(
+                    f,
+                    "upstream {number} ({peer}), found by search, can't be reached"
+                )
+            }
+            Notice::FoundLost(number, peer) => {
+                write!(
+                    f,
+                    "upstream {number} ({peer}), found by search, lost: its names are searched for"
+                )
+            }
+            Notice::FoundCut(number, peer, why) => {
+                write!(
+                    f,
+                    "upstream {number} ({peer}), found by search, cut off: {why}; its names are searched for"
+                )
+            }
+            Notice::ServersFull(most) => {
+                write!(
+                    f,
+                    "one server more than {most} was found: it isn't connected to"
+                )
+            }
+            Notice::NameAtTwo(name, first, other) => write!(
+                f,
+                "{first} and {other} both have {name}: the first that answers serves it"
+            ),
             Notice::ClientConnected(number, peer) => write!(
                 f,
                 "client {number} ({peer}) connected"
@@ -334,19 +393,19 @@ impl<'a> fmt::Display for Notice<'a> {
 
 /// A limit was met so often.
 #[derive(Clone, Copy)]
-struct Met {
+struct MetTimes {
     limit: Bound,
     times: u64,
 }
 
-impl fmt::Display for Met {
+impl fmt::Display for MetTimes {
     ghost use Rattle.std.specs.Prelude.{Some};
     ghost use Rattle.serve_state.specs.NoticeText.{met_times};
 
     ghost output = { λ met. Some (met_times met.limit met.times) };
 
     fn fmt<W: fmt::Write>(&self, f: &mut fmt::Formatter<W>) -> fmt::Result {
-        let Met { limit, times } = *self;
+        let MetTimes { limit, times } = *self;
         if times == 1 {
             write!(f, "limit met: {limit}")
         } else {

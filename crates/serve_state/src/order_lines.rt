@@ -2,7 +2,7 @@
 ghost use Rattle.std.specs.Prelude.{◌≡◌, [], IfOk, OnOk, OnErr, false};
 ghost use Rattle.serve_state.specs.OrderLines.{after_byte, line_at, line_of, last_line};
 
-use crate::order::{Order, read_order};
+use crate::order::{OperatorOrder, read_order};
 use std::alloc::{AllocError, Global};
 use std::marker::Model;
 
@@ -14,7 +14,7 @@ const LINE_FEED: u8 = b'\n';
 /// A line that ended.
 #[derive(Clone, Copy, Debug, PartialEq, Eq)]
 pub enum OrderLine {
-    Order(Order),
+    Order(OperatorOrder),
     /// It is none of the orders.
     NoOrder,
 }

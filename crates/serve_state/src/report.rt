@@ -99,6 +99,8 @@ impl<'a> fmt::Display for Use<'a> {
 #[derive(Clone, Copy)]
 pub struct Report<'a> {
     pub servers: &'a [ServerReport],
+    /// How many servers that were found by search are connected, where servers are searched for.
+    pub found: Option<u32>,
     pub rows: RowCounts,
     /// How many edits of the rules were taken.
     pub edits: u64,
@@ -143,10 +145,10 @@ impl<'a> fmt::Display for Report<'a> {
 
     #[tactic(auto, unfolding(crate::specs::ReportText::report_text))]
     fn fmt<W: fmt::Write>(&self, f: &mut fmt::Formatter<W>) -> fmt::Result {
-        let clients = Clients { report: self };
+        let clients = ClientLine { report: self };
         let rows = RowTotals { rows: &self.rows };
         let waiting = WaitingTotals { rows: &self.rows };
-        let traffic = Traffic { report: self };
+        let traffic = TrafficLine { report: self };
         let limits = LimitsPart { report: self };
         write!(f, "{{{clients},{rows},{waiting},{traffic},{limits}}}")
     }
@@ -154,11 +156,11 @@ impl<'a> fmt::Display for Report<'a> {
 
 /// How many clients there are, and the servers.
 #[derive(Clone, Copy)]
-struct Clients<'a, 'b> {
+struct ClientLine<'a, 'b> {
     report: &'b Report<'a>,
 }
 
-impl<'a, 'b> fmt::Display for Clients<'a, 'b> {
+impl<'a, 'b> fmt::Display for ClientLine<'a, 'b> {
     ghost use Rattle.std.specs.Prelude.{Some};
     ghost use Rattle.serve_state.specs.ReportText.{clients_text};
 
@@ -170,7 +172,30 @@ impl<'a, 'b> fmt::Display for Clients<'a, 'b> {
         let servers = ServerList {
             servers: self.report.servers,
         };
-        write!(f, "\"clients\":{clients},\"upstreams\":[{servers}]")
+        let found = FoundPart {
+            found: self.report.found,
+        };
+        write!(f, "\"clients\":{clients},\"upstreams\":[{servers}]{found}")
+    }
+}
+
+/// How many servers that were found by search are connected, behind a comma, where that is told.
+#[derive(Clone, Copy)]
+struct FoundPart {
+    found: Option<u32>,
+}
+
+impl fmt::Display for FoundPart {
+    ghost use Rattle.std.specs.Prelude.{Some};
+    ghost use Rattle.serve_state.specs.ReportText.{found_part};
+
+    ghost output = { λ part. Some (found_part part.found) };
+
+    fn fmt<W: fmt::Write>(&self, f: &mut fmt::Formatter<W>) -> fmt::Result {
+        match &self.found {
+            Some(found) => write!(f, ",\"upstreams_found\":{found}"),
+            None => Ok(()),
+        }
     }
 }
 
@@ -273,11 +298,11 @@ impl<'a> fmt::Display for WaitingTotals<'a> {
 
 /// What was done since the start, and the most bytes that wait.
 #[derive(Clone, Copy)]
-struct Traffic<'a, 'b> {
+struct TrafficLine<'a, 'b> {
     report: &'b Report<'a>,
 }
 
-impl<'a, 'b> fmt::Display for Traffic<'a, 'b> {
+impl<'a, 'b> fmt::Display for TrafficLine<'a, 'b> {
     ghost use Rattle.std.specs.Prelude.{Some};
     ghost use Rattle.serve_state.specs.ReportText.{traffic_text};
 

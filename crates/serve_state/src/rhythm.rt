@@ -2,7 +2,7 @@
 ghost use Rattle.std.specs.Prelude.{◌≡◌, ◌≤◌, ℕ};
 ghost use Rattle.serve_state.specs.Rhythm.{IsDueEachPeriod, after_look, beginning, is_due, seconds_of};
 
-use crate::order::read_number;
+use decimal_text::read_u32;
 use std::marker::Model;
 
 /// How many looks are taken in a second.
@@ -22,7 +22,7 @@ impl Seconds {
     pub fn read(digits: &[u8]) -> Option<Seconds>
         ensures { result ≡ seconds_of digits.now }
     {
-        match read_number(digits) {
+        match read_u32(digits) {
             Some(number) if number >= 1 && number <= MOST_SECONDS => Some(Seconds { number }),
             _ => None,
         }

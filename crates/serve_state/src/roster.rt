@@ -15,7 +15,7 @@ const WORKERS: u8 = 2;
 
 /// Why a connection gets no row.
 #[derive(Clone, Copy, Debug, PartialEq, Eq)]
-pub enum Refusal {
+pub enum RosterRefusal {
     /// The gateway is closing.
     Closing,
     /// As many clients as can be are connected.
@@ -29,7 +29,7 @@ pub enum Refusal {
 
 /// A connection. `L` is its socket, of which contracts say whether it is there, and `P` its peer, of which they don't speak.
 #[derive(Drop)]
-pub struct Row<L, P> {
+pub struct RosterRow<L, P> {
     dest: Dest,
     peer: P,
     // None while the connection is being made.
@@ -43,7 +43,7 @@ pub struct Row<L, P> {
     host: Option<u128>,
 }
 
-impl<L, P> Model for Row<L, P> {
+impl<L, P> Model for RosterRow<L, P> {
     ghost use Rattle.std.specs.Prelude.{is_some};
     ghost use Rattle.serve_state.specs.Roster.{RowState};
 
@@ -59,11 +59,11 @@ impl<L, P> Model for Row<L, P> {
     } };
 }
 
-impl<L: Drop, P: Drop> Row<L, P> {
-    fn new(dest: Dest, link: Option<L>, peer: P, host: Option<u128>) -> Row<L, P>
+impl<L: Drop, P: Drop> RosterRow<L, P> {
+    fn new(dest: Dest, link: Option<L>, peer: P, host: Option<u128>) -> RosterRow<L, P>
         ensures { result ≡ record (row_of host dest) { link = is_some link } }
     {
-        Row {
+        RosterRow {
             dest,
             peer,
             link,
@@ -159,7 +159,7 @@ impl<L: Drop, P: Drop> Row<L, P> {
 pub struct Roster<L, P> {
     // The highest number that a client's connection gets.
     clients: u32,
-    rows: Vec<Row<L, P>>,
+    rows: Vec<RosterRow<L, P>>,
     closing: Option<u8>,
 }
 
@@ -208,26 +208,26 @@ impl<L: Drop, P: Drop> Roster<L, P> {
     }
 
     /// The rows, in the order in which the connections began.
-    pub fn rows(&self) -> &[Row<L, P>]
+    pub fn rows(&self) -> &[RosterRow<L, P>]
         ensures { result.now ≡ self.now.rows }
     {
         self.rows.as_slice()
     }
 
     /// Gives a client's connection the least number that none holds.
-    pub fn admit_client(&mut self, link: L, peer: P) -> Result<u32, Refusal>
+    pub fn admit_client(&mut self, link: L, peer: P) -> Result<u32, RosterRefusal>
         ensures number { IfOk result (λ n. IsLeastFree self.old.clients n self.old.rows) }
         ensures ok { IfOk result (λ n. self.new ≡ with_row (Session n) self.old) }
         ensures open { IfOk result (λ _. self.old.closing ≡ None) }
         ensures err { OnErr result (self.new ≡ self.old) }
-        ensures full { IsErrOf result Refusal.Full → IsFull self.old.clients self.old.rows }
-        ensures closing { IsErrOf result Refusal.Closing → IsSome self.old.closing }
-        ensures held { IsErrOf result Refusal.Held → ⊥ }
+        ensures full { IsErrOf result RosterRefusal.Full → IsFull self.old.clients self.old.rows }
+        ensures closing { IsErrOf result RosterRefusal.Closing → IsSome self.old.closing }
+        ensures held { IsErrOf result RosterRefusal.Held → ⊥ }
     {
         let Some(number) = least_free(&self.rows, self.clients) else {
-            return Err(Refusal::Full);
+            return Err(RosterRefusal::Full);
         };
-        self.add(Row::new(Dest::Session(number), Some(link), peer, None))?;
+        self.add(RosterRow::new(Dest::Session(number), Some(link), peer, None))?;
         Ok(number)
     }
 
@@ -238,57 +238,57 @@ impl<L: Drop, P: Drop> Roster<L, P> {
         peer: P,
         host: u128,
         most: usize,
-    ) -> Result<u32, Refusal>
+    ) -> Result<u32, RosterRefusal>
         ensures number { IfOk result (λ n. IsLeastFree self.old.clients n self.old.rows) }
         ensures ok { IfOk result (λ n. self.new ≡ with_row_of (Some host) (Session n) self.old) }
         ensures open { IfOk result (λ _. self.old.closing ≡ None) }
         ensures seats { IfOk result (λ n. clients_of host self.old.rows < most) }
         ensures err { OnErr result (self.new ≡ self.old) }
-        ensures of_host { IsErrOf result Refusal.HostFull ↔ (most ≤ clients_of host self.old.rows) }
-        ensures full { IsErrOf result Refusal.Full → IsFull self.old.clients self.old.rows }
-        ensures closing { IsErrOf result Refusal.Closing → IsSome self.old.closing }
-        ensures held { IsErrOf result Refusal.Held → ⊥ }
+        ensures of_host { IsErrOf result RosterRefusal.HostFull ↔ (most ≤ clients_of host self.old.rows) }
+        ensures full { IsErrOf result RosterRefusal.Full → IsFull self.old.clients self.old.rows }
+        ensures closing { IsErrOf result RosterRefusal.Closing → IsSome self.old.closing }
+        ensures held { IsErrOf result RosterRefusal.Held → ⊥ }
     {
         if clients_of(&self.rows, host) >= most {
-            return Err(Refusal::HostFull);
+            return Err(RosterRefusal::HostFull);
         }
         let Some(number) = least_free(&self.rows, self.clients) else {
-            return Err(Refusal::Full);
+            return Err(RosterRefusal::Full);
         };
-        self.add(Row::new(Dest::Session(number), Some(link), peer, Some(host)))?;
+        self.add(RosterRow::new(Dest::Session(number), Some(link), peer, Some(host)))?;
         Ok(number)
     }
 
     /// Gives the connection to a server its row, before it is made.
-    pub fn begin_server(&mut self, number: u32, peer: P) -> Result<(), Refusal>
+    pub fn begin_server(&mut self, number: u32, peer: P) -> Result<(), RosterRefusal>
         ensures ok { OnOk result (self.new ≡ with_row (Upstream number) self.old) }
         ensures open { OnOk result (self.old.closing ≡ None) }
         ensures err { OnErr result (self.new ≡ self.old) }
-        ensures held { IsErrOf result Refusal.Held ↔ (holds (Upstream number) self.old.rows ≡ true) }
-        ensures closing { IsErrOf result Refusal.Closing → IsSome self.old.closing }
-        ensures full { IsErrOf result Refusal.Full → ⊥ }
+        ensures held { IsErrOf result RosterRefusal.Held ↔ (holds (Upstream number) self.old.rows ≡ true) }
+        ensures closing { IsErrOf result RosterRefusal.Closing → IsSome self.old.closing }
+        ensures full { IsErrOf result RosterRefusal.Full → ⊥ }
     {
         if holds(&self.rows, Dest::Upstream(number)) {
-            return Err(Refusal::Held);
+            return Err(RosterRefusal::Held);
         }
-        self.add(Row::new(Dest::Upstream(number), None, peer, None))
+        self.add(RosterRow::new(Dest::Upstream(number), None, peer, None))
     }
 
-    fn add(&mut self, row: Row<L, P>) -> Result<(), Refusal>
+    fn add(&mut self, row: RosterRow<L, P>) -> Result<(), RosterRefusal>
         ensures ok { OnOk result (self.new ≡ with_new row self.old) }
         ensures open { OnOk result (self.old.closing ≡ None) }
         ensures err { OnErr result (self.new ≡ self.old) }
-        ensures closing { IsErrOf result Refusal.Closing → IsSome self.old.closing }
-        ensures full { IsErrOf result Refusal.Full → ⊥ }
-        ensures of_host { IsErrOf result Refusal.HostFull → ⊥ }
-        ensures held { IsErrOf result Refusal.Held → ⊥ }
+        ensures closing { IsErrOf result RosterRefusal.Closing → IsSome self.old.closing }
+        ensures full { IsErrOf result RosterRefusal.Full → ⊥ }
+        ensures of_host { IsErrOf result RosterRefusal.HostFull → ⊥ }
+        ensures held { IsErrOf result RosterRefusal.Held → ⊥ }
     {
         if self.closing.is_some() {
-            return Err(Refusal::Closing);
+            return Err(RosterRefusal::Closing);
         }
         match self.rows.push(row) {
             Ok(()) => Ok(()),
-            Err(_) => Err(Refusal::OutOfMemory),
+            Err(_) => Err(RosterRefusal::OutOfMemory),
         }
     }
 
@@ -348,7 +348,7 @@ impl<L: Drop, P: Drop> Roster<L, P> {
     }
 
     /// Takes the connection's row away.
-    pub fn remove(&mut self, dest: Dest) -> Option<Row<L, P>>
+    pub fn remove(&mut self, dest: Dest) -> Option<RosterRow<L, P>>
         ensures row { result ≡ find (is_row dest) self.old.rows }
         ensures new { self.new ≡ without dest self.old }
     {
@@ -356,19 +356,19 @@ impl<L: Drop, P: Drop> Roster<L, P> {
     }
 }
 
-fn holds<L: Drop, P: Drop>(rows: &[Row<L, P>], dest: Dest) -> bool
+fn holds<L: Drop, P: Drop>(rows: &[RosterRow<L, P>], dest: Dest) -> bool
     ensures { result ≡ holds dest rows.now }
 {
     rows.iter().any(|row| row.is_of(dest))
 }
 
-fn clients_of<L: Drop, P: Drop>(rows: &[Row<L, P>], host: u128) -> usize
+fn clients_of<L: Drop, P: Drop>(rows: &[RosterRow<L, P>], host: u128) -> usize
     ensures { result ≡ clients_of host rows.now }
 {
     rows.iter().filter(|row| row.is_of_host(host)).count()
 }
 
-fn least_free<L: Drop, P: Drop>(rows: &[Row<L, P>], clients: u32) -> Option<u32>
+fn least_free<L: Drop, P: Drop>(rows: &[RosterRow<L, P>], clients: u32) -> Option<u32>
     ensures some { IfSome result (λ n. IsLeastFree clients n rows.now) }
     ensures none { IfNone result (IsFull clients rows.now) }
 {
@@ -380,14 +380,14 @@ fn least_free<L: Drop, P: Drop>(rows: &[Row<L, P>], clients: u32) -> Option<u32>
     None
 }
 
-fn place_of<L: Drop, P: Drop>(rows: &[Row<L, P>], dest: Dest) -> Option<usize>
+fn place_of<L: Drop, P: Drop>(rows: &[RosterRow<L, P>], dest: Dest) -> Option<usize>
     ensures { result ≡ position (is_row dest) rows.now }
 {
     rows.iter().position(|row| row.is_of(dest))
 }
 
 #[tactic(auto, using(rows::proofs::RowLemmas::set_is_change_first, rows::proofs::RowLemmas::change_first_none))]
-fn reach<L: Drop, P: Drop>(rows: &mut Vec<Row<L, P>>, dest: Dest, link: L)
+fn reach<L: Drop, P: Drop>(rows: &mut Vec<RosterRow<L, P>>, dest: Dest, link: L)
     ensures { rows.new.items ≡ change_first (is_row dest) with_reached rows.old.items }
 {
     if let Some(place) = place_of(rows, dest) {
@@ -397,7 +397,7 @@ fn reach<L: Drop, P: Drop>(rows: &mut Vec<Row<L, P>>, dest: Dest, link: L)
 }
 
 #[tactic(auto, using(rows::proofs::RowLemmas::set_is_change_first, rows::proofs::RowLemmas::change_first_none))]
-fn cut<L: Drop, P: Drop>(rows: &mut Vec<Row<L, P>>, dest: Dest, why: Cut)
+fn cut<L: Drop, P: Drop>(rows: &mut Vec<RosterRow<L, P>>, dest: Dest, why: Cut)
     ensures { rows.new.items ≡ change_first (is_row dest) (with_cut why) rows.old.items }
 {
     if let Some(place) = place_of(rows, dest) {
@@ -407,7 +407,7 @@ fn cut<L: Drop, P: Drop>(rows: &mut Vec<Row<L, P>>, dest: Dest, why: Cut)
 }
 
 #[tactic(auto, using(rows::proofs::RowLemmas::set_is_change_first, rows::proofs::RowLemmas::change_first_none, rows::proofs::RowLemmas::find_is_there, rows::proofs::RowLemmas::find_none))]
-fn leave<L: Drop, P: Drop>(rows: &mut Vec<Row<L, P>>, dest: Dest) -> bool
+fn leave<L: Drop, P: Drop>(rows: &mut Vec<RosterRow<L, P>>, dest: Dest) -> bool
     ensures new { rows.new.items ≡ change_first (is_row dest) with_left rows.old.items }
     ensures last { result ≡ is_last dest rows.old.items }
 {
@@ -422,7 +422,7 @@ fn leave<L: Drop, P: Drop>(rows: &mut Vec<Row<L, P>>, dest: Dest) -> bool
 }
 
 #[tactic(auto, using(rows::proofs::RowLemmas::set_is_change_first, rows::proofs::RowLemmas::change_first_none))]
-fn take_reached<L: Drop, P: Drop>(rows: &mut Vec<Row<L, P>>) -> Option<usize>
+fn take_reached<L: Drop, P: Drop>(rows: &mut Vec<RosterRow<L, P>>) -> Option<usize>
     ensures place { result ≡ position is_reached rows.old.items }
     ensures new { rows.new.items ≡ change_first is_reached with_served rows.old.items }
 {
@@ -436,14 +436,14 @@ fn take_reached<L: Drop, P: Drop>(rows: &mut Vec<Row<L, P>>) -> Option<usize>
     }
 }
 
-fn place_reached<L: Drop, P: Drop>(rows: &[Row<L, P>]) -> Option<usize>
+fn place_reached<L: Drop, P: Drop>(rows: &[RosterRow<L, P>]) -> Option<usize>
     ensures { result ≡ position is_reached rows.now }
 {
     rows.iter().position(|row| row.is_reached())
 }
 
 #[tactic(auto, using(rows::proofs::RowLemmas::remove_is_remove_first, rows::proofs::RowLemmas::remove_first_none, rows::proofs::RowLemmas::find_is_there, rows::proofs::RowLemmas::find_none))]
-fn remove<L: Drop, P: Drop>(rows: &mut Vec<Row<L, P>>, dest: Dest) -> Option<Row<L, P>>
+fn remove<L: Drop, P: Drop>(rows: &mut Vec<RosterRow<L, P>>, dest: Dest) -> Option<RosterRow<L, P>>
     ensures row { result ≡ find (is_row dest) rows.old.items }
     ensures new { rows.new.items ≡ remove_first (is_row dest) rows.old.items }
 {

@@ -2,7 +2,7 @@
 ghost use Rattle.std.specs.Prelude.{◌≡◌};
 ghost use Rattle.serve_state.specs.Scale.{limits_for, limits_of, share_of, up_to};
 
-use crate::order::read_number;
+use decimal_text::read_u32;
 use gateway_state::Limits;
 
 /// How many clients may be connected at once, where nothing else is said.
@@ -47,7 +47,7 @@ const LEAST_SHARE: usize = 256;
 pub fn read_up_to(most: u32, digits: &[u8]) -> Option<u32>
     ensures { result ≡ up_to most digits.now }
 {
-    match read_number(digits) {
+    match read_u32(digits) {
         Some(number) if number >= 1 && number <= most => Some(number),
         _ => None,
     }

@@ -10,7 +10,7 @@ pub const READINGS: u32 = 50;
 
 /// What a reading tells.
 #[derive(Drop)]
-pub enum Reading {
+pub enum FileReading {
     /// Two readings agree, and it was not written between them: this is the file's text.
     Steady(FileText),
     /// It is to be read again, after a pause.
@@ -46,19 +46,19 @@ impl Steady {
     }
 
     /// The file was read, and has this text.
-    pub fn read(&mut self, text: FileText) -> Reading
+    pub fn read(&mut self, text: FileText) -> FileReading
         ensures reading { result ≡ reading_of text self.old }
         ensures new { self.new ≡ after_reading text self.old }
     {
         if self.agrees(&text) {
-            return Reading::Steady(text);
+            return FileReading::Steady(text);
         }
         self.last = Some(text);
         self.left = self.left.saturating_sub(1);
         if self.left == 0 {
-            Reading::Unsteady
+            FileReading::Unsteady
         } else {
-            Reading::Again
+            FileReading::Again
         }
     }
 

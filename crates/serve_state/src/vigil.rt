@@ -2,7 +2,7 @@
 ghost use Rattle.std.specs.Prelude.{◌≡◌, true, false};
 ghost use Rattle.serve_state.specs.Vigil.{IsAskedFirst, IsBySilence, IsSpared, after_look, beginning, cut_at, is_probed, is_same, one_more, patience_of, probe_at, verdict_of};
 
-use crate::order::read_number;
+use decimal_text::read_u32;
 use std::marker::Model;
 
 /// How many looks are taken in a second.
@@ -28,7 +28,7 @@ impl Patience {
     pub fn read(digits: &[u8]) -> Option<Patience>
         ensures { result ≡ patience_of digits.now }
     {
-        match read_number(digits) {
+        match read_u32(digits) {
             Some(seconds) if seconds >= 1 && seconds <= MOST_SECONDS => Some(Patience { seconds }),
             _ => None,
         }

@@ -7,7 +7,7 @@ use Rattle.std.proofs.lemmas.List.{get_or_past, get_or-set_other, get_or-set_sam
 use Rattle.std.proofs.lemmas.List.Quantifiers.{position-Some}
 use Rattle.server_book.specs.declared.address.Address.{Address}
 use Rattle.server_book.specs.declared.book.TheConstants.{MOST_WAITING}
-use Rattle.server_book.specs.declared.server.Server.{Server}
+use Rattle.server_book.specs.declared.server.KnownServer.{KnownServer}
 use Rattle.server_book.specs.Books.{Agree}
 use Rattle.server_book.specs.Seats.{Seat, changed, count_in, is_at, is_free, least_free, number_of, put, same_address, seat}
 use Rattle.server_book.proofs.SeatLemmas.{length-put, waiting-changed, waiting-put}
@@ -57,7 +57,7 @@ at-put (suc i) (suc place) new seats address same =
       | inr apart ↦ ap (is_at address) (get_or-set_other seats place i new None apart)
     ]
 
-at-changed : (change : Server → Server) (old : Seat) (address : Address) → ((server : Server) → (change server).address ≡ server.address)
+at-changed : (change : KnownServer → KnownServer) (old : Seat) (address : Address) → ((server : KnownServer) → (change server).address ≡ server.address)
     → is_at address (option_map change old) ≡ is_at address old
 at-changed change None address keeps = refl
 at-changed change (Some server) address keeps = ap (λ (a : Address). same_address a address) (keeps server)
@@ -69,7 +69,7 @@ kept_by false number old apart = refl
 -- ---- the server of a number changes
 
 module _ (seats : List Seat) (numbers : Address → Option ℕ) (waiting : ℕ) (agree : Agree seats numbers waiting) where
-  pub agree-changed : (number : ℕ) (change : Server → Server) (now : ℕ) → ((server : Server) → (change server).address ≡ server.address)
+  pub agree-changed : (number : ℕ) (change : KnownServer → KnownServer) (now : ℕ) → ((server : KnownServer) → (change server).address ≡ server.address)
       → now + count_in (seat number seats) ≡ waiting + count_in (option_map change (seat number seats)) → now ≤ MOST_WAITING
       → Agree (changed number change seats) numbers now
   agree-changed number change now keeps counts most = record {
@@ -88,7 +88,7 @@ module _ (seats : List Seat) (numbers : Address → Option ℕ) (waiting : ℕ) 
 
   -- ---- a server comes
 
-  pub agree-new : (number : ℕ) (server : Server) (after : Address → Option ℕ) (now : ℕ) → seat number seats ≡ None → 0 < number → number ≤ length seats
+  pub agree-new : (number : ℕ) (server : KnownServer) (after : Address → Option ℕ) (now : ℕ) → seat number seats ≡ None → 0 < number → number ≤ length seats
       → numbers server.address ≡ None → ((address : Address) → after address ≡ cond (same_address server.address address) (Some number) (numbers address))
       → now ≡ waiting + length server.waiting → now ≤ MOST_WAITING → Agree (put number (Some server) seats) after now
   agree-new number server after now none some within fresh updates counts most = record {
@@ -120,7 +120,7 @@ module _ (seats : List Seat) (numbers : Address → Option ℕ) (waiting : ℕ) 
 
   -- ---- a server goes
 
-  pub agree-gone : (number : ℕ) (server : Server) (after : Address → Option ℕ) (now : ℕ) → seat number seats ≡ Some server → 0 < number → number ≤ length seats
+  pub agree-gone : (number : ℕ) (server : KnownServer) (after : Address → Option ℕ) (now : ℕ) → seat number seats ≡ Some server → 0 < number → number ≤ length seats
       → ((address : Address) → after address ≡ cond (same_address server.address address) None (numbers address))
       → now + length server.waiting ≡ waiting → Agree (put number None seats) after now
   agree-gone number server after now is some within updates counts = record {

@@ -7,7 +7,7 @@ use Rattle.server_book.specs.declared.address.Address.{Address}
 use Rattle.server_book.specs.declared.book.TheConstants.{MOST_WAITING, MOST_WAITING_FOR_SERVER}
 use Rattle.server_book.specs.declared.heard.Heard.{Heard}
 use Rattle.server_book.specs.declared.heard.Heard.TheVariants as Told
-use Rattle.server_book.specs.declared.server.Server.{Server}
+use Rattle.server_book.specs.declared.server.KnownServer.{KnownServer}
 use Rattle.server_book.specs.Books.{Agree, answer_in, has_waiting, may_wait}
 use Rattle.server_book.specs.Names.{is_among}
 use Rattle.server_book.specs.Seats.{Seat, all_waiting, changed, count_handed_out, count_in, leaving, least_free, new_in, number_of, put, same_address, seat, staying}
@@ -15,15 +15,15 @@ use Rattle.server_book.specs.Servers.{can_retry, connected, counted, failed, fix
 use Rattle.server_book.proofs.Agreeing.{agree-changed, agree-gone, agree-new, free-there, number-kept}
 use Rattle.server_book.proofs.SeatLemmas.{count-connected, count-failed, count-with_name, in-all}
 
-address_by : (b : Bool) (x server : Server) → x.address ≡ server.address → (cond b x server).address ≡ server.address
+address_by : (b : Bool) (x server : KnownServer) → x.address ≡ server.address → (cond b x server).address ≡ server.address
 address_by true x server e = e
 address_by false x server e = refl
 
-waiting_by : (b : Bool) (x server : Server) → x.waiting ≡ server.waiting → (cond b x server).waiting ≡ server.waiting
+waiting_by : (b : Bool) (x server : KnownServer) → x.waiting ≡ server.waiting → (cond b x server).waiting ≡ server.waiting
 waiting_by true x server e = e
 waiting_by false x server e = refl
 
-count_kept : (change : Server → Server) (old : Seat) → ((server : Server) → (change server).waiting ≡ server.waiting) → count_in old ≡ count_in (option_map change old)
+count_kept : (change : KnownServer → KnownServer) (old : Seat) → ((server : KnownServer) → (change server).waiting ≡ server.waiting) → count_in old ≡ count_in (option_map change old)
 count_kept change None keeps = refl
 count_kept change (Some server) keeps = sym (ap length (keeps server))
 
@@ -54,15 +54,15 @@ room_for number name look seats (Some server) most e =
 
 -- ---- a server that leaves its seat
 
-left_by : (b : Bool) (server one : Server) → let none : Seat = None in Some server ≡ cond b (Some one) none → (Some one ≡ Some server) × (cond b none (Some one) ≡ none)
+left_by : (b : Bool) (server one : KnownServer) → let none : Seat = None in Some server ≡ cond b (Some one) none → (Some one ≡ Some server) × (cond b none (Some one) ≡ none)
 left_by true server one e = (sym e, refl)
 left_by false server one e = absurd (let no : Some server ≡ None = e in cc)
 
-left_is : (old : Seat) (server : Server) → Some server ≡ leaving old → (old ≡ Some server) × (staying old ≡ None)
+left_is : (old : Seat) (server : KnownServer) → Some server ≡ leaving old → (old ≡ Some server) × (staying old ≡ None)
 left_is None server e = absurd (let no : Some server ≡ None = e in cc)
 left_is (Some one) server e = left_by (may_leave one) server one e
 
-seat_within : (number : ℕ) (seats : List Seat) (server : Server) → seat number seats ≡ Some server → (0 < number) × (number ≤ length seats)
+seat_within : (number : ℕ) (seats : List Seat) (server : KnownServer) → seat number seats ≡ Some server → (0 < number) × (number ≤ length seats)
 seat_within zero seats server e = absurd (let no : None ≡ Some server = e in cc)
 seat_within (suc place) seats server e =
     elim (cases_lt place (length seats)) as (λ _. (0 < suc place) × (suc place ≤ length seats)) [
@@ -71,7 +71,7 @@ seat_within (suc place) seats server e =
     ]
 
 module _ (seats new : List Seat) (numbers : Address → Option ℕ) (waiting : ℕ) (agree : Agree seats numbers waiting) (number : ℕ) where
-  kept : (change : Server → Server) → ((server : Server) → (change server).address ≡ server.address) → ((server : Server) → (change server).waiting ≡ server.waiting)
+  kept : (change : KnownServer → KnownServer) → ((server : KnownServer) → (change server).address ≡ server.address) → ((server : KnownServer) → (change server).waiting ≡ server.waiting)
       → new ≡ changed number change seats → Agree new numbers waiting
   kept change addresses names is =
       subst (λ (xs : List Seat). Agree xs numbers waiting) (sym is)
@@ -126,10 +126,10 @@ module _ (seats new : List Seat) (numbers : Address → Option ℕ) (waiting : �
 
   -- ---- servers come and go
 
-  fresh_at : (address : Address) → number_of address seats ≡ None → (server : Server) → server.address ≡ address → numbers server.address ≡ None
+  fresh_at : (address : Address) → number_of address seats ≡ None → (server : KnownServer) → server.address ≡ address → numbers server.address ≡ None
   fresh_at address none server same = subst (λ (a : Address). numbers a ≡ None) (sym same) (number-kept seats numbers waiting agree address ∙ none)
 
-  pub agree-met : (address : Address) (server : Server) (after : Address → Option ℕ) (now : ℕ) → Some number ≡ least_free seats → number_of address seats ≡ None → server.address ≡ address
+  pub agree-met : (address : Address) (server : KnownServer) (after : Address → Option ℕ) (now : ℕ) → Some number ≡ least_free seats → number_of address seats ≡ None → server.address ≡ address
       → ((q : Address) → after q ≡ cond (same_address address q) (Some number) (numbers q)) → now ≡ waiting + length server.waiting → now ≤ MOST_WAITING
       → new ≡ put number (Some server) seats → Agree new after now
   agree-met address server after now free none same updates more most by =
@@ -138,14 +138,14 @@ module _ (seats new : List Seat) (numbers : Address → Option ℕ) (waiting : �
       (agree-new seats numbers waiting agree number server after now there.none there.some there.within (fresh_at address none server same)
       (λ q. updates q ∙ ap (λ (a : Address). cond (same_address a q) (Some number) (numbers q)) (sym same)) more most)
 
-  pub fits-left : (server : Server) (taken : ℕ) → Some server ≡ leaving (seat number seats) → taken ≡ length server.waiting → taken ≤ waiting
+  pub fits-left : (server : KnownServer) (taken : ℕ) → Some server ≡ leaving (seat number seats) → taken ≡ length server.waiting → taken ≤ waiting
   fits-left server taken is length_is =
       let there : count_in (seat number seats) ≡ length server.waiting = ap count_in (left_is (seat number seats) server is).0 in
       let whole = in-all number seats in
       let all = agree.count in
       omega arith
 
-  pub agree-left : (server : Server) (after : Address → Option ℕ) (taken : ℕ) → Some server ≡ leaving (seat number seats)
+  pub agree-left : (server : KnownServer) (after : Address → Option ℕ) (taken : ℕ) → Some server ≡ leaving (seat number seats)
       → ((q : Address) → after q ≡ cond (same_address server.address q) None (numbers q)) → taken ≡ length server.waiting
       → new ≡ put number (staying (seat number seats)) seats → Agree new after (waiting - taken)
   agree-left server after taken is updates length_is by =

@@ -8,7 +8,7 @@ use Rattle.server_book.specs.declared.address.Address.{Address}
 use Rattle.server_book.specs.declared.book.TheConstants.{MOST_WAITING}
 use Rattle.server_book.specs.declared.heard.Heard.{Heard}
 use Rattle.server_book.specs.declared.heard.Heard.TheVariants as Told
-use Rattle.server_book.specs.declared.server.Server.{Server}
+use Rattle.server_book.specs.declared.server.KnownServer.{KnownServer}
 use Rattle.server_book.specs.declared.server.Standing.{Standing}
 use Rattle.server_book.specs.declared.server.Standing.TheVariants.{Connecting, Stands, HeldOff}
 use Rattle.server_book.specs.Books.{Book, after_heard, answer_by, answer_in, answer_new, answer_to, has_waiting, may_wait, passes, seats_by, seats_fixed, seats_fixed_by, seats_waiting, seats_with}
@@ -20,12 +20,12 @@ use Rattle.server_book.proofs.Agreeing.{IsFree, free-there, seat-put, seat-put_o
 
 -- ---- the seat that a call changes
 
-nothing_there : (place : ℕ) (change : Server → Server) (seats : List Seat) (old : Seat) → old ≡ None → length seats ≤ place → get_or seats place None ≡ old
+nothing_there : (place : ℕ) (change : KnownServer → KnownServer) (seats : List Seat) (old : Seat) → old ≡ None → length seats ≤ place → get_or seats place None ≡ old
     → seat (suc place) (put (suc place) (option_map change old) seats) ≡ option_map change old
 nothing_there place change seats old none past is =
     rw none (ap (λ (xs : List Seat). get_or xs place None) (set_past seats place None past) ∙ get_or_past seats place None past)
 
-pub seat-changed : (number : ℕ) (change : Server → Server) (seats : List Seat) → seat number (changed number change seats) ≡ option_map change (seat number seats)
+pub seat-changed : (number : ℕ) (change : KnownServer → KnownServer) (seats : List Seat) → seat number (changed number change seats) ≡ option_map change (seat number seats)
 seat-changed zero change seats = refl
 seat-changed (suc place) change seats =
     elim (cases_lt place (length seats)) as (λ _. seat (suc place) (changed (suc place) change seats) ≡ option_map change (seat (suc place) seats)) [
@@ -36,11 +36,11 @@ seat-changed (suc place) change seats =
 -- ---- what holds between the seat before a call and the seat after it
 
 module _ (P : Seat → Seat → Type 0) (same : (old : Seat) → P old old) (fresh : (new : Seat) → P None new) where
-  by_change : (change : Server → Server) (old : Seat) → ((server : Server) → P (Some server) (Some (change server))) → P old (option_map change old)
+  by_change : (change : KnownServer → KnownServer) (old : Seat) → ((server : KnownServer) → P (Some server) (Some (change server))) → P old (option_map change old)
   by_change change None keeps = same None
   by_change change (Some server) keeps = keeps server
 
-  pub step-changed : (number other : ℕ) (change : Server → Server) (seats : List Seat) → ((server : Server) → P (Some server) (Some (change server)))
+  pub step-changed : (number other : ℕ) (change : KnownServer → KnownServer) (seats : List Seat) → ((server : KnownServer) → P (Some server) (Some (change server)))
       → P (seat number seats) (seat number (changed other change seats))
   step-changed number other change seats keeps =
       elim (cases_eq number other) as (λ _. P (seat number seats) (seat number (changed other change seats))) [
@@ -67,7 +67,7 @@ module _ (P : Seat → Seat → Type 0) (same : (old : Seat) → P old old) (fre
   fix_new number address seats None e = same (seat number seats)
   fix_new number address seats (Some other) e = step-new number other (Some (newcomer address true)) seats e
 
-  pub step-fix : (number : ℕ) (address : Address) (seats : List Seat) (found : Option ℕ) → ((server : Server) → P (Some server) (Some (fixed server)))
+  pub step-fix : (number : ℕ) (address : Address) (seats : List Seat) (found : Option ℕ) → ((server : KnownServer) → P (Some server) (Some (fixed server)))
       → P (seat number seats) (seat number (seats_fixed_by found address seats))
   step-fix number address seats None keeps = fix_new number address seats (least_free seats) refl
   step-fix number address seats (Some other) keeps = step-changed number other fixed seats keeps
@@ -82,23 +82,23 @@ module _ (P : Seat → Seat → Type 0) (same : (old : Seat) → P old old) (fre
   hear_new number address name seats None e = same (seat number seats)
   hear_new number address name seats (Some other) e = by_room number other (ltb (all_waiting seats) MOST_WAITING) (Some (with_name name (newcomer address false))) seats e
 
-  by_answer : (number other : ℕ) (waits : Bool) (name : List ℕ) (seats : List Seat) → ((server : Server) → P (Some server) (Some (with_name name server)))
+  by_answer : (number other : ℕ) (waits : Bool) (name : List ℕ) (seats : List Seat) → ((server : KnownServer) → P (Some server) (Some (with_name name server)))
       → P (seat number seats) (seat number (cond waits (changed other (with_name name) seats) seats))
   by_answer number other true name seats keeps = step-changed number other (with_name name) seats keeps
   by_answer number other false name seats keeps = same (seat number seats)
 
   pub step-hear : (number : ℕ) (address : Address) (name : List ℕ) (look : ℕ) (seats : List Seat) (found : Option ℕ)
-      → ((server : Server) → P (Some server) (Some (with_name name server)))
+      → ((server : KnownServer) → P (Some server) (Some (with_name name server)))
       → P (seat number seats) (seat number (seats_by found address name look seats))
   step-hear number address name look seats None keeps = hear_new number address name seats (least_free seats) refl
   step-hear number address name look seats (Some other) keeps =
       by_answer number other (has_waiting (answer_in other name look seats (seat other seats))) name seats keeps
 
-  by_staying : (old : Seat) → ((server : Server) → P (Some server) (staying (Some server))) → P old (staying old)
+  by_staying : (old : Seat) → ((server : KnownServer) → P (Some server) (staying (Some server))) → P old (staying old)
   by_staying None keeps = same None
   by_staying (Some server) keeps = keeps server
 
-  stays_here : (place : ℕ) (seats : List Seat) → ((server : Server) → P (Some server) (staying (Some server)))
+  stays_here : (place : ℕ) (seats : List Seat) → ((server : KnownServer) → P (Some server) (staying (Some server)))
       → P (seat (suc place) seats) (seat (suc place) (put (suc place) (staying (seat (suc place) seats)) seats))
   stays_here place seats keeps =
       elim (cases_lt place (length seats)) as (λ _. P (seat (suc place) seats) (seat (suc place) (put (suc place) (staying (seat (suc place) seats)) seats))) [
@@ -106,7 +106,7 @@ module _ (P : Seat → Seat → Type 0) (same : (old : Seat) → P old old) (fre
         | inr past ↦ subst (λ (xs : List Seat). P (seat (suc place) seats) (seat (suc place) xs)) (sym (set_past seats place (staying (get_or seats place None)) past)) (same (seat (suc place) seats))
       ]
 
-  pub step-free : (number other : ℕ) (seats : List Seat) → ((server : Server) → P (Some server) (staying (Some server)))
+  pub step-free : (number other : ℕ) (seats : List Seat) → ((server : KnownServer) → P (Some server) (staying (Some server)))
       → P (seat number seats) (seat number (put other (staying (seat other seats)) seats))
   step-free zero other seats keeps = same None
   step-free (suc place) other seats keeps =
@@ -145,26 +145,26 @@ waits_same old e = (e, no_longer (handed_out_in old))
 waits_fresh : (new : Seat) → Waits None new
 waits_fresh new e = absurd (let no : false ≡ true = e in cc)
 
-waits_fixed : (server : Server) → Waits (Some server) (Some (fixed server))
+waits_fixed : (server : KnownServer) → Waits (Some server) (Some (fixed server))
 waits_fixed server e = (e, no_longer (handed_out_in (Some server)))
 
 by_name : (b : Bool) (names : List (List ℕ)) (name : List ℕ) → IsLonger names (cond b names (names ++ name ∷ []))
 by_name true names name = no_longer names
 by_name false names name = (name ∷ [], refl)
 
-waits_name : (name : List ℕ) (server : Server) → Waits (Some server) (Some (with_name name server))
+waits_name : (name : List ℕ) (server : KnownServer) → Waits (Some server) (Some (with_name name server))
 waits_name name server e = (refl, rw e (by_name (is_among server.waiting name) server.waiting name))
 
-waits_lost : (look : ℕ) (server : Server) → Waits (Some server) (Some (lost look server))
+waits_lost : (look : ℕ) (server : KnownServer) → Waits (Some server) (Some (lost look server))
 waits_lost look server e = let no = not_standing server.standing e in rw no (e, no_longer (handed_out_in (Some server)))
 
-waits_retried : (look : ℕ) (server : Server) → Waits (Some server) (Some (retried look server))
+waits_retried : (look : ℕ) (server : KnownServer) → Waits (Some server) (Some (retried look server))
 waits_retried look server e = let no = not_held_until look server.standing e in rw no (e, no_longer (handed_out_in (Some server)))
 
-waits_counted : (links limit : ℕ) (server : Server) → Waits (Some server) (Some (counted links limit server))
+waits_counted : (links limit : ℕ) (server : KnownServer) → Waits (Some server) (Some (counted links limit server))
 waits_counted links limit server e = let no = not_standing server.standing e in rw no (e, no_longer (handed_out_in (Some server)))
 
-waits_staying : (server : Server) → Waits (Some server) (staying (Some server))
+waits_staying : (server : KnownServer) → Waits (Some server) (staying (Some server))
 waits_staying server e = let no = not_off server.standing e in rw no (e, no_longer (handed_out_in (Some server)))
 
 apart_by : (number other : ℕ) → (other == number) ≡ false → number ≡ other → ⊥
@@ -192,18 +192,18 @@ run-waits number (call ∷ calls) book none e =
 
 -- ---- addresses
 
-kept_by : (b : Bool) (x server : Server) → x.address ≡ server.address → (cond b x server).address ≡ server.address
+kept_by : (b : Bool) (x server : KnownServer) → x.address ≡ server.address → (cond b x server).address ≡ server.address
 kept_by true x server e = e
 kept_by false x server e = refl
 
-fixed_by : (b : Bool) (x server : Server) → x.is_fixed ≡ server.is_fixed → (cond b x server).is_fixed ≡ server.is_fixed
+fixed_by : (b : Bool) (x server : KnownServer) → x.is_fixed ≡ server.is_fixed → (cond b x server).is_fixed ≡ server.is_fixed
 fixed_by true x server e = e
 fixed_by false x server e = refl
 
 -- while it may not leave its seat it stays
 abbrev pub Stays : Seat → Seat → Type 0
 Stays old new = passes (λ server. not (may_leave server)) old ≡ true
-    → option_map (λ (server : Server). server.address) new ≡ option_map (λ (server : Server). server.address) old
+    → option_map (λ (server : KnownServer). server.address) new ≡ option_map (λ (server : KnownServer). server.address) old
 
 stays_same : (old : Seat) → Stays old old
 stays_same old e = refl
@@ -211,15 +211,15 @@ stays_same old e = refl
 stays_fresh : (new : Seat) → Stays None new
 stays_fresh new e = absurd (let no : false ≡ true = e in cc)
 
-stays_by : (b : Bool) (x server : Server) → x.address ≡ server.address → Stays (Some server) (Some (cond b x server))
+stays_by : (b : Bool) (x server : KnownServer) → x.address ≡ server.address → Stays (Some server) (Some (cond b x server))
 stays_by b x server same e = ap Some (kept_by b x server same)
 
-off_by : (b : Bool) (server : Server) → not b ≡ true → let none : Seat = None in cond b none (Some server) ≡ Some server
+off_by : (b : Bool) (server : KnownServer) → not b ≡ true → let none : Seat = None in cond b none (Some server) ≡ Some server
 off_by true server e = absurd (let no : false ≡ true = e in cc)
 off_by false server e = refl
 
-stays_staying : (server : Server) → Stays (Some server) (staying (Some server))
-stays_staying server e = ap (option_map (λ (s : Server). s.address)) (off_by (may_leave server) server e)
+stays_staying : (server : KnownServer) → Stays (Some server) (staying (Some server))
+stays_staying server e = ap (option_map (λ (s : KnownServer). s.address)) (off_by (may_leave server) server e)
 
 pub step-stays : (number : ℕ) (call : Call) (book : Book) → Stays (seat number book.seats) (seat number (after call book).seats)
 step-stays number (Fix address) book = step-fix Stays stays_same stays_fresh number address book.seats (number_of address book.seats) (λ server e. refl)
@@ -235,7 +235,7 @@ step-stays number (Free other) book = step-free Stays stays_same stays_fresh num
 
 abbrev pub Fixed : Seat → Seat → Type 0
 Fixed old new = passes (λ server. server.is_fixed) old ≡ true
-    → (passes (λ server. server.is_fixed) new ≡ true) × (option_map (λ (server : Server). server.address) new ≡ option_map (λ (server : Server). server.address) old)
+    → (passes (λ server. server.is_fixed) new ≡ true) × (option_map (λ (server : KnownServer). server.address) new ≡ option_map (λ (server : KnownServer). server.address) old)
 
 fixed_same : (old : Seat) → Fixed old old
 fixed_same old e = (e, refl)
@@ -243,7 +243,7 @@ fixed_same old e = (e, refl)
 fixed_fresh : (new : Seat) → Fixed None new
 fixed_fresh new e = absurd (let no : false ≡ true = e in cc)
 
-fixed_change : (b : Bool) (x server : Server) → x.address ≡ server.address → x.is_fixed ≡ server.is_fixed → Fixed (Some server) (Some (cond b x server))
+fixed_change : (b : Bool) (x server : KnownServer) → x.address ≡ server.address → x.is_fixed ≡ server.is_fixed → Fixed (Some server) (Some (cond b x server))
 fixed_change b x server same is e = (fixed_by b x server is ∙ e, ap Some (kept_by b x server same))
 
 never_off : (off is : Bool) → is ≡ true → (off && not is) ≡ false
@@ -252,7 +252,7 @@ never_off false true e = refl
 never_off true false e = absurd (let no : false ≡ true = e in cc)
 never_off false false e = refl
 
-fixed_staying : (server : Server) → Fixed (Some server) (staying (Some server))
+fixed_staying : (server : KnownServer) → Fixed (Some server) (staying (Some server))
 fixed_staying server e = let no = never_off (is_held_off server.standing) server.is_fixed e in rw no (e, refl)
 
 pub step-fixed : (number : ℕ) (call : Call) (book : Book) → Fixed (seat number book.seats) (seat number (after call book).seats)
@@ -323,7 +323,7 @@ pub record HasName (name : List ℕ) (old : Seat) : Type 0 where
   pub connecting : passes (λ server. is_connecting server.standing) old ≡ true
   pub among : is_among (handed_out_in old) name ≡ true
 
-named : (name : List ℕ) (server : Server) → HasName name (Some (with_name name server))
+named : (name : List ℕ) (server : KnownServer) → HasName name (Some (with_name name server))
 named name server = record { connecting = refl; among = once_by (is_among server.waiting name) server.waiting name refl }
 
 hears_known : (own number : ℕ) (name : List ℕ) (look : ℕ) (seats : List Seat) (old : Seat) → seat own seats ≡ old

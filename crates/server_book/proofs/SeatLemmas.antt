@@ -4,7 +4,7 @@ use Rattle.std.specs.Option.{option_map}
 use Rattle.std.proofs.lemmas.Bool.{cases_lt}
 use Rattle.std.proofs.lemmas.List.{get_or_default, get_or_past, length-append, length-set, set_past}
 use Rattle.std.proofs.lemmas.List.Sums.{get_or-le-sum_by, sum_by-set}
-use Rattle.server_book.specs.declared.server.Server.{Server}
+use Rattle.server_book.specs.declared.server.KnownServer.{KnownServer}
 use Rattle.server_book.specs.Names.{is_among}
 use Rattle.server_book.specs.Seats.{Seat, all_waiting, changed, count_handed_out, count_in, leaving, new_in, put, seat, staying}
 use Rattle.server_book.specs.Servers.{connected, failed, is_connecting, may_leave, with_name}
@@ -23,7 +23,7 @@ put_there (suc n) place seats new e = let same : place ≡ n = omega arith in ap
 pub seat_read : (number place : ℕ) (seats : List Seat) (old : Seat) → number ≡ place + 1 → place < length seats → old ≡ get_or seats place old → old ≡ seat number seats
 seat_read number place seats old e within is = is ∙ get_or_default seats place old None within ∙ seat_there number place seats e
 
-pub changed_there : (number place : ℕ) (change : Server → Server) (seats : List Seat) (old new : Seat) → number ≡ place + 1 → place < length seats
+pub changed_there : (number place : ℕ) (change : KnownServer → KnownServer) (seats : List Seat) (old new : Seat) → number ≡ place + 1 → place < length seats
     → old ≡ get_or seats place old → new ≡ option_map change old → set seats place new ≡ changed number change seats
 changed_there number place change seats old new e within is by =
     ap (set seats place) (by ∙ ap (option_map change) (seat_read number place seats old e within is)) ∙ put_there number place seats (option_map change (seat number seats)) e
@@ -43,7 +43,7 @@ pub put_nowhere : (number : ℕ) (new : Seat) (seats : List Seat) → (0 < numbe
 put_nowhere zero new seats past = refl
 put_nowhere (suc place) new seats past = let over : length seats < suc place = past (omega arith) in sym (set_past seats place new (omega arith))
 
-pub changed_nowhere : (number : ℕ) (change : Server → Server) (seats : List Seat) → (0 < number → length seats < number) → seats ≡ changed number change seats
+pub changed_nowhere : (number : ℕ) (change : KnownServer → KnownServer) (seats : List Seat) → (0 < number → length seats < number) → seats ≡ changed number change seats
 changed_nowhere number change seats past = put_nowhere number (option_map change (seat number seats)) seats past
 
 -- ---- what is read after a seat was written
@@ -62,7 +62,7 @@ waiting-put (suc place) new seats some within = sum_by-set count_in seats place 
 none_more : (all : ℕ) (old : Seat) → old ≡ None → all + count_in old ≡ all + count_in None
 none_more all old e = ap (λ (x : Seat). all + count_in x) e
 
-pub waiting-changed : (number : ℕ) (change : Server → Server) (seats : List Seat)
+pub waiting-changed : (number : ℕ) (change : KnownServer → KnownServer) (seats : List Seat)
     → all_waiting (changed number change seats) + count_in (seat number seats) ≡ all_waiting seats + count_in (option_map change (seat number seats))
 waiting-changed zero change seats = refl
 waiting-changed (suc place) change seats =
@@ -81,7 +81,7 @@ pub count-with_name : (name : List ℕ) (old : Seat) → count_in (option_map (w
 count-with_name name None = refl
 count-with_name name (Some server) = by_once (is_among server.waiting name) server.waiting name
 
-emptied : (b : Bool) (x server : Server) → x.waiting ≡ [] → length ((cond b x server).waiting) + length (cond b server.waiting []) ≡ length server.waiting
+emptied : (b : Bool) (x server : KnownServer) → x.waiting ≡ [] → length ((cond b x server).waiting) + length (cond b server.waiting []) ≡ length server.waiting
 emptied true x server e = rw e (omega arith)
 emptied false x server e = omega arith
 
@@ -93,7 +93,7 @@ pub count-failed : (look : ℕ) (old : Seat) → count_in (option_map (failed lo
 count-failed look None = refl
 count-failed look (Some server) = emptied (is_connecting server.standing) _ server refl
 
-left_out : (b : Bool) (server : Server) → let none : Seat = None in count_in (cond b none (Some server)) + count_in (cond b (Some server) none) ≡ length server.waiting
+left_out : (b : Bool) (server : KnownServer) → let none : Seat = None in count_in (cond b none (Some server)) + count_in (cond b (Some server) none) ≡ length server.waiting
 left_out true server = omega arith
 left_out false server = omega arith
 

@@ -7,7 +7,7 @@ use Rattle.server_book.specs.declared.address.Address.{Address}
 use Rattle.server_book.specs.declared.book.TheConstants.{MOST_WAITING, MOST_WAITING_FOR_SERVER}
 use Rattle.server_book.specs.declared.heard.Heard.{Heard}
 use Rattle.server_book.specs.declared.heard.Heard.TheVariants as Told
-use Rattle.server_book.specs.declared.server.Server.{Server}
+use Rattle.server_book.specs.declared.server.KnownServer.{KnownServer}
 
 -- after how many looks in a row without a link a server is closed, and the seats
 pub record Book : Type 0 where
@@ -17,12 +17,12 @@ pub record Book : Type 0 where
 -- ---- a server is heard of
 
 -- the name waits for the server already, or may
-abbrev pub may_wait : List ℕ → List Seat → Server → Bool
+abbrev pub may_wait : List ℕ → List Seat → KnownServer → Bool
 may_wait name seats server =
     is_among server.waiting name || (nat_lt (length server.waiting) MOST_WAITING_FOR_SERVER && nat_lt (all_waiting seats) MOST_WAITING)
 
 -- what is to be done about a name of a server that is known
-abbrev pub answer_of : ℕ → List ℕ → ℕ → List Seat → Server → Heard
+abbrev pub answer_of : ℕ → List ℕ → ℕ → List Seat → KnownServer → Heard
 answer_of number name look seats server =
     if stands server.standing then Told.Find number
     else if not (is_connecting server.standing || can_retry look server) then Told.HeldOff
@@ -94,11 +94,11 @@ after_fixed address book = record book { seats = seats_fixed_by (number_of addre
 
 -- ---- what happens to the server of a number
 
-abbrev pub with_server : ℕ → (Server → Server) → Book → Book
+abbrev pub with_server : ℕ → (KnownServer → KnownServer) → Book → Book
 with_server number change book = record book { seats = changed number change book.seats }
 
 -- a test of it, which no free seat passes
-abbrev pub passes : (Server → Bool) → Seat → Bool
+abbrev pub passes : (KnownServer → Bool) → Seat → Bool
 passes test None = false
 passes test (Some server) = test server
 

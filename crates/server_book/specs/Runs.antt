@@ -5,7 +5,7 @@ use Rattle.server_book.specs.Books.{Book, after_fixed, after_free, after_heard, 
 use Rattle.server_book.specs.Seats.{handed_out_in, seat}
 use Rattle.server_book.specs.Servers.{connected, counted, failed, is_connecting, lost, may_leave, retried}
 use Rattle.server_book.specs.declared.address.Address.{Address}
-use Rattle.server_book.specs.declared.server.Server.{Server}
+use Rattle.server_book.specs.declared.server.KnownServer.{KnownServer}
 
 -- a call that changes a book, with what it is given
 pub data Call : Type 0 where
@@ -70,4 +70,4 @@ is_fixed_at number book = passes (λ server. server.is_fixed) (seat number book.
 
 -- the address of the server of this number
 abbrev pub address_at : ℕ → Book → Option Address
-address_at number book = option_map (λ (server : Server). server.address) (seat number book.seats)
+address_at number book = option_map (λ (server : KnownServer). server.address) (seat number book.seats)

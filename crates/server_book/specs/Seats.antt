@@ -4,10 +4,10 @@ use Rattle.std.specs.List.{position, sum_by}
 use Rattle.std.specs.Option.{option_map}
 use Rattle.server_book.specs.Servers.{handed_out, may_leave, newly_waiting}
 use Rattle.server_book.specs.declared.address.Address.{Address}
-use Rattle.server_book.specs.declared.server.Server.{Server}
+use Rattle.server_book.specs.declared.server.KnownServer.{KnownServer}
 
 abbrev pub Seat : Type 0
-Seat = Option Server
+Seat = Option KnownServer
 
 -- the seat of this number. None has number 0
 abbrev pub seat : ℕ → List Seat → Seat
@@ -20,7 +20,7 @@ put zero new seats = seats
 put (suc place) new seats = slice_set seats place new
 
 -- the seats with the server of this number changed
-abbrev pub changed : ℕ → (Server → Server) → List Seat → List Seat
+abbrev pub changed : ℕ → (KnownServer → KnownServer) → List Seat → List Seat
 changed number change seats = put number (option_map change (seat number seats)) seats
 
 -- ---- addresses

@@ -10,7 +10,7 @@ ghost use Rattle.server_book.specs.Servers.{can_retry, connected, counted, faile
 
 use crate::address::Address;
 use crate::heard::Heard;
-use crate::server::Server;
+use crate::server::KnownServer;
 use crate::{NoMemory, seats};
 use pv_name::Name;
 use std::alloc::{AllocError, Global};
@@ -29,7 +29,7 @@ pub struct ServerBook {
     // After how many looks in a row without a link a server is closed.
     limit: u32,
     // That of the number n is the nth.
-    seats: Vec<Option<Server>>,
+    seats: Vec<Option<KnownServer>>,
     // The number of the server at an address. So it is found without a walk.
     numbers: HashMap<Address, u32>,
     // How many names wait in all.
@@ -72,7 +72,7 @@ impl ServerBook {
     }
 
     /// The server of this number.
-    pub fn server(&self, number: u32) -> Option<&Server>
+    pub fn server(&self, number: u32) -> Option<&KnownServer>
         ensures { option_copied result ≡ seat number self.now.seats }
     {
         seats::server_at(&self.seats, number)
@@ -107,7 +107,7 @@ impl ServerBook {
         let Some(number) = seats::least_free(&self.seats) else {
             return Ok(None);
         };
-        let server = Server::new(self.alloc, address, true);
+        let server = KnownServer::new(self.alloc, address, true);
         if let Err(_) = self.numbers.insert(address, number) {
             return Err(AllocError);
         }
@@ -155,7 +155,7 @@ impl ServerBook {
         if self.waiting >= MOST_WAITING {
             return Ok(Heard::Dropped);
         }
-        let mut server = Server::new(self.alloc, address, false);
+        let mut server = KnownServer::new(self.alloc, address, false);
         server.wait(name)?;
         if let Err(_) = self.numbers.insert(address, number) {
             return Err(AllocError);
@@ -226,7 +226,13 @@ impl ServerBook {
 }
 
 // What is to be done about a name of the server of this number, where so many names wait in all.
-fn answer_in(seats: &[Option<Server>], waiting: usize, number: u32, name: &Name, look: u64) -> Heard
+fn answer_in(
+    seats: &[Option<KnownServer>],
+    waiting: usize,
+    number: u32,
+    name: &Name,
+    look: u64,
+) -> Heard
     requires { waiting ≡ all_waiting seats.now }
     ensures { result ≡ answer_in number name.now look seats.now (seat number seats.now) }
 {
@@ -237,7 +243,7 @@ fn answer_in(seats: &[Option<Server>], waiting: usize, number: u32, name: &Name,
 }
 
 // The same for this server.
-fn answer_of(server: &Server, waiting: usize, number: u32, name: &Name, look: u64) -> Heard
+fn answer_of(server: &KnownServer, waiting: usize, number: u32, name: &Name, look: u64) -> Heard
     ensures { (seats : List Seat) → waiting ≡ all_waiting seats → result ≡ answer_of number name.now look seats server.now }
 {
     if server.stands() {
@@ -258,7 +264,7 @@ fn answer_of(server: &Server, waiting: usize, number: u32, name: &Name, look: u6
 }
 
 // Whether the name waits for the server already, or may, where so many names wait in all.
-fn may_wait(server: &Server, waiting: usize, name: &Name) -> bool
+fn may_wait(server: &KnownServer, waiting: usize, name: &Name) -> bool
     ensures { (seats : List Seat) → waiting ≡ all_waiting seats → result ≡ may_wait name.now seats server.now }
 {
     server.waiting.has(name)

@@ -18,8 +18,8 @@ pub use address::Address;
 pub use book::{MOST_WAITING, MOST_WAITING_FOR_SERVER, ServerBook};
 pub use heard::Heard;
 pub use nets::{Net, NetFault, host_number, is_believed};
-pub use server::{LAST_LOOK, LOOKS_OF_SECOND, MOST_DOUBLINGS, Server, Standing};
-pub use waiting::Waiting;
+pub use server::{KnownServer, LAST_LOOK, LOOKS_OF_SECOND, MOST_DOUBLINGS, Standing};
+pub use waiting::WaitingNames;
 
 mod address;
 mod book;

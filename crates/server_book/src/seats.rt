@@ -8,12 +8,12 @@ ghost use Rattle.server_book.specs.Seats.{changed, count_handed_out, handed_out_
 ghost use Rattle.server_book.specs.Servers.{can_retry, connected, counted, failed, fixed, is_idle, lost, retried, with_name};
 
 use crate::NoMemory;
-use crate::server::Server;
+use crate::server::KnownServer;
 use pv_name::Name;
 use std::alloc::Global;
 
 /// So many free seats.
-pub(crate) fn free_seats(alloc: Global, count: u32) -> Result<Vec<Option<Server>>, NoMemory>
+pub(crate) fn free_seats(alloc: Global, count: u32) -> Result<Vec<Option<KnownServer>>, NoMemory>
     ensures { IfOk result (λ seats. seats.items ≡ replicate count None) }
 {
     let mut seats = Vec::with_capacity(alloc, count as usize)?;
@@ -24,7 +24,7 @@ pub(crate) fn free_seats(alloc: Global, count: u32) -> Result<Vec<Option<Server>
 }
 
 /// The place of the seat of a number.
-fn place_of(seats: &[Option<Server>], number: u32) -> Option<usize>
+fn place_of(seats: &[Option<KnownServer>], number: u32) -> Option<usize>
     ensures some { IfSome result (λ place. (number ≡ place + 1) × (place < length seats.now)) }
     ensures none { IfNone result (0 < number → length seats.now < number) }
 {
@@ -35,7 +35,7 @@ fn place_of(seats: &[Option<Server>], number: u32) -> Option<usize>
 }
 
 /// The server of a number.
-pub(crate) fn server_at(seats: &[Option<Server>], number: u32) -> Option<&Server>
+pub(crate) fn server_at(seats: &[Option<KnownServer>], number: u32) -> Option<&KnownServer>
     ensures { option_copied result ≡ seat number seats.now }
 {
     match place_of(seats, number) {
@@ -45,7 +45,7 @@ pub(crate) fn server_at(seats: &[Option<Server>], number: u32) -> Option<&Server
 }
 
 /// The least number of a free seat.
-pub(crate) fn least_free(seats: &[Option<Server>]) -> Option<u32>
+pub(crate) fn least_free(seats: &[Option<KnownServer>]) -> Option<u32>
     requires { length seats.now < 2 ^ 32 }
     ensures { result ≡ least_free seats.now }
 {
@@ -55,7 +55,7 @@ pub(crate) fn least_free(seats: &[Option<Server>]) -> Option<u32>
     }
 }
 
-fn free_place(seats: &[Option<Server>]) -> Option<usize>
+fn free_place(seats: &[Option<KnownServer>]) -> Option<usize>
     ensures place { result ≡ position is_free seats.now }
     ensures within { IfSome result (λ place. place < length seats.now) }
 {
@@ -63,7 +63,7 @@ fn free_place(seats: &[Option<Server>]) -> Option<usize>
 }
 
 /// A free seat has this server from now on.
-pub(crate) fn put(seats: &mut Vec<Option<Server>>, number: u32, server: Server)
+pub(crate) fn put(seats: &mut Vec<Option<KnownServer>>, number: u32, server: KnownServer)
     ensures { seats.new.items ≡ put number (Some server) seats.old.items }
 {
     if let Some(place) = place_of(seats, number) {
@@ -72,7 +72,7 @@ pub(crate) fn put(seats: &mut Vec<Option<Server>>, number: u32, server: Server)
 }
 
 /// Takes a server out whose number can be free.
-pub(crate) fn leave(seats: &mut Vec<Option<Server>>, number: u32) -> Option<Server>
+pub(crate) fn leave(seats: &mut Vec<Option<KnownServer>>, number: u32) -> Option<KnownServer>
     ensures server { result ≡ leaving (seat number seats.old.items) }
     ensures new { seats.new.items ≡ put number (staying (seat number seats.old.items)) seats.old.items }
 {
@@ -82,7 +82,7 @@ pub(crate) fn leave(seats: &mut Vec<Option<Server>>, number: u32) -> Option<Serv
     }
 }
 
-fn leave_seat(seat: &mut Option<Server>) -> Option<Server>
+fn leave_seat(seat: &mut Option<KnownServer>) -> Option<KnownServer>
     ensures server { result ≡ leaving seat.old }
     ensures new { seat.new ≡ staying seat.old }
 {
@@ -92,7 +92,7 @@ fn leave_seat(seat: &mut Option<Server>) -> Option<Server>
     }
 }
 
-pub(crate) fn fix(seats: &mut Vec<Option<Server>>, number: u32)
+pub(crate) fn fix(seats: &mut Vec<Option<KnownServer>>, number: u32)
     ensures { seats.new.items ≡ changed number fixed seats.old.items }
 {
     if let Some(place) = place_of(seats, number) {
@@ -100,7 +100,7 @@ pub(crate) fn fix(seats: &mut Vec<Option<Server>>, number: u32)
     }
 }
 
-fn fix_in(seat: &mut Option<Server>)
+fn fix_in(seat: &mut Option<KnownServer>)
     ensures { seat.new ≡ option_map fixed seat.old }
 {
     if let Some(server) = seat {
@@ -110,7 +110,7 @@ fn fix_in(seat: &mut Option<Server>)
 
 /// A name waits for the server of this number. How many names wait more than before. At an error nothing changes.
 pub(crate) fn wait(
-    seats: &mut Vec<Option<Server>>,
+    seats: &mut Vec<Option<KnownServer>>,
     number: u32,
     name: &Name,
 ) -> Result<usize, NoMemory>
@@ -124,7 +124,7 @@ pub(crate) fn wait(
     }
 }
 
-fn wait_in(seat: &mut Option<Server>, name: &Name) -> Result<usize, NoMemory>
+fn wait_in(seat: &mut Option<KnownServer>, name: &Name) -> Result<usize, NoMemory>
     ensures more { IfOk result (λ more. more ≡ new_in name.now seat.old) }
     ensures ok { OnOk result (seat.new ≡ option_map (with_name name.now) seat.old) }
     ensures err { OnErr result (seat.new ≡ seat.old) }
@@ -136,7 +136,7 @@ fn wait_in(seat: &mut Option<Server>, name: &Name) -> Result<usize, NoMemory>
 }
 
 /// The connection of the server of this number stands. The names that waited for it.
-pub(crate) fn connect(alloc: Global, seats: &mut Vec<Option<Server>>, number: u32) -> Vec<Name>
+pub(crate) fn connect(alloc: Global, seats: &mut Vec<Option<KnownServer>>, number: u32) -> Vec<Name>
     ensures names { result.items ≡ handed_out_in (seat number seats.old.items) }
     ensures once { AreApart result.items }
     ensures new { seats.new.items ≡ changed number connected seats.old.items }
@@ -147,7 +147,7 @@ pub(crate) fn connect(alloc: Global, seats: &mut Vec<Option<Server>>, number: u3
     }
 }
 
-fn connect_in(alloc: Global, seat: &mut Option<Server>) -> Vec<Name>
+fn connect_in(alloc: Global, seat: &mut Option<KnownServer>) -> Vec<Name>
     ensures names { result.items ≡ handed_out_in seat.old }
     ensures once { AreApart result.items }
     ensures new { seat.new ≡ option_map connected seat.old }
@@ -159,7 +159,12 @@ fn connect_in(alloc: Global, seat: &mut Option<Server>) -> Vec<Name>
 }
 
 /// The connection of the server of this number couldn't be made. How many names are forgotten.
-pub(crate) fn fail(alloc: Global, seats: &mut Vec<Option<Server>>, number: u32, look: u64) -> usize
+pub(crate) fn fail(
+    alloc: Global,
+    seats: &mut Vec<Option<KnownServer>>,
+    number: u32,
+    look: u64,
+) -> usize
     ensures count { result ≡ count_handed_out (seat number seats.old.items) }
     ensures new { seats.new.items ≡ changed number (failed look) seats.old.items }
 {
@@ -169,7 +174,7 @@ pub(crate) fn fail(alloc: Global, seats: &mut Vec<Option<Server>>, number: u32, 
     }
 }
 
-fn fail_in(alloc: Global, seat: &mut Option<Server>, look: u64) -> usize
+fn fail_in(alloc: Global, seat: &mut Option<KnownServer>, look: u64) -> usize
     ensures count { result ≡ count_handed_out seat.old }
     ensures new { seat.new ≡ option_map (failed look) seat.old }
 {
@@ -179,7 +184,7 @@ fn fail_in(alloc: Global, seat: &mut Option<Server>, look: u64) -> usize
     }
 }
 
-pub(crate) fn lose(seats: &mut Vec<Option<Server>>, number: u32, look: u64)
+pub(crate) fn lose(seats: &mut Vec<Option<KnownServer>>, number: u32, look: u64)
     ensures { seats.new.items ≡ changed number (lost look) seats.old.items }
 {
     if let Some(place) = place_of(seats, number) {
@@ -187,7 +192,7 @@ pub(crate) fn lose(seats: &mut Vec<Option<Server>>, number: u32, look: u64)
     }
 }
 
-fn lose_in(seat: &mut Option<Server>, look: u64)
+fn lose_in(seat: &mut Option<KnownServer>, look: u64)
     ensures { seat.new ≡ option_map (lost look) seat.old }
 {
     if let Some(server) = seat {
@@ -195,7 +200,7 @@ fn lose_in(seat: &mut Option<Server>, look: u64)
     }
 }
 
-pub(crate) fn retry(seats: &mut Vec<Option<Server>>, number: u32, look: u64) -> bool
+pub(crate) fn retry(seats: &mut Vec<Option<KnownServer>>, number: u32, look: u64) -> bool
     ensures answer { result ≡ passes (can_retry look) (seat number seats.old.items) }
     ensures new { seats.new.items ≡ changed number (retried look) seats.old.items }
 {
@@ -205,7 +210,7 @@ pub(crate) fn retry(seats: &mut Vec<Option<Server>>, number: u32, look: u64) -> 
     }
 }
 
-fn retry_in(seat: &mut Option<Server>, look: u64) -> bool
+fn retry_in(seat: &mut Option<KnownServer>, look: u64) -> bool
     ensures answer { result ≡ passes (can_retry look) seat.old }
     ensures new { seat.new ≡ option_map (retried look) seat.old }
 {
@@ -215,7 +220,12 @@ fn retry_in(seat: &mut Option<Server>, look: u64) -> bool
     }
 }
 
-pub(crate) fn count(seats: &mut Vec<Option<Server>>, number: u32, links: usize, limit: u32) -> bool
+pub(crate) fn count(
+    seats: &mut Vec<Option<KnownServer>>,
+    number: u32,
+    links: usize,
+    limit: u32,
+) -> bool
     ensures answer { result ≡ passes (is_idle links limit) (seat number seats.old.items) }
     ensures new { seats.new.items ≡ changed number (counted links limit) seats.old.items }
 {
@@ -225,7 +235,7 @@ pub(crate) fn count(seats: &mut Vec<Option<Server>>, number: u32, links: usize, 
     }
 }
 
-fn count_in(seat: &mut Option<Server>, links: usize, limit: u32) -> bool
+fn count_in(seat: &mut Option<KnownServer>, links: usize, limit: u32) -> bool
     ensures answer { result ≡ passes (is_idle links limit) seat.old }
     ensures new { seat.new ≡ option_map (counted links limit) seat.old }
 {

@@ -5,7 +5,7 @@ ghost use Rattle.server_book.specs.Servers.{can_retry, connected, counted, faile
 
 use crate::NoMemory;
 use crate::address::Address;
-use crate::waiting::Waiting;
+use crate::waiting::WaitingNames;
 use pv_name::Name;
 use std::alloc::Global;
 use std::mem;
@@ -33,7 +33,7 @@ pub enum Standing {
 
 /// What is known of a server.
 #[derive(Drop)]
-pub struct Server {
+pub struct KnownServer {
     pub address: Address,
     /// It is known for good, and not found by search.
     pub is_fixed: bool,
@@ -41,22 +41,22 @@ pub struct Server {
     /// How often in a row its connection failed or was lost; 8 where it was more often.
     pub failures: u32,
     /// The names that were found on it and wait for its connection.
-    pub waiting: Waiting,
+    pub waiting: WaitingNames,
     /// At how many looks in a row it had no link, as far as this matters.
     pub idle: u32,
 }
 
-impl Server {
+impl KnownServer {
     /// A server that is connecting, for which no name waits.
-    pub(crate) fn new(alloc: Global, address: Address, is_fixed: bool) -> Server
+    pub(crate) fn new(alloc: Global, address: Address, is_fixed: bool) -> KnownServer
         ensures { result ≡ newcomer address is_fixed }
     {
-        Server {
+        KnownServer {
             address,
             is_fixed,
             standing: Standing::Connecting,
             failures: 0,
-            waiting: Waiting::new(alloc),
+            waiting: WaitingNames::new(alloc),
             idle: 0,
         }
     }
@@ -110,7 +110,7 @@ impl Server {
     {
         match self.standing {
             Standing::Connecting => {
-                let waiting = mem::replace(&mut self.waiting, Waiting::new(alloc));
+                let waiting = mem::replace(&mut self.waiting, WaitingNames::new(alloc));
                 self.standing = Standing::Stands;
                 self.failures = 0;
                 self.idle = 0;
@@ -127,7 +127,7 @@ impl Server {
     {
         match self.standing {
             Standing::Connecting => {
-                let waiting = mem::replace(&mut self.waiting, Waiting::new(alloc));
+                let waiting = mem::replace(&mut self.waiting, WaitingNames::new(alloc));
                 self.standing = Standing::HeldOff(held_until(look, self.failures));
                 self.failures = self.failures.saturating_add(1).min(MOST_DOUBLINGS);
                 waiting.len()

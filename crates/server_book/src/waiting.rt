@@ -9,11 +9,11 @@ use std::marker::Model;
 
 /// Names that wait for a server's connection, in order and each once.
 #[derive(Drop)]
-pub struct Waiting {
+pub struct WaitingNames {
     names: Vec<Name>,
 }
 
-impl Model for Waiting {
+impl Model for WaitingNames {
     ghost use Rattle.std.specs.Prelude.{ℕ, List};
     ghost use Rattle.server_book.specs.Names.{AreApart};
 
@@ -24,12 +24,12 @@ impl Model for Waiting {
     ghost invariant = { λ w. AreApart w.names.items };
 }
 
-impl Waiting {
+impl WaitingNames {
     /// None. This takes no memory.
-    pub(crate) fn new(alloc: Global) -> Waiting
+    pub(crate) fn new(alloc: Global) -> WaitingNames
         ensures { result ≡ [] }
     {
-        Waiting {
+        WaitingNames {
             names: Vec::new(alloc),
         }
     }

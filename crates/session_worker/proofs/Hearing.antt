@@ -1,5 +1,5 @@
 -- Pieces that are read, and messages that are taken of them.
-use Rattle.std.proofs.Common.{◌≡◌, ℕ, zero, suc, List, [], ◌∷◌, ◌++◌, length, Option, Some, None, Ok, refl, sym, ap, subst, ◌∙◌, arith}
+use Rattle.std.proofs.Common.{◌≡◌, ℕ, zero, suc, ◌<◌, ◌≤◌, List, [], ◌∷◌, ◌++◌, length, Option, Some, None, Ok, refl, sym, ap, subst, ◌∙◌, arith}
 use Rattle.std.specs.Io.KnownBytes.{Consumes, IsAtEnd, Keeps}
 use Rattle.std.proofs.lemmas.List.{append-nil, append_assoc, map-append}
 use Rattle.std.proofs.Math.Seq.{drop-append_seam}
@@ -13,8 +13,8 @@ use Rattle.ca_header.specs.declared.reading.Front.TheVariants as fronts
 use Rattle.ca_header.proofs.Fields.{IsBytes-drop}
 use Rattle.ca_header.proofs.Fronts.{faulty-front_at, partial-front_at}
 use Rattle.ca_header.proofs.Messages.{cut-front_at}
-use Rattle.session_links.specs.Links.{HasRisen}
-use Rattle.session_worker.specs.Serving.{AreOf, as_items, GoesOn, Hears, IsServedIn, IsStuck, IsWhy, last_item, Offers, Standing, Stops}
+use Rattle.session_worker.specs.Links.{HasRisen}
+use Rattle.session_worker.specs.Serving.{AreOf, as_items, GoesOn, Hears, IsServedIn, IsWhy, last_item, Offers, Standing, Stops}
 use Rattle.session_worker.specs.declared.reader.InEnd.{InEnd}
 use Rattle.session_worker.specs.declared.reader.InEnd.TheVariants as ends
 use Rattle.board_rings.specs.declared.inbound.Inbound.{Inbound}
@@ -163,14 +163,6 @@ heard_only old new held piece fits consumed same = record {
   };
 }
 
--- why no more can be offered is why a reader stops
-pub stuck_is_why : (end : InEnd) (left : List ℕ) (old new : Standing) → IsStuck end left → IsWhy end left old new
-stuck_is_why ends.Closed left old new stuck = absurd stuck
-stuck_is_why ends.ReadFault left old new stuck = absurd stuck
-stuck_is_why (ends.Framing fault) left old new stuck = stuck
-stuck_is_why ends.GateFailed left old new stuck = tt
-stuck_is_why ends.OutOfMemory left old new stuck = tt
-
 -- READERS
 
 nothing_is_partial : front_at [] ≡ fronts.Partial
@@ -180,7 +172,7 @@ nothing_is_partial = refl
 pub begins : (start : Standing) (held : List ℕ) → held ≡ [] → GoesOn start start [] held × IsBytes held
 begins start held none =
     subst (λ (xs : List ℕ). GoesOn start start [] xs × IsBytes xs) (sym none)
-    (record { piece = []; hears = nothing_heard start; partial = nothing_is_partial; fine = refl }, λ i. omega arith)
+    (record { piece = []; hears = nothing_heard start; partial = nothing_is_partial; fine = refl; told = omega arith }, λ i. omega arith)
 
 -- what is held once messages were offered is bytes
 pub held_fits : (old new : Standing) (held held_now : List ℕ) → IsBytes held → GoesOn old new held held_now → IsBytes held_now
@@ -193,21 +185,23 @@ goes_further start now later held held_now so_far on = record {
   hears = heard_more start now later held held_now [] so_far.piece on.piece so_far.hears on.hears;
   partial = on.partial;
   fine = on.fine ∙ so_far.fine;
+  told = omega (arith, so_far.told, on.told);
 }
 
-why_since : (end : InEnd) (left : List ℕ) (start now later : Standing) → now.failed ≡ start.failed → IsWhy end left now later → IsWhy end left start later
-why_since ends.Closed left start now later fine why = why
-why_since ends.ReadFault left start now later fine why = (why.0, subst (λ (n : ℕ). HasRisen n later.failed) fine why.1)
-why_since (ends.Framing fault) left start now later fine why = why
-why_since ends.GateFailed left start now later fine why = tt
-why_since ends.OutOfMemory left start now later fine why = tt
+why_since : (end : InEnd) (left : List ℕ) (start now later : Standing) → now.failed ≡ start.failed → start.stops ≤ now.stops → IsWhy end left now later → IsWhy end left start later
+why_since ends.Closed left start now later fine told why = why
+why_since ends.ReadFault left start now later fine told why = (why.0, subst (λ (n : ℕ). HasRisen n later.failed) fine why.1)
+why_since (ends.Framing fault) left start now later fine told why = why
+why_since ends.GateFailed left start now later fine told why = omega (arith, told, why)
+why_since ends.OutOfMemory left start now later fine told why = tt
 
 pub stops_after : (end : InEnd) (start now later : Standing) (held : List ℕ) → GoesOn start now [] held → Stops end now later held → Stops end start later []
 stops_after end start now later held so_far stops = record {
   piece = so_far.piece ++ stops.piece;
   left = stops.left;
   hears = heard_more start now later held stops.left [] so_far.piece stops.piece so_far.hears stops.hears;
-  why = why_since end stops.left start now later so_far.fine stops.why;
+  why = why_since end stops.left start now later so_far.fine so_far.told stops.why;
+  told = omega (arith, so_far.told, stops.told);
 }
 
 -- why a reader stopped is how the bytes that it read end
@@ -219,21 +213,21 @@ ends_of ends.ReadFault bytes left old new o fits why =
     (record { whole = o.whole; left = left; spelled = o.spelled; ends = (refl, partial-front_at left (left_fits o.whole left (subst IsBytes o.parts fits)) why.0); parts = o.parts }, why.1)
 ends_of (ends.Framing fault) bytes left old new o fits why =
     record { whole = o.whole; left = left; spelled = o.spelled; ends = faulty-front_at left fault (left_fits o.whole left (subst IsBytes o.parts fits)) why; parts = o.parts }
-ends_of ends.GateFailed bytes left old new o fits why = (o.whole, (o.spelled, o.parts))
+ends_of ends.GateFailed bytes left old new o fits why = (o.whole, (o.spelled, (o.parts, why)))
 ends_of ends.OutOfMemory bytes left old new o fits why = (o.whole, (o.spelled, o.parts))
 
-ends_apart : (end : InEnd) (bytes : List ℕ) (messages : List Message) (left : List ℕ) (old new other : Standing) → other.unread ≡ new.unread → other.failed ≡ new.failed
+ends_apart : (end : InEnd) (bytes : List ℕ) (messages : List Message) (left : List ℕ) (old new other : Standing) → other.unread ≡ new.unread → other.failed ≡ new.failed → new.stops ≤ other.stops
     → AreOf end bytes messages left old new → AreOf end bytes messages left old other
-ends_apart ends.Closed bytes messages left old new other unread failed of = (of.0, subst IsAtEnd (sym unread) of.1)
-ends_apart ends.ReadFault bytes messages left old new other unread failed of = (of.0, subst (HasRisen old.failed) (sym failed) of.1)
-ends_apart (ends.Framing fault) bytes messages left old new other unread failed of = of
-ends_apart ends.GateFailed bytes messages left old new other unread failed of = of
-ends_apart ends.OutOfMemory bytes messages left old new other unread failed of = of
+ends_apart ends.Closed bytes messages left old new other unread failed told of = (of.0, subst IsAtEnd (sym unread) of.1)
+ends_apart ends.ReadFault bytes messages left old new other unread failed told of = (of.0, subst (HasRisen old.failed) (sym failed) of.1)
+ends_apart (ends.Framing fault) bytes messages left old new other unread failed told of = of
+ends_apart ends.GateFailed bytes messages left old new other unread failed told of = (of.0, (of.1.0, (of.1.1.0, omega (arith, of.1.1.1, told))))
+ends_apart ends.OutOfMemory bytes messages left old new other unread failed told of = of
 
 -- a reader that stopped has ended once it has said so
-pub served : (end : InEnd) (old new : Standing) (said : List Inbound) → Stops end old new [] → said ≡ new.offered ++ last_item end
-    → IsServedIn end old (record { unread = new.unread; failed = new.failed; offered = said })
-served end old new said stops told =
+pub served : (end : InEnd) (old new : Standing) (said : List Inbound) (heard : ℕ) → Stops end old new [] → said ≡ new.offered ++ last_item end → new.stops ≤ heard
+    → IsServedIn end old (record { unread = new.unread; failed = new.failed; offered = said; stops = heard })
+served end old new said heard stops told more =
     let o = stops.hears.offers in
     record {
       bytes = stops.piece;
@@ -243,17 +237,30 @@ served end old new said stops told =
       consumed = stops.hears.consumed;
       told = told ∙ ap (λ (xs : List Inbound). xs ++ last_item end) o.told ∙ append_assoc old.offered (as_items o.messages) (last_item end);
       framed =
-          ends_apart end stops.piece o.messages stops.left old new (record { unread = new.unread; failed = new.failed; offered = said }) refl refl
+          ends_apart end stops.piece o.messages stops.left old new (record { unread = new.unread; failed = new.failed; offered = said; stops = heard }) refl refl more
           (ends_of end stops.piece stops.left old new o stops.hears.fits stops.why);
     }
 
 -- a reader that the gate stopped says no more
-pub served_no_more : (end : InEnd) (old new : Standing) (said : List Inbound) → Stops end old new [] → said ≡ new.offered
-    → IsServedIn ends.GateFailed old (record { unread = new.unread; failed = new.failed; offered = said })
-served_no_more end old new said stops same =
-    served ends.GateFailed old new said
-    (record { piece = stops.piece; left = stops.left; hears = stops.hears; why = tt })
-    (same ∙ sym (append-nil new.offered))
+pub served_no_more : (old new : Standing) → Stops ends.GateFailed old new [] → IsServedIn ends.GateFailed old (record { unread = new.unread; failed = new.failed; offered = new.offered; stops = new.stops })
+served_no_more old new stops = served ends.GateFailed old new new.offered new.stops stops (sym (append-nil new.offered)) (omega arith)
+
+told_more : (old new : Standing) (heard : ℕ) (held left piece : List ℕ) → Hears old new held left piece → Hears old (record new { stops = heard }) held left piece
+told_more old new heard held left piece hears = record { fits = hears.fits; consumed = hears.consumed; offers = hears.offers }
+
+-- nor one that was stopped when it would have said last that the connection is gone
+pub served_in_vain : (end : InEnd) (old new : Standing) (said : List Inbound) (heard : ℕ) → Stops end old new [] → said ≡ new.offered → new.stops < heard
+    → IsServedIn ends.GateFailed old (record { unread = new.unread; failed = new.failed; offered = said; stops = heard })
+served_in_vain end old new said heard stops same more =
+    served ends.GateFailed old (record new { stops = heard }) said heard
+    (record {
+      piece = stops.piece;
+      left = stops.left;
+      hears = told_more old new heard [] stops.left stops.piece stops.hears;
+      why = omega (arith, stops.told, more);
+      told = omega (arith, stops.told, more);
+    })
+    (same ∙ sym (append-nil new.offered)) (omega arith)
 
 -- but for the gate it says last that the connection is gone
 pub says_gone : (end : InEnd) → (end ≡ ends.GateFailed → ⊥) → last_item end ≡ inbound.Gone ∷ []

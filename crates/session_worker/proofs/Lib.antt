@@ -1,2 +1,5 @@
 mod Hearing
 mod Sending
+pub mod Keeping
+mod Pieces
+pub mod Writings

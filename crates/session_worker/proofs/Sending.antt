@@ -1,21 +1,13 @@
 -- Messages that are taken and written.
-use Rattle.std.proofs.Common.{◌≡◌, ℕ, ◌+◌, ◌≤◌, min, Bool, true, false, List, [], ◌∷◌, ◌++◌, length, refl, sym, ap, subst, ◌∙◌, arith}
+use Rattle.std.proofs.Common.{◌≡◌, ℕ, ◌+◌, ◌<◌, ◌≤◌, min, Bool, true, false, List, [], ◌∷◌, ◌++◌, refl, sym, ap, subst, ◌∙◌, arith}
 use Rattle.std.proofs.lemmas.List.{append-nil, append_assoc}
 use Rattle.fanout.specs.declared.outbox.Out.{Out}
-use Rattle.board_rings.specs.Rings.{OutletState}
-use Rattle.gate_board.specs.Taking.{IsTaken}
-use Rattle.gate_board.specs.declared.gate.Taken.{Taken}
-use Rattle.gate_board.specs.declared.gate.Taken.TheVariants as takes
-use Rattle.session_links.specs.Writing.{BufferState, IsWritten, most_counted, Progress}
-use Rattle.session_links.proofs.Writings.{written_both, written_none, written_part}
-use Rattle.session_worker.specs.Sending.{IsServedOut, progress_of, Sending, Sends, Takes, text_of, texts_of, WriterStanding}
+use Rattle.gateway_state.specs.declared.event.Dest.{Dest}
+use Rattle.board_rings.specs.Told.{name_of, TimesTold}
+use Rattle.session_worker.specs.Writing.{BufferState, IsWritten, most_counted, Progress}
+use Rattle.session_worker.proofs.Writings.{written_both, written_none, written_part}
+use Rattle.session_worker.specs.Sending.{IsServedOut, progress_of, Sending, Sends, text_of, texts_of, WriterStanding}
 use Rattle.session_worker.specs.declared.writer.OutEnd.TheVariants as ends
-
--- what a call that waits has taken
-pub takes_so : (taken : Taken) (old new : OutletState) → IsTaken old taken new → Takes taken old.taken new.taken × (new.ring ≡ old.ring)
-takes_so (takes.Item out) old new is = is
-takes_so takes.Closed old new is = (ap (λ (o : OutletState). o.taken) is.0.0, ap (λ (o : OutletState). o.ring) is.0.0)
-takes_so takes.Stopped old new is = (ap (λ (o : OutletState). o.taken) is.0.0, ap (λ (o : OutletState). o.ring) is.0.0)
 
 -- a message's header went well, and then its payload, or a part of it
 pub head_and_payload : (fine : Bool) (out : Out) (held head held_between payload held_now : List ℕ) (old between new : Progress) → head ≡ out.head → payload ≡ out.payload
@@ -73,13 +65,14 @@ sends_held fine old new same w = record {
   text = subst (λ (xs : List ℕ). IsWritten fine xs new.buffer.held (progress_of old) (progress_of new)) (sym (append-nil old.buffer.held)) w;
 }
 
-abbrev pub standing_of : Sending → WriterStanding
-standing_of s = record { written = s.written; failed = s.failed; taken = s.taken }
+-- what a writer stands on, with what it was told
+abbrev pub standing_of : Sending → ℕ → TimesTold → WriterStanding
+standing_of s stops ends = record { written = s.written; failed = s.failed; taken = s.taken; stops = stops; ends = ends }
 
 -- a writer whose link failed has written the front of the text of what it took
-pub served_to_fault : (start now : Sending) → start.buffer ≡ record { held = []; count = 0 } → Sends false start now
-    → IsServedOut (ends.WriteFault now.buffer.count) (standing_of start) (standing_of now)
-served_to_fault start now fresh s =
+pub served_to_fault : (dest : Dest) (start now : Sending) (stops stops_now : ℕ) (told told_now : TimesTold) → start.buffer ≡ record { held = []; count = 0 } → Sends false start now
+    → IsServedOut dest (ends.WriteFault now.buffer.count) (standing_of start stops told) (standing_of now stops_now told_now)
+served_to_fault dest start now stops stops_now told told_now fresh s =
     let none = ap (λ (b : BufferState). b.count) fresh in
     record {
       outs = s.outs;
@@ -96,16 +89,21 @@ served_to_fault start now fresh s =
     }
 
 -- a writer that got no more has written all
-pub served_to_end : (start now : Sending) (taken : List Out) → start.buffer ≡ record { held = []; count = 0 } → Sends true start now → now.buffer.held ≡ [] → taken ≡ now.taken
-    → IsServedOut ends.Closed (standing_of start) (record { written = now.written; failed = now.failed; taken = taken })
-    × IsServedOut ends.GateFailed (standing_of start) (record { written = now.written; failed = now.failed; taken = taken })
-served_to_end start now taken fresh s none same =
-    let whole : s.text.part ≡ texts_of s.outs =
+all_written : (start now : Sending) → start.buffer ≡ record { held = []; count = 0 } → (s : Sends true start now) → now.buffer.held ≡ [] → s.text.part ≡ texts_of s.outs
+all_written start now fresh s none =
     sym (append-nil s.text.part)
     ∙ ap (λ (xs : List ℕ). s.text.part ++ xs) (sym (s.text.so_far.0 ∙ none))
     ∙ sym s.text.parts
     ∙ ap (λ (b : BufferState). b.held ++ texts_of s.outs) fresh
-    in (
-      record { outs = s.outs; bytes = s.text.part; taken = same ∙ s.taken; written = s.text.written; text = whole },
-      record { outs = s.outs; bytes = s.text.part; taken = same ∙ s.taken; written = s.text.written; text = whole },
-    )
+
+pub served_to_end : (dest : Dest) (start now : Sending) (taken : List Out) (stops stops_now : ℕ) (told told_now : TimesTold) → start.buffer ≡ record { held = []; count = 0 } → Sends true start now → now.buffer.held ≡ []
+    → taken ≡ now.taken → told.times < told_now.times → told_now.last ≡ name_of dest
+    → IsServedOut dest ends.Closed (standing_of start stops told) (record { written = now.written; failed = now.failed; taken = taken; stops = stops_now; ends = told_now })
+served_to_end dest start now taken stops stops_now told told_now fresh s none same more last =
+    record { outs = s.outs; bytes = s.text.part; taken = same ∙ s.taken; written = s.text.written; text = (all_written start now fresh s none, (more, last)) }
+
+pub served_to_stop : (dest : Dest) (start now : Sending) (taken : List Out) (stops stops_now : ℕ) (told told_now : TimesTold) → start.buffer ≡ record { held = []; count = 0 } → Sends true start now → now.buffer.held ≡ []
+    → taken ≡ now.taken → stops < stops_now
+    → IsServedOut dest ends.GateFailed (standing_of start stops told) (record { written = now.written; failed = now.failed; taken = taken; stops = stops_now; ends = told_now })
+served_to_stop dest start now taken stops stops_now told told_now fresh s none same more =
+    record { outs = s.outs; bytes = s.text.part; taken = same ∙ s.taken; written = s.text.written; text = (all_written start now fresh s none, more) }

@@ -1,2 +1,5 @@
 pub mod Serving
 pub mod Sending
+pub mod Links
+pub mod Memory
+pub mod Writing

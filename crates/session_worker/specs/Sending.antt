@@ -1,9 +1,12 @@
 -- What a writer has taken and written.
-use Rattle.std.specs.Prelude.{◌≡◌, ℕ, min, Bool, List, [], ◌∷◌, ◌++◌, length, Option}
+use Rattle.std.specs.Prelude.{◌≡◌, ℕ, ◌<◌, min, Bool, List, [], ◌∷◌, ◌++◌, length, Option}
 use Rattle.std.specs.Io.KnownBytes.{Appends}
 use Rattle.fanout.specs.declared.outbox.Out.{Out}
-use Rattle.session_links.specs.Links.{HasRisen}
-use Rattle.session_links.specs.Writing.{BufferState, IsWritten, most_counted, Progress}
+use Rattle.session_worker.specs.Links.{HasRisen}
+use Rattle.session_worker.specs.Writing.{BufferState, IsWritten, most_counted, Progress}
+use Rattle.gateway_state.specs.declared.event.Dest.{Dest}
+use Rattle.board_rings.specs.Rings.{OutletState}
+use Rattle.board_rings.specs.Told.{name_of, TimesTold}
 use Rattle.gate_board.specs.declared.gate.Taken.{Taken}
 use Rattle.gate_board.specs.declared.gate.Taken.TheVariants as takes
 use Rattle.session_worker.specs.declared.writer.OutEnd.{OutEnd}
@@ -24,6 +27,13 @@ Takes (takes.Item out) taken taken_now = taken_now ≡ taken ++ out ∷ []
 Takes takes.Closed taken taken_now = taken_now ≡ taken
 Takes takes.Stopped taken taken_now = taken_now ≡ taken
 
+-- what the writer was told with it: nothing beside a message; else that the messages of this connection come to an end,
+-- or that nothing is moved any more
+abbrev pub IsTold : Dest → Taken → OutletState → OutletState → Type 0
+IsTold dest (takes.Item out) old new = (new.stops ≡ old.stops) × (new.ends ≡ old.ends)
+IsTold dest takes.Closed old new = (old.ends.times < new.ends.times) × (new.ends.last ≡ name_of dest)
+IsTold dest takes.Stopped old new = old.stops < new.stops
+
 -- how far a writer is: the bytes that its link was written, where they are known, how many calls of it
 -- have failed, what was taken, and the buffer that gathers its text
 pub record Sending : Type 0 where
@@ -43,23 +53,26 @@ pub record Sends (fine : Bool) (old new : Sending) : Type 0 where
   pub text : IsWritten fine (old.buffer.held ++ texts_of outs) new.buffer.held (progress_of old) (progress_of new)
 
 -- what a writer stands on: the bytes that its link was written, where they are known, how many calls of it
--- have failed, and what was taken
+-- have failed, what was taken, and what the writer was told of why it has to end
 pub record WriterStanding : Type 0 where
   pub written : Option (List ℕ)
   pub failed : ℕ
   pub taken : List Out
+  pub stops : ℕ
+  pub ends : TimesTold
 
--- the bytes are the whole text, or at a fault the beginning of it, and so many
-abbrev pub AreText : OutEnd → List ℕ → List ℕ → WriterStanding → WriterStanding → Type 0
-AreText Closed bytes text old new = bytes ≡ text
-AreText GateFailed bytes text old new = bytes ≡ text
-AreText (WriteFault n) bytes text old new =
+-- the bytes are the whole text, or at a fault the beginning of it, and so many. At an end the writer was told that the
+-- messages of this connection come to one, or that nothing is moved any more
+abbrev pub AreText : Dest → OutEnd → List ℕ → List ℕ → WriterStanding → WriterStanding → Type 0
+AreText dest Closed bytes text old new = (bytes ≡ text) × ((old.ends.times < new.ends.times) × (new.ends.last ≡ name_of dest))
+AreText dest GateFailed bytes text old new = (bytes ≡ text) × (old.stops < new.stops)
+AreText dest (WriteFault n) bytes text old new =
     (left : List ℕ) × ((text ≡ bytes ++ left) × ((n ≡ min (length bytes) most_counted) × HasRisen old.failed new.failed))
 
 -- a writer has ended: it has taken these messages, and written these bytes of their text
-pub record IsServedOut (end : OutEnd) (old new : WriterStanding) : Type 0 where
+pub record IsServedOut (dest : Dest) (end : OutEnd) (old new : WriterStanding) : Type 0 where
   pub outs : List Out
   pub bytes : List ℕ
   pub taken : new.taken ≡ old.taken ++ outs
   pub written : Appends old.written new.written bytes
-  pub text : AreText end bytes (texts_of outs) old new
+  pub text : AreText dest end bytes (texts_of outs) old new

@@ -17,13 +17,31 @@
 //! let end = serve_in(&rt, rt.alloc(), &mut link, &mut inlet, &gate, Dest::Session(1));
 //! assert_eq!(rt; end, InEnd::Closed);
 //! ```
+//!
+//! The bytes of a connection, both ways, as its workers read and write them.
+//!
+//! A [`Link`] gives and takes bytes in pieces, as a socket does, and counts its calls that failed.
+//! [`MemoryLink`] is one over bytes in memory, for tests: its contracts say which bytes were read and
+//! written, and which of its calls fails. An [`OutBuffer`] gathers what goes to a link into few writes, and its
+//! contracts say that the link is written just those bytes, in order, and which part of them where it fails.
+//!
+//! ```
+//! let mut link = MemoryLink::new(rt.alloc(), bytes, 7).failing_at(3);
+//! let mut buffer = [0u8; 64];
+//! let count = link.read_piece(&mut buffer)?;
+//! ```
 #![tactic(auto)]
 
+mod link;
+mod memory;
+mod out_buffer;
 mod reader;
 mod rounds;
 mod writer;
 
+pub use link::{Link, LinkFault};
+pub use memory::MemoryLink;
+pub use out_buffer::{OUT_BUFFER_SIZE, OutBuffer};
 pub use reader::{InEnd, serve_in};
 pub use rounds::{CoreEnd, serve_core};
-pub use session_links::{Link, LinkFault, MemoryLink};
 pub use writer::{OutEnd, serve_out};

@@ -1,16 +1,16 @@
 //! From a connection to the board.
-ghost use Rattle.std.specs.Prelude.{◌≡◌, ◌++◌, [], ◌∷◌, ◌<◌, length, IsTrue, IsFalse};
+ghost use Rattle.std.specs.Prelude.{◌≡◌, ◌++◌, [], ◌∷◌, ◌<◌, ◌≤◌, length, IsTrue, IsFalse};
 ghost use Rattle.std.specs.Io.KnownBytes.{Keeps};
 ghost use Rattle.ca_header.specs.Reading.{front_at};
 ghost use Rattle.ca_header.specs.Spelling.{IsBytes};
 ghost use Rattle.ca_header.specs.declared.reading.Front.{Front};
 ghost use Rattle.session_worker.specs.Serving.{IsHeard, IsOffered, IsServedIn, Stops};
 
+use crate::Link;
 use board_rings::{Inbound, Inlet};
 use ca_header::{FrameFault, Intake, IntakeFault};
 use gate_board::Gate;
 use gateway_state::Dest;
-use session_links::Link;
 use std::alloc::Global;
 use std::sync::Wait;
 
@@ -34,7 +34,7 @@ pub enum InEnd {
 
 // What a piece came to.
 #[derive(Clone, Copy)]
-enum Heard {
+enum HeardPiece {
     // Its messages were offered, and more may come.
     More,
     End(InEnd),
@@ -45,6 +45,8 @@ enum Heard {
 fn hand_over<R: Wait>(rt: &R, inlet: &mut Inlet, gate: &Gate, item: Inbound) -> bool
     ensures some { IsTrue result → inlet.new.offered ≡ inlet.old.offered ++ item ∷ [] }
     ensures none { IsFalse result → inlet.new.offered ≡ inlet.old.offered }
+    ensures stopped { IsFalse result → inlet.old.stops < inlet.new.stops }
+    ensures told { inlet.old.stops ≤ inlet.new.stops }
     ensures ring { inlet.new.ring ≡ inlet.old.ring }
 {
     if matches!(item, Inbound::Gone) {
@@ -57,20 +59,21 @@ fn hand_over<R: Wait>(rt: &R, inlet: &mut Inlet, gate: &Gate, item: Inbound) -> 
 }
 
 // Offers the whole messages of what is held.
-fn offer_whole<R: Wait>(rt: &R, intake: &mut Intake, inlet: &mut Inlet, gate: &Gate) -> Heard
+fn offer_whole<R: Wait>(rt: &R, intake: &mut Intake, inlet: &mut Inlet, gate: &Gate) -> HeardPiece
     requires { IsBytes intake.old }
-    ensures offered { IsOffered result intake.old intake.new inlet.old.offered inlet.new.offered }
+    ensures offered { IsOffered result intake.old intake.new inlet.old.offered inlet.new.offered inlet.old.stops inlet.new.stops }
+    ensures told { inlet.old.stops ≤ inlet.new.stops }
     ensures ring { inlet.new.ring ≡ inlet.old.ring }
 {
     for _ in rt.forever() {
         let message = match intake.take() {
             Ok(Some(message)) => message,
-            Ok(None) => return Heard::More,
-            Err(IntakeFault::Faulted(fault)) => return Heard::End(InEnd::Framing(fault)),
-            Err(IntakeFault::OutOfMemory) => return Heard::End(InEnd::OutOfMemory),
+            Ok(None) => return HeardPiece::More,
+            Err(IntakeFault::Faulted(fault)) => return HeardPiece::End(InEnd::Framing(fault)),
+            Err(IntakeFault::OutOfMemory) => return HeardPiece::End(InEnd::OutOfMemory),
         };
         if !hand_over(rt, inlet, gate, Inbound::Message(message)) {
-            return Heard::End(InEnd::GateFailed);
+            return HeardPiece::End(InEnd::GateFailed);
         }
     }
     unreachable!()
@@ -92,29 +95,29 @@ fn hear<L: Link, R: Wait>(
     inlet: &mut Inlet,
     gate: &Gate,
     buffer: &mut [u8],
-) -> Heard
+) -> HeardPiece
     requires bytes { IsBytes intake.old }
     requires partial { front_at intake.old ≡ Front.Partial }
     requires room { 0 < length buffer.old }
     ensures heard { IsHeard result
-        (record { unread = L.unread link.old; failed = L.failed link.old; offered = inlet.old.offered })
-        (record { unread = L.unread link.new; failed = L.failed link.new; offered = inlet.new.offered }) intake.old intake.new }
+        (record { unread = L.unread link.old; failed = L.failed link.old; offered = inlet.old.offered; stops = inlet.old.stops })
+        (record { unread = L.unread link.new; failed = L.failed link.new; offered = inlet.new.offered; stops = inlet.new.stops }) intake.old intake.new }
     ensures kept { Keeps (L.written link.old) (L.written link.new) }
     ensures ring { inlet.new.ring ≡ inlet.old.ring }
     ensures room { length buffer.new ≡ length buffer.old }
 {
     let count = match link.read_piece(buffer) {
-        Ok(0) => return Heard::End(InEnd::Closed),
+        Ok(0) => return HeardPiece::End(InEnd::Closed),
         Ok(count) => count,
-        Err(_) => return Heard::End(InEnd::ReadFault),
+        Err(_) => return HeardPiece::End(InEnd::ReadFault),
     };
     if !hold(intake, &buffer[..count]) {
-        return Heard::End(InEnd::OutOfMemory);
+        return HeardPiece::End(InEnd::OutOfMemory);
     }
     match offer_whole(rt, intake, inlet, gate) {
-        Heard::More if gate.wake(rt) => Heard::More,
-        Heard::More => Heard::End(InEnd::GateFailed),
-        Heard::End(end) => Heard::End(end),
+        HeardPiece::More if gate.wake_for(rt, inlet) => HeardPiece::More,
+        HeardPiece::More => HeardPiece::End(InEnd::GateFailed),
+        HeardPiece::End(end) => HeardPiece::End(end),
     }
 }
 
@@ -127,8 +130,8 @@ fn hear_all<L: Link, R: Wait>(
     gate: &Gate,
 ) -> InEnd
     ensures stops { Stops result
-        (record { unread = L.unread link.old; failed = L.failed link.old; offered = inlet.old.offered })
-        (record { unread = L.unread link.new; failed = L.failed link.new; offered = inlet.new.offered }) [] }
+        (record { unread = L.unread link.old; failed = L.failed link.old; offered = inlet.old.offered; stops = inlet.old.stops })
+        (record { unread = L.unread link.new; failed = L.failed link.new; offered = inlet.new.offered; stops = inlet.new.stops }) [] }
     ensures kept { Keeps (L.written link.old) (L.written link.new) }
     ensures ring { inlet.new.ring ≡ inlet.old.ring }
 {
@@ -136,8 +139,8 @@ fn hear_all<L: Link, R: Wait>(
     let mut buffer = [0u8; PIECE_SIZE];
     for _ in rt.forever() {
         match hear(rt, link, &mut intake, inlet, gate, &mut buffer) {
-            Heard::More => (),
-            Heard::End(end) => return end,
+            HeardPiece::More => (),
+            HeardPiece::End(end) => return end,
         }
     }
     unreachable!()
@@ -148,7 +151,7 @@ fn hear_all<L: Link, R: Wait>(
 /// does, or where the ring has no place.
 ///
 /// At `OutOfMemory` and `GateFailed` only the first of the messages that were read may be offered. At
-/// `GateFailed` it isn't offered that the connection is gone.
+/// `GateFailed` it isn't offered that the connection is gone: the gate said that nothing is moved any more.
 pub fn serve_in<L: Link, R: Wait>(
     rt: &R,
     alloc: Global,
@@ -158,8 +161,8 @@ pub fn serve_in<L: Link, R: Wait>(
     _dest: Dest,
 ) -> InEnd
     ensures served { IsServedIn result
-        (record { unread = L.unread link.old; failed = L.failed link.old; offered = inlet.old.offered })
-        (record { unread = L.unread link.new; failed = L.failed link.new; offered = inlet.new.offered }) }
+        (record { unread = L.unread link.old; failed = L.failed link.old; offered = inlet.old.offered; stops = inlet.old.stops })
+        (record { unread = L.unread link.new; failed = L.failed link.new; offered = inlet.new.offered; stops = inlet.new.stops }) }
     ensures kept { Keeps (L.written link.old) (L.written link.new) }
     ensures ring { inlet.new.ring ≡ inlet.old.ring }
 {

@@ -1,4 +1,7 @@
 //! What moves the board.
+ghost use Rattle.std.specs.Prelude.{◌≡◌};
+ghost use Rattle.gate_board.specs.Locked.{IsBatched};
+
 use gate_board::{Gate, Turn};
 use std::sync::Wait;
 
@@ -12,8 +15,11 @@ pub enum CoreEnd {
 }
 
 /// Performs the board's batches, and waits where one moves nothing. It ends where the gate is closed or the
-/// engine has failed.
-pub fn serve_core<R: Wait>(rt: &R, gate: &Gate) -> CoreEnd {
+/// engine has failed, as its last batch said.
+pub fn serve_core<R: Wait>(rt: &R, gate: &Gate) -> CoreEnd
+    ensures closed { result ≡ CoreEnd.Closed → IsBatched Turn.Closed }
+    ensures failed { result ≡ CoreEnd.GateFailed → IsBatched Turn.Failed }
+{
     for _ in rt.forever() {
         match gate.batch(rt) {
             Turn::Moved => (),

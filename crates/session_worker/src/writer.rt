@@ -1,14 +1,14 @@
 //! From the board to a connection.
 ghost use Rattle.std.specs.Prelude.{◌≡◌, ◌++◌, [], is_ok, OnOk};
 ghost use Rattle.std.specs.Io.KnownBytes.{Keeps};
-ghost use Rattle.session_links.specs.Writing.{IsWritten};
-ghost use Rattle.session_worker.specs.Sending.{IsServedOut, Sends, Takes, text_of};
+ghost use Rattle.session_worker.specs.Writing.{IsWritten};
+ghost use Rattle.session_worker.specs.Sending.{IsServedOut, IsTold, Sends, Takes, text_of};
 
+use crate::{Link, LinkFault, OutBuffer};
 use board_rings::{Outlet, RING_SIZE};
 use fanout::Out;
 use gate_board::{Gate, Taken};
 use gateway_state::Dest;
-use session_links::{Link, LinkFault, OutBuffer};
 use std::sync::Wait;
 
 /// Why a writer ended.
@@ -47,6 +47,7 @@ fn put_waiting<L: Link>(
         (record { written = L.written link.new; failed = L.failed link.new; taken = outlet.new.taken; buffer = buffer.new }) }
     ensures kept { Keeps (L.unread link.old) (L.unread link.new) }
     ensures ring { outlet.new.ring ≡ outlet.old.ring }
+    ensures told { (outlet.new.stops ≡ outlet.old.stops) × (outlet.new.ends ≡ outlet.old.ends) }
 {
     for _ in 0..RING_SIZE {
         let out = match outlet.next() {
@@ -73,6 +74,7 @@ fn write_waiting<L: Link>(
     ensures none { OnOk result (buffer.new.held ≡ []) }
     ensures kept { Keeps (L.unread link.old) (L.unread link.new) }
     ensures ring { outlet.new.ring ≡ outlet.old.ring }
+    ensures told { (outlet.new.stops ≡ outlet.old.stops) × (outlet.new.ends ≡ outlet.old.ends) }
 {
     match put_waiting(link, buffer, outlet) {
         Ok(()) => (),
@@ -84,6 +86,7 @@ fn write_waiting<L: Link>(
 // Waits for the next message.
 fn wait_for_out<R: Wait>(rt: &R, outlet: &mut Outlet, gate: &Gate, dest: Dest) -> Taken
     ensures taken { Takes result outlet.old.taken outlet.new.taken }
+    ensures told { IsTold dest result outlet.old outlet.new }
     ensures ring { outlet.new.ring ≡ outlet.old.ring }
 {
     gate.take(rt, outlet, dest)
@@ -93,7 +96,8 @@ fn wait_for_out<R: Wait>(rt: &R, outlet: &mut Outlet, gate: &Gate, dest: Dest) -
 /// once is gathered and written at once. It waits where the link does, or where no message is there; then
 /// all that was taken is written.
 ///
-/// At `Closed` and `GateFailed` each message that was taken is written whole. At `WriteFault` the first of
+/// At `Closed` and `GateFailed` each message that was taken is written whole, and the gate said of this connection that
+/// its messages come to an end, or that nothing is moved any more. At `WriteFault` the first of
 /// their bytes are written, so many as it says.
 pub fn serve_out<L: Link, R: Wait>(
     rt: &R,
@@ -102,9 +106,9 @@ pub fn serve_out<L: Link, R: Wait>(
     gate: &Gate,
     dest: Dest,
 ) -> OutEnd
-    ensures served { IsServedOut result
-        (record { written = L.written link.old; failed = L.failed link.old; taken = outlet.old.taken })
-        (record { written = L.written link.new; failed = L.failed link.new; taken = outlet.new.taken }) }
+    ensures served { IsServedOut dest result
+        (record { written = L.written link.old; failed = L.failed link.old; taken = outlet.old.taken; stops = outlet.old.stops; ends = outlet.old.ends })
+        (record { written = L.written link.new; failed = L.failed link.new; taken = outlet.new.taken; stops = outlet.new.stops; ends = outlet.new.ends }) }
     ensures kept { Keeps (L.unread link.old) (L.unread link.new) }
     ensures ring { outlet.new.ring ≡ outlet.old.ring }
 {

@@ -7,9 +7,9 @@ use Rattle.rows.proofs.RowLemmas.{change_first_unfound}
 use Rattle.row_index.specs.declared.key.Key.{Key}
 use Rattle.row_index.specs.Rows.{same_key, has_key, lacks_key, value_at, put_at, row_of}
 use Rattle.row_index.proofs.Keys.{unmapped}
-use Rattle.channel_table.specs.Indexes.{changed_by}
-use Rattle.channel_table.proofs.Keyed.{put_is_change, keyed_again, entry_found, entry_absent, under_more, under_less, under_change, rows_more, rows_less, rows_changed}
-use Rattle.channel_table.proofs.Lists.{found_where_any}
+use Rattle.named_rows.specs.Indexes.{changed_by}
+use Rattle.named_rows.proofs.Keyed.{put_is_change, keyed_again, entry_found, entry_absent, under_more, under_less, under_change, rows_more, rows_less, rows_changed}
+use Rattle.named_rows.proofs.Lists.{found_where_any}
 use Rattle.gateway_state.specs.declared.event.Dest.{Dest}
 use Rattle.gateway_state.specs.declared.event.Dest.TheVariants.{Session, Upstream}
 use Rattle.gateway_state.specs.declared.connections.Connection.{Connection}
@@ -25,13 +25,13 @@ and_false true = refl
 and_false false = refl
 
 -- whether a connection goes on is seen in its row
-pub goes_on_there : (dest : Dest) (rows : List Connection) (row : Connection) → find (is_to dest) rows ≡ Some row → not row.outbox.marked ≡ (list_any (is_to dest) rows && not (outbox_of dest rows).marked)
-goes_on_there dest rows row found =
+pub acts_there : (dest : Dest) (rows : List Connection) (row : Connection) → find (is_to dest) rows ≡ Some row → not row.outbox.marked ≡ (list_any (is_to dest) rows && not (outbox_of dest rows).marked)
+acts_there dest rows row found =
     let stands : list_any (is_to dest) rows ≡ true = sym (found_where_any (is_to dest) rows) ∙ ap is_some found in
     rw (stands, found) refl
 
-pub goes_on_nowhere : (dest : Dest) (rows : List Connection) → find (is_to dest) rows ≡ None → false ≡ (list_any (is_to dest) rows && not (outbox_of dest rows).marked)
-goes_on_nowhere dest rows none =
+pub acts_nowhere : (dest : Dest) (rows : List Connection) → find (is_to dest) rows ≡ None → false ≡ (list_any (is_to dest) rows && not (outbox_of dest rows).marked)
+acts_nowhere dest rows none =
     let stands : list_any (is_to dest) rows ≡ false = sym (found_where_any (is_to dest) rows) ∙ ap is_some none in
     rw stands refl
 

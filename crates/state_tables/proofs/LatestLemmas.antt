@@ -7,9 +7,9 @@ use Rattle.std.proofs.lemmas.Bool.{false≢true, or_parts}
 use Rattle.rows.specs.Rows.{change_first}
 use Rattle.row_index.specs.declared.key.Key.{Key}
 use Rattle.row_index.specs.Rows.{same_key, has_key, lacks_key, row_of, value_at, HasKeysApart}
-use Rattle.channel_table.specs.Indexes.{changed_by, IsApart}
-use Rattle.channel_table.proofs.Keyed.{entry_found, entry_absent, keyed_again, rows_apart, rows_changed, rows_less, rows_more, under_change, under_less, under_more, value_at_keyed}
-use Rattle.channel_table.proofs.Lists.{found_where_any, unfound_is_absent}
+use Rattle.named_rows.specs.Indexes.{changed_by, IsApart}
+use Rattle.named_rows.proofs.Keyed.{entry_found, entry_absent, keyed_again, rows_apart, rows_changed, rows_less, rows_more, under_change, under_less, under_more, value_at_keyed}
+use Rattle.named_rows.proofs.Lists.{found_where_any, unfound_is_absent}
 use Rattle.link_table.specs.LinkIndex.{key}
 use Rattle.value_cache.specs.Held.{Held}
 use Rattle.gateway_state.specs.declared.cached.LastMessage.{LastMessage}

@@ -9,7 +9,7 @@ use Rattle.std.proofs.lemmas.List.{length-map}
 use Rattle.std.proofs.lemmas.List.Sums.{length-filter}
 use Rattle.row_index.specs.declared.key.Key.{Key}
 use Rattle.row_index.specs.Rows.{same_key, has_key, lacks_key, is_owned_by, row_of, value_at}
-use Rattle.channel_table.proofs.Lists.{found_where_any}
+use Rattle.named_rows.proofs.Lists.{found_where_any}
 use Rattle.link_table.proofs.ValueLemmas.{same_key_decides, value_of_added, value_beside_added, value_of_removed, value_beside_removed}
 use Rattle.link_table.specs.LinkIndex.{key}
 use Rattle.state_tables.specs.LatestRows.{HoldIds, is_listed}

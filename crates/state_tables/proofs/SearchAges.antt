@@ -7,13 +7,13 @@ use Rattle.rows.specs.Rows.{change_first}
 use Rattle.row_index.specs.declared.key.Key.{Key}
 use Rattle.row_index.specs.Rows.{same_key}
 use Rattle.row_index.proofs.Keys.{same_key_itself}
-use Rattle.channel_table.specs.Indexes.{IsApart, is_at, is_not_at}
-use Rattle.channel_table.proofs.Keyed.{value_at_keyed}
-use Rattle.channel_table.proofs.Lists.{none_dropped, unfound_is_absent}
+use Rattle.named_rows.specs.Indexes.{IsApart, is_at, is_not_at}
+use Rattle.named_rows.proofs.Keyed.{value_at_keyed}
+use Rattle.named_rows.proofs.Lists.{none_dropped, unfound_is_absent}
 use Rattle.rule_desk.specs.declared.policy.Policy.{Policy}
 use Rattle.gateway_state.specs.Searches.{grown_stale, is_fresh, is_stale}
 use Rattle.gateway_state.specs.Variables.{search_names}
-use Rattle.state_tables.specs.declared.kept.Kept.{Kept}
+use Rattle.state_tables.specs.declared.kept.KeptSearch.{KeptSearch}
 use Rattle.state_tables.specs.Kept.{AreRight, aged_found, all_aged, grown_old, is_fresh_row, is_stale_row, kept_key, reals_of, searches_of}
 use Rattle.state_tables.proofs.KeptSearches.{filtered_same, fresh_is, mapped_same, old_of, other_way, reals_same, right_filtered, right_mapped, right_old, stale_is}
 
@@ -26,11 +26,11 @@ abbrev pub AreApart : List Key → Type 0
 AreApart [] = Unit {0}
 AreApart (k ∷ keys) = (list_any (is_same k) keys ≡ false) × AreApart keys
 
-any_mapped : (k : Key) (rows : List Kept) → list_any (is_at kept_key k) rows ≡ list_any (is_same k) (map kept_key rows)
+any_mapped : (k : Key) (rows : List KeptSearch) → list_any (is_at kept_key k) rows ≡ list_any (is_same k) (map kept_key rows)
 any_mapped k [] = refl
 any_mapped k (row ∷ rows) = ap (λ t. same_key (kept_key row) k || t) (any_mapped k rows)
 
-keys_apart : (rows : List Kept) → IsApart kept_key rows → AreApart (map kept_key rows)
+keys_apart : (rows : List KeptSearch) → IsApart kept_key rows → AreApart (map kept_key rows)
 keys_apart [] apart = tt
 keys_apart (row ∷ rows) apart =
     let none : find (is_at kept_key (kept_key row)) rows ≡ None = sym (value_at_keyed kept_key (kept_key row) rows) ∙ apart.0 in
@@ -54,27 +54,27 @@ amid (b ∷ before) k after apart =
 
 -- THE ROW in the middle
 
-module _ (k : Key) (f : Kept → Kept) (row : Kept) (here : same_key (kept_key row) k ≡ true) (left : List Kept) where
-  found_amid : (done : List Kept) → list_any (is_at kept_key k) done ≡ false → find (is_at kept_key k) (done ++ row ∷ left) ≡ Some row
+module _ (k : Key) (f : KeptSearch → KeptSearch) (row : KeptSearch) (here : same_key (kept_key row) k ≡ true) (left : List KeptSearch) where
+  found_amid : (done : List KeptSearch) → list_any (is_at kept_key k) done ≡ false → find (is_at kept_key k) (done ++ row ∷ left) ≡ Some row
   found_amid [] none = rw here refl
   found_amid (d ∷ done) none =
       let parts = or_parts (is_at kept_key k d) (list_any (is_at kept_key k) done) none in
       rw parts.0 (found_amid done parts.1)
 
-  changed_amid : (done : List Kept) → list_any (is_at kept_key k) done ≡ false → change_first (is_at kept_key k) f (done ++ row ∷ left) ≡ done ++ f row ∷ left
+  changed_amid : (done : List KeptSearch) → list_any (is_at kept_key k) done ≡ false → change_first (is_at kept_key k) f (done ++ row ∷ left) ≡ done ++ f row ∷ left
   changed_amid [] none = rw here refl
   changed_amid (d ∷ done) none =
       let parts = or_parts (is_at kept_key k d) (list_any (is_at kept_key k) done) none in
       rw parts.0 (ap (λ rest. d ∷ rest) (changed_amid done parts.1))
 
-  removed_amid : (done : List Kept) → list_any (is_at kept_key k) done ≡ false → list_any (is_at kept_key k) left ≡ false → filter (is_not_at kept_key k) (done ++ row ∷ left) ≡ done ++ left
+  removed_amid : (done : List KeptSearch) → list_any (is_at kept_key k) done ≡ false → list_any (is_at kept_key k) left ≡ false → filter (is_not_at kept_key k) (done ++ row ∷ left) ≡ done ++ left
   removed_amid [] none behind = rw here (none_dropped (is_at kept_key k) left behind)
   removed_amid (d ∷ done) none behind =
       let parts = or_parts (is_at kept_key k d) (list_any (is_at kept_key k) done) none in
       rw parts.0 (ap (λ rest. d ∷ rest) (removed_amid done parts.1 behind))
 
 -- rows that were aged stand before those that weren't yet
-aged_so_far : (done left : List Kept) → AreApart (map kept_key (done ++ left)) → all_aged (map kept_key left) (done ++ left) ≡ done ++ map grown_old (filter is_fresh_row left)
+aged_so_far : (done left : List KeptSearch) → AreApart (map kept_key (done ++ left)) → all_aged (map kept_key left) (done ++ left) ≡ done ++ map grown_old (filter is_fresh_row left)
 aged_so_far done [] apart = refl
 aged_so_far done (row ∷ left) apart =
     ap (all_aged (map kept_key left)) (ap (aged_found k (done ++ row ∷ left)) (found_amid k grown_old row (same_key_itself k) left done none))
@@ -106,12 +106,12 @@ aged_so_far done (row ∷ left) apart =
         ∙ ap (map kept_key) (sym (append_assoc done (grown_old row ∷ []) left))
 
 -- with the keys of all rows
-pub aged_all : (rows : List Kept) → IsApart kept_key rows → all_aged (map kept_key rows) rows ≡ map grown_old (filter is_fresh_row rows)
+pub aged_all : (rows : List KeptSearch) → IsApart kept_key rows → all_aged (map kept_key rows) rows ≡ map grown_old (filter is_fresh_row rows)
 aged_all rows apart = aged_so_far [] rows (keys_apart rows apart)
 
 -- SEARCHES
 
-module _ (policy : Policy) (rows : List Kept) (right : AreRight policy rows) where
+module _ (policy : Policy) (rows : List KeptSearch) (right : AreRight policy rows) where
   pub aged_searches : IsApart kept_key rows → searches_of (all_aged (map kept_key rows) rows) ≡ map grown_stale (filter is_fresh (searches_of rows))
   aged_searches apart =
       ap searches_of (aged_all rows apart)

@@ -7,10 +7,10 @@ use Rattle.row_index.specs.declared.key.Key.{Key}
 use Rattle.row_index.specs.Lists.{of}
 use Rattle.row_index.specs.Rows.{has_key, lacks_key, is_owned_by, row_of, value_at, put_at, HasKeysApart}
 use Rattle.row_index.proofs.Keys.{same_key_is_same}
-use Rattle.channel_table.specs.Indexes.{IsUnderKeys, changed_by, is_at, is_not_at}
-use Rattle.channel_table.proofs.Keyed.{entries_owned, entry_absent, entry_found, found_added, keyed_again, rows_apart, rows_changed, rows_less, rows_more, under_change, under_less, under_more, undone_is}
-use Rattle.channel_table.proofs.Lists.{found_passes, none_dropped, unfound_is_absent}
-use Rattle.state_tables.specs.declared.kept.Kept.{Kept}
+use Rattle.named_rows.specs.Indexes.{IsUnderKeys, changed_by, is_at, is_not_at}
+use Rattle.named_rows.proofs.Keyed.{entries_owned, entry_absent, entry_found, found_added, keyed_again, rows_apart, rows_changed, rows_less, rows_more, under_change, under_less, under_more, undone_is}
+use Rattle.named_rows.proofs.Lists.{found_passes, none_dropped, unfound_is_absent}
+use Rattle.state_tables.specs.declared.kept.KeptSearch.{KeptSearch}
 use Rattle.state_tables.specs.declared.search_lists.SearchLists.{SearchLists}
 use Rattle.state_tables.specs.Kept.{AreInLists, IsNew, KeepsListsOf, ListsFound, UnlistsFound, is_by_found, is_led, is_owned, is_sought, kept_key, key_in}
 use Rattle.state_tables.proofs.KeptLists.{all_owned, any_listed, count_listed, first_listed, lists_changed, sought_by_keys}
@@ -25,13 +25,13 @@ gone_alike k (entry ∷ entries) value =
     ] refl
 
 -- What holds of rows that are each under its key, and listed by their texts.
-module _ (entries : List (Key × Kept)) (under : IsUnderKeys kept_key entries) (lists : SearchLists) (listed : AreInLists (map row_of entries) lists) where
+module _ (entries : List (Key × KeptSearch)) (under : IsUnderKeys kept_key entries) (lists : SearchLists) (listed : AreInLists (map row_of entries) lists) where
   -- ONE MORE
-  module _ (kept : Kept) (k : Key) (is_key : k ≡ kept_key kept) (fresh : IsNew (kept_key kept) (map row_of entries)) where
+  module _ (kept : KeptSearch) (k : Key) (is_key : k ≡ kept_key kept) (fresh : IsNew (kept_key kept) (map row_of entries)) where
     pub new_key : value_at k entries ≡ None
     new_key = entry_absent kept_key entries under k (ap (λ j. list_any (is_at kept_key j) (map row_of entries)) is_key ∙ fresh)
 
-    module _ (added : List (Key × Kept)) (more : added ≡ entries ++ (k, kept) ∷ []) where
+    module _ (added : List (Key × KeptSearch)) (more : added ≡ entries ++ (k, kept) ∷ []) where
       more_at : added ≡ entries ++ (kept_key kept, kept) ∷ []
       more_at = more ∙ ap (λ j. entries ++ (j, kept) ∷ []) is_key
 
@@ -50,12 +50,12 @@ module _ (entries : List (Key × Kept)) (under : IsUnderKeys kept_key entries) (
           (subst (λ o. ListsFound o lists new) there ok (map row_of entries) fresh listed)
 
       -- and gone again
-      module _ (after : List (Key × Kept)) (removed : after ≡ filter (lacks_key k) added) where
+      module _ (after : List (Key × KeptSearch)) (removed : after ≡ filter (lacks_key k) added) where
         pub as_before : after ≡ entries
         as_before = undone_is kept_key entries under k kept added after new_key more removed
 
         pub under_as_before : IsUnderKeys kept_key after
-        under_as_before = let P : List (Key × Kept) → Type 0 = λ es. IsUnderKeys kept_key es in subst P (sym as_before) under
+        under_as_before = let P : List (Key × KeptSearch) → Type 0 = λ es. IsUnderKeys kept_key es in subst P (sym as_before) under
 
         pub listed_as_before : (new : SearchLists) → KeepsListsOf (value_at k added) lists new → AreInLists (map row_of after) new
         listed_as_before new err =
@@ -63,14 +63,14 @@ module _ (entries : List (Key × Kept)) (under : IsUnderKeys kept_key entries) (
             (subst (λ o. KeepsListsOf o lists new) there err (map row_of entries) fresh listed)
 
   -- ONE LESS
-  module _ (apart : HasKeysApart entries) (k : Key) (after : List (Key × Kept)) (removed : after ≡ filter (lacks_key k) entries) where
+  module _ (apart : HasKeysApart entries) (k : Key) (after : List (Key × KeptSearch)) (removed : after ≡ filter (lacks_key k) entries) where
     pub with_less : map row_of after ≡ filter (is_not_at kept_key k) (map row_of entries)
     with_less = rows_less kept_key entries under k after removed
 
     pub under_with_less : IsUnderKeys kept_key after
     under_with_less = keyed_again kept_key after (filter (is_not_at kept_key k) (map row_of entries)) (under_less kept_key entries under k after removed)
 
-    unlisted_found : (o : Option Kept) → find (is_at kept_key k) (map row_of entries) ≡ o → (new : SearchLists) → UnlistsFound o lists new → AreInLists (filter (is_not_at kept_key k) (map row_of entries)) new
+    unlisted_found : (o : Option KeptSearch) → find (is_at kept_key k) (map row_of entries) ≡ o → (new : SearchLists) → UnlistsFound o lists new → AreInLists (filter (is_not_at kept_key k) (map row_of entries)) new
     unlisted_found None none new same =
         let rows = none_dropped (is_at kept_key k) (map row_of entries) (unfound_is_absent (is_at kept_key k) (map row_of entries) none) in
         subst (λ l. AreInLists (filter (is_not_at kept_key k) (map row_of entries)) l) (sym same) (subst (λ rs. AreInLists rs lists) (sym rows) listed)
@@ -85,8 +85,8 @@ module _ (entries : List (Key × Kept)) (under : IsUnderKeys kept_key entries) (
         (unlisted_found (find (is_at kept_key k) (map row_of entries)) refl new (subst (λ o. UnlistsFound o lists new) (entry_found kept_key entries under k) unlists))
 
   -- ONE CHANGED in its search alone
-  module _ (k : Key) (f : Kept → Kept) (search : (kept : Kept) → f kept ≡ record kept { search = (f kept).search }) (after : List (Key × Kept)) (changed : after ≡ change_first (has_key k) (changed_by f) entries) where
-    same_key_then : (kept : Kept) → kept_key (f kept) ≡ kept_key kept
+  module _ (k : Key) (f : KeptSearch → KeptSearch) (search : (kept : KeptSearch) → f kept ≡ record kept { search = (f kept).search }) (after : List (Key × KeptSearch)) (changed : after ≡ change_first (has_key k) (changed_by f) entries) where
+    same_key_then : (kept : KeptSearch) → kept_key (f kept) ≡ kept_key kept
     same_key_then kept = ap kept_key (search kept)
 
     pub with_changed : map row_of after ≡ change_first (is_at kept_key k) f (map row_of entries)

@@ -6,7 +6,7 @@ use Rattle.std.proofs.lemmas.Bool.{eqb-true}
 use Rattle.rows.specs.Rows.{change_first}
 use Rattle.row_index.specs.declared.key.Key.{Key}
 use Rattle.row_index.specs.Rows.{lacks_key, is_owned_by, value_at}
-use Rattle.channel_table.proofs.Lists.{absent_is_unfound, found_changed, found_where_any}
+use Rattle.named_rows.proofs.Lists.{absent_is_unfound, found_changed, found_where_any}
 use Rattle.link_table.proofs.OwnerLemmas.{one_less, others_are_all}
 use Rattle.link_table.proofs.ValueLemmas.{find_among_fewer, find_at_end, find_left_out, find_not_at_end}
 use Rattle.link_table.specs.LinkIndex.{key}

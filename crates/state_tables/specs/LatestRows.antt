@@ -4,7 +4,7 @@ use Rattle.std.specs.List.{find, list_any}
 use Rattle.std.specs.Option.{option_map}
 use Rattle.row_index.specs.declared.key.Key.{Key}
 use Rattle.row_index.specs.Rows.{row_of, value_at}
-use Rattle.channel_table.specs.Indexes.{keyed}
+use Rattle.named_rows.specs.Indexes.{keyed}
 use Rattle.link_table.specs.LinkIndex.{key}
 use Rattle.value_cache.specs.Held.{Held, nothing}
 use Rattle.gateway_state.specs.declared.cached.LastMessage.{LastMessage}

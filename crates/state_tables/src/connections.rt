@@ -5,10 +5,10 @@ ghost use Rattle.std.specs.Option.{option_copied};
 ghost use Rattle.fanout.specs.Waiting.{waiting_bytes};
 ghost use Rattle.rows.specs.Rows.{change_first};
 ghost use Rattle.row_index.specs.Rows.{has_key, value_at};
-ghost use Rattle.channel_table.specs.Indexes.{changed_by};
+ghost use Rattle.named_rows.specs.Indexes.{changed_by};
 ghost use Rattle.state_tables.specs.ConnectionKeys.{key_of, outbox_under};
 ghost use Rattle.gateway_state.specs.Connections.{is_to, is_not_to, given, marked_now, relieved, fresh, outbox_of};
-ghost use Rattle.gateway_state.specs.Updates.{takes_updates};
+ghost use Rattle.gateway_state.specs.Updates.{outbox_takes_updates};
 
 use fanout::{AppendFault, Out, Outbox};
 use gateway_state::{Connection, Dest, Limits, UPDATE_LIMIT};
@@ -55,7 +55,7 @@ impl Connections {
     }
 
     /// Whether the connection stands.
-    pub fn stands(&self, dest: Dest) -> bool
+    pub fn is_open(&self, dest: Dest) -> bool
         ensures { result ≡ list_any (is_to dest) self.now }
     {
         self.rows.contains(key_of(dest))
@@ -72,8 +72,8 @@ impl Connections {
     }
 
     /// Whether the connection stands and need not end.
-    #[tactic(auto, using(crate::proofs::ConnectionRows::goes_on_there, crate::proofs::ConnectionRows::goes_on_nowhere))]
-    pub fn goes_on(&self, dest: Dest) -> bool
+    #[tactic(auto, using(crate::proofs::ConnectionRows::acts_there, crate::proofs::ConnectionRows::acts_nowhere))]
+    pub fn acts(&self, dest: Dest) -> bool
         ensures { result ≡ (list_any (is_to dest) self.now && not (outbox_of dest self.now).marked) }
     {
         match self.get(dest) {
@@ -105,7 +105,7 @@ impl Connections {
     /// Whether the connection's outbox takes updates: it isn't marked, and not too many messages or bytes
     /// wait.
     pub fn takes_updates(&self, limits: &Limits, dest: Dest) -> bool
-        ensures { result ≡ takes_updates limits.now (outbox_of dest self.now) }
+        ensures { result ≡ outbox_takes_updates limits.now (outbox_of dest self.now) }
     {
         match self.get(dest) {
             Some(connection) => {

@@ -5,7 +5,7 @@ ghost use Rattle.gateway_state.specs.Searches.{made_now, refreshed};
 ghost use Rattle.gateway_state.specs.Resolution.{real_in};
 ghost use Rattle.state_tables.specs.Kept.{is_by, is_fresh_row, grown_old, kept_as, kept_key, made_again, made_again_under, serial_key};
 
-use gateway_state::Search;
+use gateway_state::RememberedSearch;
 use pv_alias::Lead;
 use pv_name::{Host, Name, same_host};
 use row_index::Key;
@@ -13,7 +13,7 @@ use std::alloc::{AllocError, Global};
 
 /// A search that is remembered, under a number of its own, with the texts under which it is listed.
 #[derive(Drop)]
-pub(crate) struct Kept {
+pub(crate) struct KeptSearch {
     pub(crate) serial: u32,
     /// The name that is searched for.
     pub(crate) name: Name,
@@ -22,7 +22,7 @@ pub(crate) struct Kept {
     /// The real name that the search leads to, if to any.
     pub(crate) real: Option<Name>,
     /// Taken out only as the row goes.
-    pub(crate) search: Option<Search>,
+    pub(crate) search: Option<RememberedSearch>,
 }
 
 /// The key of a number.
@@ -35,7 +35,7 @@ pub(crate) fn key_of(serial: u32) -> Key
     }
 }
 
-impl Kept {
+impl KeptSearch {
     pub(crate) fn key(&self) -> Key
         ensures { result ≡ kept_key self.now }
     {
@@ -81,13 +81,13 @@ impl Kept {
     }
 
     /// A row like this one under another number, with the search made again.
-    pub(crate) fn again(&self, serial: u32) -> Result<Kept, AllocError>
+    pub(crate) fn again(&self, serial: u32) -> Result<KeptSearch, AllocError>
         ensures { IfOk result (λ kept. kept ≡ made_again_under serial self.now) }
     {
         let (Ok(name), Ok(owner)) = (self.name.copy(), self.owner.copy()) else {
             return Err(AllocError);
         };
-        Ok(Kept {
+        Ok(KeptSearch {
             serial,
             name,
             owner,
@@ -111,7 +111,7 @@ fn copy_name(name: &Option<Name>) -> Result<Option<Name>, AllocError>
 }
 
 /// A copy of a search as it is once it is made again.
-fn copy_again(search: &Option<Search>) -> Result<Option<Search>, AllocError>
+fn copy_again(search: &Option<RememberedSearch>) -> Result<Option<RememberedSearch>, AllocError>
     ensures { IfOk result (λ copy. copy ≡ option_map refreshed search.now) }
 {
     match search {
@@ -121,23 +121,23 @@ fn copy_again(search: &Option<Search>) -> Result<Option<Search>, AllocError>
 }
 
 /// A copy of a search, which is fresh or not.
-pub(crate) fn copied(search: &Search, fresh: bool) -> Result<Search, AllocError>
+pub(crate) fn copied(search: &RememberedSearch, fresh: bool) -> Result<RememberedSearch, AllocError>
     ensures { IfOk result (λ copy. copy ≡ record search.now { fresh = fresh }) }
 {
     let (Ok(host), Ok(name)) = (search.host.copy(), search.name.copy()) else {
         return Err(AllocError);
     };
-    Ok(Search { host, name, fresh })
+    Ok(RememberedSearch { host, name, fresh })
 }
 
 /// A search that is made now.
-pub(crate) fn made_now(host: &Host, name: &Name) -> Result<Search, AllocError>
+pub(crate) fn made_now(host: &Host, name: &Name) -> Result<RememberedSearch, AllocError>
     ensures { IfOk result (λ search. search ≡ made_now host.now name.now) }
 {
     let (Ok(host), Ok(name)) = (host.copy(), name.copy()) else {
         return Err(AllocError);
     };
-    Ok(Search {
+    Ok(RememberedSearch {
         host,
         name,
         fresh: true,
@@ -149,15 +149,15 @@ pub(crate) fn kept_row(
     alloc: Global,
     serial: u32,
     lead: Option<Lead>,
-    search: Search,
-) -> Result<Kept, AllocError>
+    search: RememberedSearch,
+) -> Result<KeptSearch, AllocError>
     ensures { IfOk result (λ kept. kept ≡ kept_as serial lead search) }
 {
     let owner = lowercase(alloc, &search.host)?;
     let Ok(name) = search.name.copy() else {
         return Err(AllocError);
     };
-    Ok(Kept {
+    Ok(KeptSearch {
         serial,
         name,
         owner,

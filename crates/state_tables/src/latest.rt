@@ -4,7 +4,7 @@ ghost use Rattle.std.specs.List.{find, filter, list_any};
 ghost use Rattle.std.specs.Option.{option_copied};
 ghost use Rattle.rows.specs.Rows.{change_first};
 ghost use Rattle.row_index.specs.Rows.{has_key};
-ghost use Rattle.channel_table.specs.Indexes.{changed_by};
+ghost use Rattle.named_rows.specs.Indexes.{changed_by};
 ghost use Rattle.dbr_layout.specs.View.{shown};
 ghost use Rattle.value_cache.specs.Held.{with_properties, with_value, without_properties};
 ghost use Rattle.value_cache.specs.Message.{TellsProperties};

@@ -17,7 +17,7 @@ pub const LEADS_LIMIT: usize = 262_144;
 
 /// A name, and the host that asks for it.
 #[derive(Drop)]
-pub struct Asked<'a> {
+pub struct AskedName<'a> {
     pub host: &'a Host,
     pub name: &'a Name,
 }

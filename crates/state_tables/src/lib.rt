@@ -24,5 +24,5 @@ mod searches;
 
 pub use cache::Cache;
 pub use connections::Connections;
-pub use leads::{Asked, LEADS_LIMIT};
+pub use leads::{AskedName, LEADS_LIMIT};
 pub use searches::Searches;

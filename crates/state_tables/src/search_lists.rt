@@ -3,7 +3,7 @@ ghost use Rattle.std.specs.Prelude.{◌≡◌, [], OnOk, OnErr};
 ghost use Rattle.row_index.specs.Lists.{SameLists};
 ghost use Rattle.state_tables.specs.Kept.{is_led, is_owned, AddsToText, AddsUnder, AreInLists, KeepsLists, KeepsUnder, Lists, RemovesFromText, Unlists};
 
-use crate::kept::Kept;
+use crate::kept::KeptSearch;
 use pv_name::Name;
 use row_index::{Key, NameLists};
 use std::alloc::{AllocError, Global};
@@ -30,7 +30,7 @@ impl SearchLists {
     }
 
     /// Lists a search behind all others. At an error nothing is listed that wasn't.
-    pub(crate) fn add(&mut self, kept: &Kept) -> Result<(), AllocError>
+    pub(crate) fn add(&mut self, kept: &KeptSearch) -> Result<(), AllocError>
         ensures ok { OnOk result (Lists kept.now self.old self.new) }
         ensures err { OnErr result (KeepsLists kept.now self.old self.new) }
     {
@@ -46,7 +46,7 @@ impl SearchLists {
     }
 
     /// Takes a search off its lists. This takes no memory.
-    pub(crate) fn remove(&mut self, kept: &Kept)
+    pub(crate) fn remove(&mut self, kept: &KeptSearch)
         ensures { Unlists kept.now self.old self.new }
     {
         let key = kept.key();
@@ -57,7 +57,11 @@ impl SearchLists {
 }
 
 /// Lists a search by its host and by its real name, if it leads to any.
-fn add_rest(hosts: &mut NameLists, reals: &mut NameLists, kept: &Kept) -> Result<(), AllocError>
+fn add_rest(
+    hosts: &mut NameLists,
+    reals: &mut NameLists,
+    kept: &KeptSearch,
+) -> Result<(), AllocError>
     ensures ok_hosts { OnOk result (AddsUnder is_owned kept.now hosts.old hosts.new) }
     ensures ok_reals { OnOk result (AddsUnder is_led kept.now reals.old reals.new) }
     ensures err_hosts { OnErr result (KeepsUnder is_owned kept.now hosts.old hosts.new) }

@@ -5,12 +5,12 @@ ghost use Rattle.std.specs.Option.{option_copied};
 ghost use Rattle.rows.specs.Rows.{change_first};
 ghost use Rattle.row_index.specs.declared.key.Key.{Key as RowKey};
 ghost use Rattle.row_index.specs.Rows.{has_key, lacks_key, value_at};
-ghost use Rattle.channel_table.specs.Indexes.{changed_by, is_at, is_not_at, IsApart};
+ghost use Rattle.named_rows.specs.Indexes.{changed_by, is_at, is_not_at, IsApart};
 ghost use Rattle.state_tables.specs.Kept.{all_aged, aged_at, grown_old, is_by_found, is_fresh_row, is_led, is_owned, is_sought, kept_key, key_in, made_again, search_in, serial_key, KeepsListsOf, ListsFound, UnlistsFound};
 
-use crate::kept::{Kept, key_of};
+use crate::kept::{KeptSearch, key_of};
 use crate::search_lists::SearchLists;
-use gateway_state::Search;
+use gateway_state::RememberedSearch;
 use pv_name::{Host, Name};
 use row_index::{Key, RowMap};
 use std::alloc::{AllocError, Global};
@@ -21,7 +21,7 @@ use std::marker::Model;
 /// goes.
 #[derive(Drop)]
 pub(crate) struct SearchTable {
-    rows: RowMap<Kept>,
+    rows: RowMap<KeptSearch>,
     lists: SearchLists,
     /// Where a free number is looked for first.
     next: u32,
@@ -31,9 +31,9 @@ pub(crate) struct SearchTable {
 impl Model for SearchTable {
     ghost use Rattle.std.specs.Prelude.{List, map};
     ghost use Rattle.row_index.specs.Rows.{row_of};
-    ghost use Rattle.channel_table.specs.Indexes.{IsUnderKeys};
+    ghost use Rattle.named_rows.specs.Indexes.{IsUnderKeys};
     ghost use Rattle.state_tables.specs.Kept.{kept_key, AreInLists};
-    ghost use Rattle.state_tables.specs.declared.kept.Kept.{Kept as Row};
+    ghost use Rattle.state_tables.specs.declared.kept.KeptSearch.{KeptSearch as Row};
 
     ghost Value = { List Row };
 
@@ -68,7 +68,7 @@ impl SearchTable {
         self.rows.has_keys_apart();
     }
 
-    pub(crate) fn get(&self, key: Key) -> Option<&Kept>
+    pub(crate) fn get(&self, key: Key) -> Option<&KeptSearch>
         ensures { option_copied result ≡ find (is_at kept_key key) self.now }
     {
         self.rows.get(key)
@@ -122,7 +122,7 @@ impl SearchTable {
     }
 
     /// All searches, in order.
-    pub(crate) fn rows(&self, alloc: Global) -> Result<Vec<&Kept>, AllocError>
+    pub(crate) fn rows(&self, alloc: Global) -> Result<Vec<&KeptSearch>, AllocError>
         ensures { IfOk result (λ rows. map (λ row. row.now) rows.items ≡ self.now) }
     {
         self.rows.rows(alloc)
@@ -151,7 +151,7 @@ impl SearchTable {
     }
 
     /// Adds a search under a number that is free. At an error nothing changes.
-    pub(crate) fn add(&mut self, kept: Kept) -> Result<(), AllocError>
+    pub(crate) fn add(&mut self, kept: KeptSearch) -> Result<(), AllocError>
         requires new { list_any (is_at kept_key (kept_key kept)) self.old ≡ false }
         ensures ok { OnOk result (self.new ≡ self.old ++ kept ∷ []) }
         ensures err { OnErr result (self.new ≡ self.old) }
@@ -171,7 +171,7 @@ impl SearchTable {
     }
 
     /// Takes out the search of a key. This takes no memory.
-    pub(crate) fn take(&mut self, key: Key) -> Option<Search>
+    pub(crate) fn take(&mut self, key: Key) -> Option<RememberedSearch>
         ensures taken { result ≡ search_in (find (is_at kept_key key) self.old) }
         ensures rows { self.new ≡ filter (is_not_at kept_key key) self.old }
     {
@@ -235,7 +235,7 @@ impl SearchTable {
 }
 
 /// The first of these keys whose search is by the host.
-fn sought(rows: &RowMap<Kept>, keys: &[Key], host: &Host) -> Option<Key>
+fn sought(rows: &RowMap<KeptSearch>, keys: &[Key], host: &Host) -> Option<Key>
     ensures { result ≡ find (λ (key : RowKey). is_by_found host.now (value_at key rows.now)) keys.now }
 {
     for key in keys {
@@ -252,7 +252,7 @@ fn first_of(keys: &[Key]) -> Option<Key>
     keys.first().copied()
 }
 
-fn is_by_at(rows: &RowMap<Kept>, key: Key, host: &Host) -> bool
+fn is_by_at(rows: &RowMap<KeptSearch>, key: Key, host: &Host) -> bool
     ensures { result ≡ is_by_found host.now (value_at key rows.now) }
 {
     match rows.get(key) {
@@ -261,7 +261,7 @@ fn is_by_at(rows: &RowMap<Kept>, key: Key, host: &Host) -> bool
     }
 }
 
-fn keys_of(rows: &[&Kept], alloc: Global) -> Result<Vec<Key>, AllocError>
+fn keys_of(rows: &[&KeptSearch], alloc: Global) -> Result<Vec<Key>, AllocError>
     ensures { IfOk result (λ keys. keys.items ≡ map (λ row. kept_key row.now) rows.now) }
 {
     let mut keys = Vec::new(alloc);
@@ -272,7 +272,7 @@ fn keys_of(rows: &[&Kept], alloc: Global) -> Result<Vec<Key>, AllocError>
 }
 
 /// Lists the search of a key.
-fn list(rows: &RowMap<Kept>, lists: &mut SearchLists, key: Key) -> Result<(), AllocError>
+fn list(rows: &RowMap<KeptSearch>, lists: &mut SearchLists, key: Key) -> Result<(), AllocError>
     ensures ok { OnOk result (ListsFound (value_at key rows.now) lists.old lists.new) }
     ensures err { OnErr result (KeepsListsOf (value_at key rows.now) lists.old lists.new) }
 {
@@ -283,7 +283,7 @@ fn list(rows: &RowMap<Kept>, lists: &mut SearchLists, key: Key) -> Result<(), Al
 }
 
 /// Takes the search of a key off its lists.
-fn unlist(rows: &RowMap<Kept>, lists: &mut SearchLists, key: Key)
+fn unlist(rows: &RowMap<KeptSearch>, lists: &mut SearchLists, key: Key)
     ensures { UnlistsFound (value_at key rows.now) lists.old lists.new }
 {
     if let Some(kept) = rows.get(key) {
@@ -293,7 +293,7 @@ fn unlist(rows: &RowMap<Kept>, lists: &mut SearchLists, key: Key)
 
 /// Takes out the search of a key, with its row.
 #[tactic(auto, using(crate::proofs::SearchRows::gone_alike))]
-fn taken(rows: &mut RowMap<Kept>, key: Key) -> Option<Search>
+fn taken(rows: &mut RowMap<KeptSearch>, key: Key) -> Option<RememberedSearch>
     ensures taken { result ≡ search_in (value_at key rows.old) }
     ensures rows { rows.new ≡ filter (lacks_key key) rows.old }
 {
@@ -306,7 +306,7 @@ fn taken(rows: &mut RowMap<Kept>, key: Key) -> Option<Search>
 }
 
 #[tactic(auto, using(crate::proofs::ConnectionRows::written_is_changed, crate::proofs::ConnectionRows::unfound_unchanged))]
-fn make_again(rows: &mut RowMap<Kept>, key: Key)
+fn make_again(rows: &mut RowMap<KeptSearch>, key: Key)
     ensures { rows.new ≡ change_first (has_key key) (changed_by made_again) rows.old }
 {
     if let Some(kept) = rows.get_mut(key) {
@@ -315,7 +315,7 @@ fn make_again(rows: &mut RowMap<Kept>, key: Key)
 }
 
 #[tactic(auto, using(crate::proofs::ConnectionRows::written_is_changed, crate::proofs::ConnectionRows::unfound_unchanged))]
-fn grow_old(rows: &mut RowMap<Kept>, key: Key)
+fn grow_old(rows: &mut RowMap<KeptSearch>, key: Key)
     ensures { rows.new ≡ change_first (has_key key) (changed_by grown_old) rows.old }
 {
     if let Some(kept) = rows.get_mut(key) {

@@ -1,7 +1,7 @@
 //! Searches that are remembered.
 ghost use Rattle.std.specs.Prelude.{◌≡◌, [], ◌∷◌, ◌++◌, false, length, map, filter, option_map, IfOk, OnOk, OnErr};
 ghost use Rattle.std.specs.List.{find, list_any};
-ghost use Rattle.channel_table.specs.Indexes.{is_at, is_not_at};
+ghost use Rattle.named_rows.specs.Indexes.{is_at, is_not_at};
 ghost use Rattle.gateway_state.specs.Resolution.{lead_of};
 ghost use Rattle.gateway_state.specs.Searches.{grown_stale, is_fresh, is_stale, leads_to, left_by_search, made_now, same_search, searched_first, with_search, without_search};
 ghost use Rattle.gateway_state.specs.Variables.{search_names};
@@ -9,10 +9,10 @@ ghost use Rattle.state_tables.specs.Kept.{again_found, is_stale_row, kept_as, ke
 ghost use Rattle.state_tables.specs.Leads.{AreLeads};
 ghost use Rattle.rule_desk.specs.declared.policy.Policy.{Policy as PolicyValue};
 
-use crate::kept::{Kept, copied, kept_row, made_now};
-use crate::leads::{Asked, Leads};
+use crate::kept::{KeptSearch, copied, kept_row, made_now};
+use crate::leads::{AskedName, Leads};
 use crate::search_table::SearchTable;
-use gateway_state::{Limits, Search, lead_of};
+use gateway_state::{Limits, RememberedSearch, lead_of};
 use pv_alias::{Lead, Resolver};
 use pv_name::{Host, Name};
 use row_index::Key;
@@ -138,7 +138,7 @@ impl Searches {
 
     /// Remembers what all of these names lead to, as `learn_lead` does for one. Those that are remembered
     /// already run no rule, and the others share what is made to run them.
-    pub fn learn_leads(&mut self, alloc: Global, asked: &[Asked<'_>]) -> Result<(), AllocError>
+    pub fn learn_leads(&mut self, alloc: Global, asked: &[AskedName<'_>]) -> Result<(), AllocError>
         ensures { self.new ≡ self.old }
     {
         if self.policy.rules.is_open() || self.knows_all(asked)? {
@@ -148,7 +148,7 @@ impl Searches {
     }
 
     /// Whether it is remembered of each of these what it leads to.
-    fn knows_all(&self, asked: &[Asked<'_>]) -> Result<bool, AllocError> {
+    fn knows_all(&self, asked: &[AskedName<'_>]) -> Result<bool, AllocError> {
         for one in asked {
             if self.leads.get(&self.policy, one.host, one.name)?.is_none() {
                 return Ok(false);
@@ -166,7 +166,7 @@ impl Searches {
         limits: &Limits,
         host: &Host,
         name: &Name,
-    ) -> Result<Option<Search>, AllocError>
+    ) -> Result<Option<RememberedSearch>, AllocError>
         ensures ok { OnOk result (self.new ≡ record self.old { rows = with_search limits.now host.now name.now self.old.rows }) }
         ensures left { IfOk result (λ left. left ≡ left_by_search limits.now host.now name.now self.old.rows) }
         ensures err { OnErr result (self.new ≡ self.old) }
@@ -188,7 +188,7 @@ impl Searches {
         limits: &Limits,
         host: &Host,
         name: &Name,
-    ) -> Result<Option<Search>, AllocError>
+    ) -> Result<Option<RememberedSearch>, AllocError>
         requires new { list_any (same_search host.now name.now) self.old.rows ≡ false }
         ensures ok { OnOk result (self.new ≡ record self.old { rows = searched_first limits.now host.now name.now self.old.rows }) }
         ensures left { IfOk result (λ left. left ≡ left_by_search limits.now host.now name.now self.old.rows) }
@@ -210,7 +210,7 @@ impl Searches {
 
     /// The host's search for the name is remembered no longer, if it was. It is answered. This takes no
     /// memory.
-    pub fn end(&mut self, host: &Host, name: &Name) -> Option<Search>
+    pub fn end(&mut self, host: &Host, name: &Name) -> Option<RememberedSearch>
         ensures ended { result ≡ find (same_search host.now name.now) self.old.rows }
         ensures rows { self.new ≡ record self.old { rows = without_search (find (same_search host.now name.now) self.old.rows) self.old.rows } }
     {
@@ -260,7 +260,7 @@ fn learn_all(
     alloc: Global,
     policy: &Policy,
     leads: &mut Leads,
-    asked: &[Asked<'_>],
+    asked: &[AskedName<'_>],
 ) -> Result<(), AllocError>
     requires { AreLeads policy.now leads.old }
     ensures { AreLeads policy.now leads.new }
@@ -276,7 +276,7 @@ fn learn(
     policy: &Policy,
     resolver: &mut Resolver<'_>,
     leads: &mut Leads,
-    asked: &Asked<'_>,
+    asked: &AskedName<'_>,
 ) -> Result<(), AllocError>
     requires leads { AreLeads policy.now leads.old }
     requires rules { resolver.old ≡ policy.now.rules }
@@ -298,7 +298,7 @@ fn new_row(
     lead: Option<Lead>,
     host: &Host,
     name: &Name,
-) -> Result<Kept, AllocError>
+) -> Result<KeptSearch, AllocError>
     ensures row { IfOk result (λ kept. kept ≡ kept_as kept.serial lead (made_now host.now name.now)) }
     ensures new { IfOk result (λ kept. list_any (is_at kept_key (kept_key kept)) rows.now ≡ false) }
 {
@@ -336,7 +336,7 @@ fn move_last(rows: &mut SearchTable, key: Key, serial: u32) -> Result<(), AllocE
 }
 
 /// The row of a key under another number, with its search made again.
-fn row_again(rows: &SearchTable, key: Key, serial: u32) -> Result<Option<Kept>, AllocError>
+fn row_again(rows: &SearchTable, key: Key, serial: u32) -> Result<Option<KeptSearch>, AllocError>
     ensures { IfOk result (λ row. row ≡ option_map (made_again_under serial) (find (is_at kept_key key) rows.now)) }
 {
     match rows.get(key) {
@@ -350,8 +350,8 @@ fn row_again(rows: &SearchTable, key: Key, serial: u32) -> Result<Option<Kept>, 
 fn take_in(
     rows: &mut SearchTable,
     limits: &Limits,
-    kept: Kept,
-) -> Result<Option<Search>, AllocError>
+    kept: KeptSearch,
+) -> Result<Option<RememberedSearch>, AllocError>
     requires new { list_any (is_at kept_key (kept_key kept)) rows.old ≡ false }
     ensures ok { OnOk result (rows.new ≡ rows_after (outworn_row limits.now kept.owner rows.old) rows.old ++ kept ∷ []) }
     ensures left { IfOk result (λ left. left ≡ search_in (outworn_row limits.now kept.owner rows.old)) }
@@ -381,7 +381,7 @@ fn outworn(rows: &SearchTable, limits: &Limits, owner: &Name) -> Option<Key>
 }
 
 /// The real names that these lead to.
-fn reals(rows: &[&Kept], alloc: Global) -> Result<Vec<Name>, AllocError>
+fn reals(rows: &[&KeptSearch], alloc: Global) -> Result<Vec<Name>, AllocError>
     ensures { IfOk result (λ names. names.items ≡ reals_of (map (λ row. row.now) rows.now)) }
 {
     let mut names = Vec::new(alloc);
@@ -401,7 +401,7 @@ fn stale_names(rows: &SearchTable, alloc: Global) -> Result<Vec<Name>, AllocErro
     reals_of_stale(&rows, alloc)
 }
 
-fn reals_of_stale(rows: &[&Kept], alloc: Global) -> Result<Vec<Name>, AllocError>
+fn reals_of_stale(rows: &[&KeptSearch], alloc: Global) -> Result<Vec<Name>, AllocError>
     ensures { IfOk result (λ names. names.items ≡ reals_of (filter is_stale_row (map (λ row. row.now) rows.now))) }
 {
     let mut names = Vec::new(alloc);
@@ -424,7 +424,11 @@ fn led_by(rows: &SearchTable, alloc: Global, policy: &Policy) -> Result<SearchTa
     all_led_by(&rows, alloc, policy)
 }
 
-fn all_led_by(rows: &[&Kept], alloc: Global, policy: &Policy) -> Result<SearchTable, AllocError>
+fn all_led_by(
+    rows: &[&KeptSearch],
+    alloc: Global,
+    policy: &Policy,
+) -> Result<SearchTable, AllocError>
     ensures { IfOk result (λ new. Stand policy.now new (map (λ row. search_of row.now) rows.now)) }
 {
     let mut resolver = Resolver::new(alloc, &policy.rules)?;
@@ -440,7 +444,7 @@ fn add_led(
     rows: &mut SearchTable,
     alloc: Global,
     resolver: &mut Resolver<'_>,
-    row: &Kept,
+    row: &KeptSearch,
 ) -> Result<(), AllocError>
     ensures led { (policy : PolicyValue) → resolver.old ≡ policy.rules → OnOk result (LedByOneMore policy row.now rows.old rows.new) }
     ensures rules { resolver.new ≡ resolver.old }

@@ -5,11 +5,11 @@ use Rattle.std.specs.Prelude.{filter, map}
 use Rattle.std.specs.List.{All, find, fold, list_any}
 use Rattle.std.proofs.lemmas.Bool.{and_parts, eqb-true}
 use Rattle.std.proofs.lemmas.List.Elements.{All-filter, All-head, All-tail, All-weaker}
-use Rattle.channel_table.specs.declared.reads.WaitingRead.{WaitingRead}
-use Rattle.link_table.specs.declared.links.Link.{Link}
+use Rattle.named_rows.specs.declared.reads.WaitingRead.{WaitingRead}
+use Rattle.link_table.specs.declared.links.LinkRow.{LinkRow}
 use Rattle.link_table.specs.declared.links.Subject.TheVariants.{Properties}
 use Rattle.link_table.specs.Links.{is_link, is_not_link}
-use Rattle.gateway_state.specs.declared.search.Search.{Search}
+use Rattle.gateway_state.specs.declared.search.RememberedSearch.{RememberedSearch}
 use Rattle.gateway_state.specs.Aged.{age_told, aged, are_properties_overdue, is_link_overdue, is_older, link_given_up, links_given_up, properties_given_up, properties_given_up_on}
 use Rattle.gateway_state.specs.Answer.{native_in}
 use Rattle.gateway_state.specs.Gateway.{Gateway}
@@ -54,7 +54,7 @@ unfolding sent
 names_after_failures [] v = refl
 names_after_failures (read ∷ reads) v = names_after_failures reads (read_failed v read)
 
-left_by_failures : (w : Gateway) (links : List Link) (v : Gateway) → IsLeftBy w v → IsLeftBy w (fold properties_given_up_on v links)
+left_by_failures : (w : Gateway) (links : List LinkRow) (v : Gateway) → IsLeftBy w v → IsLeftBy w (fold properties_given_up_on v links)
 left_by_failures w [] v left = left
 left_by_failures w (link ∷ links) v left =
     let reads : List WaitingRead = filter (λ read. waits_for v link.name read && fails_without Properties (native_in link.state) read) v.clients.reads in
@@ -78,29 +78,29 @@ none_goes {A = A} test (row ∷ rows) none = by (test row) none (λ rest. none_g
     by false none rest = ap (λ (more : List A). row ∷ more) (rest none)
 
 -- no link of these numbers is connected
-abbrev IsUnconnected : List Link → Link → Type 0
-IsUnconnected rows link = All (λ (row : Link). is_link link.server link.cid row ≡ true → is_connected row.state ≡ false) rows
+abbrev IsUnconnected : List LinkRow → LinkRow → Type 0
+IsUnconnected rows link = All (λ (row : LinkRow). is_link link.server link.cid row ≡ true → is_connected row.state ≡ false) rows
 
-settled_given_up : (v : Gateway) (link : Link) → IsSettled v → AreNumbersApart v → HasLinksApart v → IsUnconnected v.upstream.links link → IsSettled (link_given_up v link)
+settled_given_up : (v : Gateway) (link : LinkRow) → IsSettled v → AreNumbersApart v → HasLinksApart v → IsUnconnected v.upstream.links link → IsSettled (link_given_up v link)
 settled_given_up v link settled order apart unconnected = by (find (is_link link.server link.cid) v.upstream.links) refl
   where
-    by : (found : Option Link) → find (is_link link.server link.cid) v.upstream.links ≡ found → IsSettled (without_link link.server link.cid v)
+    by : (found : Option LinkRow) → find (is_link link.server link.cid) v.upstream.links ≡ found → IsSettled (without_link link.server link.cid v)
     by None is =
         let same : filter (is_not_link link.server link.cid) v.upstream.links ≡ v.upstream.links = none_goes (is_link link.server link.cid) v.upstream.links is in
         let x : Gateway = without_cached link.cid v in
-        subst (λ (rows : List Link). IsSettled (record x { upstream = record v.upstream { links = rows } })) (sym same) (settled_uncached link.cid v settled)
+        subst (λ (rows : List LinkRow). IsSettled (record x { upstream = record v.upstream { links = rows } })) (sym same) (settled_uncached link.cid v settled)
     by (Some row) is =
         settled_without v settled order apart link.server link.cid row is
-        (found_holds (λ (x : Link). is_link link.server link.cid x ≡ true → is_connected x.state ≡ false) (is_link link.server link.cid) v.upstream.links row unconnected is
+        (found_holds (λ (x : LinkRow). is_link link.server link.cid x ≡ true → is_connected x.state ≡ false) (is_link link.server link.cid) v.upstream.links row unconnected is
         (found_passes (is_link link.server link.cid) v.upstream.links row is))
 
-left_by_links : (w : Gateway) (links : List Link) (v : Gateway) → All (IsUnconnected v.upstream.links) links → IsLeftBy w v → IsLeftBy w (fold link_given_up v links)
+left_by_links : (w : Gateway) (links : List LinkRow) (v : Gateway) → All (IsUnconnected v.upstream.links) links → IsLeftBy w v → IsLeftBy w (fold link_given_up v links)
 left_by_links w [] v unconnected left = left
 left_by_links w (link ∷ links) v unconnected left =
-    let rows : List Link = filter (is_not_link link.server link.cid) v.upstream.links in
+    let rows : List LinkRow = filter (is_not_link link.server link.cid) v.upstream.links in
     left_by_links w links (link_given_up v link)
     (All-weaker (IsUnconnected v.upstream.links) (IsUnconnected rows)
-    (λ other each. All-filter (is_not_link link.server link.cid) (λ (row : Link). is_link other.server other.cid row ≡ true → is_connected row.state ≡ false) v.upstream.links each)
+    (λ other each. All-filter (is_not_link link.server link.cid) (λ (row : LinkRow). is_link other.server other.cid row ≡ true → is_connected row.state ≡ false) v.upstream.links each)
     links (All-tail (IsUnconnected v.upstream.links) link links unconnected))
     (record {
       settled = settled_given_up v link left.settled left.order left.apart (All-head (IsUnconnected v.upstream.links) link links unconnected);
@@ -112,20 +112,20 @@ left_by_links w (link ∷ links) v unconnected left =
 -- links that a server hasn't answered yet aren't connected, and their numbers are theirs alone
 all_overdue : (v : Gateway) → AreNumbersApart v → All (IsUnconnected v.upstream.links) (filter (is_link_overdue v) v.upstream.links)
 all_overdue v order =
-    left_have (λ (link : Link). All (λ (row : Link). row.cid ≡ link.cid → row ≡ link) v.upstream.links) (IsUnconnected v.upstream.links) (is_link_overdue v)
+    left_have (λ (link : LinkRow). All (λ (row : LinkRow). row.cid ≡ link.cid → row ≡ link) v.upstream.links) (IsUnconnected v.upstream.links) (is_link_overdue v)
     (λ link overdue alone.
     let creating = and_parts (is_creating link.state) (is_older v.last_age.cid v.upstream.counters.cid link.cid) overdue in
-    All-weaker (λ (row : Link). row.cid ≡ link.cid → row ≡ link) (λ (row : Link). is_link link.server link.cid row ≡ true → is_connected row.state ≡ false)
+    All-weaker (λ (row : LinkRow). row.cid ≡ link.cid → row ≡ link) (λ (row : LinkRow). is_link link.server link.cid row ≡ true → is_connected row.state ≡ false)
     (λ row one is.
     let key = and_parts (eqb row.server link.server) (eqb row.cid link.cid) is in
-    ap (λ (l : Link). is_connected l.state) (one (eqb-true row.cid link.cid key.1)) ∙ creating_unconnected link.state creating.0)
+    ap (λ (l : LinkRow). is_connected l.state) (one (eqb-true row.cid link.cid key.1)) ∙ creating_unconnected link.state creating.0)
     v.upstream.links alone)
     v.upstream.links (each_alone v.upstream.links order.links.apart)
 
 -- ---- searches
 
 -- where no stale row passes, as many rows pass once those are gone
-any_fresh : (test : Search → Bool) → ((row : Search) → test (grown_stale row) ≡ test row) → (rows : List Search) → list_any test (filter is_stale rows) ≡ false
+any_fresh : (test : RememberedSearch → Bool) → ((row : RememberedSearch) → test (grown_stale row) ≡ test row) → (rows : List RememberedSearch) → list_any test (filter is_stale rows) ≡ false
     → list_any test (map grown_stale (filter is_fresh rows)) ≡ list_any test rows
 any_fresh test unseen [] none = refl
 any_fresh test unseen (row ∷ rows) none = by row.fresh none (λ rest. any_fresh test unseen rows rest)

@@ -9,16 +9,16 @@ use Rattle.std.proofs.lemmas.List.Elements.{All-filter, All-map, All-weaker}
 use Rattle.std.proofs.lemmas.Slice.Eq.{bytes_eq-Decides}
 use Rattle.rows.specs.Rows.{change_first}
 use Rattle.ca_message.specs.declared.to_client.ToClient.TheVariants as replies
-use Rattle.channel_table.specs.declared.channels.Reach.{Reach}
-use Rattle.channel_table.specs.declared.channels.Channel.{Channel}
-use Rattle.channel_table.specs.declared.reads.WaitingRead.{WaitingRead}
-use Rattle.channel_table.specs.declared.subs.ClientSub.{ClientSub}
-use Rattle.channel_table.specs.Channels.{is_channel, is_not_channel, with_reach_and_rights, is_channel_on, is_on}
-use Rattle.channel_table.specs.Reads.{is_not_read_on}
-use Rattle.channel_table.specs.Subs.{is_not_sub_on, with_owed}
-use Rattle.channel_table.specs.Demand.{own_ask}
+use Rattle.named_rows.specs.declared.channels.Reach.{Reach}
+use Rattle.named_rows.specs.declared.channels.Channel.{Channel}
+use Rattle.named_rows.specs.declared.reads.WaitingRead.{WaitingRead}
+use Rattle.named_rows.specs.declared.subs.ClientSub.{ClientSub}
+use Rattle.named_rows.specs.Channels.{is_channel, is_not_channel, with_reach_and_rights, is_channel_on, is_on}
+use Rattle.named_rows.specs.Reads.{is_not_read_on}
+use Rattle.named_rows.specs.Subs.{is_not_sub_on, with_owed}
+use Rattle.named_rows.specs.Demand.{own_ask}
 use Rattle.fanout.specs.declared.outbox.Out.{Out}
-use Rattle.link_table.specs.declared.links.Link.{Link}
+use Rattle.link_table.specs.declared.links.LinkRow.{LinkRow}
 use Rattle.link_table.specs.declared.servers.Server.{Server}
 use Rattle.link_table.specs.Links.{is_named}
 use Rattle.link_table.specs.Servers.{is_server}
@@ -44,7 +44,7 @@ use Rattle.touched_rows.proofs.Blanked.{found_blanked, passing_changed}
 use Rattle.touched_rows.proofs.Cleared.{found_without, left_have, not_so}
 use Rattle.gateway_state.proofs.ReadingEnded.{reading_ended_shape}
 use Rattle.touched_rows.proofs.Connections.{HasNoMoreRoom, no_more_room_ended, no_more_room_given, no_more_room_then}
-use Rattle.touched_rows.proofs.LessGiven.{bare, is_open, plain, read_on-stays, update_if_open, update_on-stays}
+use Rattle.touched_rows.proofs.LessGiven.{bare, is_given_to, plain, read_on-stays, update_if_open, update_on-stays}
 use Rattle.touched_rows.proofs.OneLink.{link_alike}
 use Rattle.touched_rows.specs.Touched.{owed_where}
 use Rattle.touched_rows.proofs.Owing.{asks_alike}
@@ -58,7 +58,7 @@ pub record IsQuiet (w : Gateway) (sub : ClientSub) : Type 0 where
   pub due : update_notice w sub ≡ None
 
 -- y has these links, and is as w but for what is on the variable
-pub record IsBeside (w y : Gateway) (links : List Link) (name : List ℕ) : Type 0 where
+pub record IsBeside (w y : Gateway) (links : List LinkRow) (name : List ℕ) : Type 0 where
   pub upstream : y.upstream.links ≡ links
   pub policy : y.policy ≡ w.policy
   pub searches : y.searches ≡ w.searches
@@ -67,7 +67,7 @@ pub record IsBeside (w y : Gateway) (links : List Link) (name : List ℕ) : Type
   pub rights : (c : Channel) → is_on name c ≡ false → rights_of y c ≡ rights_of w c
   pub over : (c : Channel) → is_on name c ≡ false → option_map bare (link_of y c.real) ≡ option_map bare (link_of w c.real)
   pub values : (cid native dtype count : ℕ) → cached_value w cid native dtype count ≡ None → cached_value y cid native dtype count ≡ None
-  pub sessions : (number : ℕ) → is_open y number ≡ true → is_open w number ≡ true
+  pub sessions : (number : ℕ) → is_given_to y number ≡ true → is_given_to w number ≡ true
   pub subs : All (λ (sub : ClientSub). is_sub_to y name sub ≡ false → IsQuiet w sub) y.clients.subs
   pub reads : All (λ (read : WaitingRead). waits_for y name read ≡ false → read_notice w read ≡ None) y.clients.reads
   pub names : (other : List ℕ) → bytes_eq other name ≡ false → list_any (is_on other) y.clients.channels ≡ list_any (is_on other) w.clients.channels
@@ -82,7 +82,7 @@ not_on name other differ c on =
 
 -- ---- what isn't owed on other variables
 
-module _ (w y : Gateway) (links : List Link) (name : List ℕ) (beside : IsBeside w y links name) where
+module _ (w y : Gateway) (links : List LinkRow) (name : List ℕ) (beside : IsBeside w y links name) where
   found_there : (session sid : ℕ) (c : Channel) → channel_of y session sid ≡ Some c → is_on name c ≡ false → channel_of w session sid ≡ Some c
   found_there session sid c is off =
       let key = and_parts (eqb c.session session) (eqb c.sid sid) (found_passes (is_channel session sid) y.clients.channels c is) in
@@ -139,11 +139,11 @@ module _ (w y : Gateway) (links : List Link) (name : List ℕ) (beside : IsBesid
       let searches = beside.searches in
       λ i. names i || list_any (leads_to (policy i) other) (searches i)
 
-  pub links_beside : All (λ (link : Link). is_named name link ≡ false → link_notices_of w link ≡ []) links
-      → All (λ (link : Link). is_named name link ≡ false → link_notices_of y link ≡ []) y.upstream.links
+  pub links_beside : All (λ (link : LinkRow). is_named name link ≡ false → link_notices_of w link ≡ []) links
+      → All (λ (link : LinkRow). is_named name link ≡ false → link_notices_of y link ≡ []) y.upstream.links
   links_beside quiet =
-      subst (All (λ (link : Link). is_named name link ≡ false → link_notices_of y link ≡ [])) (sym beside.upstream)
-      (All-weaker (λ (link : Link). is_named name link ≡ false → link_notices_of w link ≡ []) (λ (link : Link). is_named name link ≡ false → link_notices_of y link ≡ [])
+      subst (All (λ (link : LinkRow). is_named name link ≡ false → link_notices_of y link ≡ [])) (sym beside.upstream)
+      (All-weaker (λ (link : LinkRow). is_named name link ≡ false → link_notices_of w link ≡ []) (λ (link : LinkRow). is_named name link ≡ false → link_notices_of y link ≡ [])
       (λ link none off.
       link_alike w y link (asks_beside link.name off) (λ server. ap (λ (rows : List Server). minor_in (find (is_server server) rows)) beside.servers)
       (wanted_beside link.name off)
@@ -151,7 +151,7 @@ module _ (w y : Gateway) (links : List Link) (name : List ℕ) (beside : IsBesid
 
 -- ---- once a channel on the variable is told
 
-module _ (w y : Gateway) (links : List Link) (name : List ℕ) (beside : IsBeside w y links name) (session sid : ℕ)
+module _ (w y : Gateway) (links : List LinkRow) (name : List ℕ) (beside : IsBeside w y links name) (session sid : ℕ)
     (on : is_channel_on name (channel_of w session sid) ≡ true) (connections : List Connection) (room : HasNoMoreRoom y.connections connections) where
   all_on : All (λ (row : Channel). is_channel session sid row ≡ true → is_on name row ≡ true) y.clients.channels
   all_on =
@@ -177,7 +177,7 @@ module _ (w y : Gateway) (links : List Link) (name : List ℕ) (beside : IsBesid
       All-weaker (λ (row : Channel). is_channel session sid row ≡ true → is_on name row ≡ true) (λ (row : Channel). is_not_channel session sid row ≡ false → is_on other row ≡ false)
       (λ row here gone. not_on name other differ row (here (not_not (is_channel session sid row) gone))) y.clients.channels all_on
 
-  open_before : (number : ℕ) → is_open (record y { connections = connections }) number ≡ true → is_open w number ≡ true
+  open_before : (number : ℕ) → is_given_to (record y { connections = connections }) number ≡ true → is_given_to w number ≡ true
   open_before number open_to = beside.sessions number ((less_connections y connections room).sessions number open_to)
 
   -- that it is gone
@@ -292,7 +292,7 @@ abbrev pub is_notice_on : Gateway → List ℕ → ChannelNotice → Bool
 is_notice_on w name (Disconnected session sid cid) = is_channel_on name (channel_of w session sid)
 is_notice_on w name (RightsChanged session sid cid reach rights) = is_channel_on name (channel_of w session sid)
 
-beside_one : (w y : Gateway) (links : List Link) (name : List ℕ) (notice : ChannelNotice) → is_notice_on w name notice ≡ true → IsBeside w y links name → IsBeside w (channel_told y notice) links name
+beside_one : (w y : Gateway) (links : List LinkRow) (name : List ℕ) (notice : ChannelNotice) → is_notice_on w name notice ≡ true → IsBeside w y links name → IsBeside w (channel_told y notice) links name
 unfolding sent
 beside_one w y links name (Disconnected session sid cid) on beside =
     let said : Out = outgoing (replies.ServerDisconnect cid) in
@@ -307,7 +307,7 @@ beside_one w y links name (RightsChanged session sid cid reach rights) on beside
     (no_more_room_then y.connections told_rights.connections last.connections (no_more_room_given y.limits.messages (ToSession session) said y.connections) (no_more_room_ended session sid ends told_rights))
     reach rights)
 
-pub beside_told : (w : Gateway) (links : List Link) (name : List ℕ) (notices : List ChannelNotice) (y : Gateway) → list_all (is_notice_on w name) notices ≡ true → IsBeside w y links name
+pub beside_told : (w : Gateway) (links : List LinkRow) (name : List ℕ) (notices : List ChannelNotice) (y : Gateway) → list_all (is_notice_on w name) notices ≡ true → IsBeside w y links name
     → IsBeside w (fold channel_told y notices) links name
 beside_told w links name [] y on beside = beside
 beside_told w links name (notice ∷ notices) y on beside =
@@ -316,7 +316,7 @@ beside_told w links name (notice ∷ notices) y on beside =
 
 -- ---- once subscriptions are owed what is withheld from them
 
-pub beside_owed : (w y : Gateway) (links : List Link) (name : List ℕ) → IsBeside w y links name → IsBeside w (with_subs y (map (owed_where (is_withheld y)) y.clients.subs)) links name
+pub beside_owed : (w y : Gateway) (links : List LinkRow) (name : List ℕ) → IsBeside w y links name → IsBeside w (with_subs y (map (owed_where (is_withheld y)) y.clients.subs)) links name
 beside_owed w y links name beside = record {
   upstream = beside.upstream;
   policy = beside.policy;

@@ -7,8 +7,8 @@ use Rattle.std.proofs.lemmas.List.Elements.{All-weaker}
 use Rattle.std.proofs.lemmas.Slice.Eq.{bytes_eq-Decides}
 use Rattle.rows.specs.Rows.{change_first}
 use Rattle.channel_table.specs.ClientRows.{ClientRows}
-use Rattle.channel_table.specs.declared.channels.Channel.{Channel}
-use Rattle.link_table.specs.declared.links.Link.{Link}
+use Rattle.named_rows.specs.declared.channels.Channel.{Channel}
+use Rattle.link_table.specs.declared.links.LinkRow.{LinkRow}
 use Rattle.link_table.specs.declared.links.LinkState.{LinkState}
 use Rattle.link_table.specs.declared.links.LinkState.TheVariants.{Creating, Connected, Unusable}
 use Rattle.link_table.specs.Links.{is_link, is_named, with_state}
@@ -42,10 +42,10 @@ creating_unconnected Unusable creating = refl
 
 -- ---- the link of a channel that was asked for
 
-module _ (w : Gateway) (settled : IsSettled w) (order : AreNumbersApart w) (links_apart : HasLinksApart w) (server cid : ℕ) (link : Link)
+module _ (w : Gateway) (settled : IsSettled w) (order : AreNumbersApart w) (links_apart : HasLinksApart w) (server cid : ℕ) (link : LinkRow)
     (found : find (is_link server cid) w.upstream.links ≡ Some link) (creating : is_creating link.state ≡ true) (state : LinkState) (rights : ℕ)
     (connections : List Connection) (room : HasNoMoreRoom w.connections connections) where
-  abbrev links : List Link
+  abbrev links : List LinkRow
   links = change_first (is_link server cid) (with_state state rights) w.upstream.links
 
   unseen : All (IsUnseen w w.clients.sessions links) w.clients.channels
@@ -54,8 +54,8 @@ module _ (w : Gateway) (settled : IsSettled w) (order : AreNumbersApart w) (link
       (λ c fails. (
         refl,
         found_beside (is_named c.real) (is_link server cid) (with_state state rights) w.upstream.links
-            (All-weaker (λ (row : Link). is_link server cid row ≡ true → row ≡ link)
-            (λ (row : Link). is_link server cid row ≡ true → (is_named c.real row ≡ false) × (is_named c.real (with_state state rights row) ≡ false))
+            (All-weaker (λ (row : LinkRow). is_link server cid row ≡ true → row ≡ link)
+            (λ (row : LinkRow). is_link server cid row ≡ true → (is_named c.real row ≡ false) × (is_named c.real (with_state state rights row) ≡ false))
             (λ row one is. let here = ap (is_named c.real) (one is) ∙ fails in (here, here)) w.upstream.links (the_link w order server cid link found)),
       ))
       w.clients.channels (no_channel w order server cid link found settled links_apart (creating_unconnected link.state creating))
@@ -63,15 +63,15 @@ module _ (w : Gateway) (settled : IsSettled w) (order : AreNumbersApart w) (link
   abbrev x : Gateway
   x = changed w settled connections w.clients.sessions links w.upstream.counters unseen
 
-  others_quiet : All (λ (row : Link). is_named link.name row ≡ false → link_notices_of x row ≡ []) links
+  others_quiet : All (λ (row : LinkRow). is_named link.name row ≡ false → link_notices_of x row ≡ []) links
   others_quiet =
-      all_with_changed (λ (row : Link). is_named link.name row ≡ false → link_notices_of x row ≡ []) (is_link server cid) (with_state state rights) w.upstream.links
-      (All-weaker (λ (row : Link). link_notices_of x row ≡ []) (λ (row : Link). is_named link.name row ≡ false → link_notices_of x row ≡ []) (λ row none other. none) w.upstream.links
+      all_with_changed (λ (row : LinkRow). is_named link.name row ≡ false → link_notices_of x row ≡ []) (is_link server cid) (with_state state rights) w.upstream.links
+      (All-weaker (λ (row : LinkRow). link_notices_of x row ≡ []) (λ (row : LinkRow). is_named link.name row ≡ false → link_notices_of x row ≡ []) (λ row none other. none) w.upstream.links
       (each_quiet w x (asks_unseen w settled connections w.clients.sessions links w.upstream.counters unseen) (λ name there. there) w.upstream.links (all_in_use w settled)
       (nothing_told (link_notices_of w) w.upstream.links settled.links)))
       (λ row is none other.
       let same : link ≡ row = cc in
-      absurd (true≢false (sym ((bytes_eq-Decides row.name link.name).1 (sym (ap (λ (k : Link). k.name) same))) ∙ other)))
+      absurd (true≢false (sym ((bytes_eq-Decides row.name link.name).1 (sym (ap (λ (k : LinkRow). k.name) same))) ∙ other)))
 
   wanted : is_wanted x link.name ≡ true
   wanted =

@@ -6,8 +6,8 @@ use Rattle.std.proofs.lemmas.Bool.{true≢false}
 use Rattle.rows.specs.Rows.{change_first}
 use Rattle.ca_message.specs.declared.codes.TheConstants.{ECA_NORDACCESS}
 use Rattle.ca_message.specs.declared.to_client.ToClient.TheVariants as replies
-use Rattle.channel_table.specs.declared.subs.ClientSub.{ClientSub}
-use Rattle.channel_table.specs.Subs.{is_sub_on}
+use Rattle.named_rows.specs.declared.subs.ClientSub.{ClientSub}
+use Rattle.named_rows.specs.Subs.{is_sub_on}
 use Rattle.fanout.specs.declared.outbox.Out.{Out}
 use Rattle.gateway_state.specs.declared.connections.Connection.{Connection}
 use Rattle.gateway_state.specs.declared.event.Dest.{Dest}
@@ -18,12 +18,12 @@ use Rattle.gateway_state.specs.Gateway.{Gateway}
 use Rattle.gateway_state.specs.Notices.{reading_ended}
 use Rattle.gateway_state.specs.Subscribing.{unreadable_told}
 use Rattle.gateway_state.specs.Telling.{outgoing, sent}
-use Rattle.gateway_state.specs.Updates.{takes_updates}
+use Rattle.gateway_state.specs.Updates.{outbox_takes_updates}
 use Rattle.gateway_state.proofs.SettledUpdates.{box_taking}
 
 -- a session's outbox takes updates
 abbrev pub takes : Limits → List Connection → ℕ → Bool
-takes limits connections number = takes_updates limits (outbox_of (ToSession number) connections)
+takes limits connections number = outbox_takes_updates limits (outbox_of (ToSession number) connections)
 
 -- no session takes updates after that didn't before, whatever the limits
 abbrev pub HasNoMoreRoom : List Connection → List Connection → Type 0
@@ -32,7 +32,7 @@ HasNoMoreRoom before after = (limits : Limits) (number : ℕ) → takes limits a
 -- a change after which an outbox takes updates only where it took them before
 module _ (limits : Limits) (number : ℕ) (dest : Dest) (change : Connection → Connection)
     (stays : (row : Connection) → is_to (ToSession number) (change row) ≡ is_to (ToSession number) row)
-    (less : (row : Connection) → is_to dest row ≡ true → is_to (ToSession number) row ≡ true → takes_updates limits (change row).outbox ≡ true → takes_updates limits row.outbox ≡ true) where
+    (less : (row : Connection) → is_to dest row ≡ true → is_to (ToSession number) row ≡ true → outbox_takes_updates limits (change row).outbox ≡ true → outbox_takes_updates limits row.outbox ≡ true) where
   pub taking_before : (rows : List Connection) → takes limits (change_first (is_to dest) change rows) number ≡ true → takes limits rows number ≡ true
   taking_before [] e = e
   taking_before (row ∷ rows) e = by (is_to dest row) (is_to (ToSession number) row) refl refl e (λ rest. taking_before rows rest)
@@ -40,15 +40,15 @@ module _ (limits : Limits) (number : ℕ) (dest : Dest) (change : Connection →
       by : (here sought : Bool) → is_to dest row ≡ here → is_to (ToSession number) row ≡ sought
           → takes limits (cond here (change row ∷ rows) (row ∷ change_first (is_to dest) change rows)) number ≡ true
           → (takes limits (change_first (is_to dest) change rows) number ≡ true → takes limits rows number ≡ true)
-          → takes_updates limits (outbox_in (cond sought (Some row) (find (is_to (ToSession number)) rows))) ≡ true
+          → outbox_takes_updates limits (outbox_in (cond sought (Some row) (find (is_to (ToSession number)) rows))) ≡ true
       by true true is is_sought e rest =
-          less row is is_sought (ap (λ (t : Bool). takes_updates limits (outbox_in (cond t (Some (change row)) (find (is_to (ToSession number)) rows)))) (sym (stays row ∙ is_sought)) ∙ e)
+          less row is is_sought (ap (λ (t : Bool). outbox_takes_updates limits (outbox_in (cond t (Some (change row)) (find (is_to (ToSession number)) rows)))) (sym (stays row ∙ is_sought)) ∙ e)
       by true false is is_sought e rest =
-          ap (λ (t : Bool). takes_updates limits (outbox_in (cond t (Some (change row)) (find (is_to (ToSession number)) rows)))) (sym (stays row ∙ is_sought)) ∙ e
+          ap (λ (t : Bool). outbox_takes_updates limits (outbox_in (cond t (Some (change row)) (find (is_to (ToSession number)) rows)))) (sym (stays row ∙ is_sought)) ∙ e
       by false true is is_sought e rest =
-          ap (λ (t : Bool). takes_updates limits (outbox_in (cond t (Some row) (find (is_to (ToSession number)) (change_first (is_to dest) change rows))))) (sym is_sought) ∙ e
+          ap (λ (t : Bool). outbox_takes_updates limits (outbox_in (cond t (Some row) (find (is_to (ToSession number)) (change_first (is_to dest) change rows))))) (sym is_sought) ∙ e
       by false false is is_sought e rest =
-          rest (ap (λ (t : Bool). takes_updates limits (outbox_in (cond t (Some row) (find (is_to (ToSession number)) (change_first (is_to dest) change rows))))) (sym is_sought) ∙ e)
+          rest (ap (λ (t : Bool). outbox_takes_updates limits (outbox_in (cond t (Some row) (find (is_to (ToSession number)) (change_first (is_to dest) change rows))))) (sym is_sought) ∙ e)
 
 -- a message that is put last
 pub no_more_room_given : (most : ℕ) (dest : Dest) (out : Out) (rows : List Connection) → HasNoMoreRoom rows (change_first (is_to dest) (given most out) rows)
@@ -84,4 +84,4 @@ waiting_as_before dest new (row ∷ rows) =
     [ true ↦ refl | false ↦ rest ]
 
 pub no_more_room_added : (dest : Dest) (rows : List Connection) → HasNoMoreRoom rows (rows ++ fresh dest ∷ [])
-no_more_room_added dest rows limits number e = ap (takes_updates limits) (sym (waiting_as_before (ToSession number) dest rows)) ∙ e
+no_more_room_added dest rows limits number e = ap (outbox_takes_updates limits) (sym (waiting_as_before (ToSession number) dest rows)) ∙ e

@@ -8,16 +8,16 @@ use Rattle.std.proofs.lemmas.List.Folds.{list_any-append}
 use Rattle.std.proofs.lemmas.Slice.Eq.{bytes_eq-Decides}
 use Rattle.rows.specs.Rows.{change_first}
 use Rattle.ca_message.specs.declared.to_client.ToClient.TheVariants as replies
-use Rattle.channel_table.specs.declared.channels.Reach.{Reach}
-use Rattle.channel_table.specs.declared.channels.Channel.{Channel}
-use Rattle.channel_table.specs.declared.reads.WaitingRead.{WaitingRead}
+use Rattle.named_rows.specs.declared.channels.Reach.{Reach}
+use Rattle.named_rows.specs.declared.channels.Channel.{Channel}
+use Rattle.named_rows.specs.declared.reads.WaitingRead.{WaitingRead}
 use Rattle.channel_table.specs.declared.sessions.Session.{Session}
-use Rattle.channel_table.specs.declared.subs.ClientSub.{ClientSub}
-use Rattle.channel_table.specs.Channels.{is_channel, is_on}
+use Rattle.named_rows.specs.declared.subs.ClientSub.{ClientSub}
+use Rattle.named_rows.specs.Channels.{is_channel, is_on}
 use Rattle.channel_table.specs.ClientRows.{channel_count}
 use Rattle.channel_table.specs.Sessions.{is_numbered}
-use Rattle.channel_table.specs.Demand.{own_ask}
-use Rattle.link_table.specs.declared.links.Link.{Link}
+use Rattle.named_rows.specs.Demand.{own_ask}
+use Rattle.link_table.specs.declared.links.LinkRow.{LinkRow}
 use Rattle.link_table.specs.declared.links.LinkState.{LinkState}
 use Rattle.link_table.specs.declared.links.LinkState.TheVariants.{Creating, Connected, Unusable}
 use Rattle.link_table.specs.declared.counter.Counter.TheVariants.{Sid as CountsSids}
@@ -27,7 +27,7 @@ use Rattle.pv_alias.specs.declared.lead.Lead.{Lead}
 use Rattle.gateway_state.specs.declared.event.Dest.TheVariants.{Session as ToSession}
 use Rattle.gateway_state.specs.declared.notice.ChannelNotice.{ChannelNotice}
 use Rattle.gateway_state.specs.declared.reading.Native.{Native}
-use Rattle.gateway_state.specs.declared.search.Search.{Search}
+use Rattle.gateway_state.specs.declared.search.RememberedSearch.{RememberedSearch}
 use Rattle.gateway_state.specs.Clients.{channel_asked, created, created_as, created_over, creation_failed, fixed, next_sid, no_reach, remembered_by, rights_on, search_left_by, with_channel, with_host_fixed, without_search_for}
 use Rattle.gateway_state.specs.Gateway.{Gateway}
 use Rattle.gateway_state.specs.Interest.{is_read_through, is_reader, is_subscriber, reader_ask, readers}
@@ -43,7 +43,7 @@ use Rattle.gateway_state.specs.Variables.{ConnectedVariable, connected, connecte
 use Rattle.gateway_state.proofs.SettledMeaning.{none_told}
 use Rattle.gateway_state.proofs.SettledSteps.{settled_stays}
 use Rattle.touched_rows.specs.declared.touched.Touched.TheVariants.{Nothing}
-use Rattle.touched_rows.specs.Touches.{create_touches, create_touches_as, create_touches_over, follows, left_touches, search_left_for}
+use Rattle.touched_rows.specs.Touches.{create_touches, create_touches_as, create_touches_over, consequences_of, left_touches, search_left_for}
 use Rattle.touched_rows.proofs.LinksQuiet.{links_quiet}
 use Rattle.touched_rows.proofs.Nothing.{settled_sent}
 use Rattle.touched_rows.proofs.ReadersOf.{filtered_alike, passing_pushed, planned_alike}
@@ -173,13 +173,13 @@ module _ (v : Gateway) (settled : IsSettled v) (order : HasCidsApart v) (number 
   abbrev unmade : Option Session → Gateway
   unmade session = creation_failed number cid (remembered_by session name v)
 
-  told_unmade : (session : Option Session) → consequences (unmade (option_map fixed session)) ≡ follows (left_touches v.policy (search_left_for session name v)) (unmade (option_map fixed session))
+  told_unmade : (session : Option Session) → consequences (unmade (option_map fixed session)) ≡ consequences_of (left_touches v.policy (search_left_for session name v)) (unmade (option_map fixed session))
   unfolding sent
   told_unmade None = settled_stays (creation_failed number cid v) (settled_creation_failed number cid v settled)
   told_unmade (Some row) = told_after_remembering (creation_failed number cid v) (settled_creation_failed number cid v settled) order row.host name
 
 -- a channel is open: the search of its connection's address goes
-left_is_one : (session : Option Session) (name : List ℕ) (w : Gateway) (row : Search) → search_left_by session name w ≡ Some row → IsOneOf w.searches row
+left_is_one : (session : Option Session) (name : List ℕ) (w : Gateway) (row : RememberedSearch) → search_left_by session name w ≡ Some row → IsOneOf w.searches row
 left_is_one None name w row is = absurd cc
 left_is_one (Some session) name w row is = left_by_channel_is_one w.limits session.peer name w.searches row is
 
@@ -203,7 +203,7 @@ module _ (w : Gateway) (settled : IsSettled w) (order : HasCidsApart w) (subs_on
   looked_for_same (Some row) = refl
 
   module _ (lead : Lead) (leads : lead_in v number name ≡ Some lead) where
-    settled_created : (link : Link) (native : Native) → link_of v lead.real ≡ Some link → is_connected link.state ≡ true → IsSettled (created number cid name lead link native v)
+    settled_created : (link : LinkRow) (native : Native) → link_of v lead.real ≡ Some link → is_connected link.state ≡ true → IsSettled (created number cid name lead link native v)
     settled_created link native over known =
         let made : Gateway = with_channel number cid name lead.real (rights_on v lead link) v in
         let first : Gateway = sent (ToSession number) (outgoing (replies.AccessRights cid (rights_on v lead link))) made in
@@ -225,52 +225,52 @@ module _ (w : Gateway) (settled : IsSettled w) (order : HasCidsApart w) (subs_on
         quiet : channel_notice v new ≡ None
         quiet = rw (served, eq-eqb (rights_on v lead link) (rights_of v new) (sym rights)) refl
 
-    opened_same : (link : Link) (native : Native) (of : Option Session) → search_left_by (option_map fixed of) name (created number cid name lead link native v) ≡ search_left_by of name w
+    opened_same : (link : LinkRow) (native : Native) (of : Option Session) → search_left_by (option_map fixed of) name (created number cid name lead link native v) ≡ search_left_by of name w
     unfolding sent
     opened_same link native None = refl
     opened_same link native (Some row) = refl
 
-    told_created : (link : Link) (native : Native) → link_of v lead.real ≡ Some link → is_connected link.state ≡ true
+    told_created : (link : LinkRow) (native : Native) → link_of v lead.real ≡ Some link → is_connected link.state ≡ true
         → consequences (without_search_for number name (created number cid name lead link native v))
-        ≡ follows (left_touches w.policy (search_left_by session name w)) (without_search_for number name (created number cid name lead link native v))
+        ≡ consequences_of (left_touches w.policy (search_left_by session name w)) (without_search_for number name (created number cid name lead link native v))
     unfolding sent
     told_created link native over known =
         let x : Gateway = created number cid name lead link native v in
         let end : Gateway = without_search_for number name x in
         let found : Option Session = find (is_numbered number) x.clients.sessions in
-        subst (λ (gone : Option Search). consequences end ≡ follows (left_touches w.policy gone) end)
+        subst (λ (gone : Option RememberedSearch). consequences end ≡ consequences_of (left_touches w.policy gone) end)
         (ap (λ (of : Option Session). search_left_by of name x) session_is ∙ opened_same link native session)
         (told_after_leaving x (settled_created link native over known) order (search_left_by found name x) (left_is_one found name x))
 
-    told_not_connected : consequences (created_over number cid name lead None v) ≡ follows (create_touches_over w session name None) (created_over number cid name lead None v)
+    told_not_connected : consequences (created_over number cid name lead None v) ≡ consequences_of (create_touches_over w session name None) (created_over number cid name lead None v)
     told_not_connected =
         let x : Option Session → Gateway = λ found. creation_failed number cid (remembered_by found name v) in
-        subst (λ (found : Option Session). consequences (x found) ≡ follows (left_touches w.policy (search_left_for session name w)) (x found)) (sym session_is)
+        subst (λ (found : Option Session). consequences (x found) ≡ consequences_of (left_touches w.policy (search_left_for session name w)) (x found)) (sym session_is)
         (told_unmade v settled_v order number cid name session
-        ∙ ap (λ (gone : Option Search). follows (left_touches w.policy gone) (x (option_map fixed session))) (looked_for_same session))
+        ∙ ap (λ (gone : Option RememberedSearch). consequences_of (left_touches w.policy gone) (x (option_map fixed session))) (looked_for_same session))
 
-    told_over : (link : Option Link) → link_of v lead.real ≡ link
-        → consequences (created_over number cid name lead (connected_over link) v) ≡ follows (create_touches_over w session name (connected_over link)) (created_over number cid name lead (connected_over link) v)
+    told_over : (link : Option LinkRow) → link_of v lead.real ≡ link
+        → consequences (created_over number cid name lead (connected_over link) v) ≡ consequences_of (create_touches_over w session name (connected_over link)) (created_over number cid name lead (connected_over link) v)
     told_over None is = told_not_connected
     told_over (Some link) is = by link.state refl
       where
         by : (state : LinkState) → link.state ≡ state
-            → consequences (created_over number cid name lead (connected_in link state) v) ≡ follows (create_touches_over w session name (connected_in link state)) (created_over number cid name lead (connected_in link state) v)
+            → consequences (created_over number cid name lead (connected_in link state) v) ≡ consequences_of (create_touches_over w session name (connected_in link state)) (created_over number cid name lead (connected_in link state) v)
         by Creating state = told_not_connected
         by Unusable state = told_not_connected
         by (Connected sid dtype count) state = told_created link (record { dtype = dtype; count = count }) is (ap is_connected state)
 
-    told_as : consequences (created_as number cid name (Some lead) v) ≡ follows (create_touches_as w number name (Some lead)) (created_as number cid name (Some lead) v)
+    told_as : consequences (created_as number cid name (Some lead) v) ≡ consequences_of (create_touches_as w number name (Some lead)) (created_as number cid name (Some lead) v)
     told_as =
         let over : Option ConnectedVariable = connected v lead.real in
         elim (leb w.limits.channels (channel_count number w.clients))
         as (λ t. consequences (cond t (creation_failed number cid v) (created_over number cid name lead over v))
-        ≡ follows (cond t Nothing (create_touches_over w session name over)) (cond t (creation_failed number cid v) (created_over number cid name lead over v)))
+        ≡ consequences_of (cond t Nothing (create_touches_over w session name over)) (cond t (creation_failed number cid v) (created_over number cid name lead over v)))
         [ true ↦ settled_stays (creation_failed number cid v) (settled_creation_failed number cid v settled_v) | false ↦ told_over (link_of v lead.real) refl ]
 
-  pub told_after_channel_asked : consequences (channel_asked number cid name w) ≡ follows (create_touches w number name) (channel_asked number cid name w)
+  pub told_after_channel_asked : consequences (channel_asked number cid name w) ≡ consequences_of (create_touches w number name) (channel_asked number cid name w)
   told_after_channel_asked = by (lead_in w number name) refl
     where
-      by : (found : Option Lead) → lead_in w number name ≡ found → consequences (created_as number cid name found v) ≡ follows (create_touches_as w number name found) (created_as number cid name found v)
+      by : (found : Option Lead) → lead_in w number name ≡ found → consequences (created_as number cid name found v) ≡ consequences_of (create_touches_as w number name found) (created_as number cid name found v)
       by None is = settled_stays (creation_failed number cid v) (settled_creation_failed number cid v settled_v)
       by (Some lead) is = told_as lead (lead_after_fixing w number number name ∙ is)

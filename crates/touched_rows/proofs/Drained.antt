@@ -4,8 +4,8 @@ use Rattle.std.specs.List.{All, fold}
 use Rattle.std.proofs.lemmas.Bool.{eq-eqb, eqb-true, true≢false}
 use Rattle.std.proofs.lemmas.List.Elements.{All-weaker}
 use Rattle.rows.specs.Rows.{change_first}
-use Rattle.channel_table.specs.declared.subs.ClientSub.{ClientSub}
-use Rattle.channel_table.specs.Subs.{is_sub_of}
+use Rattle.named_rows.specs.declared.subs.ClientSub.{ClientSub}
+use Rattle.named_rows.specs.Subs.{is_sub_of}
 use Rattle.gateway_state.specs.declared.connections.Connection.{Connection}
 use Rattle.gateway_state.specs.declared.event.Dest.{Dest}
 use Rattle.gateway_state.specs.declared.event.Dest.TheVariants.{Session as ToSession, Upstream}
@@ -17,12 +17,12 @@ use Rattle.gateway_state.specs.Gateway.{Gateway}
 use Rattle.gateway_state.specs.Rights.{channel_of}
 use Rattle.gateway_state.specs.Settled.{IsSettled}
 use Rattle.gateway_state.specs.Step.{consequences}
-use Rattle.gateway_state.specs.Updates.{is_paused, is_taking, takes_updates, update_notice, update_on, update_told}
+use Rattle.gateway_state.specs.Updates.{is_paused, takes_updates, outbox_takes_updates, update_notice, update_on, update_told}
 use Rattle.gateway_state.proofs.SettledMeaning.{none_told}
 use Rattle.gateway_state.proofs.SettledSteps.{settled_stays}
 use Rattle.touched_rows.specs.declared.touched.Touched.TheVariants.{Nothing, Session}
 use Rattle.touched_rows.specs.Touched.{updates_told_to}
-use Rattle.touched_rows.specs.Touches.{drain_touches, follows}
+use Rattle.touched_rows.specs.Touches.{drain_touches, consequences_of}
 use Rattle.touched_rows.proofs.Blanked.{found_other}
 use Rattle.touched_rows.proofs.Connections.{takes}
 use Rattle.touched_rows.proofs.Nothing.{settled_connections, settled_taking}
@@ -45,14 +45,14 @@ no_session (Upstream a) number other same = refl
 takes_as_before : (limits : Limits) (number other count : ℕ) (rows : List Connection) → eqb other number ≡ false
     → takes limits (change_first (is_to (ToSession number)) (relieved count) rows) other ≡ takes limits rows other
 takes_as_before limits number other count rows differ =
-    ap (λ (found : Option Connection). takes_updates limits (outbox_in found))
+    ap (λ (found : Option Connection). outbox_takes_updates limits (outbox_in found))
     (found_other (is_to (ToSession other)) (is_to (ToSession number)) (relieved count) rows
     (λ row is. (other_session row.dest number other differ is, other_session row.dest number other differ is)))
 
 takes_beside_server : (limits : Limits) (number other count : ℕ) (rows : List Connection)
     → takes limits (change_first (is_to (Upstream number)) (relieved count) rows) other ≡ takes limits rows other
 takes_beside_server limits number other count rows =
-    ap (λ (found : Option Connection). takes_updates limits (outbox_in found))
+    ap (λ (found : Option Connection). outbox_takes_updates limits (outbox_in found))
     (found_other (is_to (ToSession other)) (is_to (Upstream number)) (relieved count) rows
     (λ row is. (no_session row.dest number other is, no_session row.dest number other is)))
 
@@ -86,7 +86,7 @@ room_before limits number other count rows room taking =
       | false ↦ λ is. sym (takes_as_before limits number other count rows is) ∙ taking
     ] refl
 
-nothing_after_room : (w : Gateway) (number count : ℕ) → IsSettled w → is_taking w number ≡ true
+nothing_after_room : (w : Gateway) (number count : ℕ) → IsSettled w → takes_updates w number ≡ true
     → consequences (drained w (ToSession number) count) ≡ drained w (ToSession number) count
 nothing_after_room w number count settled room =
     settled_stays (drained w (ToSession number) count)
@@ -95,10 +95,10 @@ nothing_after_room w number count settled room =
 
 -- what was drained tells its session's updates where it took none before
 pub told_drain : (w : Gateway) (number count : ℕ) → IsSettled w
-    → consequences (drained w (ToSession number) count) ≡ follows (drain_touches w (ToSession number)) (drained w (ToSession number) count)
+    → consequences (drained w (ToSession number) count) ≡ consequences_of (drain_touches w (ToSession number)) (drained w (ToSession number) count)
 told_drain w number count settled =
     let x = drained w (ToSession number) count in
-    elim (is_taking w number) as (λ t. is_taking w number ≡ t → consequences x ≡ follows (cond t Nothing (Session number)) x) [
+    elim (takes_updates w number) as (λ t. takes_updates w number ≡ t → consequences x ≡ consequences_of (cond t Nothing (Session number)) x) [
       | true ↦ λ room. nothing_after_room w number count settled room
       | false ↦ λ full. told_after_drain w number count settled
     ] refl

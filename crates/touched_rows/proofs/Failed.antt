@@ -3,8 +3,8 @@ use Rattle.std.proofs.Common.{◌≡◌, ℕ, List, [], Bool, true, false, cond,
 use Rattle.std.specs.Prelude.{filter}
 use Rattle.std.specs.List.{All, find}
 use Rattle.std.proofs.lemmas.List.Elements.{All-filter, All-weaker}
-use Rattle.channel_table.specs.declared.channels.Channel.{Channel}
-use Rattle.link_table.specs.declared.links.Link.{Link}
+use Rattle.named_rows.specs.declared.channels.Channel.{Channel}
+use Rattle.link_table.specs.declared.links.LinkRow.{LinkRow}
 use Rattle.link_table.specs.Links.{is_link, is_named, is_not_link}
 use Rattle.gateway_state.specs.Gateway.{Gateway}
 use Rattle.gateway_state.specs.Notices.{link_notices, link_notices_of}
@@ -34,14 +34,14 @@ settled_uncached cid w settled = record {
 }
 
 module _ (w : Gateway) (settled : IsSettled w) (order : AreNumbersApart w) (links_apart : HasLinksApart w) (server cid : ℕ) where
-  module _ (link : Link) (found : find (is_link server cid) w.upstream.links ≡ Some link) (unconnected : is_connected link.state ≡ false) where
+  module _ (link : LinkRow) (found : find (is_link server cid) w.upstream.links ≡ Some link) (unconnected : is_connected link.state ≡ false) where
     abbrev v : Gateway
     v = without_cached cid w
 
     abbrev settled_v : IsSettled v
     settled_v = settled_uncached cid w settled
 
-    abbrev kept : List Link
+    abbrev kept : List LinkRow
     kept = filter (is_not_link server cid) w.upstream.links
 
     unseen : All (IsUnseen v w.clients.sessions kept) w.clients.channels
@@ -50,7 +50,7 @@ module _ (w : Gateway) (settled : IsSettled w) (order : AreNumbersApart w) (link
         (λ c fails. (
           refl,
           found_left (is_named c.real) (is_not_link server cid) w.upstream.links
-              (All-weaker (λ (row : Link). is_link server cid row ≡ true → row ≡ link) (λ (row : Link). is_not_link server cid row ≡ false → is_named c.real row ≡ false)
+              (All-weaker (λ (row : LinkRow). is_link server cid row ≡ true → row ≡ link) (λ (row : LinkRow). is_not_link server cid row ≡ false → is_named c.real row ≡ false)
               (λ row one gone. ap (is_named c.real) (one (not_not (is_link server cid row) gone)) ∙ fails) w.upstream.links (the_link w order server cid link found)),
         ))
         w.clients.channels (no_channel w order server cid link found settled links_apart unconnected)
@@ -61,7 +61,7 @@ module _ (w : Gateway) (settled : IsSettled w) (order : AreNumbersApart w) (link
     quiet : link_notices x ≡ []
     quiet =
         none_planned_flat (link_notices_of x) kept
-        (All-filter (is_not_link server cid) (λ (row : Link). link_notices_of x row ≡ []) w.upstream.links
+        (All-filter (is_not_link server cid) (λ (row : LinkRow). link_notices_of x row ≡ []) w.upstream.links
         (each_quiet v x (asks_unseen v settled_v w.connections w.clients.sessions kept w.upstream.counters unseen) (λ name there. there) w.upstream.links (all_in_use v settled_v)
         (nothing_told (link_notices_of v) w.upstream.links settled_v.links)))
 
@@ -71,10 +71,10 @@ module _ (w : Gateway) (settled : IsSettled w) (order : AreNumbersApart w) (link
   pub nothing_after_refusal : consequences (creation_refused w server cid) ≡ creation_refused w server cid
   nothing_after_refusal = settled_stays (creation_refused w server cid) (by (find (is_link server cid) w.upstream.links) refl)
     where
-      over : (link : Link) → find (is_link server cid) w.upstream.links ≡ Some link → (creating : Bool) → is_creating link.state ≡ creating → IsSettled (cond creating (without_link server cid w) w)
+      over : (link : LinkRow) → find (is_link server cid) w.upstream.links ≡ Some link → (creating : Bool) → is_creating link.state ≡ creating → IsSettled (cond creating (without_link server cid w) w)
       over link is true creating = settled_without link is (creating_unconnected link.state creating)
       over link is false creating = settled
 
-      by : (over_link : Option Link) → find (is_link server cid) w.upstream.links ≡ over_link → IsSettled (failed_for server cid over_link w)
+      by : (over_link : Option LinkRow) → find (is_link server cid) w.upstream.links ≡ over_link → IsSettled (failed_for server cid over_link w)
       by None is = settled
       by (Some link) is = over link is (is_creating link.state) refl

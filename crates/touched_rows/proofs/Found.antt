@@ -9,7 +9,7 @@ use Rattle.std.proofs.lemmas.List.Elements.{All-weaker}
 use Rattle.std.proofs.lemmas.List.Folds.{find-append}
 use Rattle.rows.specs.Rows.{change_first}
 use Rattle.ca_message.specs.declared.to_server.ToServer.TheVariants as requests
-use Rattle.link_table.specs.declared.links.Link.{Link}
+use Rattle.link_table.specs.declared.links.LinkRow.{LinkRow}
 use Rattle.link_table.specs.declared.links.LinkState.TheVariants.{Creating}
 use Rattle.link_table.specs.declared.counter.Counter.TheVariants.{Cid as CountsCids}
 use Rattle.link_table.specs.Counters.{given_out}
@@ -36,13 +36,13 @@ use Rattle.touched_rows.proofs.Tellings.{less_connections}
 use Rattle.touched_rows.proofs.UnseenRows.{IsUnseen, changed, asks_unseen, settled_unseen}
 
 -- the link of a channel is found before a new one
-found_first : (over other : Option Link) → link_connected over ≡ true → option_or over other ≡ over
+found_first : (over other : Option LinkRow) → link_connected over ≡ true → option_or over other ≡ over
 found_first None other connected = absurd (true≢false (sym connected))
 found_first (Some link) other connected = refl
 
-module _ (w : Gateway) (settled : IsSettled w) (new : Link) (state : new.state ≡ Creating) (wanted : is_wanted w new.name ≡ true) (connections : List Connection)
+module _ (w : Gateway) (settled : IsSettled w) (new : LinkRow) (state : new.state ≡ Creating) (wanted : is_wanted w new.name ≡ true) (connections : List Connection)
     (room : HasNoMoreRoom w.connections connections) (counters : Counters) where
-  abbrev links : List Link
+  abbrev links : List LinkRow
   links = w.upstream.links ++ new ∷ []
 
   unseen : All (IsUnseen w w.clients.sessions links) w.clients.channels
@@ -68,7 +68,7 @@ module _ (w : Gateway) (settled : IsSettled w) (new : Link) (state : new.state �
 settled_linked : (w : Gateway) → IsSettled w → (server : ℕ) (name : List ℕ) → is_wanted w name ≡ true → IsSettled (linked w server name)
 unfolding sent
 settled_linked w settled server name wanted =
-    let new : Link = new_link server (next_cid w) name in
+    let new : LinkRow = new_link server (next_cid w) name in
     settled_link_added w settled new refl wanted
     (change_first (is_to (Upstream server)) (given (most_for w.limits (Upstream server)) (outgoing_upstream (requests.CreateChannel (next_cid w) name))) w.connections)
     (no_more_room_given (most_for w.limits (Upstream server)) (Upstream server) (outgoing_upstream (requests.CreateChannel (next_cid w) name)) w.connections)

@@ -1,40 +1,31 @@
--- Whatever touches no read leaves no read to be kept.
+-- Whatever touches no read and no value leaves none to be kept, or to be owed.
 use Rattle.std.proofs.Common.{◌≡◌, ℕ, List, true, false, cond, Option, Some, None, refl}
-use Rattle.std.specs.Prelude.{Result, Ok, Err, eqb, is_some, nat_le}
+use Rattle.std.specs.Prelude.{is_some, nat_le}
 use Rattle.std.specs.List.{find}
-use Rattle.ca_message.specs.declared.codes.TheConstants.{ECA_NORMAL}
-use Rattle.ca_message.specs.declared.reply.ReplyFault.{ReplyFault}
-use Rattle.ca_message.specs.declared.reply.ServerReply.{ServerReply}
-use Rattle.ca_message.specs.declared.reply.ServerReply.TheVariants as says
-use Rattle.channel_table.specs.declared.channels.Channel.{Channel}
+use Rattle.named_rows.specs.declared.channels.Channel.{Channel}
 use Rattle.channel_table.specs.declared.sessions.Session.{Session as SessionRow}
-use Rattle.channel_table.specs.declared.subs.ClientSub.{ClientSub}
+use Rattle.named_rows.specs.declared.subs.ClientSub.{ClientSub}
 use Rattle.channel_table.specs.ClientRows.{channel_count}
 use Rattle.channel_table.specs.Sessions.{is_numbered}
-use Rattle.link_table.specs.declared.links.Link.{Link}
-use Rattle.link_table.specs.declared.links.LinkState.{LinkState}
-use Rattle.link_table.specs.declared.links.LinkState.TheVariants.{Creating, Connected, Unusable}
-use Rattle.link_table.specs.declared.links.Subject.{Subject}
-use Rattle.link_table.specs.declared.links.Subscription.{Subscription}
-use Rattle.link_table.specs.Links.{has_subscription, is_link, sub_at}
+use Rattle.link_table.specs.declared.links.LinkRow.{LinkRow}
+use Rattle.link_table.specs.Links.{is_link}
 use Rattle.pv_alias.specs.declared.lead.Lead.{Lead}
 use Rattle.rule_desk.specs.declared.policy.Policy.{Policy}
 use Rattle.gateway_state.specs.declared.event.Dest.{Dest}
 use Rattle.gateway_state.specs.declared.event.Dest.TheVariants as dests
 use Rattle.gateway_state.specs.declared.notice.SubVerdict.{SubVerdict}
 use Rattle.gateway_state.specs.declared.notice.SubVerdict.TheVariants as subs
-use Rattle.gateway_state.specs.declared.search.Search.{Search}
+use Rattle.gateway_state.specs.declared.search.RememberedSearch.{RememberedSearch}
 use Rattle.gateway_state.specs.Clients.{search_left_by}
 use Rattle.gateway_state.specs.Gateway.{Gateway}
 use Rattle.gateway_state.specs.Resolution.{lead_of}
 use Rattle.gateway_state.specs.Rights.{channel_of, lead_in}
 use Rattle.gateway_state.specs.Searches.{left_by_search}
-use Rattle.gateway_state.specs.Servers.{is_heard, subject_of}
 use Rattle.gateway_state.specs.Subscribing.{is_on_sid, sub_of, sub_verdict}
-use Rattle.gateway_state.specs.Updates.{is_taking}
+use Rattle.gateway_state.specs.Updates.{takes_updates}
 use Rattle.gateway_state.specs.Variables.{ConnectedVariable, connected, is_connected, is_creating}
-use Rattle.touched_rows.specs.declared.touched.Touched.TheVariants.{Nothing, Session, Variable, Value, Interest}
-use Rattle.touched_rows.specs.Touches.{cancel_touches, cancel_touches_by, clear_touches, clear_touches_by, create_touches, create_touches_as, create_touches_over, created_touches_over, drain_touches, gone_touches_over, left_touches, made_touches, reply_touches, rights_touches_over, search_left_for, searched_touches, sub_touches, sub_touches_by, update_touches_over, update_touches_under, value_touches, with_touched}
+use Rattle.touched_rows.specs.declared.touched.Touched.TheVariants.{Nothing, Session, Variable, Interest}
+use Rattle.touched_rows.specs.Touches.{cancel_touches, cancel_touches_by, clear_touches, clear_touches_by, create_touches, create_touches_as, create_touches_over, created_touches, created_touches_over, drain_touches, gone_touches, gone_touches_over, left_touches, made_touches, rights_touches, rights_touches_over, search_left_for, searched_touches, sub_touches, sub_touches_by, with_touched}
 
 module _ (x : Gateway) where
   made : (sub : ClientSub) (on : Option Channel) → with_touched (made_touches sub on) x ≡ x
@@ -58,7 +49,7 @@ module _ (x : Gateway) where
   cancel_keeps_none w number sid id = cancelled sid (sub_of w number id) (channel_of w number sid)
 
   -- by the search that goes
-  left : (policy : Policy) (gone : Option Search) → with_touched (left_touches policy gone) x ≡ x
+  left : (policy : Policy) (gone : Option RememberedSearch) → with_touched (left_touches policy gone) x ≡ x
   left policy None = refl
   left policy (Some row) = refl
 
@@ -79,7 +70,7 @@ module _ (x : Gateway) where
 
   pub search_keeps_none : (w : Gateway) (host name : List ℕ) → with_touched (searched_touches w host name) x ≡ x
   search_keeps_none w host name =
-      let gone : Option Search = left_by_search w.limits host name w.searches in
+      let gone : Option RememberedSearch = left_by_search w.limits host name w.searches in
       elim (is_some (lead_of w.policy host name)) as (λ t. with_touched (cond t (left_touches w.policy gone) Nothing) x ≡ x) [ true ↦ left w.policy gone | false ↦ refl ]
 
   cleared : (on : Option Channel) → with_touched (clear_touches_by on) x ≡ x
@@ -89,44 +80,28 @@ module _ (x : Gateway) where
   pub clear_keeps_none : (w : Gateway) (number sid : ℕ) → with_touched (clear_touches w number sid) x ≡ x
   clear_keeps_none w number sid = cleared (channel_of w number sid)
 
-  told : (subject : Subject) (dtype count : ℕ) (payload : List ℕ) (link : Link) (state : LinkState) (sub : Option Subscription) → with_touched (value_touches subject link state sub dtype count payload) x ≡ x
-  told subject dtype count payload link (Connected sid native native_count) (Some sub) =
-      elim (is_heard subject native sub.count dtype count payload) as (λ t. with_touched (cond t (Value link.name) Nothing) x ≡ x) [ true ↦ refl | false ↦ refl ]
-  told subject dtype count payload link (Connected sid native native_count) None = refl
-  told subject dtype count payload link Creating sub = refl
-  told subject dtype count payload link Unusable sub = refl
-
-  told_under : (subject : Subject) (status dtype count : ℕ) (payload : List ℕ) (link : Link) → with_touched (update_touches_under subject status dtype count payload link) x ≡ x
-  told_under subject status dtype count payload link =
-      elim (eqb status ECA_NORMAL) as (λ t. with_touched (cond t (value_touches subject link link.state (sub_at subject link.subscriptions) dtype count payload) Nothing) x ≡ x)
-      [ true ↦ told subject dtype count payload link link.state (sub_at subject link.subscriptions) | false ↦ refl ]
-
-  told_over : (id status dtype count : ℕ) (payload : List ℕ) (found : Option Link) → with_touched (update_touches_over id status dtype count payload found) x ≡ x
-  told_over id status dtype count payload None = refl
-  told_over id status dtype count payload (Some link) = told_under (subject_of id link) status dtype count payload link
-
-  created : (found : Option Link) → with_touched (created_touches_over found) x ≡ x
+  created : (found : Option LinkRow) → with_touched (created_touches_over found) x ≡ x
   created None = refl
   created (Some link) = elim (is_creating link.state) as (λ t. with_touched (cond t (Interest link.name) Nothing) x ≡ x) [ true ↦ refl | false ↦ refl ]
 
-  with_rights : (found : Option Link) → with_touched (rights_touches_over found) x ≡ x
+  with_rights : (found : Option LinkRow) → with_touched (rights_touches_over found) x ≡ x
   with_rights None = refl
   with_rights (Some link) = elim (is_creating link.state) as (λ t. with_touched (cond t (Interest link.name) (Variable link.name)) x ≡ x) [ true ↦ refl | false ↦ refl ]
 
-  gone : (found : Option Link) → with_touched (gone_touches_over found) x ≡ x
+  gone : (found : Option LinkRow) → with_touched (gone_touches_over found) x ≡ x
   gone None = refl
   gone (Some link) = elim (is_connected link.state) as (λ t. with_touched (cond t (Variable link.name) Nothing) x ≡ x) [ true ↦ refl | false ↦ refl ]
 
-  pub reply_keeps_none : (w : Gateway) (server : ℕ) (reply : Result ServerReply ReplyFault) → with_touched (reply_touches w server reply) x ≡ x
-  reply_keeps_none w server (Ok (says.Version minor)) = refl
-  reply_keeps_none w server (Ok (says.EventAdd id status dtype count value)) = told_over id status dtype count value (find (has_subscription server id) w.upstream.links)
-  reply_keeps_none w server (Ok (says.CreateChannel cid sid dtype count)) = created (find (is_link server cid) w.upstream.links)
-  reply_keeps_none w server (Ok (says.WriteNotify ioid status)) = refl
-  reply_keeps_none w server (Ok (says.AccessRights cid rights)) = with_rights (find (is_link server cid) w.upstream.links)
-  reply_keeps_none w server (Ok (says.CreateChannelFail cid)) = refl
-  reply_keeps_none w server (Ok (says.ServerDisconnect cid)) = gone (find (is_link server cid) w.upstream.links)
-  reply_keeps_none w server (Err fault) = refl
+  -- by what a server says of a channel
+  pub made_keeps_none : (w : Gateway) (server cid : ℕ) → with_touched (created_touches w server cid) x ≡ x
+  made_keeps_none w server cid = created (find (is_link server cid) w.upstream.links)
+
+  pub rights_keep_none : (w : Gateway) (server cid : ℕ) → with_touched (rights_touches w server cid) x ≡ x
+  rights_keep_none w server cid = with_rights (find (is_link server cid) w.upstream.links)
+
+  pub gone_keeps_none : (w : Gateway) (server cid : ℕ) → with_touched (gone_touches w server cid) x ≡ x
+  gone_keeps_none w server cid = gone (find (is_link server cid) w.upstream.links)
 
   pub drain_keeps_none : (w : Gateway) (dest : Dest) → with_touched (drain_touches w dest) x ≡ x
-  drain_keeps_none w (dests.Session number) = elim (is_taking w number) as (λ t. with_touched (cond t Nothing (Session number)) x ≡ x) [ true ↦ refl | false ↦ refl ]
+  drain_keeps_none w (dests.Session number) = elim (takes_updates w number) as (λ t. with_touched (cond t Nothing (Session number)) x ≡ x) [ true ↦ refl | false ↦ refl ]
   drain_keeps_none w (dests.Upstream number) = refl

@@ -4,11 +4,11 @@ use Rattle.std.proofs.Common.{◌≡◌, ℕ, List, Bool, true, false, cond, not
 use Rattle.std.specs.Prelude.{option_map}
 use Rattle.std.proofs.lemmas.Bool.{true≢false}
 use Rattle.ca_message.specs.declared.codes.TheConstants.{ECA_NORDACCESS}
-use Rattle.channel_table.specs.declared.channels.Channel.{Channel}
-use Rattle.channel_table.specs.declared.reads.WaitingRead.{WaitingRead}
-use Rattle.channel_table.specs.declared.subs.ClientSub.{ClientSub}
-use Rattle.channel_table.specs.Channels.{with_reach_and_rights}
-use Rattle.link_table.specs.declared.links.Link.{Link}
+use Rattle.named_rows.specs.declared.channels.Channel.{Channel}
+use Rattle.named_rows.specs.declared.reads.WaitingRead.{WaitingRead}
+use Rattle.named_rows.specs.declared.subs.ClientSub.{ClientSub}
+use Rattle.named_rows.specs.Channels.{with_reach_and_rights}
+use Rattle.link_table.specs.declared.links.LinkRow.{LinkRow}
 use Rattle.link_table.specs.declared.links.LinkState.{LinkState}
 use Rattle.link_table.specs.declared.links.LinkState.TheVariants.{Creating, Connected, Unusable}
 use Rattle.link_table.specs.Links.{none_yet}
@@ -19,19 +19,19 @@ use Rattle.gateway_state.specs.Clients.{no_reach}
 use Rattle.gateway_state.specs.Gateway.{Gateway}
 use Rattle.gateway_state.specs.Notices.{answered_by, answered_over, notice_on, read_notice}
 use Rattle.gateway_state.specs.Rights.{channel_of, may_read, rights_of}
-use Rattle.gateway_state.specs.Updates.{is_open_to, is_paused, is_taking, update_by, update_notice, update_on, update_over}
+use Rattle.gateway_state.specs.Updates.{is_open_to, is_paused, takes_updates, update_by, update_notice, update_on, update_over}
 use Rattle.gateway_state.specs.Variables.{ConnectedVariable, connected, connected_in, connected_over, link_of}
 
 -- a link but for its subscriptions, and a channel but for what was read and told
-abbrev pub bare : Link → Link
+abbrev pub bare : LinkRow → LinkRow
 bare link = record link { subscriptions = none_yet }
 
 abbrev pub plain : Channel → Channel
 plain c = with_reach_and_rights no_reach 0 c
 
 -- a session takes updates now
-abbrev pub is_open : Gateway → ℕ → Bool
-is_open w number = not (is_paused w number) && is_taking w number
+abbrev pub is_given_to : Gateway → ℕ → Bool
+is_given_to w number = not (is_paused w number) && takes_updates w number
 
 -- x gives reads and updates no more than w
 pub record GivesNoMore (w x : Gateway) : Type 0 where
@@ -39,7 +39,7 @@ pub record GivesNoMore (w x : Gateway) : Type 0 where
   pub rights : (c : Channel) → rights_of x c ≡ rights_of w c
   pub links : (name : List ℕ) → option_map bare (link_of x name) ≡ option_map bare (link_of w name)
   pub values : (cid native dtype count : ℕ) → cached_value w cid native dtype count ≡ None → cached_value x cid native dtype count ≡ None
-  pub sessions : (number : ℕ) → is_open x number ≡ true → is_open w number ≡ true
+  pub sessions : (number : ℕ) → is_given_to x number ≡ true → is_given_to w number ≡ true
 
 pub gives_the_same : (w : Gateway) → GivesNoMore w w
 gives_the_same w = record {
@@ -69,7 +69,7 @@ not_updated : (sub : ClientSub) (given : Option Given) → update_by sub given �
 not_updated sub None none = refl
 not_updated sub (Some given) none = absurd cc
 
-answered_over-bare : (x : Gateway) (read : WaitingRead) (link : Option Link) → answered_over x read (connected_over link) ≡ answered_over x read (connected_over (option_map bare link))
+answered_over-bare : (x : Gateway) (read : WaitingRead) (link : Option LinkRow) → answered_over x read (connected_over link) ≡ answered_over x read (connected_over (option_map bare link))
 answered_over-bare x read None = refl
 answered_over-bare x read (Some link) = by link.state
   where
@@ -82,7 +82,7 @@ notice_on-plain : (x : Gateway) (read : WaitingRead) (c : Option Channel) → no
 notice_on-plain x read None = refl
 notice_on-plain x read (Some c) = refl
 
-update_over-bare : (x : Gateway) (sub : ClientSub) (link : Option Link) → update_over x sub (connected_over link) ≡ update_over x sub (connected_over (option_map bare link))
+update_over-bare : (x : Gateway) (sub : ClientSub) (link : Option LinkRow) → update_over x sub (connected_over link) ≡ update_over x sub (connected_over (option_map bare link))
 update_over-bare x sub None = refl
 update_over-bare x sub (Some link) = by link.state
   where
@@ -110,7 +110,7 @@ module _ (w x : Gateway) (values : (cid native dtype count : ℕ) → cached_val
   module _ (c : Channel) (rights : rights_of x c ≡ rights_of w c) (links : option_map bare (link_of x c.real) ≡ option_map bare (link_of w c.real)) where
     answered_there-stays : (read : WaitingRead) → answered_over w read (connected w c.real) ≡ None → answered_over x read (connected x c.real) ≡ None
     answered_there-stays read none =
-        answered_over-bare x read (link_of x c.real) ∙ ap (λ (link : Option Link). answered_over x read (connected_over link)) links ∙ sym (answered_over-bare x read (link_of w c.real))
+        answered_over-bare x read (link_of x c.real) ∙ ap (λ (link : Option LinkRow). answered_over x read (connected_over link)) links ∙ sym (answered_over-bare x read (link_of w c.real))
         ∙ answered_over-stays read (connected w c.real) none
 
     pub read_on-stays : (read : WaitingRead) → notice_on w read (Some c) ≡ None → notice_on x read (Some c) ≡ None
@@ -124,7 +124,7 @@ module _ (w x : Gateway) (values : (cid native dtype count : ℕ) → cached_val
 
     update_there-stays : (sub : ClientSub) → update_over w sub (connected w c.real) ≡ None → update_over x sub (connected x c.real) ≡ None
     update_there-stays sub none =
-        update_over-bare x sub (link_of x c.real) ∙ ap (λ (link : Option Link). update_over x sub (connected_over link)) links ∙ sym (update_over-bare x sub (link_of w c.real))
+        update_over-bare x sub (link_of x c.real) ∙ ap (λ (link : Option LinkRow). update_over x sub (connected_over link)) links ∙ sym (update_over-bare x sub (link_of w c.real))
         ∙ update_over-stays sub (connected w c.real) none
 
     pub update_on-stays : (sub : ClientSub) → update_on w sub (Some c) ≡ None → update_on x sub (Some c) ≡ None
@@ -136,7 +136,7 @@ module _ (w x : Gateway) (values : (cid native dtype count : ℕ) → cached_val
         by false none = refl
 
 -- where a session takes no more updates
-pub update_if_open : (w x : Gateway) (sub : ClientSub) → (is_open x sub.session ≡ true → is_open w sub.session ≡ true)
+pub update_if_open : (w x : Gateway) (sub : ClientSub) → (is_given_to x sub.session ≡ true → is_given_to w sub.session ≡ true)
     → (update_on w sub (channel_of w sub.session sub.sid) ≡ None → update_on x sub (channel_of x sub.session sub.sid) ≡ None)
     → update_notice w sub ≡ None → update_notice x sub ≡ None
 unfolding update_notice

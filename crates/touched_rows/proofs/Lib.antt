@@ -15,7 +15,6 @@ pub mod LessGiven
 pub mod LinkChanged
 pub mod LinksQuiet
 pub mod Lost
-pub mod NoneFound
 pub mod Nothing
 pub mod Numbered
 pub mod Numbers

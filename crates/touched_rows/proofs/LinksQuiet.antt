@@ -3,7 +3,7 @@ use Rattle.std.proofs.Common.{◌≡◌, ℕ, List, [], ◌∷◌, ◌++◌, Boo
 use Rattle.std.specs.Prelude.{flat_map}
 use Rattle.std.specs.List.{All}
 use Rattle.std.proofs.lemmas.List.Elements.{All-cons, All-head, All-nil, All-tail}
-use Rattle.link_table.specs.declared.links.Link.{Link}
+use Rattle.link_table.specs.declared.links.LinkRow.{LinkRow}
 use Rattle.link_table.specs.declared.links.LinkState.{LinkState}
 use Rattle.link_table.specs.declared.links.LinkState.TheVariants.{Creating, Connected, Unusable}
 use Rattle.link_table.specs.declared.links.Subject.{Subject}
@@ -21,7 +21,7 @@ use Rattle.gateway_state.proofs.SettledMeaning.{all_in_use, both_empty, nothing_
 use Rattle.touched_rows.proofs.TouchedAlone.{none_planned_flat}
 
 -- a subscription that is for what is wanted is so whatever minor version the server says
-between_quiet : (subject : Subject) (link : Link) (before after sid dtype native : ℕ) (want : Option Want) (sub : Option Subscription)
+between_quiet : (subject : Subject) (link : LinkRow) (before after sid dtype native : ℕ) (want : Option Want) (sub : Option Subscription)
     → notices_between subject before link sid dtype native want sub ≡ [] → notices_between subject after link sid dtype native want sub ≡ []
 between_quiet subject link before after sid dtype native want sub none = by (is_for want sub) none
   where
@@ -30,7 +30,7 @@ between_quiet subject link before after sid dtype native want sub none = by (is_
     by true none = refl
     by false none = absurd (told_anew subject link before sid dtype native sub want none)
 
-module _ (w x : Gateway) (link : Link) (asks : readers x link.name ≡ readers w link.name)
+module _ (w x : Gateway) (link : LinkRow) (asks : readers x link.name ≡ readers w link.name)
     (wanted : is_wanted w link.name ≡ true → is_wanted x link.name ≡ true) where
   subject_quiet : (subject : Subject) (sid dtype native : ℕ) → subject_notices subject w link sid dtype native ≡ [] → subject_notices subject x link sid dtype native ≡ []
   subject_quiet subject sid dtype native none =
@@ -55,12 +55,12 @@ module _ (w x : Gateway) (link : Link) (asks : readers x link.name ≡ readers w
 
 module _ (w x : Gateway) (asks : (name : List ℕ) → readers x name ≡ readers w name)
     (wanted : (name : List ℕ) → is_wanted w name ≡ true → is_wanted x name ≡ true) where
-  pub each_quiet : (links : List Link) → All (IsInUse w) links → All (λ (link : Link). link_notices_of w link ≡ []) links → All (λ (link : Link). link_notices_of x link ≡ []) links
-  each_quiet [] used none = All-nil (λ (link : Link). link_notices_of x link ≡ [])
+  pub each_quiet : (links : List LinkRow) → All (IsInUse w) links → All (λ (link : LinkRow). link_notices_of w link ≡ []) links → All (λ (link : LinkRow). link_notices_of x link ≡ []) links
+  each_quiet [] used none = All-nil (λ (link : LinkRow). link_notices_of x link ≡ [])
   each_quiet (link ∷ links) used none =
-      All-cons (λ (l : Link). link_notices_of x l ≡ []) link links
-      (link_quiet w x link (asks link.name) (wanted link.name) (All-head (IsInUse w) link links used) (All-head (λ (l : Link). link_notices_of w l ≡ []) link links none))
-      (each_quiet links (All-tail (IsInUse w) link links used) (All-tail (λ (l : Link). link_notices_of w l ≡ []) link links none))
+      All-cons (λ (l : LinkRow). link_notices_of x l ≡ []) link links
+      (link_quiet w x link (asks link.name) (wanted link.name) (All-head (IsInUse w) link links used) (All-head (λ (l : LinkRow). link_notices_of w l ≡ []) link links none))
+      (each_quiet links (All-tail (IsInUse w) link links used) (All-tail (λ (l : LinkRow). link_notices_of w l ≡ []) link links none))
 
   pub links_quiet : IsSettled w → flat_map (link_notices_of x) w.upstream.links ≡ []
   links_quiet settled =

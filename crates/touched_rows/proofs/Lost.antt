@@ -7,14 +7,14 @@ use Rattle.std.proofs.lemmas.Bool.{and_parts, eq-eqb, eqb-true, true≢false}
 use Rattle.std.proofs.lemmas.List.Elements.{All-cons, All-nil, All-weaker, filter_passes}
 use Rattle.ca_message.specs.declared.codes.TheConstants.{ECA_NORDACCESS}
 use Rattle.channel_table.specs.ClientRows.{ClientRows}
-use Rattle.channel_table.specs.declared.channels.Channel.{Channel}
-use Rattle.channel_table.specs.declared.reads.WaitingRead.{WaitingRead}
-use Rattle.channel_table.specs.declared.subs.ClientSub.{ClientSub}
-use Rattle.channel_table.specs.Channels.{is_channel, is_channel_of, is_not_channel_of, is_on}
-use Rattle.channel_table.specs.Reads.{is_not_read_of, is_read_of}
+use Rattle.named_rows.specs.declared.channels.Channel.{Channel}
+use Rattle.named_rows.specs.declared.reads.WaitingRead.{WaitingRead}
+use Rattle.named_rows.specs.declared.subs.ClientSub.{ClientSub}
+use Rattle.named_rows.specs.Channels.{is_channel, is_channel_of, is_not_channel_of, is_on}
+use Rattle.named_rows.specs.Reads.{is_not_read_of, is_read_of}
 use Rattle.channel_table.specs.Sessions.{is_not_numbered, is_numbered}
-use Rattle.channel_table.specs.Subs.{is_not_sub_of, is_sub_of}
-use Rattle.channel_table.specs.Demand.{own_ask}
+use Rattle.named_rows.specs.Subs.{is_not_sub_of, is_sub_of}
+use Rattle.named_rows.specs.Demand.{own_ask}
 use Rattle.pv_alias.specs.declared.lead.Lead.{Lead}
 use Rattle.gateway_state.specs.declared.connections.Connection.{Connection}
 use Rattle.gateway_state.specs.declared.event.Dest.TheVariants.{Session as ToSession}
@@ -30,7 +30,7 @@ use Rattle.gateway_state.specs.Searches.{leads_to}
 use Rattle.gateway_state.specs.Sessions.{lost}
 use Rattle.gateway_state.specs.Settled.{AreNumbersApart, IsSettled}
 use Rattle.gateway_state.specs.Step.{consequences}
-use Rattle.gateway_state.specs.Updates.{is_unreadable, is_withheld, paused_in, takes_updates, update_notice, update_notices, update_on, update_over, updates_told, withheld}
+use Rattle.gateway_state.specs.Updates.{is_unreadable, is_withheld, paused_in, outbox_takes_updates, update_notice, update_notices, update_on, update_over, updates_told, withheld}
 use Rattle.gateway_state.specs.Variables.{channel_names, connected, is_among, is_wanted, link_of}
 use Rattle.gateway_state.proofs.SettledChannels.{notice_by}
 use Rattle.gateway_state.proofs.SettledMeaning.{none_told}
@@ -39,7 +39,7 @@ use Rattle.touched_rows.specs.Touched.{is_link_among, link_notices_among, links_
 use Rattle.touched_rows.specs.Touches.{names_of}
 use Rattle.touched_rows.proofs.Cleared.{all_of, left_have, not_so}
 use Rattle.touched_rows.proofs.Drained.{other_session}
-use Rattle.touched_rows.proofs.LessGiven.{is_open, read_on-stays, update_if_open, update_on-stays}
+use Rattle.touched_rows.proofs.LessGiven.{is_given_to, read_on-stays, update_if_open, update_on-stays}
 use Rattle.touched_rows.proofs.OneLink.{IsBesideOthers, links_touched}
 use Rattle.touched_rows.proofs.Passes.{from_links}
 use Rattle.touched_rows.proofs.ReadersOf.{any_left, filtered_alike, found_left, none_of_left, not_not, passing_left, passing_of_left}
@@ -231,7 +231,7 @@ module _ (w : Gateway) (settled : IsSettled w) (order : AreNumbersApart w) (numb
       read_left w.clients.reads (none_told (read_notice w) w.clients.reads settled.reads))
 
   -- other sessions take updates as before
-  open_before : (session : ℕ) → eqb session number ≡ false → is_open x session ≡ is_open w session
+  open_before : (session : ℕ) → eqb session number ≡ false → is_given_to x session ≡ is_given_to w session
   open_before session differ =
       let rows = found_left (is_numbered session) (is_not_numbered number) w.clients.sessions
       (all_of (λ row. is_not_numbered number row ≡ false → is_numbered session row ≡ false) w.clients.sessions
@@ -239,7 +239,7 @@ module _ (w : Gateway) (settled : IsSettled w) (order : AreNumbersApart w) (numb
       let boxes = found_left (is_to (ToSession session)) (is_not_to (ToSession number)) w.connections
       (all_of (λ (row : Connection). is_not_to (ToSession number) row ≡ false → is_to (ToSession session) row ≡ false) w.connections
       (λ row gone. other_session row.dest number session differ (not_not (is_to (ToSession number) row) gone))) in
-      λ i. not (paused_in (rows i)) && takes_updates w.limits (outbox_in (boxes i))
+      λ i. not (paused_in (rows i)) && outbox_takes_updates w.limits (outbox_in (boxes i))
 
   said_same : (sub : ClientSub) → eqb sub.session number ≡ false → update_on x sub (channel_of x sub.session sub.sid) ≡ update_on w sub (channel_of w sub.session sub.sid)
   said_same sub differ = ap (update_on x sub) (channel_same sub.session sub.sid differ) ∙ by (channel_of w sub.session sub.sid) refl

@@ -3,9 +3,9 @@ use Rattle.std.proofs.Common.{◌≡◌, List, [], ◌∷◌, Bool, true, false,
 use Rattle.std.specs.List.{All, find, list_any}
 use Rattle.std.proofs.lemmas.Bool.{and_from, eq-eqb, or_parts, true≢false}
 use Rattle.std.proofs.lemmas.List.Elements.{All-cons, All-nil, All-weaker}
-use Rattle.channel_table.specs.declared.channels.Channel.{Channel}
-use Rattle.channel_table.specs.Channels.{is_channel}
-use Rattle.link_table.specs.declared.links.Link.{Link}
+use Rattle.named_rows.specs.declared.channels.Channel.{Channel}
+use Rattle.named_rows.specs.Channels.{is_channel}
+use Rattle.link_table.specs.declared.links.LinkRow.{LinkRow}
 use Rattle.gateway_state.specs.Settled.{AreUnlike, is_same_channel, is_same_link}
 use Rattle.gateway_state.proofs.RowTests.{found_passes}
 use Rattle.gateway_state.proofs.UnlikeRows.{both_swapped, eqb_swapped}
@@ -36,23 +36,23 @@ module _ {A : Type 0} (alike : A → A → Bool) (swapped : (a b : A) → alike 
 
 -- LINKS
 
-link_swapped : (a b : Link) → is_same_link a b ≡ is_same_link b a
+link_swapped : (a b : LinkRow) → is_same_link a b ≡ is_same_link b a
 link_swapped a b = eqb_swapped b.cid a.cid
 
 -- no other link has the number of a link
-pub each_alone : (rows : List Link) → AreUnlike is_same_link rows → All (λ (link : Link). All (λ (row : Link). row.cid ≡ link.cid → row ≡ link) rows) rows
+pub each_alone : (rows : List LinkRow) → AreUnlike is_same_link rows → All (λ (link : LinkRow). All (λ (row : LinkRow). row.cid ≡ link.cid → row ≡ link) rows) rows
 each_alone rows apart =
-    All-weaker (IsOne is_same_link rows) (λ (link : Link). All (λ (row : Link). row.cid ≡ link.cid → row ≡ link) rows)
+    All-weaker (IsOne is_same_link rows) (λ (link : LinkRow). All (λ (row : LinkRow). row.cid ≡ link.cid → row ≡ link) rows)
     (λ link one.
-    All-weaker (λ (row : Link). is_same_link link row ≡ true → row ≡ link) (λ (row : Link). row.cid ≡ link.cid → row ≡ link)
+    All-weaker (λ (row : LinkRow). is_same_link link row ≡ true → row ≡ link) (λ (row : LinkRow). row.cid ≡ link.cid → row ≡ link)
     (λ row alike same. alike (eq-eqb row.cid link.cid same)) rows one) rows (each_one is_same_link link_swapped rows apart)
 
 -- nor that of one that is found
-pub one_of_cid : (test : Link → Bool) (rows : List Link) (a : Link) → AreUnlike is_same_link rows → find test rows ≡ Some a → All (λ (row : Link). row.cid ≡ a.cid → row ≡ a) rows
-one_of_cid test rows a apart found = found_passes (λ (link : Link). All (λ (row : Link). row.cid ≡ link.cid → row ≡ link) rows) test rows a (each_alone rows apart) found
+pub one_of_cid : (test : LinkRow → Bool) (rows : List LinkRow) (a : LinkRow) → AreUnlike is_same_link rows → find test rows ≡ Some a → All (λ (row : LinkRow). row.cid ≡ a.cid → row ≡ a) rows
+one_of_cid test rows a apart found = found_passes (λ (link : LinkRow). All (λ (row : LinkRow). row.cid ≡ link.cid → row ≡ link) rows) test rows a (each_alone rows apart) found
 
-pub same_number : (one other : Link → Bool) (rows : List Link) (a b : Link) → AreUnlike is_same_link rows → find one rows ≡ Some a → find other rows ≡ Some b → a.cid ≡ b.cid → a ≡ b
-same_number one other rows a b apart is_a is_b numbers = found_passes (λ (row : Link). row.cid ≡ b.cid → row ≡ b) one rows a (one_of_cid other rows b apart is_b) is_a numbers
+pub same_number : (one other : LinkRow → Bool) (rows : List LinkRow) (a b : LinkRow) → AreUnlike is_same_link rows → find one rows ≡ Some a → find other rows ≡ Some b → a.cid ≡ b.cid → a ≡ b
+same_number one other rows a b apart is_a is_b numbers = found_passes (λ (row : LinkRow). row.cid ≡ b.cid → row ≡ b) one rows a (one_of_cid other rows b apart is_b) is_a numbers
 
 -- CHANNELS
 

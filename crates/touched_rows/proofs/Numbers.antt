@@ -1,7 +1,7 @@
 -- What is told of reads and subscriptions takes no number back.
 use Rattle.std.proofs.Common.{◌≡◌, ℕ, List, true, Option, Some, None}
-use Rattle.channel_table.specs.declared.reads.WaitingRead.{WaitingRead}
-use Rattle.channel_table.specs.declared.subs.ClientSub.{ClientSub}
+use Rattle.named_rows.specs.declared.reads.WaitingRead.{WaitingRead}
+use Rattle.named_rows.specs.declared.subs.ClientSub.{ClientSub}
 use Rattle.gateway_state.specs.declared.notice.ReadNotice.{ReadNotice}
 use Rattle.gateway_state.specs.declared.notice.UpdateNotice.{UpdateNotice}
 use Rattle.gateway_state.specs.Gateway.{Gateway}

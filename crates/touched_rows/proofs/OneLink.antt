@@ -5,7 +5,7 @@ use Rattle.std.specs.List.{All, find, fold, list_all}
 use Rattle.std.proofs.lemmas.List.{append-nil}
 use Rattle.std.proofs.lemmas.List.Elements.{All-weaker}
 use Rattle.std.proofs.lemmas.Slice.Eq.{bytes_eq-Decides}
-use Rattle.link_table.specs.declared.links.Link.{Link}
+use Rattle.link_table.specs.declared.links.LinkRow.{LinkRow}
 use Rattle.link_table.specs.declared.links.LinkState.{LinkState}
 use Rattle.link_table.specs.declared.links.LinkState.TheVariants.{Creating, Connected, Unusable}
 use Rattle.link_table.specs.declared.links.Subject.{Subject}
@@ -53,7 +53,7 @@ plan_of_one {A = A} {B = B} notices test (row ∷ rows) one = by (test row) one 
 
 -- ---- the notices on one link
 
-over_is : (x : Gateway) (found : Option Link) → planned_over (link_notices_of x) found ≡ link_notices_over x found
+over_is : (x : Gateway) (found : Option LinkRow) → planned_over (link_notices_of x) found ≡ link_notices_over x found
 over_is x None = refl
 over_is x (Some link) = refl
 
@@ -69,7 +69,7 @@ pub record IsBesideOthers (w x : Gateway) (touched : List ℕ → Bool) : Type 0
   pub wanted : (other : List ℕ) → touched other ≡ false → is_wanted x other ≡ is_wanted w other
 
 -- a link whose variable is wanted as before, and whose readers ask for what they asked for
-pub link_alike : (w x : Gateway) (link : Link) → readers x link.name ≡ readers w link.name → ((server : ℕ) → minor_of x server ≡ minor_of w server)
+pub link_alike : (w x : Gateway) (link : LinkRow) → readers x link.name ≡ readers w link.name → ((server : ℕ) → minor_of x server ≡ minor_of w server)
     → is_wanted x link.name ≡ is_wanted w link.name → link_notices_of x link ≡ link_notices_of w link
 link_alike w x link asks minors wanted =
     let first = by link.state in
@@ -89,36 +89,36 @@ link_alike w x link asks minors wanted =
         λ i. values i ++ properties i
 
 module _ (w x : Gateway) (touched : List ℕ → Bool) (beside : IsBesideOthers w x touched) where
-  link_beside : (link : Link) → touched link.name ≡ false → link_notices_of x link ≡ link_notices_of w link
+  link_beside : (link : LinkRow) → touched link.name ≡ false → link_notices_of x link ≡ link_notices_of w link
   link_beside link other = link_alike w x link (beside.asks link.name other) beside.minors (beside.wanted link.name other)
 
   -- links of variables that weren't touched have no notice
-  pub others_quiet : IsSettled w → All (λ (link : Link). touched link.name ≡ false → link_notices_of x link ≡ []) w.upstream.links
+  pub others_quiet : IsSettled w → All (λ (link : LinkRow). touched link.name ≡ false → link_notices_of x link ≡ []) w.upstream.links
   others_quiet settled =
-      All-weaker (λ (link : Link). link_notices_of w link ≡ []) (λ (link : Link). touched link.name ≡ false → link_notices_of x link ≡ [])
+      All-weaker (λ (link : LinkRow). link_notices_of w link ≡ []) (λ (link : LinkRow). touched link.name ≡ false → link_notices_of x link ≡ [])
       (λ link none other. link_beside link other ∙ none) w.upstream.links (nothing_told (link_notices_of w) w.upstream.links settled.links)
 
-  pub links_touched : IsSettled w → link_notices x ≡ flat_map (link_notices_of x) (filter (λ (link : Link). touched link.name) x.upstream.links)
+  pub links_touched : IsSettled w → link_notices x ≡ flat_map (link_notices_of x) (filter (λ (link : LinkRow). touched link.name) x.upstream.links)
   links_touched settled =
-      touched_alone_flat (link_notices_of x) (λ (link : Link). touched link.name) x.upstream.links
-      (subst (λ (links : List Link). All (λ (link : Link). touched link.name ≡ false → link_notices_of x link ≡ []) links) (sym beside.links) (others_quiet settled))
+      touched_alone_flat (link_notices_of x) (λ (link : LinkRow). touched link.name) x.upstream.links
+      (subst (λ (links : List LinkRow). All (λ (link : LinkRow). touched link.name ≡ false → link_notices_of x link ≡ []) links) (sym beside.links) (others_quiet settled))
 
 module _ (w x : Gateway) (name : List ℕ) (beside : IsBesideOthers w x (is_name name)) where
   module _ (settled : IsSettled w) (apart : HasLinksApart w) where
     one_link : link_notices x ≡ link_notices_over x (link_of x name)
     one_link =
-        ap (λ (links : List Link). flat_map (link_notices_of x) links) beside.links
+        ap (λ (links : List LinkRow). flat_map (link_notices_of x) links) beside.links
         ∙ touched_alone_flat (link_notices_of x) (is_named name) w.upstream.links (others_quiet w x (is_name name) beside settled)
         ∙ plan_of_one (link_notices_of x) (is_named name) w.upstream.links (apart name)
         ∙ over_is x (find (is_named name) w.upstream.links)
-        ∙ sym (ap (λ (links : List Link). link_notices_over x (find (is_named name) links)) beside.links)
+        ∙ sym (ap (λ (links : List LinkRow). link_notices_over x (find (is_named name) links)) beside.links)
 
     pub links_alone : links_told x ≡ link_told_on name x
     links_alone = ap (λ (notices : List LinkNotice). fold link_told x notices) one_link
 
     -- where the variable is wanted as before, its link stays
     module _ (stays : is_wanted w name ≡ true → is_wanted x name ≡ true) where
-      wanted_as_before : (found : Option Link) → link_of w name ≡ found → link_notices_over x found ≡ interest_notices_over x found
+      wanted_as_before : (found : Option LinkRow) → link_of w name ≡ found → link_notices_over x found ≡ interest_notices_over x found
       wanted_as_before None is = refl
       wanted_as_before (Some link) is =
           let used : IsInUse w link = found_holds (IsInUse w) (is_named name) w.upstream.links link (all_in_use w settled) is in
@@ -129,14 +129,14 @@ module _ (w x : Gateway) (name : List ℕ) (beside : IsBesideOthers w x (is_name
 
       pub interest_alone : links_told x ≡ interest_told name x
       interest_alone =
-          let same : link_of x name ≡ link_of w name = ap (λ (links : List Link). find (is_named name) links) beside.links in
+          let same : link_of x name ≡ link_of w name = ap (λ (links : List LinkRow). find (is_named name) links) beside.links in
           let plan : link_notices_over x (link_of x name) ≡ interest_notices_over x (link_of x name) =
-          subst (λ (found : Option Link). link_notices_over x found ≡ interest_notices_over x found) (sym same) (wanted_as_before (link_of w name) refl) in
+          subst (λ (found : Option LinkRow). link_notices_over x found ≡ interest_notices_over x found) (sym same) (wanted_as_before (link_of w name) refl) in
           links_alone ∙ ap (λ (notices : List LinkNotice). fold link_told x notices) plan
 
 -- ---- what the notices leave
 
-interest_keeps_over : (x : Gateway) (found : Option Link) → list_all keeps_links (interest_notices_over x found) ≡ true
+interest_keeps_over : (x : Gateway) (found : Option LinkRow) → list_all keeps_links (interest_notices_over x found) ≡ true
 interest_keeps_over x None = refl
 interest_keeps_over x (Some link) = interest_keeps x link link.state
 
@@ -151,7 +151,7 @@ link_told_clients x name = ap (λ (v : Gateway). v.clients) (links_told_shape (l
 
 -- ---- the same where the links changed too
 
-pub one_link_of : (x : Gateway) (name : List ℕ) → All (λ (link : Link). is_named name link ≡ false → link_notices_of x link ≡ []) x.upstream.links
+pub one_link_of : (x : Gateway) (name : List ℕ) → All (λ (link : LinkRow). is_named name link ≡ false → link_notices_of x link ≡ []) x.upstream.links
     → length (filter (is_named name) x.upstream.links) ≤ 1 → link_notices x ≡ link_notices_over x (link_of x name)
 one_link_of x name others one =
     touched_alone_flat (link_notices_of x) (is_named name) x.upstream.links others
@@ -159,7 +159,7 @@ one_link_of x name others one =
     ∙ over_is x (link_of x name)
 
 -- a link whose variable is wanted stays
-pub stays_over : (x : Gateway) (name : List ℕ) → is_wanted x name ≡ true → (found : Option Link) → link_of x name ≡ found → link_notices_over x found ≡ interest_notices_over x found
+pub stays_over : (x : Gateway) (name : List ℕ) → is_wanted x name ≡ true → (found : Option LinkRow) → link_of x name ≡ found → link_notices_over x found ≡ interest_notices_over x found
 stays_over x name wanted None is = refl
 stays_over x name wanted (Some link) is =
     let named : link.name ≡ name = (bytes_eq-Decides link.name name).0 (found_passes (is_named name) x.upstream.links link is) in

@@ -6,12 +6,12 @@ use Rattle.std.specs.Option.{option_map}
 use Rattle.std.proofs.lemmas.Bool.{and_from}
 use Rattle.std.proofs.lemmas.List.Elements.{All-cons, All-head, All-nil, All-tail, All-weaker}
 use Rattle.channel_table.specs.ClientRows.{ClientRows, is_read_for, is_sub_to as is_sub_in}
-use Rattle.channel_table.specs.declared.channels.Channel.{Channel}
-use Rattle.channel_table.specs.declared.reads.WaitingRead.{WaitingRead}
-use Rattle.channel_table.specs.declared.subs.ClientSub.{ClientSub}
-use Rattle.channel_table.specs.Channels.{is_channel, is_channel_on, is_on}
-use Rattle.channel_table.specs.Demand.{own_ask}
-use Rattle.link_table.specs.declared.links.Link.{Link}
+use Rattle.named_rows.specs.declared.channels.Channel.{Channel}
+use Rattle.named_rows.specs.declared.reads.WaitingRead.{WaitingRead}
+use Rattle.named_rows.specs.declared.subs.ClientSub.{ClientSub}
+use Rattle.named_rows.specs.Channels.{is_channel, is_channel_on, is_on}
+use Rattle.named_rows.specs.Demand.{own_ask}
+use Rattle.link_table.specs.declared.links.LinkRow.{LinkRow}
 use Rattle.link_table.specs.Links.{is_named}
 use Rattle.gateway_state.specs.declared.cached.LastMessage.{LastMessage}
 use Rattle.gateway_state.specs.declared.notice.ChannelNotice.{ChannelNotice}
@@ -85,7 +85,7 @@ all_on w x name (c ∷ rows) there =
 
 -- ---- the passes after that over channels
 
-module _ (w y : Gateway) (links : List Link) (name : List ℕ) (beside : IsBeside w y links name) where
+module _ (w y : Gateway) (links : List LinkRow) (name : List ℕ) (beside : IsBeside w y links name) where
   same_held : withheld_on name y ≡ withheld y
   same_held = passing_left (is_withheld y) (is_sub_to y name) y.clients.subs (withheld_beside w y links name beside)
 
@@ -101,11 +101,11 @@ module _ (w y : Gateway) (links : List Link) (name : List ℕ) (beside : IsBesid
   beside_held apart = subst (λ (v : Gateway). IsBeside w v links name) (sym (held_shape apart)) (beside_owed w y links name beside)
 
   module _ (order : AreUnlike is_same_link links) (one : length (filter (is_named name) links) ≤ 1)
-      (quiet : All (λ (link : Link). is_named name link ≡ false → link_notices_of w link ≡ []) links) where
+      (quiet : All (λ (link : LinkRow). is_named name link ≡ false → link_notices_of w link ≡ []) links) where
     links_alone : links_told y ≡ link_told_on name y
     links_alone =
         ap (λ (notices : List LinkNotice). fold link_told y notices)
-        (one_link_of y name (links_beside w y links name beside quiet) (subst (λ (rows : List Link). length (filter (is_named name) rows) ≤ 1) (sym beside.upstream) one))
+        (one_link_of y name (links_beside w y links name beside quiet) (subst (λ (rows : List LinkRow). length (filter (is_named name) rows) ≤ 1) (sym beside.upstream) one))
 
     abbrev notices : List LinkNotice
     notices = link_notices_over y (link_of y name)
@@ -114,7 +114,7 @@ module _ (w y : Gateway) (links : List Link) (name : List ℕ) (beside : IsBesid
     after = link_told_on name y
 
     spares : SparesWanted y notices
-    spares = one_spares y (subst (λ (rows : List Link). AreUnlike is_same_link rows) (sym beside.upstream) order) name
+    spares = one_spares y (subst (λ (rows : List LinkRow). AreUnlike is_same_link rows) (sym beside.upstream) order) name
 
     clients_same : after.clients ≡ y.clients
     clients_same = link_told_clients y name
@@ -186,16 +186,16 @@ module _ (w y : Gateway) (links : List Link) (name : List ℕ) (beside : IsBesid
 
 -- ---- other links, where the variable's own is gone or was changed
 
-module _ (w : Gateway) (tidy : IsTidy w) (links : List Link) (cache : List LastMessage) (name : List ℕ)
+module _ (w : Gateway) (tidy : IsTidy w) (links : List LinkRow) (cache : List LastMessage) (name : List ℕ)
     (others : (other : List ℕ) → bytes_eq other name ≡ false → find (is_named other) links ≡ link_of w other)
     (values : (cid native dtype count : ℕ) → cached_value w cid native dtype count ≡ None → cached_as native dtype count (find (is_cached_of cid) cache) ≡ None)
-    (quiet : All (λ (link : Link). is_named name link ≡ false → link_notices_of w link ≡ []) links)
+    (quiet : All (λ (link : LinkRow). is_named name link ≡ false → link_notices_of w link ≡ []) links)
     (one : length (filter (is_named name) links) ≤ 1) (order : AreUnlike is_same_link links) where
   abbrev x : Gateway
   x = record w { cache = cache; upstream = record w.upstream { links = links } }
 
   rights_same : (c : Channel) → is_on name c ≡ false → rights_of x c ≡ rights_of w c
-  rights_same c off = ap (λ (over : Option Link). bit_and (link_rights over) (rights_left w.policy (lead_in w c.session c.asked))) (others c.real off)
+  rights_same c off = ap (λ (over : Option LinkRow). bit_and (link_rights over) (rights_left w.policy (lead_in w c.session c.asked))) (others c.real off)
 
   each_there : All (λ (c : Channel). channel_of w c.session c.sid ≡ Some c) w.clients.channels
   each_there = each_found w.clients.channels tidy.order.channels.apart
@@ -251,7 +251,7 @@ module _ (w : Gateway) (tidy : IsTidy w) (links : List Link) (cache : List LastM
       (touched_alone (channel_notice x) (is_on name) w.clients.channels
       (All-weaker (λ (c : Channel). channel_notice w c ≡ None) (λ (c : Channel). is_on name c ≡ false → channel_notice x c ≡ None)
       (λ c none off.
-      let served : is_served x c ≡ is_served w c = ap (λ (over : Option Link). is_real (lead_in w c.session c.asked) c.real && link_connected over) (others c.real off) in
+      let served : is_served x c ≡ is_served w c = ap (λ (over : Option LinkRow). is_real (lead_in w c.session c.asked) c.real && link_connected over) (others c.real off) in
       let rights = rights_same c off in
       (λ i. notice_by (served i) (eqb c.rights_told (rights i)) (rights i) c) ∙ none)
       w.clients.channels (none_told (channel_notice w) w.clients.channels tidy.settled.channels)))

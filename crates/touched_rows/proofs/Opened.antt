@@ -8,13 +8,13 @@ use Rattle.std.proofs.lemmas.List.Elements.{All-weaker}
 use Rattle.std.proofs.lemmas.List.Folds.{find-append}
 use Rattle.ca_message.specs.declared.to_client.ToClient.TheVariants as replies
 use Rattle.ca_message.specs.declared.to_server.ToServer.TheVariants as requests
-use Rattle.channel_table.specs.declared.channels.Channel.{Channel}
+use Rattle.named_rows.specs.declared.channels.Channel.{Channel}
 use Rattle.channel_table.specs.declared.sessions.Session.{Session}
 use Rattle.channel_table.specs.Sessions.{is_numbered}
 use Rattle.rule_desk.specs.declared.policy.Policy.{Policy}
 use Rattle.gateway_state.specs.declared.connections.Connection.{Connection}
 use Rattle.gateway_state.specs.declared.event.Dest.TheVariants.{Session as ToSession, Upstream}
-use Rattle.gateway_state.specs.Asked.{stands}
+use Rattle.gateway_state.specs.Asked.{is_open}
 use Rattle.gateway_state.specs.Connections.{fresh}
 use Rattle.gateway_state.specs.Gateway.{Gateway}
 use Rattle.gateway_state.specs.Resolution.{is_real}
@@ -23,7 +23,7 @@ use Rattle.gateway_state.specs.Sessions.{introduced, opened, up_opened, with_ser
 use Rattle.gateway_state.specs.Settled.{IsSettled, IsUpToDate}
 use Rattle.gateway_state.specs.Step.{consequences}
 use Rattle.gateway_state.specs.Telling.{asked, outgoing, outgoing_upstream, told}
-use Rattle.gateway_state.specs.Updates.{is_taking, paused_in}
+use Rattle.gateway_state.specs.Updates.{takes_updates, paused_in}
 use Rattle.gateway_state.specs.Variables.{link_of}
 use Rattle.gateway_state.proofs.SettledMeaning.{all_up_to_date}
 use Rattle.gateway_state.proofs.SettledSteps.{settled_stays}
@@ -64,8 +64,8 @@ module _ (w : Gateway) (settled : IsSettled w) (new : Session) where
   settled_session_added =
       settled_sessions w settled rows leads
       (λ number open_to.
-      let parts = and_parts (not (paused_in (find (is_numbered number) rows))) (is_taking w number) open_to in
-      and_from (not (paused_in (find (is_numbered number) w.clients.sessions))) (is_taking w number)
+      let parts = and_parts (not (paused_in (find (is_numbered number) rows))) (takes_updates w number) open_to in
+      and_from (not (paused_in (find (is_numbered number) w.clients.sessions))) (takes_updates w number)
       (active_first (find (is_numbered number) w.clients.sessions) (find (is_numbered number) (new ∷ []))
       (ap (λ (found : Option Session). not (paused_in found)) (sym (found_first number)) ∙ parts.0))
       parts.1)
@@ -81,7 +81,7 @@ nothing_after_opening w number host settled = settled_stays (opened w number hos
   where
     greeted : IsSettled (opened w number host)
     greeted =
-        elim (stands w (ToSession number) || nat_le w.limits.sessions (length w.clients.sessions))
+        elim (is_open w (ToSession number) || nat_le w.limits.sessions (length w.clients.sessions))
         as (λ t. IsSettled (cond t w (told number replies.Version (with_session w number host))))
         [ true ↦ settled | false ↦ settled_sent (ToSession number) (outgoing replies.Version) (with_session w number host) (settled_with_session w number host settled) ]
 
@@ -106,6 +106,6 @@ nothing_after_server_opening w number settled = settled_stays (up_opened w numbe
   where
     made : IsSettled (up_opened w number)
     made =
-        elim (stands w (Upstream number) || nat_le w.limits.servers (length w.upstream.servers))
+        elim (is_open w (Upstream number) || nat_le w.limits.servers (length w.upstream.servers))
         as (λ t. IsSettled (cond t w (introduced number (with_server w number))))
         [ true ↦ settled | false ↦ settled_introduced number (with_server w number) (settled_with_server w number settled) ]

@@ -1,17 +1,19 @@
 -- Owing an update to some subscriptions changes each of those, and nothing that doesn't look at what is
 -- owed.
-use Rattle.std.proofs.Common.{◌≡◌, ℕ, List, [], ◌∷◌, Bool, true, false, cond, refl, sym, ap, ◌∙◌}
+use Rattle.std.proofs.Common.{◌≡◌, ℕ, List, [], ◌∷◌, Bool, true, false, cond, refl, sym, ap, subst, ◌∙◌}
 use Rattle.std.specs.Prelude.{filter, map}
 use Rattle.std.specs.List.{fold}
-use Rattle.channel_table.specs.declared.subs.ClientSub.{ClientSub}
-use Rattle.channel_table.specs.Subs.{with_owed}
-use Rattle.channel_table.specs.Demand.{own_ask}
+use Rattle.named_rows.specs.declared.subs.ClientSub.{ClientSub}
+use Rattle.rows.specs.Rows.{change_first}
+use Rattle.named_rows.specs.Subs.{is_sub, with_owed}
+use Rattle.named_rows.specs.Demand.{own_ask}
 use Rattle.gateway_state.specs.Gateway.{Gateway}
 use Rattle.gateway_state.specs.Interest.{is_subscriber}
-use Rattle.gateway_state.specs.Settled.{AreApart}
-use Rattle.gateway_state.specs.Updates.{is_withheld}
+use Rattle.gateway_state.specs.Settled.{AreApart, HasSubsApart}
+use Rattle.gateway_state.specs.Updates.{is_withheld, owed_to_all}
+use Rattle.gateway_state.proofs.RowTests.{any_changed}
 use Rattle.gateway_state.proofs.SettledUpdates.{asks_whatever_owed}
-use Rattle.gateway_state.proofs.SettledWithheld.{kept_by_others, owing}
+use Rattle.gateway_state.proofs.SettledWithheld.{kept_by_others, owing, owing_changed}
 use Rattle.gateway_state.proofs.SubsApart.{itself}
 use Rattle.touched_rows.specs.Touched.{owed_where}
 
@@ -54,3 +56,26 @@ asks_alike w name test rows =
     asks_whatever_owed w name (map (owed_where test) rows)
     ∙ ap (λ (all : List ClientSub). map own_ask (filter (is_subscriber w name) all)) (alike_but_owed test rows)
     ∙ sym (asks_whatever_owed w name rows)
+
+-- ---- before it was owed
+
+-- no session had two subscriptions under one ID, where none has once one is owed
+apart_before : (session id : ℕ) (rows : List ClientSub) → AreApart (change_first (is_sub session id) (with_owed true) rows) → AreApart rows
+apart_before session id [] apart = apart
+apart_before session id (row ∷ rows) apart = by (is_sub session id row) (apart_before session id rows) apart
+  where
+    left : List ClientSub
+    left = change_first (is_sub session id) (with_owed true) rows
+
+    by : (is : Bool) → (AreApart left → AreApart rows) → AreApart (cond is (with_owed true row ∷ rows) (row ∷ left)) → AreApart (row ∷ rows)
+    by true rest apart = apart
+    by false rest apart =
+        (sym (any_changed (is_sub row.session row.id) (is_sub session id) (with_owed true) rows (λ x. refl)) ∙ apart.0, rest apart.1)
+
+apart_before_owing : (subs rows : List ClientSub) → AreApart (fold owing rows subs) → AreApart rows
+apart_before_owing [] rows apart = apart
+apart_before_owing (sub ∷ subs) rows apart = apart_before sub.session sub.id rows (apart_before_owing subs (owing rows sub) apart)
+
+pub apart_before_owed : (w : Gateway) (subs : List ClientSub) → HasSubsApart (owed_to_all w subs) → HasSubsApart w
+apart_before_owed w subs apart =
+    apart_before_owing subs w.clients.subs (subst (λ (v : Gateway). HasSubsApart v) (owing_changed subs w) apart)

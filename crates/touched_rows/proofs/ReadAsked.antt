@@ -4,13 +4,13 @@ use Rattle.std.proofs.Common.{◌≡◌, ℕ, List, [], ◌++◌, Bool, true, fa
 use Rattle.std.specs.Prelude.{bytes_eq, filter, filter_map, map, option_map}
 use Rattle.std.specs.List.{cons_option, find, fold, list_any}
 use Rattle.rows.specs.Rows.{change_first}
-use Rattle.channel_table.specs.declared.channels.Reach.{Reach}
+use Rattle.named_rows.specs.declared.channels.Reach.{Reach}
 use Rattle.channel_table.specs.ClientRows.{ClientRows}
-use Rattle.channel_table.specs.declared.channels.Channel.{Channel}
-use Rattle.channel_table.specs.declared.reads.WaitingRead.{WaitingRead}
-use Rattle.channel_table.specs.declared.subs.ClientSub.{ClientSub}
-use Rattle.channel_table.specs.Channels.{is_channel, with_reach_and_rights, is_on}
-use Rattle.channel_table.specs.Demand.{own_ask}
+use Rattle.named_rows.specs.declared.channels.Channel.{Channel}
+use Rattle.named_rows.specs.declared.reads.WaitingRead.{WaitingRead}
+use Rattle.named_rows.specs.declared.subs.ClientSub.{ClientSub}
+use Rattle.named_rows.specs.Channels.{is_channel, with_reach_and_rights, is_on}
+use Rattle.named_rows.specs.Demand.{own_ask}
 use Rattle.gateway_state.specs.declared.notice.ReadNotice.{ReadNotice}
 use Rattle.gateway_state.specs.declared.notice.ReadNotice.TheVariants.{Answered, Refused}
 use Rattle.gateway_state.specs.Clients.{accepted}

@@ -8,9 +8,9 @@ use Rattle.std.proofs.lemmas.List.Elements.{All-cons, All-nil, All-weaker}
 use Rattle.std.proofs.lemmas.List.Sums.{length-filter}
 use Rattle.rows.specs.Rows.{change_first}
 use Rattle.rows.proofs.RowLemmas.{change_first_kept, change_first_unfound}
-use Rattle.channel_table.specs.declared.channels.Channel.{Channel}
+use Rattle.named_rows.specs.declared.channels.Channel.{Channel}
 use Rattle.channel_table.specs.declared.sessions.Session.{Session}
-use Rattle.channel_table.specs.Channels.{is_channel_of}
+use Rattle.named_rows.specs.Channels.{is_channel_of}
 use Rattle.channel_table.specs.ClientRows.{channel_count}
 use Rattle.channel_table.specs.Sessions.{is_numbered}
 use Rattle.gateway_state.specs.Clients.{called, client_named, host_named, renamed}
@@ -18,7 +18,7 @@ use Rattle.gateway_state.specs.Gateway.{Gateway}
 use Rattle.gateway_state.specs.Rights.{lead_for, lead_in}
 use Rattle.gateway_state.specs.Settled.{HasHostsFixed, IsSettled}
 use Rattle.gateway_state.specs.Step.{consequences}
-use Rattle.gateway_state.specs.Updates.{is_taking}
+use Rattle.gateway_state.specs.Updates.{takes_updates}
 use Rattle.gateway_state.proofs.HostsFixed.{host_is_fixed}
 use Rattle.gateway_state.proofs.SettledSteps.{settled_stays}
 use Rattle.touched_rows.proofs.Blanked.{found_other}
@@ -63,7 +63,7 @@ module _ (w : Gateway) (settled : IsSettled w) (fixed : HasHostsFixed w) (number
       (All-weaker (λ (c : Channel). is_channel_of number c ≡ false) (λ (c : Channel). lead_for w.policy c.asked (find (is_numbered c.session) rows) ≡ lead_in w c.session c.asked)
       (λ c differ. ap (lead_for w.policy c.asked) (found_same c.session differ)) w.clients.channels (none_passing (is_channel_of number) w.clients.channels (length-filter (is_channel_of number) w.clients.channels ∙ none)))
       (λ other open_to.
-      ap (λ (paused : Bool). not paused && is_taking w other)
+      ap (λ (paused : Bool). not paused && takes_updates w other)
       (sym (paused_kept change unseen (is_numbered number) other (numbered other) w.clients.sessions))
       ∙ open_to)
 

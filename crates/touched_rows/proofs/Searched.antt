@@ -6,7 +6,7 @@ use Rattle.std.proofs.lemmas.List.Folds.{list_any-append}
 use Rattle.link_table.specs.declared.servers.Server.{Server}
 use Rattle.link_table.specs.Servers.{is_server, with_minor}
 use Rattle.rows.specs.Rows.{change_first, remove_first}
-use Rattle.gateway_state.specs.declared.search.Search.{Search}
+use Rattle.gateway_state.specs.declared.search.RememberedSearch.{RememberedSearch}
 use Rattle.gateway_state.specs.Clients.{remembered}
 use Rattle.gateway_state.specs.Direct.{searched}
 use Rattle.gateway_state.specs.Gateway.{Gateway}
@@ -16,12 +16,12 @@ use Rattle.gateway_state.specs.Servers.{server_versioned}
 use Rattle.gateway_state.specs.Settled.{HasCidsApart, IsSettled}
 use Rattle.gateway_state.specs.Step.{consequences}
 use Rattle.gateway_state.specs.Updates.{update_notice}
-use Rattle.channel_table.specs.Channels.{is_on}
+use Rattle.named_rows.specs.Channels.{is_on}
 use Rattle.gateway_state.specs.Variables.{is_wanted}
 use Rattle.gateway_state.proofs.RowTests.{any_changed}
 use Rattle.gateway_state.proofs.SettledSteps.{settled_stays}
 use Rattle.touched_rows.specs.declared.touched.Touched.TheVariants.{Nothing}
-use Rattle.touched_rows.specs.Touches.{follows, left_touches, searched_touches}
+use Rattle.touched_rows.specs.Touches.{consequences_of, left_touches, searched_touches}
 use Rattle.touched_rows.proofs.LinksQuiet.{links_quiet}
 use Rattle.touched_rows.proofs.SearchLeft.{outworn_is_one, told_after_replacing}
 
@@ -32,7 +32,7 @@ or_later true before after more there = refl
 or_later false before after more there = more there
 
 -- searches that lead to all that searches led to before
-settled_searches : (rows : List Search) (w : Gateway) → ((name : List ℕ) → list_any (leads_to w.policy name) w.searches ≡ true → list_any (leads_to w.policy name) rows ≡ true)
+settled_searches : (rows : List RememberedSearch) (w : Gateway) → ((name : List ℕ) → list_any (leads_to w.policy name) w.searches ≡ true → list_any (leads_to w.policy name) rows ≡ true)
     → IsSettled w → IsSettled (record w { searches = rows })
 unfolding update_notice
 settled_searches rows w more settled = record {
@@ -51,7 +51,7 @@ settled_searches rows w more settled = record {
 any_more : {A : Type 0} (test : A → Bool) (rows : List A) (new : A) → list_any test rows ≡ true → list_any test (rows ++ new ∷ []) ≡ true
 any_more test rows new there = list_any-append test rows (new ∷ []) ∙ rw there refl
 
-one_search_more : (new : Search) (w : Gateway) → IsSettled w → IsSettled (record w { searches = w.searches ++ new ∷ [] })
+one_search_more : (new : RememberedSearch) (w : Gateway) → IsSettled w → IsSettled (record w { searches = w.searches ++ new ∷ [] })
 one_search_more new w settled = settled_searches (w.searches ++ new ∷ []) w (λ name. any_more (leads_to w.policy name) w.searches new) settled
 
 -- a row that goes to the end, by a change that the test doesn't see
@@ -75,19 +75,19 @@ any_moved {A = A} test sought change (row ∷ rows) unseen = by (sought row) (an
     by false rest = ap (λ (t : Bool). test row || t) rest
 
 module _ (w : Gateway) (settled : IsSettled w) (order : HasCidsApart w) (host name : List ℕ) where
-  abbrev looked_for : Search → Bool
+  abbrev looked_for : RememberedSearch → Bool
   looked_for = same_search host name
 
-  abbrev moved : List Search
+  abbrev moved : List RememberedSearch
   moved = remove_first looked_for w.searches ++ map refreshed (cons_option (find looked_for w.searches) [])
 
-  abbrev made_anew : List Search
+  abbrev made_anew : List RememberedSearch
   made_anew = change_first looked_for refreshed w.searches
 
-  abbrev added : List Search
+  abbrev added : List RememberedSearch
   added = w.searches ++ made_now host name ∷ []
 
-  abbrev replaced : List Search
+  abbrev replaced : List RememberedSearch
   replaced = without_search (outworn w.limits host w.searches) w.searches ++ made_now host name ∷ []
 
   moved_settled : IsSettled (record w { searches = moved })
@@ -98,12 +98,12 @@ module _ (w : Gateway) (settled : IsSettled w) (order : HasCidsApart w) (host na
   made_anew_settled =
       settled_searches made_anew w (λ to there. any_changed (leads_to w.policy to) looked_for refreshed w.searches (λ row. refl) ∙ there) settled
 
-  pub told_after_remembering : consequences (remembered host name w) ≡ follows (left_touches w.policy (left_by_search w.limits host name w.searches)) (remembered host name w)
+  pub told_after_remembering : consequences (remembered host name w) ≡ consequences_of (left_touches w.policy (left_by_search w.limits host name w.searches)) (remembered host name w)
   told_after_remembering = by (list_any looked_for w.searches) w.limits.makes_room (leb w.limits.searches (length w.searches))
     where
       by : (there room full : Bool)
           → consequences (record w { searches = cond there (cond room moved made_anew) (cond room replaced (cond full w.searches added)) })
-          ≡ follows (left_touches w.policy (cond (there || not room) None (outworn w.limits host w.searches)))
+          ≡ consequences_of (left_touches w.policy (cond (there || not room) None (outworn w.limits host w.searches)))
           (record w { searches = cond there (cond room moved made_anew) (cond room replaced (cond full w.searches added)) })
       by true true full = settled_stays (record w { searches = moved }) moved_settled
       by true false full = settled_stays (record w { searches = made_anew }) made_anew_settled
@@ -113,11 +113,11 @@ module _ (w : Gateway) (settled : IsSettled w) (order : HasCidsApart w) (host na
           told_after_replacing w w.searches (made_now host name) (one_search_more (made_now host name) w settled) order (outworn w.limits host w.searches)
           (outworn_is_one w.limits host w.searches)
 
-pub told_after_search : (host name : List ℕ) (w : Gateway) → IsSettled w → HasCidsApart w → consequences (searched host name w) ≡ follows (searched_touches w host name) (searched host name w)
+pub told_after_search : (host name : List ℕ) (w : Gateway) → IsSettled w → HasCidsApart w → consequences (searched host name w) ≡ consequences_of (searched_touches w host name) (searched host name w)
 told_after_search host name w settled order =
     elim (is_some (lead_of w.policy host name))
     as (λ t. consequences (cond t (remembered host name w) w)
-    ≡ follows (cond t (left_touches w.policy (left_by_search w.limits host name w.searches)) Nothing) (cond t (remembered host name w) w))
+    ≡ consequences_of (cond t (left_touches w.policy (left_by_search w.limits host name w.searches)) Nothing) (cond t (remembered host name w) w))
     [ true ↦ told_after_remembering w settled order host name | false ↦ settled_stays w settled ]
 
 -- ---- a server's version

@@ -6,12 +6,12 @@ use Rattle.std.specs.List.{All, cons_option, find, fold, list_any}
 use Rattle.std.proofs.lemmas.Bool.{and_parts, and_right, eqb-true, true≢false}
 use Rattle.std.proofs.lemmas.List.Elements.{All-cons, All-filter, All-head, All-nil, All-tail, All-weaker}
 use Rattle.std.proofs.lemmas.Slice.Eq.{bytes_eq-Decides}
-use Rattle.channel_table.specs.declared.channels.Channel.{Channel}
-use Rattle.channel_table.specs.declared.reads.WaitingRead.{WaitingRead}
-use Rattle.channel_table.specs.declared.subs.ClientSub.{ClientSub}
-use Rattle.channel_table.specs.Channels.{is_channel, is_on}
-use Rattle.channel_table.specs.Demand.{own_ask}
-use Rattle.link_table.specs.declared.links.Link.{Link}
+use Rattle.named_rows.specs.declared.channels.Channel.{Channel}
+use Rattle.named_rows.specs.declared.reads.WaitingRead.{WaitingRead}
+use Rattle.named_rows.specs.declared.subs.ClientSub.{ClientSub}
+use Rattle.named_rows.specs.Channels.{is_channel, is_on}
+use Rattle.named_rows.specs.Demand.{own_ask}
+use Rattle.link_table.specs.declared.links.LinkRow.{LinkRow}
 use Rattle.link_table.specs.declared.writes.WaitingWrite.{WaitingWrite}
 use Rattle.link_table.specs.Links.{is_named, is_not_of, is_of}
 use Rattle.gateway_state.specs.declared.cached.LastMessage.{LastMessage}
@@ -31,7 +31,7 @@ use Rattle.gateway_state.specs.Searches.{leads_to}
 use Rattle.gateway_state.specs.Sessions.{up_lost}
 use Rattle.gateway_state.specs.Settled.{IsInUse, IsUpToDate}
 use Rattle.gateway_state.specs.Step.{consequences}
-use Rattle.gateway_state.specs.Updates.{is_unreadable, is_withheld, takes_updates, update_notice, update_notices, update_on, updates_told, updates_withheld, withheld}
+use Rattle.gateway_state.specs.Updates.{is_unreadable, is_withheld, outbox_takes_updates, update_notice, update_notices, update_on, updates_told, updates_withheld, withheld}
 use Rattle.gateway_state.specs.Variables.{is_among, is_wanted, link_of}
 use Rattle.gateway_state.proofs.SettledChannels.{channels_settled, notice_by}
 use Rattle.gateway_state.proofs.SettledMeaning.{all_in_use, none_told, nothing_told, quiet_up_to_date}
@@ -42,7 +42,7 @@ use Rattle.touched_rows.proofs.Beside.{IsQuiet}
 use Rattle.touched_rows.proofs.ChannelsGone.{IsLeftOf, is_found_among, left_told, reads_through}
 use Rattle.touched_rows.proofs.Cleared.{all_of, left_have}
 use Rattle.touched_rows.proofs.Connections.{HasNoMoreRoom}
-use Rattle.touched_rows.proofs.LessGiven.{bare, is_open, read_on-stays, update_if_open, update_on-stays}
+use Rattle.touched_rows.proofs.LessGiven.{bare, is_given_to, read_on-stays, update_if_open, update_on-stays}
 use Rattle.touched_rows.proofs.LinksQuiet.{link_quiet}
 use Rattle.touched_rows.proofs.OneLink.{none_passing}
 use Rattle.touched_rows.proofs.Numbered.{each_found}
@@ -118,21 +118,21 @@ planned_each {A = A} {B = B} notice say touched (row ∷ rows) some none =
 -- ---- links by the names of a server's
 
 -- a name that none of the links has that pass
-among_none : (test : Link → Bool) (name : List ℕ) (rows : List Link) → is_among (link_names (filter test rows)) name ≡ false → All (λ (link : Link). test link ≡ true → is_named name link ≡ false) rows
-among_none test name [] none = All-nil (λ (link : Link). test link ≡ true → is_named name link ≡ false)
+among_none : (test : LinkRow → Bool) (name : List ℕ) (rows : List LinkRow) → is_among (link_names (filter test rows)) name ≡ false → All (λ (link : LinkRow). test link ≡ true → is_named name link ≡ false) rows
+among_none test name [] none = All-nil (λ (link : LinkRow). test link ≡ true → is_named name link ≡ false)
 among_none test name (row ∷ rows) none = by (test row) refl (is_named name row) refl none (λ later. among_none test name rows later)
   where
     by : (passes : Bool) → test row ≡ passes → (named : Bool) → is_named name row ≡ named → is_among (link_names (cond passes (row ∷ filter test rows) (filter test rows))) name ≡ false
-        → (is_among (link_names (filter test rows)) name ≡ false → All (λ (link : Link). test link ≡ true → is_named name link ≡ false) rows)
-        → All (λ (link : Link). test link ≡ true → is_named name link ≡ false) (row ∷ rows)
+        → (is_among (link_names (filter test rows)) name ≡ false → All (λ (link : LinkRow). test link ≡ true → is_named name link ≡ false) rows)
+        → All (λ (link : LinkRow). test link ≡ true → is_named name link ≡ false) (row ∷ rows)
     by true is true e none rest = absurd (true≢false (sym (ap (λ (t : Bool). t || is_among (link_names (filter test rows)) name) e) ∙ none))
     by true is false e none rest =
-        All-cons (λ (link : Link). test link ≡ true → is_named name link ≡ false) row rows (λ _. e)
+        All-cons (λ (link : LinkRow). test link ≡ true → is_named name link ≡ false) row rows (λ _. e)
         (rest (sym (ap (λ (t : Bool). t || is_among (link_names (filter test rows)) name) e) ∙ none))
-    by false is named e none rest = All-cons (λ (link : Link). test link ≡ true → is_named name link ≡ false) row rows (λ passes. absurd (true≢false (sym passes ∙ is))) (rest none)
+    by false is named e none rest = All-cons (λ (link : LinkRow). test link ≡ true → is_named name link ≡ false) row rows (λ passes. absurd (true≢false (sym passes ∙ is))) (rest none)
 
 -- a name that no link has
-none_named : (test : Link → Bool) (name : List ℕ) (rows : List Link) → filter (is_named name) rows ≡ [] → is_among (link_names (filter test rows)) name ≡ false
+none_named : (test : LinkRow → Bool) (name : List ℕ) (rows : List LinkRow) → filter (is_named name) rows ≡ [] → is_among (link_names (filter test rows)) name ≡ false
 none_named test name [] none = refl
 none_named test name (row ∷ rows) none = by (is_named name row) refl (test row) none (λ rest. none_named test name rows rest)
   where
@@ -144,7 +144,7 @@ none_named test name (row ∷ rows) none = by (is_named name row) refl (test row
     by false is false none rest = rest none
 
 -- the name of a server's link, once those are gone
-gone_links : (number : ℕ) (name : List ℕ) (rows : List Link) → length (filter (is_named name) rows) ≤ 1 → is_among (link_names (filter (is_of number) rows)) name ≡ true
+gone_links : (number : ℕ) (name : List ℕ) (rows : List LinkRow) → length (filter (is_named name) rows) ≤ 1 → is_among (link_names (filter (is_of number) rows)) name ≡ true
     → find (is_named name) (filter (is_not_of number) rows) ≡ None
 gone_links number name [] few among = refl
 gone_links number name (row ∷ rows) few among = by (is_of number row) (is_named name row) refl few among (λ rest there. gone_links number name rows rest there)
@@ -173,7 +173,7 @@ sessions_left connections number limits session taking =
     let same = found_left (is_to (ToSession session)) (is_not_to (Upstream number)) connections
     (all_of (λ (row : Connection). is_not_to (Upstream number) row ≡ false → is_to (ToSession session) row ≡ false) connections
     (λ row gone. other_dest row.dest number session (not_not (is_to (Upstream number) row) gone))) in
-    sym (ap (λ (row : Option Connection). takes_updates limits (outbox_in row)) same) ∙ taking
+    sym (ap (λ (row : Option Connection). outbox_takes_updates limits (outbox_in row)) same) ∙ taking
 
 module _ (w : Gateway) (tidy : IsTidy w) (number : ℕ) where
   abbrev names : List (List ℕ)
@@ -190,11 +190,11 @@ module _ (w : Gateway) (tidy : IsTidy w) (number : ℕ) where
   others_left : (other : List ℕ) → is_among names other ≡ false → link_of x other ≡ link_of w other
   others_left other none =
       found_left (is_named other) (is_not_of number) w.upstream.links
-      (All-weaker (λ (link : Link). is_of number link ≡ true → is_named other link ≡ false) (λ (link : Link). is_not_of number link ≡ false → is_named other link ≡ false)
+      (All-weaker (λ (link : LinkRow). is_of number link ≡ true → is_named other link ≡ false) (λ (link : LinkRow). is_not_of number link ≡ false → is_named other link ≡ false)
       (λ link fails gone. fails (not_not (is_of number link) gone)) w.upstream.links (among_none (is_of number) other w.upstream.links none))
 
   rights_same : (c : Channel) → is_channel_among names c ≡ false → rights_of x c ≡ rights_of w c
-  rights_same c off = ap (λ (over : Option Link). bit_and (link_rights over) (rights_left w.policy (lead_in w c.session c.asked))) (others_left c.real off)
+  rights_same c off = ap (λ (over : Option LinkRow). bit_and (link_rights over) (rights_left w.policy (lead_in w c.session c.asked))) (others_left c.real off)
 
   values : (cid native dtype count : ℕ) → cached_value w cid native dtype count ≡ None → cached_value x cid native dtype count ≡ None
   values cid native dtype count none = by (find (is_cached_of cid) x.cache) refl
@@ -208,7 +208,7 @@ module _ (w : Gateway) (tidy : IsTidy w) (number : ℕ) where
   is_gone : (c : Channel) → is_channel_among names c ≡ true → channel_notice x c ≡ Some (disconnected c)
   is_gone c among =
       let served : is_served x c ≡ false =
-      ap (λ (over : Option Link). is_real (lead_in w c.session c.asked) c.real && link_connected over) (gone c.real among)
+      ap (λ (over : Option LinkRow). is_real (lead_in w c.session c.asked) c.real && link_connected over) (gone c.real among)
       ∙ and_right (is_real (lead_in w c.session c.asked) c.real) false refl in
       ap (λ (t : Bool). notice_by t (eqb c.rights_told (rights_of x c)) (rights_of x c) c) served
 
@@ -216,7 +216,7 @@ module _ (w : Gateway) (tidy : IsTidy w) (number : ℕ) where
   others_quiet =
       All-weaker (λ (c : Channel). channel_notice w c ≡ None) (λ (c : Channel). is_channel_among names c ≡ false → channel_notice x c ≡ None)
       (λ c none off.
-      let served : is_served x c ≡ is_served w c = ap (λ (over : Option Link). is_real (lead_in w c.session c.asked) c.real && link_connected over) (others_left c.real off) in
+      let served : is_served x c ≡ is_served w c = ap (λ (over : Option LinkRow). is_real (lead_in w c.session c.asked) c.real && link_connected over) (others_left c.real off) in
       let rights = rights_same c off in
       (λ i. notice_by (served i) (eqb c.rights_told (rights i)) (rights i) c) ∙ none)
       w.clients.channels (none_told (channel_notice w) w.clients.channels tidy.settled.channels)
@@ -323,9 +323,9 @@ module _ (w : Gateway) (tidy : IsTidy w) (number : ℕ) where
       wanted_still : (other : List ℕ) → is_among names other ≡ false → is_wanted w other ≡ true → is_wanted v other ≡ true
       wanted_still other none there = ap (λ (t : Bool). t || list_any (leads_to w.policy other) w.searches) (left.wanted other none) ∙ there
 
-      links_off : All (λ (link : Link). is_among names link.name ≡ false) x.upstream.links
+      links_off : All (λ (link : LinkRow). is_among names link.name ≡ false) x.upstream.links
       links_off k d within =
-          let link : Link = get_or x.upstream.links k d in
+          let link : LinkRow = get_or x.upstream.links k d in
           elim (is_among names link.name) as (λ t. is_among names link.name ≡ t → t ≡ false) [
             | true ↦ λ is.
                 let unnamed : is_named link.name link ≡ false = none_found (is_named link.name) x.upstream.links (gone link.name is) k d within in
@@ -333,13 +333,13 @@ module _ (w : Gateway) (tidy : IsTidy w) (number : ℕ) where
             | false ↦ λ is. refl
           ] refl
 
-      each_link_quiet : All (λ (link : Link). link_notices_of v link ≡ []) x.upstream.links
+      each_link_quiet : All (λ (link : LinkRow). link_notices_of v link ≡ []) x.upstream.links
       each_link_quiet k d within =
-          let link : Link = get_or x.upstream.links k d in
+          let link : LinkRow = get_or x.upstream.links k d in
           let off : is_among names link.name ≡ false = links_off k d within in
           link_quiet w v link (asks_same link.name off) (wanted_still link.name off)
           (All-filter (is_not_of number) (IsInUse w) w.upstream.links (all_in_use w tidy.settled) k d within)
-          (All-filter (is_not_of number) (λ (row : Link). link_notices_of w row ≡ []) w.upstream.links (nothing_told (link_notices_of w) w.upstream.links tidy.settled.links) k d within)
+          (All-filter (is_not_of number) (λ (row : LinkRow). link_notices_of w row ≡ []) w.upstream.links (nothing_told (link_notices_of w) w.upstream.links tidy.settled.links) k d within)
 
       no_links : link_notices v ≡ []
       no_links = none_planned_flat (link_notices_of v) x.upstream.links each_link_quiet
@@ -361,7 +361,7 @@ module _ (w : Gateway) (tidy : IsTidy w) (number : ℕ) where
               let off = found_off read.session read.sid c is in
               read_on-stays w v values c (rights_same c off) (over_same c off) read (sym (ap (notice_on w read) (found_there read.session read.sid c is)) ∙ none)
 
-      open_before : (session : ℕ) → is_open v session ≡ true → is_open w session ≡ true
+      open_before : (session : ℕ) → is_given_to v session ≡ true → is_given_to w session ≡ true
       open_before session open_to = (less_connections w connections left.room).sessions session open_to
 
       updates_quiet : update_notices v ≡ []

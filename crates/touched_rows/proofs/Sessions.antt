@@ -6,11 +6,11 @@ use Rattle.std.specs.List.{All, find, fold}
 use Rattle.std.proofs.lemmas.Bool.{and_from, and_parts, eq-eqb, eqb-true, true≢false}
 use Rattle.std.proofs.lemmas.List.Elements.{All-weaker}
 use Rattle.rows.specs.Rows.{change_first}
-use Rattle.channel_table.specs.declared.channels.Channel.{Channel}
+use Rattle.named_rows.specs.declared.channels.Channel.{Channel}
 use Rattle.channel_table.specs.declared.sessions.Session.{Session}
-use Rattle.channel_table.specs.declared.subs.ClientSub.{ClientSub}
+use Rattle.named_rows.specs.declared.subs.ClientSub.{ClientSub}
 use Rattle.channel_table.specs.Sessions.{is_numbered}
-use Rattle.channel_table.specs.Subs.{is_sub_of}
+use Rattle.named_rows.specs.Subs.{is_sub_of}
 use Rattle.rule_desk.specs.declared.policy.Policy.{Policy}
 use Rattle.gateway_state.specs.declared.notice.UpdateNotice.{UpdateNotice}
 use Rattle.gateway_state.specs.Clients.{fixed, with_host_fixed}
@@ -20,12 +20,12 @@ use Rattle.gateway_state.specs.Rights.{lead_for, lead_in}
 use Rattle.gateway_state.specs.Settled.{IsSettled, IsUpToDate}
 use Rattle.gateway_state.specs.Step.{consequences}
 use Rattle.gateway_state.specs.Subscribing.{paused_to, with_pause}
-use Rattle.gateway_state.specs.Updates.{is_taking, paused_in, update_notice, update_told}
+use Rattle.gateway_state.specs.Updates.{takes_updates, paused_in, update_notice, update_told}
 use Rattle.gateway_state.proofs.SettledMeaning.{all_up_to_date, none_told}
 use Rattle.gateway_state.proofs.SettledSteps.{settled_stays}
 use Rattle.touched_rows.specs.Touched.{updates_told_to}
 use Rattle.touched_rows.proofs.Blanked.{found_blanked, found_other}
-use Rattle.touched_rows.proofs.LessGiven.{is_open}
+use Rattle.touched_rows.proofs.LessGiven.{is_given_to}
 use Rattle.touched_rows.proofs.LinksQuiet.{links_quiet}
 use Rattle.touched_rows.proofs.Passes.{from_updates}
 use Rattle.touched_rows.proofs.TouchedAlone.{touched_alone}
@@ -63,7 +63,7 @@ module _ (w : Gateway) (settled : IsSettled w) (sessions : List Session)
   pub links_unseen : link_notices x ≡ []
   links_unseen = links_quiet w x (asks_unseen w settled w.connections sessions w.upstream.links w.upstream.counters leads_unseen) (λ name there. there) settled
 
-  pub settled_sessions : ((number : ℕ) → is_open x number ≡ true → is_open w number ≡ true) → IsSettled x
+  pub settled_sessions : ((number : ℕ) → is_given_to x number ≡ true → is_given_to w number ≡ true) → IsSettled x
   settled_sessions open_before = settled_unseen w settled w.connections sessions w.upstream.links w.upstream.counters leads_unseen open_before links_unseen
 
 -- names that lead where they led
@@ -98,7 +98,7 @@ pub settled_host_fixed : (number : ℕ) (w : Gateway) → IsSettled w → IsSett
 settled_host_fixed number w settled =
     let rows : List Session = change_first (is_numbered number) fixed w.clients.sessions in
     settled_sessions w settled rows (each_lead w settled rows (lead_after_fixing w number))
-    (λ other open_to. ap (λ (paused : Bool). not paused && is_taking w other) (sym (paused_kept fixed (λ row. refl) (is_numbered number) other (λ row. refl) w.clients.sessions)) ∙ open_to)
+    (λ other open_to. ap (λ (paused : Bool). not paused && takes_updates w other) (sym (paused_kept fixed (λ row. refl) (is_numbered number) other (λ row. refl) w.clients.sessions)) ∙ open_to)
 
 -- ---- a session is paused, or no longer
 
@@ -132,8 +132,8 @@ nothing_after_pausing w number settled =
     settled_stays (paused_to number true w)
     (settled_sessions w settled paused (each_lead w settled paused (lead_after_pausing w number true))
     (λ other open_to.
-    let parts = and_parts (not (paused_in (find (is_numbered other) paused))) (is_taking w other) open_to in
-    and_from (not (paused_in (find (is_numbered other) w.clients.sessions))) (is_taking w other) (active_before number other w.clients.sessions parts.0) parts.1))
+    let parts = and_parts (not (paused_in (find (is_numbered other) paused))) (takes_updates w other) open_to in
+    and_from (not (paused_in (find (is_numbered other) w.clients.sessions))) (takes_updates w other) (active_before number other w.clients.sessions parts.0) parts.1))
 
 -- the row of one session is none of another
 pub other_number : (number other : ℕ) → eqb other number ≡ false → (row : Session) → is_numbered number row ≡ true → is_numbered other row ≡ false
@@ -168,7 +168,7 @@ module _ (w : Gateway) (number : ℕ) (settled : IsSettled w) where
   due_as_before sub differ =
       let paused = paused_as_before sub.session differ in
       let said = said_unseen w settled w.connections rows w.upstream.links w.upstream.counters unseen sub in
-      λ i. cond (sub.owed && (not (paused i) && is_taking w sub.session)) (said i) None
+      λ i. cond (sub.owed && (not (paused i) && takes_updates w sub.session)) (said i) None
 
   quiet : All (λ (sub : ClientSub). is_sub_of number sub ≡ false → update_notice resumed sub ≡ None) w.clients.subs
   quiet =

@@ -4,12 +4,12 @@ use Rattle.std.specs.Prelude.{filter_map}
 use Rattle.std.specs.List.{find, fold, list_any}
 use Rattle.std.proofs.lemmas.List.Elements.{All-weaker}
 use Rattle.channel_table.specs.ClientRows.{ClientRows}
-use Rattle.channel_table.specs.declared.channels.Channel.{Channel}
-use Rattle.channel_table.specs.declared.reads.WaitingRead.{WaitingRead}
-use Rattle.channel_table.specs.declared.subs.ClientSub.{ClientSub}
-use Rattle.channel_table.specs.Channels.{is_channel, is_on}
+use Rattle.named_rows.specs.declared.channels.Channel.{Channel}
+use Rattle.named_rows.specs.declared.reads.WaitingRead.{WaitingRead}
+use Rattle.named_rows.specs.declared.subs.ClientSub.{ClientSub}
+use Rattle.named_rows.specs.Channels.{is_channel, is_on}
 use Rattle.gateway_state.specs.declared.notice.LinkNotice.{LinkNotice}
-use Rattle.gateway_state.specs.declared.search.Search.{Search}
+use Rattle.gateway_state.specs.declared.search.RememberedSearch.{RememberedSearch}
 use Rattle.gateway_state.specs.Direct.{swept}
 use Rattle.gateway_state.specs.Gateway.{Gateway}
 use Rattle.gateway_state.specs.Notices.{link_told, notice_on, read_notice, read_notices, reads_told}
@@ -31,7 +31,7 @@ use Rattle.touched_rows.proofs.TouchedAlone.{none_planned}
 use Rattle.touched_rows.proofs.WantedLinks.{SparesWanted, open_no_more, some_spare, values_no_more, wanted_link_kept, wanted_rights_kept}
 
 -- only these rows of searches are left, and other variables are led to as before
-module _ (w : Gateway) (settled : IsSettled w) (order : HasCidsApart w) (left : List Search) (names : List (List ℕ))
+module _ (w : Gateway) (settled : IsSettled w) (order : HasCidsApart w) (left : List RememberedSearch) (names : List (List ℕ))
     (less : (name : List ℕ) → is_among names name ≡ false → list_any (leads_to w.policy name) left ≡ list_any (leads_to w.policy name) w.searches) where
   abbrev x : Gateway
   x = record w { searches = left }

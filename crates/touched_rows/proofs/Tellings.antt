@@ -7,17 +7,17 @@ use Rattle.std.proofs.lemmas.List.Folds.{list_all-append}
 use Rattle.rows.specs.Rows.{change_first, remove_first}
 use Rattle.ca_message.specs.declared.to_client.ToClient.TheVariants as replies
 use Rattle.ca_message.specs.declared.to_server.ToServer.TheVariants as requests
-use Rattle.channel_table.specs.declared.reads.WaitingRead.{WaitingRead}
-use Rattle.channel_table.specs.declared.subs.ClientSub.{ClientSub}
-use Rattle.channel_table.specs.Reads.{same_read}
-use Rattle.channel_table.specs.Subs.{is_sub, with_owed}
+use Rattle.named_rows.specs.declared.reads.WaitingRead.{WaitingRead}
+use Rattle.named_rows.specs.declared.subs.ClientSub.{ClientSub}
+use Rattle.named_rows.specs.Reads.{same_read}
+use Rattle.named_rows.specs.Subs.{is_sub, with_owed}
 use Rattle.link_table.specs.declared.links.Subject.TheVariants.{Properties, Values}
 use Rattle.link_table.specs.declared.links.Subject.{Subject}
 use Rattle.link_table.specs.declared.counter.Counter.TheVariants.{Subscription as CountsSubscriptions}
 use Rattle.link_table.specs.Counters.{given_out}
 use Rattle.link_table.specs.LinkRows.{Counters}
 use Rattle.fanout.specs.declared.outbox.Out.{Out}
-use Rattle.link_table.specs.declared.links.Link.{Link}
+use Rattle.link_table.specs.declared.links.LinkRow.{LinkRow}
 use Rattle.link_table.specs.declared.links.LinkState.{LinkState}
 use Rattle.link_table.specs.declared.links.LinkState.TheVariants.{Creating, Connected, Unusable}
 use Rattle.link_table.specs.declared.links.Subscription.{Subscription}
@@ -41,7 +41,7 @@ use Rattle.gateway_state.specs.Notices.{cancelled, forgotten, interest_notices, 
 use Rattle.gateway_state.specs.Resolution.{rights_left}
 use Rattle.gateway_state.specs.Rights.{lead_in, link_rights}
 use Rattle.gateway_state.specs.Telling.{marked, outgoing, outgoing_upstream, sent}
-use Rattle.gateway_state.specs.Updates.{is_paused, is_taking, update_told, with_owed_of}
+use Rattle.gateway_state.specs.Updates.{is_paused, takes_updates, update_told, with_owed_of}
 use Rattle.gateway_state.specs.Variables.{link_of, without_cached}
 use Rattle.touched_rows.proofs.Blanked.{found_blanked}
 use Rattle.touched_rows.proofs.Connections.{HasNoMoreRoom, no_more_room_given, no_more_room_marked, takes}
@@ -110,17 +110,17 @@ pub less_update_told : (w : Gateway) (notice : UpdateNotice) → GivesNoMore w (
 less_update_told w notice =
     let served : Gateway = with_owed_of notice.session notice.id false w in
     let said : Out = outgoing (replies.Update notice.id notice.dtype notice.count notice.payload) in
-    elim (is_taking w notice.session) as (λ t. GivesNoMore w (cond t (sent (ToSession notice.session) said served) w))
+    elim (takes_updates w notice.session) as (λ t. GivesNoMore w (cond t (sent (ToSession notice.session) said served) w))
     [ true ↦ less_then_sent w served (ToSession notice.session) said (less_owed notice.session notice.id false w) | false ↦ gives_the_same w ]
 
 -- ---- links
 
 -- the link that is found is the same but for its subscriptions
-found_bare : (subject : Subject) (name : List ℕ) (test : Link → Bool) (sub : Option Subscription) (links : List Link)
+found_bare : (subject : Subject) (name : List ℕ) (test : LinkRow → Bool) (sub : Option Subscription) (links : List LinkRow)
     → option_map bare (find (is_named name) (change_first test (with_subscription subject sub) links)) ≡ option_map bare (find (is_named name) links)
 found_bare subject name test sub links = found_blanked bare (with_subscription subject sub) (λ link. refl) test (is_named name) (λ link. refl) links
 
-pub rights_bare : (found : Option Link) → link_rights found ≡ link_rights (option_map bare found)
+pub rights_bare : (found : Option LinkRow) → link_rights found ≡ link_rights (option_map bare found)
 rights_bare None = refl
 rights_bare (Some link) = refl
 
@@ -128,7 +128,7 @@ pub less_subscription : (subject : Subject) (server cid : ℕ) (sub : Option Sub
 less_subscription subject server cid sub w = record {
   channels = λ session sid. refl;
   rights = λ c.
-      let links : List Link = change_first (is_link server cid) (with_subscription subject sub) w.upstream.links in
+      let links : List LinkRow = change_first (is_link server cid) (with_subscription subject sub) w.upstream.links in
       let same : link_rights (find (is_named c.real) links) ≡ link_rights (link_of w c.real) =
       rights_bare (find (is_named c.real) links) ∙ ap link_rights (found_bare subject c.real (is_link server cid) sub w.upstream.links) ∙ sym (rights_bare (link_of w c.real)) in
       ap (λ (rights : ℕ). bit_and rights (rights_left w.policy (lead_in w c.session c.asked))) same;
@@ -213,15 +213,15 @@ less_links_told (notice ∷ notices) w keep =
     let parts = and_parts (keeps_links notice) (list_all keeps_links notices) keep in
     gives_no_more w (link_told w notice) (fold link_told (link_told w notice) notices) (less_link_told w notice parts.0) (less_links_told notices (link_told w notice) parts.1)
 
-cancelled_keeps : (subject : Subject) (link : Link) (sid dtype : ℕ) (sub : Option Subscription) → list_all keeps_links (cancelled subject link sid dtype sub) ≡ true
+cancelled_keeps : (subject : Subject) (link : LinkRow) (sid dtype : ℕ) (sub : Option Subscription) → list_all keeps_links (cancelled subject link sid dtype sub) ≡ true
 cancelled_keeps subject link sid dtype None = refl
 cancelled_keeps subject link sid dtype (Some sub) = refl
 
-subscribed_keeps : (subject : Subject) (minor : ℕ) (link : Link) (sid dtype native : ℕ) (want : Option Want) → list_all keeps_links (subscribed subject minor link sid dtype native want) ≡ true
+subscribed_keeps : (subject : Subject) (minor : ℕ) (link : LinkRow) (sid dtype native : ℕ) (want : Option Want) → list_all keeps_links (subscribed subject minor link sid dtype native want) ≡ true
 subscribed_keeps subject minor link sid dtype native None = refl
 subscribed_keeps subject minor link sid dtype native (Some want) = refl
 
-notices_keep : (subject : Subject) (minor : ℕ) (link : Link) (sid dtype native : ℕ) (want : Option Want) (sub : Option Subscription)
+notices_keep : (subject : Subject) (minor : ℕ) (link : LinkRow) (sid dtype native : ℕ) (want : Option Want) (sub : Option Subscription)
     → list_all keeps_links (notices_between subject minor link sid dtype native want sub) ≡ true
 notices_keep subject minor link sid dtype native want sub =
     let both : list_all keeps_links (cancelled subject link sid dtype sub ++ subscribed subject minor link sid dtype native want) ≡ true =
@@ -230,12 +230,12 @@ notices_keep subject minor link sid dtype native want sub =
     elim (is_for want sub) as (λ t. list_all keeps_links (cond t [] (cancelled subject link sid dtype sub ++ subscribed subject minor link sid dtype native want)) ≡ true)
     [ true ↦ refl | false ↦ both ]
 
-subject_keeps : (subject : Subject) (w : Gateway) (link : Link) (sid dtype native : ℕ) → list_all keeps_links (subject_notices subject w link sid dtype native) ≡ true
+subject_keeps : (subject : Subject) (w : Gateway) (link : LinkRow) (sid dtype native : ℕ) → list_all keeps_links (subject_notices subject w link sid dtype native) ≡ true
 subject_keeps subject w link sid dtype native =
     notices_keep subject (minor_of w link.server) link sid dtype native (wanted_for subject w link.name dtype native) (sub_at subject link.subscriptions)
 
 -- what a link is told because of what its readers want drops none
-pub interest_keeps : (w : Gateway) (link : Link) (state : LinkState) → list_all keeps_links (interest_notices w link state) ≡ true
+pub interest_keeps : (w : Gateway) (link : LinkRow) (state : LinkState) → list_all keeps_links (interest_notices w link state) ≡ true
 interest_keeps w link Creating = refl
 interest_keeps w link Unusable = refl
 interest_keeps w link (Connected sid dtype native) =

@@ -16,7 +16,7 @@ use Rattle.gateway_state.specs.Step.{consequences, step}
 use Rattle.gateway_state.specs.Telling.{outgoing_upstream}
 use Rattle.gateway_state.proofs.SettledSteps.{settled_stays}
 use Rattle.touched_rows.specs.declared.touched.Touched.TheVariants.{Nothing}
-use Rattle.touched_rows.specs.Touches.{event_touches, follows, reply_touches, request_touches}
+use Rattle.touched_rows.specs.Touches.{event_touches, consequences_of, reply_touches, request_touches}
 use Rattle.touched_rows.proofs.Aged.{told_after_age}
 use Rattle.touched_rows.proofs.Drained.{nothing_after_server_drain, told_drain}
 use Rattle.touched_rows.proofs.Found.{nothing_after_found}
@@ -30,20 +30,20 @@ use Rattle.touched_rows.proofs.Tidy.{IsTidy, reached_tidy}
 use Rattle.touched_rows.proofs.ToldClients.{told_request}
 use Rattle.touched_rows.proofs.ToldServers.{told_reply}
 
-told_event : (w : Gateway) (event : Event) → IsTidy w → consequences (direct_effect w event) ≡ follows (event_touches w event) (direct_effect w event)
+told_event : (w : Gateway) (event : Event) → IsTidy w → consequences (direct_effect w event) ≡ consequences_of (event_touches w event) (direct_effect w event)
 told_event w (Opened number host) tidy = nothing_after_opening w number host tidy.settled
 told_event w (Lost number) tidy = told_after_losing w tidy.settled tidy.order number
 told_event w (Client number message) tidy =
     elim (acts w (ToSession number))
     as (λ t. consequences (cond t (client_said w number message) w)
-    ≡ follows (cond t (request_touches w number (request_of message.head message.payload)) Nothing) (cond t (client_said w number message) w))
+    ≡ consequences_of (cond t (request_touches w number (request_of message.head message.payload)) Nothing) (cond t (client_said w number message) w))
     [ true ↦ told_request w tidy number message (request_of message.head message.payload) | false ↦ settled_stays w tidy.settled ]
 told_event w (UpOpened number) tidy = nothing_after_server_opening w number tidy.settled
 told_event w (UpLost number) tidy = told_after_losing_server w tidy number
 told_event w (Server number message) tidy =
     elim (acts w (Upstream number))
     as (λ t. consequences (cond t (server_said w number message) w)
-    ≡ follows (cond t (reply_touches w number (reply_of message.head message.payload)) Nothing) (cond t (server_said w number message) w))
+    ≡ consequences_of (cond t (reply_touches w number (reply_of message.head message.payload)) Nothing) (cond t (server_said w number message) w))
     [ true ↦ told_reply w tidy number (reply_of message.head message.payload) | false ↦ settled_stays w tidy.settled ]
 told_event w (Found name number) tidy = nothing_after_found w name number tidy.settled
 told_event w (Search host name) tidy = told_after_search host name w tidy.settled tidy.order.links
@@ -55,9 +55,9 @@ told_event w (Limit limits) tidy = refl
 told_event w Age tidy = told_after_age w tidy.settled tidy.order tidy.links_apart
 told_event w (Probe number) tidy = nothing_after_reply (Upstream number) (outgoing_upstream requests.Echo) w tidy.settled
 
-pub told_alone : (w : Gateway) (event : Event) → IsReached w → consequences (direct_effect w event) ≡ follows (event_touches w event) (direct_effect w event)
+pub told_alone : (w : Gateway) (event : Event) → IsReached w → consequences (direct_effect w event) ≡ consequences_of (event_touches w event) (direct_effect w event)
 told_alone w event reached = told_event w event (reached_tidy w reached)
 
-pub step_alone : (w : Gateway) (event : Event) → IsReached w → step w event ≡ follows (event_touches w event) (direct_effect w event)
+pub step_alone : (w : Gateway) (event : Event) → IsReached w → step w event ≡ consequences_of (event_touches w event) (direct_effect w event)
 unfolding step
 step_alone w event reached = told_alone w event reached

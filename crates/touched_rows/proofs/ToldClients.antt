@@ -11,11 +11,11 @@ use Rattle.ca_message.specs.declared.request.ClientRequest.TheVariants as reques
 use Rattle.ca_message.specs.declared.request.RequestFault.{RequestFault}
 use Rattle.ca_message.specs.declared.to_client.ToClient.{ToClient}
 use Rattle.ca_message.specs.declared.to_client.ToClient.TheVariants as replies
-use Rattle.channel_table.specs.declared.channels.Reach.{Reach}
-use Rattle.channel_table.specs.declared.channels.Channel.{Channel}
-use Rattle.channel_table.specs.declared.reads.WaitingRead.{WaitingRead}
-use Rattle.channel_table.specs.declared.subs.ClientSub.{ClientSub}
-use Rattle.channel_table.specs.Subs.{is_sub}
+use Rattle.named_rows.specs.declared.channels.Reach.{Reach}
+use Rattle.named_rows.specs.declared.channels.Channel.{Channel}
+use Rattle.named_rows.specs.declared.reads.WaitingRead.{WaitingRead}
+use Rattle.named_rows.specs.declared.subs.ClientSub.{ClientSub}
+use Rattle.named_rows.specs.Subs.{is_sub}
 use Rattle.gateway_state.specs.declared.event.Dest.TheVariants.{Session as ToSession}
 use Rattle.gateway_state.specs.declared.limits.TheConstants.{LOWEST_MINOR}
 use Rattle.gateway_state.specs.declared.notice.ReadVerdict.{ReadVerdict}
@@ -36,7 +36,7 @@ use Rattle.gateway_state.specs.Writing.{write_verdict}
 use Rattle.gateway_state.proofs.SettledSteps.{settled_stays}
 use Rattle.touched_rows.specs.declared.touched.Touched.TheVariants.{Nothing, Interest}
 use Rattle.touched_rows.specs.Touched.{interest_told, one_read_told}
-use Rattle.touched_rows.specs.Touches.{cancel_touches, cancel_touches_by, clear_touches, clear_touches_by, follows, new_read, read_touches, read_touches_by, request_touches, sub_touches, sub_touches_by}
+use Rattle.touched_rows.specs.Touches.{cancel_touches, cancel_touches_by, clear_touches, clear_touches_by, consequences_of, new_read, read_touches, read_touches_by, request_touches, sub_touches, sub_touches_by}
 use Rattle.touched_rows.proofs.Cleared.{told_after_clearing}
 use Rattle.touched_rows.proofs.Created.{settled_creation_failed, told_after_channel_asked}
 use Rattle.touched_rows.proofs.Nothing.{nothing_after_mark, nothing_after_reply, settled_sent}
@@ -80,23 +80,23 @@ module _ (w : Gateway) (tidy : IsTidy w) where
       elim (ltb minor LOWEST_MINOR) as (λ t. IsAll (cond t (marked (ToSession number) w) w))
       [ true ↦ nothing_after_mark (ToSession number) w tidy.settled | false ↦ nothing_at_all ]
 
-  told_sub : (sub : ClientSub) (head : Header) → sub.owed ≡ true → consequences (subscription_asked sub head w) ≡ follows (sub_touches w sub) (subscription_asked sub head w)
+  told_sub : (sub : ClientSub) (head : Header) → sub.owed ≡ true → consequences (subscription_asked sub head w) ≡ consequences_of (sub_touches w sub) (subscription_asked sub head w)
   told_sub sub head owed = by (channel_of w sub.session sub.sid) refl
     where
       made : (c : Channel) → channel_of w sub.session sub.sid ≡ Some c → (verdict : SubVerdict)
-          → consequences (sub_judged sub head verdict w) ≡ follows (sub_touches_by sub (Some c) verdict) (sub_judged sub head verdict w)
+          → consequences (sub_judged sub head verdict w) ≡ consequences_of (sub_touches_by sub (Some c) verdict) (sub_judged sub head verdict w)
       made c is subs.NoChannel = on_no_channel sub.session head
       made c is subs.Ignored = nothing_at_all
       made c is (subs.Refused cid code) = replied_all sub.session (replies.Error cid code head)
       made c is subs.Accepted = told_after_subscribing w tidy.settled tidy.links_apart sub owed c is
 
       by : (found : Option Channel) → channel_of w sub.session sub.sid ≡ found
-          → consequences (sub_judged sub head (sub_verdict_on w sub found) w) ≡ follows (sub_touches_by sub found (sub_verdict_on w sub found)) (sub_judged sub head (sub_verdict_on w sub found) w)
+          → consequences (sub_judged sub head (sub_verdict_on w sub found) w) ≡ consequences_of (sub_touches_by sub found (sub_verdict_on w sub found)) (sub_judged sub head (sub_verdict_on w sub found) w)
       by None is = on_no_channel sub.session head
       by (Some c) is = made c is (sub_verdict_over w sub c (connected w c.real))
 
   told_cancel : (number sid id dtype count : ℕ) (head : Header)
-      → consequences (subscription_cancelled number sid id dtype count head w) ≡ follows (cancel_touches w number sid id) (subscription_cancelled number sid id dtype count head w)
+      → consequences (subscription_cancelled number sid id dtype count head w) ≡ consequences_of (cancel_touches w number sid id) (subscription_cancelled number sid id dtype count head w)
   told_cancel number sid id dtype count head = by (channel_of w number sid) refl
     where
       gone : Gateway
@@ -106,7 +106,7 @@ module _ (w : Gateway) (tidy : IsTidy w) where
       kept c = request_refused number c.cid ECA_INTERNAL head w
 
       on_sid : (c : Channel) → channel_of w number sid ≡ Some c → (sub : ClientSub) → sub_of w number id ≡ Some sub → (same : Bool) → eqb sub.sid sid ≡ same
-          → consequences (cond same gone (kept c)) ≡ follows (cond same (Interest c.real) Nothing) (cond same gone (kept c))
+          → consequences (cond same gone (kept c)) ≡ consequences_of (cond same (Interest c.real) Nothing) (cond same gone (kept c))
       on_sid c is sub found true same =
           let key = and_parts (eqb sub.session number) (eqb sub.id id) (found_passes (is_sub number id) w.clients.subs sub found) in
           let sessions = eqb-true sub.session number key.0 in
@@ -116,31 +116,31 @@ module _ (w : Gateway) (tidy : IsTidy w) where
       on_sid c is sub found false same = replied_all number (replies.Error c.cid ECA_INTERNAL head)
 
       among : (c : Channel) → channel_of w number sid ≡ Some c → (sub : Option ClientSub) → sub_of w number id ≡ sub
-          → consequences (cond (is_on_sid sid sub) gone (kept c)) ≡ follows (cond (is_on_sid sid sub) (Interest c.real) Nothing) (cond (is_on_sid sid sub) gone (kept c))
+          → consequences (cond (is_on_sid sid sub) gone (kept c)) ≡ consequences_of (cond (is_on_sid sid sub) (Interest c.real) Nothing) (cond (is_on_sid sid sub) gone (kept c))
       among c is None found = replied_all number (replies.Error c.cid ECA_INTERNAL head)
       among c is (Some sub) found = on_sid c is sub found (eqb sub.sid sid) refl
 
       by : (found : Option Channel) → channel_of w number sid ≡ found
-          → consequences (cancelled_on number sid id dtype count head found w) ≡ follows (cancel_touches_by sid (sub_of w number id) found) (cancelled_on number sid id dtype count head found w)
+          → consequences (cancelled_on number sid id dtype count head found w) ≡ consequences_of (cancel_touches_by sid (sub_of w number id) found) (cancelled_on number sid id dtype count head found w)
       by None is = on_no_channel number head
       by (Some c) is = among c is (sub_of w number id) refl
 
-  told_clear : (number sid cid : ℕ) (head : Header) → consequences (channel_cleared number sid cid head w) ≡ follows (clear_touches w number sid) (channel_cleared number sid cid head w)
+  told_clear : (number sid cid : ℕ) (head : Header) → consequences (channel_cleared number sid cid head w) ≡ consequences_of (clear_touches w number sid) (channel_cleared number sid cid head w)
   told_clear number sid cid head = by (channel_of w number sid) refl
     where
-      by : (found : Option Channel) → channel_of w number sid ≡ found → consequences (cleared number sid cid head found w) ≡ follows (clear_touches_by found) (cleared number sid cid head found w)
+      by : (found : Option Channel) → channel_of w number sid ≡ found → consequences (cleared number sid cid head found w) ≡ consequences_of (clear_touches_by found) (cleared number sid cid head found w)
       by None is = on_no_channel number head
       by (Some c) is = told_after_clearing w tidy.settled tidy.order tidy.links_apart number sid c is (ToSession number) (outgoing (replies.ClearChannel sid cid))
 
   told_read : (number sid ioid dtype count : ℕ) (head : Header)
-      → consequences (read_asked number sid ioid dtype count head w) ≡ follows (read_touches w (new_read number sid ioid dtype count)) (read_asked number sid ioid dtype count head w)
+      → consequences (read_asked number sid ioid dtype count head w) ≡ consequences_of (read_touches w (new_read number sid ioid dtype count)) (read_asked number sid ioid dtype count head w)
   told_read number sid ioid dtype count head = by (channel_of w number sid) refl
     where
       read : WaitingRead
       read = new_read number sid ioid dtype count
 
       over : (c : Channel) → channel_of w number sid ≡ Some c → (verdict : ReadVerdict) → verdict_over w c dtype count (connected w c.real) ≡ verdict
-          → consequences (judged number sid ioid dtype count head verdict w) ≡ follows (read_touches_by read (Some c) verdict) (judged number sid ioid dtype count head verdict w)
+          → consequences (judged number sid ioid dtype count head verdict w) ≡ consequences_of (read_touches_by read (Some c) verdict) (judged number sid ioid dtype count head verdict w)
       over c is reads.NoChannel verdict = on_no_channel number head
       over c is reads.Ignored verdict = nothing_at_all
       over c is (reads.Refused code) verdict = replied_all number (replies.ReadNotifyRefused ioid dtype count code)
@@ -151,7 +151,7 @@ module _ (w : Gateway) (tidy : IsTidy w) where
 
       by : (found : Option Channel) → channel_of w number sid ≡ found
           → consequences (judged number sid ioid dtype count head (verdict_on w dtype count found) w)
-          ≡ follows (read_touches_by read found (verdict_on w dtype count found)) (judged number sid ioid dtype count head (verdict_on w dtype count found) w)
+          ≡ consequences_of (read_touches_by read found (verdict_on w dtype count found)) (judged number sid ioid dtype count head (verdict_on w dtype count found) w)
       by None is = on_no_channel number head
       by (Some c) is = over c is (verdict_over w c dtype count (connected w c.real)) refl
 
@@ -175,7 +175,7 @@ module _ (w : Gateway) (tidy : IsTidy w) where
       ]
 
   pub told_request : (number : ℕ) (message : Message) (asked : Result ClientRequest RequestFault)
-      → consequences (requested w number message asked) ≡ follows (request_touches w number asked) (requested w number message asked)
+      → consequences (requested w number message asked) ≡ consequences_of (request_touches w number asked) (requested w number message asked)
   told_request number message (Ok (requests.Version minor)) = told_version number minor
   told_request number message (Ok (requests.EventAdd add)) =
       told_sub (new_sub number add.sid add.id add.dtype add.count add.mask) message.head refl

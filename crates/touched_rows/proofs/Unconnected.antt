@@ -4,8 +4,8 @@ use Rattle.std.specs.Prelude.{filter}
 use Rattle.std.specs.List.{All, find}
 use Rattle.std.proofs.lemmas.Bool.{and_parts, eqb-true, true≢false}
 use Rattle.std.proofs.lemmas.List.Elements.{All-weaker}
-use Rattle.channel_table.specs.declared.channels.Channel.{Channel}
-use Rattle.link_table.specs.declared.links.Link.{Link}
+use Rattle.named_rows.specs.declared.channels.Channel.{Channel}
+use Rattle.link_table.specs.declared.links.LinkRow.{LinkRow}
 use Rattle.link_table.specs.Links.{is_link, is_named}
 use Rattle.gateway_state.specs.Gateway.{Gateway}
 use Rattle.gateway_state.specs.Resolution.{is_real}
@@ -43,10 +43,10 @@ only_one {A = A} test other (row ∷ rows) a b one is_a is_b passes =
 
 -- ---- the link of a channel that a server was asked for
 
-module _ (w : Gateway) (order : AreNumbersApart w) (server cid : ℕ) (link : Link) (found : find (is_link server cid) w.upstream.links ≡ Some link) where
-  pub the_link : All (λ (row : Link). is_link server cid row ≡ true → row ≡ link) w.upstream.links
+module _ (w : Gateway) (order : AreNumbersApart w) (server cid : ℕ) (link : LinkRow) (found : find (is_link server cid) w.upstream.links ≡ Some link) where
+  pub the_link : All (λ (row : LinkRow). is_link server cid row ≡ true → row ≡ link) w.upstream.links
   the_link =
-      All-weaker (λ (row : Link). row.cid ≡ link.cid → row ≡ link) (λ (row : Link). is_link server cid row ≡ true → row ≡ link)
+      All-weaker (λ (row : LinkRow). row.cid ≡ link.cid → row ≡ link) (λ (row : LinkRow). is_link server cid row ≡ true → row ≡ link)
       (λ row one is.
       let here = and_parts (eqb row.server server) (eqb row.cid cid) is in
       let there = and_parts (eqb link.server server) (eqb link.cid cid) (found_passes (is_link server cid) w.upstream.links link found) in
@@ -58,11 +58,11 @@ module _ (w : Gateway) (order : AreNumbersApart w) (server cid : ℕ) (link : Li
     unnamed c connected =
         elim (is_named c.real link) as (λ t. is_named c.real link ≡ t → t ≡ false) [ true ↦ λ named. by (link_of w c.real) refl connected named | false ↦ λ named. refl ] refl
       where
-        by : (over : Option Link) → link_of w c.real ≡ over → link_connected over ≡ true → is_named c.real link ≡ true → true ≡ false
+        by : (over : Option LinkRow) → link_of w c.real ≡ over → link_connected over ≡ true → is_named c.real link ≡ true → true ≡ false
         by None is connected named = sym connected
         by (Some l) is connected named =
             let same : l ≡ link = only_one (is_named c.real) (is_link server cid) w.upstream.links l link (links_apart c.real) is found named in
-            sym connected ∙ ap (λ (k : Link). is_connected k.state) same ∙ unconnected
+            sym connected ∙ ap (λ (k : LinkRow). is_connected k.state) same ∙ unconnected
 
     pub no_channel : All (λ (c : Channel). is_named c.real link ≡ false) w.clients.channels
     no_channel =

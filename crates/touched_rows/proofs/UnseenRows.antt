@@ -4,14 +4,14 @@ use Rattle.std.specs.Prelude.{bit_and, filter, filter_map, map}
 use Rattle.std.specs.List.{All, find}
 use Rattle.std.proofs.lemmas.List.Elements.{All-weaker}
 use Rattle.ca_message.specs.declared.codes.TheConstants.{ECA_NORDACCESS}
-use Rattle.channel_table.specs.declared.channels.Channel.{Channel}
-use Rattle.channel_table.specs.declared.reads.WaitingRead.{WaitingRead}
+use Rattle.named_rows.specs.declared.channels.Channel.{Channel}
+use Rattle.named_rows.specs.declared.reads.WaitingRead.{WaitingRead}
 use Rattle.channel_table.specs.declared.sessions.Session.{Session}
-use Rattle.channel_table.specs.declared.subs.ClientSub.{ClientSub}
-use Rattle.channel_table.specs.Channels.{is_channel, is_on}
+use Rattle.named_rows.specs.declared.subs.ClientSub.{ClientSub}
+use Rattle.named_rows.specs.Channels.{is_channel, is_on}
 use Rattle.channel_table.specs.Sessions.{is_numbered}
-use Rattle.channel_table.specs.Demand.{own_ask}
-use Rattle.link_table.specs.declared.links.Link.{Link}
+use Rattle.named_rows.specs.Demand.{own_ask}
+use Rattle.link_table.specs.declared.links.LinkRow.{LinkRow}
 use Rattle.link_table.specs.LinkRows.{Counters}
 use Rattle.link_table.specs.Links.{is_named}
 use Rattle.gateway_state.specs.declared.connections.Connection.{Connection}
@@ -26,16 +26,16 @@ use Rattle.gateway_state.specs.Updates.{is_unreadable, update_notice, update_not
 use Rattle.gateway_state.specs.Variables.{connected_over, link_of}
 use Rattle.gateway_state.proofs.SettledChannels.{notice_by}
 use Rattle.gateway_state.proofs.SettledMeaning.{none_told}
-use Rattle.touched_rows.proofs.LessGiven.{is_open, update_if_open}
+use Rattle.touched_rows.proofs.LessGiven.{is_given_to, update_if_open}
 use Rattle.touched_rows.proofs.ReadersOf.{filtered_alike, planned_alike}
 use Rattle.touched_rows.proofs.TouchedAlone.{found_holds, none_planned}
 
 -- the channel's name leads where it led, and its variable has the link that it had
-abbrev pub IsUnseen : Gateway → List Session → List Link → Channel → Type 0
+abbrev pub IsUnseen : Gateway → List Session → List LinkRow → Channel → Type 0
 IsUnseen w sessions links c =
     (lead_for w.policy c.asked (find (is_numbered c.session) sessions) ≡ lead_in w c.session c.asked) × (find (is_named c.real) links ≡ link_of w c.real)
 
-module _ (w : Gateway) (settled : IsSettled w) (connections : List Connection) (sessions : List Session) (links : List Link) (counters : Counters)
+module _ (w : Gateway) (settled : IsSettled w) (connections : List Connection) (sessions : List Session) (links : List LinkRow) (counters : Counters)
     (unseen : All (IsUnseen w sessions links) w.clients.channels) where
   abbrev pub changed : Gateway
   changed = record w {
@@ -114,7 +114,7 @@ module _ (w : Gateway) (settled : IsSettled w) (connections : List Connection) (
           λ i. cond (may_read (rights i)) (update_over w sub (connected_over (over i))) None
 
   -- where no session takes updates that didn't before
-  module _ (open_before : (number : ℕ) → is_open changed number ≡ true → is_open w number ≡ true) where
+  module _ (open_before : (number : ℕ) → is_given_to changed number ≡ true → is_given_to w number ≡ true) where
     pub updates_unseen : update_notices changed ≡ []
     updates_unseen =
         none_planned (update_notice changed) w.clients.subs

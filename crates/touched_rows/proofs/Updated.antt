@@ -6,11 +6,11 @@ use Rattle.std.proofs.lemmas.Bool.{eqb-true, true≢false}
 use Rattle.std.proofs.lemmas.List.Elements.{All-map, All-weaker}
 use Rattle.std.proofs.lemmas.Slice.Eq.{bytes_eq-Decides}
 use Rattle.ca_message.specs.declared.codes.TheConstants.{ECA_NORDACCESS}
-use Rattle.channel_table.specs.declared.channels.Channel.{Channel}
-use Rattle.channel_table.specs.declared.reads.WaitingRead.{WaitingRead}
-use Rattle.channel_table.specs.declared.subs.ClientSub.{ClientSub}
-use Rattle.channel_table.specs.Subs.{with_owed}
-use Rattle.link_table.specs.declared.links.Link.{Link}
+use Rattle.named_rows.specs.declared.channels.Channel.{Channel}
+use Rattle.named_rows.specs.declared.reads.WaitingRead.{WaitingRead}
+use Rattle.named_rows.specs.declared.subs.ClientSub.{ClientSub}
+use Rattle.named_rows.specs.Subs.{with_owed}
+use Rattle.link_table.specs.declared.links.LinkRow.{LinkRow}
 use Rattle.link_table.specs.declared.links.LinkState.{LinkState}
 use Rattle.link_table.specs.declared.links.LinkState.TheVariants.{Creating, Connected, Unusable}
 use Rattle.link_table.specs.Links.{has_subscription, is_named}
@@ -30,7 +30,7 @@ use Rattle.gateway_state.specs.Servers.{concerned_owed, waits_for}
 use Rattle.gateway_state.specs.Settled.{AreNumbersApart, HasSubsApart, IsSettled}
 use Rattle.gateway_state.specs.Step.{consequences}
 use Rattle.gateway_state.specs.Updates.{concerned, is_open_to, is_sub_to, update_by, update_notice, update_notices, update_on, update_over, update_told, updates_told}
-use Rattle.channel_table.specs.Channels.{is_channel_on}
+use Rattle.named_rows.specs.Channels.{is_channel_on}
 use Rattle.gateway_state.specs.Variables.{connected_in, connected_over, link_of}
 use Rattle.gateway_state.proofs.LinkNotices.{link_notices_alike}
 use Rattle.gateway_state.proofs.SettledMeaning.{none_told}
@@ -64,11 +64,11 @@ module _ (w : Gateway) (test : ClientSub → Bool) (change : List LastMessage �
   links_same = λ i. flat_map (λ link. link_notices_alike x w asks_same (λ server. refl) (λ name. refl) link i) w.upstream.links
 
   -- what is read over a link of which what is held stays
-  abbrev IsBeside : Option Link → Type 0
+  abbrev IsBeside : Option LinkRow → Type 0
   IsBeside None = Unit {0}
   IsBeside (Some link) = eqb link.cid cid ≡ false
 
-  answered_beside : (read : WaitingRead) (link : Option Link) → IsBeside link → answered_over x read (connected_over link) ≡ answered_over w read (connected_over link)
+  answered_beside : (read : WaitingRead) (link : Option LinkRow) → IsBeside link → answered_over x read (connected_over link) ≡ answered_over w read (connected_over link)
   answered_beside read None beside = refl
   answered_beside read (Some link) beside = by link.state
     where
@@ -78,7 +78,7 @@ module _ (w : Gateway) (test : ClientSub → Bool) (change : List LastMessage �
       by (Connected sid dtype count) =
           ap (λ (found : Option LastMessage). answered_by read (cached_as count read.dtype read.count found)) (others link.cid beside)
 
-  updated_beside : (sub : ClientSub) (link : Option Link) → IsBeside link → update_over x sub (connected_over link) ≡ update_over w sub (connected_over link)
+  updated_beside : (sub : ClientSub) (link : Option LinkRow) → IsBeside link → update_over x sub (connected_over link) ≡ update_over w sub (connected_over link)
   updated_beside sub None beside = refl
   updated_beside sub (Some link) beside = by link.state
     where
@@ -90,7 +90,7 @@ module _ (w : Gateway) (test : ClientSub → Bool) (change : List LastMessage �
 
 -- ---- the update
 
-module _ (w : Gateway) (settled : IsSettled w) (order : AreNumbersApart w) (apart : HasSubsApart w) (server id : ℕ) (link : Link)
+module _ (w : Gateway) (settled : IsSettled w) (order : AreNumbersApart w) (apart : HasSubsApart w) (server id : ℕ) (link : LinkRow)
     (found : find (has_subscription server id) w.upstream.links ≡ Some link) (change : List LastMessage → List LastMessage)
     (others : (other : ℕ) → eqb other link.cid ≡ false → find (is_cached_of other) (change w.cache) ≡ find (is_cached_of other) w.cache) (passes : ClientSub → Bool) where
   abbrev test : ClientSub → Bool
@@ -103,13 +103,13 @@ module _ (w : Gateway) (settled : IsSettled w) (order : AreNumbersApart w) (apar
   beside : (name : List ℕ) → bytes_eq name link.name ≡ false → IsBeside w test change link.cid others (link_of w name)
   beside name other = by (link_of w name) refl
     where
-      by : (over : Option Link) → link_of w name ≡ over → IsBeside w test change link.cid others over
+      by : (over : Option LinkRow) → link_of w name ≡ over → IsBeside w test change link.cid others over
       by None is = tt
       by (Some l) is = elim (eqb l.cid link.cid) as (λ t. eqb l.cid link.cid ≡ t → t ≡ false) [
         | true ↦ λ same.
             let one : l ≡ link = same_number (is_named name) (has_subscription server id) w.upstream.links l link order.links.apart is found (eqb-true l.cid link.cid same) in
             let named : l.name ≡ name = (bytes_eq-Decides l.name name).0 (found_passes (is_named name) w.upstream.links l is) in
-            absurd (true≢false (sym ((bytes_eq-Decides name link.name).1 (sym named ∙ ap (λ (k : Link). k.name) one)) ∙ other))
+            absurd (true≢false (sym ((bytes_eq-Decides name link.name).1 (sym named ∙ ap (λ (k : LinkRow). k.name) one)) ∙ other))
         | false ↦ λ same. refl
       ] refl
 

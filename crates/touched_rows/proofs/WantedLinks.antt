@@ -7,8 +7,8 @@ use Rattle.std.proofs.lemmas.List.Elements.{All-filter, All-head, All-tail, All-
 use Rattle.std.proofs.lemmas.List.Folds.{list_any-append}
 use Rattle.std.proofs.lemmas.Slice.Eq.{bytes_eq-Decides}
 use Rattle.ca_message.specs.declared.to_server.ToServer.TheVariants as requests
-use Rattle.channel_table.specs.declared.channels.Channel.{Channel}
-use Rattle.link_table.specs.declared.links.Link.{Link}
+use Rattle.named_rows.specs.declared.channels.Channel.{Channel}
+use Rattle.link_table.specs.declared.links.LinkRow.{LinkRow}
 use Rattle.link_table.specs.declared.links.LinkState.{LinkState}
 use Rattle.link_table.specs.declared.links.LinkState.TheVariants.{Creating, Connected, Unusable}
 use Rattle.link_table.specs.declared.links.Subscription.{Subscription}
@@ -30,7 +30,7 @@ use Rattle.gateway_state.specs.Settled.{AreUnlike, is_same_link}
 use Rattle.gateway_state.specs.Telling.{outgoing_upstream, sent}
 use Rattle.gateway_state.specs.Variables.{is_wanted, link_of}
 use Rattle.touched_rows.specs.Touched.{link_notices_over}
-use Rattle.touched_rows.proofs.LessGiven.{bare, is_open}
+use Rattle.touched_rows.proofs.LessGiven.{bare, is_given_to}
 use Rattle.touched_rows.proofs.Numbered.{each_alone, one_of_cid}
 use Rattle.touched_rows.proofs.ReadersOf.{found_left, not_not}
 use Rattle.touched_rows.proofs.Shapes.{links_told_shape, with_links}
@@ -55,7 +55,7 @@ dropped_cache server cid Creating v = refl
 dropped_cache server cid (Connected sid dtype count) v = refl
 dropped_cache server cid Unusable v = refl
 
-dropped_open : (server cid : ℕ) (state : LinkState) (v : Gateway) (number : ℕ) → is_open (dropped server cid state v) number ≡ true → is_open v number ≡ true
+dropped_open : (server cid : ℕ) (state : LinkState) (v : Gateway) (number : ℕ) → is_given_to (dropped server cid state v) number ≡ true → is_given_to v number ≡ true
 dropped_open server cid Creating v number open_to = open_to
 dropped_open server cid (Connected sid dtype count) v number open_to =
     (less_sent (Upstream server) (outgoing_upstream (requests.ClearChannel sid cid)) (without_link server cid v)).sessions number open_to
@@ -72,7 +72,7 @@ value_after v (Dropped server of state) cid native dtype count none =
     ap (λ (rows : List LastMessage). cached_as native dtype count (find (is_cached_of cid) rows)) (dropped_cache server of state v)
     ∙ (less_without_cached of v).values cid native dtype count none
 
-open_after : (v : Gateway) (notice : LinkNotice) (number : ℕ) → is_open (link_told v notice) number ≡ true → is_open v number ≡ true
+open_after : (v : Gateway) (notice : LinkNotice) (number : ℕ) → is_given_to (link_told v notice) number ≡ true → is_given_to v number ≡ true
 open_after v (Cancelled subject server cid sid dtype sub) number open_to = (less_link_told v (Cancelled subject server cid sid dtype sub) refl).sessions number open_to
 open_after v (Unread subject cid) number open_to = (less_link_told v (Unread subject cid) refl).sessions number open_to
 open_after v (Subscribed subject server cid sid dtype want asked) number open_to = (less_link_told v (Subscribed subject server cid sid dtype want asked) refl).sessions number open_to
@@ -83,7 +83,7 @@ pub values_no_more : (notices : List LinkNotice) (v : Gateway) (cid native dtype
 values_no_more [] v cid native dtype count none = none
 values_no_more (notice ∷ notices) v cid native dtype count none = values_no_more notices (link_told v notice) cid native dtype count (value_after v notice cid native dtype count none)
 
-pub open_no_more : (notices : List LinkNotice) (v : Gateway) (number : ℕ) → is_open (fold link_told v notices) number ≡ true → is_open v number ≡ true
+pub open_no_more : (notices : List LinkNotice) (v : Gateway) (number : ℕ) → is_given_to (fold link_told v notices) number ≡ true → is_given_to v number ≡ true
 open_no_more [] v number open_to = open_to
 open_no_more (notice ∷ notices) v number open_to = open_after v notice number (open_no_more notices (link_told v notice) number open_to)
 
@@ -97,11 +97,11 @@ drops server cid (Subscribed subject of_server of_cid sid dtype want asked) = fa
 drops server cid (Dropped of_server of_cid state) = eqb server of_server && eqb cid of_cid
 
 -- where the link is the variable's, no notice drops it
-abbrev pub IsSpared : List ℕ → List LinkNotice → Link → Type 0
+abbrev pub IsSpared : List ℕ → List LinkNotice → LinkRow → Type 0
 IsSpared name notices row = is_named name row ≡ true → list_any (drops row.server row.cid) notices ≡ false
 
 module _ (name : List ℕ) (notices : List LinkNotice) where
-  later : (notice : LinkNotice) (rows : List Link) → All (IsSpared name (notice ∷ notices)) rows → All (IsSpared name notices) rows
+  later : (notice : LinkNotice) (rows : List LinkRow) → All (IsSpared name (notice ∷ notices)) rows → All (IsSpared name notices) rows
   later notice rows all =
       All-weaker (IsSpared name (notice ∷ notices)) (IsSpared name notices)
       (λ row spared named. (neither (drops row.server row.cid notice) (list_any (drops row.server row.cid) notices) (spared named)).1) rows all
@@ -120,7 +120,7 @@ module _ (name : List ℕ) (notices : List LinkNotice) where
       subst (All (IsSpared name notices)) (sym (dropped_links server cid state v))
       (All-filter (is_not_link server cid) (IsSpared name notices) v.upstream.links (later (Dropped server cid state) v.upstream.links all))
 
-  unnamed : (server cid : ℕ) (state : LinkState) (row : Link) → IsSpared name (Dropped server cid state ∷ notices) row → is_not_link server cid row ≡ false → is_named name row ≡ false
+  unnamed : (server cid : ℕ) (state : LinkState) (row : LinkRow) → IsSpared name (Dropped server cid state ∷ notices) row → is_not_link server cid row ≡ false → is_named name row ≡ false
   unnamed server cid state row spared gone = by (is_named name row) refl
     where
       by : (named : Bool) → is_named name row ≡ named → named ≡ false
@@ -134,10 +134,10 @@ module _ (name : List ℕ) (notices : List LinkNotice) where
   link_after v (Unread subject cid) all = (less_link_told v (Unread subject cid) refl).links name
   link_after v (Subscribed subject server cid sid dtype want asked) all = (less_link_told v (Subscribed subject server cid sid dtype want asked) refl).links name
   link_after v (Dropped server cid state) all =
-      ap (λ (links : List Link). option_map bare (find (is_named name) links)) (dropped_links server cid state v)
+      ap (λ (links : List LinkRow). option_map bare (find (is_named name) links)) (dropped_links server cid state v)
       ∙ ap (option_map bare)
       (found_left (is_named name) (is_not_link server cid) v.upstream.links
-      (All-weaker (IsSpared name (Dropped server cid state ∷ notices)) (λ (row : Link). is_not_link server cid row ≡ false → is_named name row ≡ false)
+      (All-weaker (IsSpared name (Dropped server cid state ∷ notices)) (λ (row : LinkRow). is_not_link server cid row ≡ false → is_named name row ≡ false)
       (unnamed server cid state) v.upstream.links all))
 
 spared_link_kept : (name : List ℕ) (notices : List LinkNotice) (v : Gateway) → All (IsSpared name notices) v.upstream.links
@@ -177,11 +177,11 @@ kept_spares server cid (Subscribed subject of_server of_cid sid dtype want asked
 kept_spares server cid (Dropped of_server of_cid state ∷ notices) keep = absurd (true≢false (sym keep))
 
 -- no other row has the numbers of this link
-abbrev IsAlone : List Link → Link → Type 0
-IsAlone rows link = All (λ (row : Link). is_link link.server link.cid row ≡ true → row ≡ link) rows
+abbrev IsAlone : List LinkRow → LinkRow → Type 0
+IsAlone rows link = All (λ (row : LinkRow). is_link link.server link.cid row ≡ true → row ≡ link) rows
 
 module _ (x : Gateway) where
-  spared_by : (link row : Link) → (is_link link.server link.cid row ≡ true → row ≡ link) → is_wanted x row.name ≡ true → list_any (drops row.server row.cid) (link_notices_of x link) ≡ false
+  spared_by : (link row : LinkRow) → (is_link link.server link.cid row ≡ true → row ≡ link) → is_wanted x row.name ≡ true → list_any (drops row.server row.cid) (link_notices_of x link) ≡ false
   spared_by link row one wanted =
       list_any-append (drops row.server row.cid) (interest_notices x link link.state) (cond (is_wanted x link.name) [] (Dropped link.server link.cid link.state ∷ []))
       ∙ rw (kept_spares row.server row.cid (interest_notices x link link.state) (interest_keeps x link link.state)) (by (is_wanted x link.name) (is_link link.server link.cid row) refl refl)
@@ -189,20 +189,20 @@ module _ (x : Gateway) where
       by : (is_so here : Bool) → is_wanted x link.name ≡ is_so → is_link link.server link.cid row ≡ here
           → list_any (drops row.server row.cid) (cond is_so [] (Dropped link.server link.cid link.state ∷ [])) ≡ false
       by true here e is = refl
-      by false true e is = absurd (true≢false (sym wanted ∙ ap (λ (l : Link). is_wanted x l.name) (one is) ∙ e))
+      by false true e is = absurd (true≢false (sym wanted ∙ ap (λ (l : LinkRow). is_wanted x l.name) (one is) ∙ e))
       by false false e is = rw is refl
 
-  spared_each : (name : List ℕ) → is_wanted x name ≡ true → (link : Link) (rows : List Link) → IsAlone rows link → All (IsSpared name (link_notices_of x link)) rows
+  spared_each : (name : List ℕ) → is_wanted x name ≡ true → (link : LinkRow) (rows : List LinkRow) → IsAlone rows link → All (IsSpared name (link_notices_of x link)) rows
   spared_each name wanted link rows alone =
-      All-weaker (λ (row : Link). is_link link.server link.cid row ≡ true → row ≡ link) (IsSpared name (link_notices_of x link))
+      All-weaker (λ (row : LinkRow). is_link link.server link.cid row ≡ true → row ≡ link) (IsSpared name (link_notices_of x link))
       (λ row one named. spared_by link row one (ap (is_wanted x) ((bytes_eq-Decides row.name name).0 named) ∙ wanted)) rows alone
 
-  both_spared : (name : List ℕ) (first more : List LinkNotice) (rows : List Link) → All (IsSpared name first) rows → All (IsSpared name more) rows → All (IsSpared name (first ++ more)) rows
+  both_spared : (name : List ℕ) (first more : List LinkNotice) (rows : List LinkRow) → All (IsSpared name first) rows → All (IsSpared name more) rows → All (IsSpared name (first ++ more)) rows
   both_spared name first more rows here rest k d within named =
-      let row : Link = get_or rows k d in
+      let row : LinkRow = get_or rows k d in
       list_any-append (drops row.server row.cid) first more ∙ rw (here k d within named, rest k d within named) refl
 
-  spared_all : (name : List ℕ) → is_wanted x name ≡ true → (links rows : List Link) → All (IsAlone rows) links → All (IsSpared name (flat_map (link_notices_of x) links)) rows
+  spared_all : (name : List ℕ) → is_wanted x name ≡ true → (links rows : List LinkRow) → All (IsAlone rows) links → All (IsSpared name (flat_map (link_notices_of x) links)) rows
   spared_all name wanted [] rows alone = λ k d within. λ named. refl
   spared_all name wanted (link ∷ links) rows alone =
       both_spared name (link_notices_of x link) (flat_map (link_notices_of x) links) rows
@@ -212,21 +212,21 @@ module _ (x : Gateway) where
 pub one_spares : (x : Gateway) → AreUnlike is_same_link x.upstream.links → (name : List ℕ) → SparesWanted x (link_notices_over x (link_of x name))
 one_spares x order name other wanted = by (link_of x name) refl
   where
-    by : (found : Option Link) → link_of x name ≡ found → All (IsSpared other (link_notices_over x found)) x.upstream.links
+    by : (found : Option LinkRow) → link_of x name ≡ found → All (IsSpared other (link_notices_over x found)) x.upstream.links
     by None is = λ k d within. λ named. refl
     by (Some link) is =
         spared_each x other wanted link x.upstream.links
-        (All-weaker (λ (row : Link). row.cid ≡ link.cid → row ≡ link) (λ (row : Link). is_link link.server link.cid row ≡ true → row ≡ link)
+        (All-weaker (λ (row : LinkRow). row.cid ≡ link.cid → row ≡ link) (λ (row : LinkRow). is_link link.server link.cid row ≡ true → row ≡ link)
         (λ row one same. one (eqb-true row.cid link.cid (and_parts (eqb row.server link.server) (eqb row.cid link.cid) same).1))
         x.upstream.links (one_of_cid (is_named name) x.upstream.links link order is))
 
 -- those on any of the links
-pub some_spare : (x : Gateway) → AreUnlike is_same_link x.upstream.links → (touched : Link → Bool) → SparesWanted x (flat_map (link_notices_of x) (filter touched x.upstream.links))
+pub some_spare : (x : Gateway) → AreUnlike is_same_link x.upstream.links → (touched : LinkRow → Bool) → SparesWanted x (flat_map (link_notices_of x) (filter touched x.upstream.links))
 some_spare x order touched name wanted =
-    let rows : List Link = x.upstream.links in
+    let rows : List LinkRow = x.upstream.links in
     spared_all x name wanted (filter touched rows) rows
     (All-filter touched (IsAlone rows) rows
-    (All-weaker (λ (link : Link). All (λ (row : Link). row.cid ≡ link.cid → row ≡ link) rows) (IsAlone rows)
-    (λ link one. All-weaker (λ (row : Link). row.cid ≡ link.cid → row ≡ link) (λ (row : Link). is_link link.server link.cid row ≡ true → row ≡ link)
+    (All-weaker (λ (link : LinkRow). All (λ (row : LinkRow). row.cid ≡ link.cid → row ≡ link) rows) (IsAlone rows)
+    (λ link one. All-weaker (λ (row : LinkRow). row.cid ≡ link.cid → row ≡ link) (λ (row : LinkRow). is_link link.server link.cid row ≡ true → row ≡ link)
     (λ row same is. same (eqb-true row.cid link.cid (and_parts (eqb row.server link.server) (eqb row.cid link.cid) is).1)) rows one)
     rows (each_alone rows order)))

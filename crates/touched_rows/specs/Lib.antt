@@ -1,2 +1,3 @@
+pub mod Concern
 pub mod Touched
 pub mod Touches

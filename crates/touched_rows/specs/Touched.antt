@@ -1,11 +1,11 @@
 -- What is told on one variable, to one session, on one link, read or subscription alone.
 use Rattle.std.specs.Prelude.{ℕ, List, [], Bool, true, if◌then◌else◌, filter, filter_map, flat_map, map, Option, Some, None}
 use Rattle.std.specs.List.{fold}
-use Rattle.channel_table.specs.declared.channels.Channel.{Channel}
-use Rattle.channel_table.specs.declared.reads.WaitingRead.{WaitingRead}
-use Rattle.channel_table.specs.declared.subs.ClientSub.{ClientSub}
-use Rattle.channel_table.specs.Subs.{is_sub_of, with_owed}
-use Rattle.link_table.specs.declared.links.Link.{Link}
+use Rattle.named_rows.specs.declared.channels.Channel.{Channel}
+use Rattle.named_rows.specs.declared.reads.WaitingRead.{WaitingRead}
+use Rattle.named_rows.specs.declared.subs.ClientSub.{ClientSub}
+use Rattle.named_rows.specs.Subs.{is_sub_of, with_owed}
+use Rattle.link_table.specs.declared.links.LinkRow.{LinkRow}
 use Rattle.gateway_state.specs.declared.notice.ChannelNotice.{ChannelNotice}
 use Rattle.gateway_state.specs.declared.notice.ChannelNotice.TheVariants.{Disconnected}
 use Rattle.gateway_state.specs.declared.notice.LinkNotice.{LinkNotice}
@@ -15,7 +15,7 @@ use Rattle.gateway_state.specs.Gateway.{Gateway}
 use Rattle.gateway_state.specs.Notices.{channel_notice, channel_told, interest_notices, link_notices_of, link_told, read_notice, read_told}
 use Rattle.gateway_state.specs.Servers.{waits_for}
 use Rattle.gateway_state.specs.Updates.{is_sub_to, is_withheld, owed_to_all, update_notice, update_told}
-use Rattle.channel_table.specs.Channels.{is_on}
+use Rattle.named_rows.specs.Channels.{is_on}
 use Rattle.gateway_state.specs.Variables.{is_among, link_of}
 
 -- CHANNELS
@@ -44,7 +44,7 @@ channels_gone_on names w = fold channel_told w (gone_notices_among names w)
 
 -- LINKS
 
-abbrev pub interest_notices_over : Gateway → Option Link → List LinkNotice
+abbrev pub interest_notices_over : Gateway → Option LinkRow → List LinkNotice
 interest_notices_over w None = []
 interest_notices_over w (Some link) = interest_notices w link link.state
 
@@ -52,7 +52,7 @@ interest_notices_over w (Some link) = interest_notices w link link.state
 abbrev pub interest_told : List ℕ → Gateway → Gateway
 interest_told name w = fold link_told w (interest_notices_over w (link_of w name))
 
-abbrev pub link_notices_over : Gateway → Option Link → List LinkNotice
+abbrev pub link_notices_over : Gateway → Option LinkRow → List LinkNotice
 link_notices_over w None = []
 link_notices_over w (Some link) = link_notices_of w link
 
@@ -60,7 +60,7 @@ link_notices_over w (Some link) = link_notices_of w link
 abbrev pub link_told_on : List ℕ → Gateway → Gateway
 link_told_on name w = fold link_told w (link_notices_over w (link_of w name))
 
-abbrev pub is_link_among : List (List ℕ) → Link → Bool
+abbrev pub is_link_among : List (List ℕ) → LinkRow → Bool
 is_link_among names link = is_among names link.name
 
 abbrev pub link_notices_among : List (List ℕ) → Gateway → List LinkNotice

@@ -10,16 +10,16 @@ use Rattle.ca_message.specs.declared.request.ClientRequest.TheVariants as reques
 use Rattle.ca_message.specs.declared.request.RequestFault.{RequestFault}
 use Rattle.ca_message.specs.ClientRequest.{request_of}
 use Rattle.ca_message.specs.ServerReply.{reply_of}
-use Rattle.channel_table.specs.declared.channels.Channel.{Channel}
-use Rattle.channel_table.specs.declared.reads.WaitingRead.{WaitingRead}
+use Rattle.named_rows.specs.declared.channels.Channel.{Channel}
+use Rattle.named_rows.specs.declared.reads.WaitingRead.{WaitingRead}
 use Rattle.channel_table.specs.declared.sessions.Session.{Session as SessionRow}
-use Rattle.channel_table.specs.declared.subs.ClientSub.{ClientSub}
-use Rattle.channel_table.specs.Channels.{is_channel_of}
+use Rattle.named_rows.specs.declared.subs.ClientSub.{ClientSub}
+use Rattle.named_rows.specs.Channels.{is_channel_of}
 use Rattle.channel_table.specs.ClientRows.{channel_count}
 use Rattle.channel_table.specs.Sessions.{is_numbered}
 use Rattle.pv_alias.specs.declared.lead.Lead.{Lead}
 use Rattle.rule_desk.specs.declared.policy.Policy.{Policy}
-use Rattle.link_table.specs.declared.links.Link.{Link}
+use Rattle.link_table.specs.declared.links.LinkRow.{LinkRow}
 use Rattle.link_table.specs.declared.links.LinkState.{LinkState}
 use Rattle.link_table.specs.declared.links.LinkState.TheVariants.{Creating, Connected, Unusable}
 use Rattle.link_table.specs.declared.links.Subject.{Subject}
@@ -29,7 +29,7 @@ use Rattle.gateway_state.specs.declared.event.Dest.{Dest}
 use Rattle.gateway_state.specs.declared.event.Dest.TheVariants as dests
 use Rattle.gateway_state.specs.declared.event.Event.{Event}
 use Rattle.gateway_state.specs.declared.event.Event.TheVariants as events
-use Rattle.gateway_state.specs.declared.search.Search.{Search}
+use Rattle.gateway_state.specs.declared.search.RememberedSearch.{RememberedSearch}
 use Rattle.gateway_state.specs.declared.notice.ReadVerdict.{ReadVerdict}
 use Rattle.gateway_state.specs.declared.notice.ReadVerdict.TheVariants as reads
 use Rattle.gateway_state.specs.declared.notice.SubVerdict.{SubVerdict}
@@ -41,37 +41,40 @@ use Rattle.gateway_state.specs.Quantities.{Code, Count, Dtype, Ioid, ServerNumbe
 use Rattle.gateway_state.specs.Resolution.{lead_of}
 use Rattle.gateway_state.specs.Rights.{channel_of, lead_in}
 use Rattle.gateway_state.specs.Searches.{is_stale, left_by_search}
-use Rattle.gateway_state.specs.Servers.{is_heard, subject_of}
-use Rattle.gateway_state.specs.Settled.{HasLinksApart}
+use Rattle.gateway_state.specs.Servers.{concerned_owed, is_heard, subject_of}
+use Rattle.gateway_state.specs.Settled.{HasLinksApart, HasSubsApart}
 use Rattle.gateway_state.specs.Step.{consequences}
 use Rattle.gateway_state.specs.Subscribing.{is_on_sid, new_sub, sub_of, sub_verdict}
 use Rattle.gateway_state.specs.Told.{KnowRights}
-use Rattle.gateway_state.specs.Updates.{is_sub_to, is_taking}
+use Rattle.gateway_state.specs.Updates.{takes_updates}
 use Rattle.gateway_state.specs.Variables.{ConnectedVariable, channel_names, connected, is_connected, is_creating, search_names}
 use Rattle.touched_rows.specs.declared.touched.Touched.{Touched}
 use Rattle.touched_rows.specs.declared.touched.Touched.TheVariants.{All, Gone, Nothing, Session, Variable, Value, Interest, Link as LinkOf, Links, Read, Subscription as SubscriptionTo}
+use Rattle.touched_rows.specs.Concern.{concern_of, passes}
 use Rattle.touched_rows.specs.Touched.{channels_gone_on, channels_told_on, interest_told, link_told_on, links_told_among, one_read_told, one_update_told, reads_told_on, updates_told_on, updates_told_to, variable_told}
 
 -- what follows where no more than this was touched
-abbrev pub follows : Touched → Gateway → Gateway
-follows All w = consequences w
-follows Nothing w = w
-follows (Session number) w = updates_told_to number w
-follows (Variable name) w = variable_told name w
-follows (Value name) w = updates_told_on name (reads_told_on name w)
-follows (Interest name) w = interest_told name w
-follows (LinkOf name) w = link_told_on name w
-follows (Links names) w = links_told_among names w
-follows (Gone names) w = channels_gone_on names w
-follows (Read name read) w = one_read_told read (interest_told name w)
-follows (SubscriptionTo name sub) w = one_update_told sub (interest_told name w)
+abbrev pub consequences_of : Touched → Gateway → Gateway
+consequences_of All w = consequences w
+consequences_of Nothing w = w
+consequences_of (Session number) w = updates_told_to number w
+consequences_of (Variable name) w = variable_told name w
+consequences_of (Value name concern) w = updates_told_on name (reads_told_on name w)
+consequences_of (Interest name) w = interest_told name w
+consequences_of (LinkOf name) w = link_told_on name w
+consequences_of (Links names) w = links_told_among names w
+consequences_of (Gone names) w = channels_gone_on names w
+consequences_of (Read name read) w = one_read_told read (interest_told name w)
+consequences_of (SubscriptionTo name sub) w = one_update_told sub (interest_told name w)
 
 abbrev pub with_read : WaitingRead → Gateway → Gateway
 with_read read w = record w { clients = record w.clients { reads = w.clients.reads ++ read ∷ [] } }
 
--- a read that is touched isn't kept yet, since most are answered at once: the rows are those with it
+-- a read that is touched isn't kept yet, since most are answered at once, nor is an update owed yet to those whom it
+-- concerns: the rows are those with it, or where they are owed it
 abbrev pub with_touched : Touched → Gateway → Gateway
 with_touched (Read name read) w = with_read read w
+with_touched (Value name concern) w = concerned_owed name (passes concern) w
 with_touched touched w = w
 
 -- clients know their rights, and no name has two links
@@ -79,26 +82,26 @@ pub record AreReady (w : Gateway) : Type 0 where
   pub told : KnowRights w
   pub apart : HasLinksApart w
 
+-- clients know their rights, and no session has two subscriptions under one ID
+pub record AreReadyForValue (w : Gateway) : Type 0 where
+  pub told : KnowRights w
+  pub apart : HasSubsApart w
+
 -- what tells these alone rests on that clients know their rights; where all was touched, it tells them
 -- first, and where a variable was, those who have channels on it. That channels are gone rests on nothing.
--- The links of several names are found by them
+-- The links of several names are found by them, and whoever is owed an update by its session and ID
 abbrev pub IsReady : Touched → Gateway → Type 0
 IsReady All w = Unit {0}
 IsReady Nothing w = Unit {0}
 IsReady (Session number) w = KnowRights w
 IsReady (Variable name) w = KnowRights (channels_told_on name w)
-IsReady (Value name) w = KnowRights w
+IsReady (Value name concern) w = AreReadyForValue w
 IsReady (Interest name) w = KnowRights w
 IsReady (LinkOf name) w = KnowRights w
 IsReady (Links names) w = AreReady w
 IsReady (Gone names) w = Unit {0}
 IsReady (Read name read) w = KnowRights w
 IsReady (SubscriptionTo name sub) w = KnowRights w
-
--- what was found on the way is what there is: where a value was touched, the subscriptions to its variable
-abbrev pub AreFound : Touched → List ClientSub → Gateway → Type 0
-AreFound (Value name) subs w = subs ≡ filter (is_sub_to w name) w.clients.subs
-AreFound touched subs w = Unit {0}
 
 -- CLIENTS' MESSAGES
 
@@ -151,12 +154,12 @@ abbrev pub clear_touches : Gateway → ℕ → ℕ → Touched
 clear_touches w number sid = clear_touches_by (channel_of w number sid)
 
 -- a search that goes: its name may have been wanted by it alone
-abbrev pub left_touches : Policy → Option Search → Touched
+abbrev pub left_touches : Policy → Option RememberedSearch → Touched
 left_touches policy None = Nothing
 left_touches policy (Some row) = Links (search_names policy (row ∷ []))
 
 -- the search that goes for one that a session's host makes
-abbrev pub search_left_for : Option SessionRow → List ℕ → Gateway → Option Search
+abbrev pub search_left_for : Option SessionRow → List ℕ → Gateway → Option RememberedSearch
 search_left_for None name w = None
 search_left_for (Some row) name w = left_by_search w.limits row.host name w.searches
 
@@ -195,31 +198,33 @@ request_touches w number (Err fault) = Nothing
 
 -- SERVERS' MESSAGES
 
--- whatever the subject, what counts may answer reads of the variable and is told to its subscriptions
-abbrev pub value_touches : Subject → Link → LinkState → Option Subscription → Dtype → Count → List ℕ → Touched
-value_touches subject link (Connected sid native native_count) (Some sub) dtype count payload =
-    if is_heard subject native sub.count dtype count payload then Value link.name else Nothing
-value_touches subject link (Connected sid native native_count) None dtype count payload = Nothing
-value_touches subject link Creating sub dtype count payload = Nothing
-value_touches subject link Unusable sub dtype count payload = Nothing
+-- whatever the subject, what counts may answer reads of the variable and is told to those whom it concerns
+abbrev pub value_touches : Gateway → Subject → LinkRow → LinkState → Option Subscription → Dtype → Count → List ℕ → Touched
+value_touches w subject link (Connected sid native native_count) (Some sub) dtype count payload =
+    if is_heard subject native sub.count dtype count payload
+    then Value link.name (concern_of subject w link.cid dtype count payload)
+    else Nothing
+value_touches w subject link (Connected sid native native_count) None dtype count payload = Nothing
+value_touches w subject link Creating sub dtype count payload = Nothing
+value_touches w subject link Unusable sub dtype count payload = Nothing
 
-abbrev pub update_touches_under : Subject → Code → Dtype → Count → List ℕ → Link → Touched
-update_touches_under subject status dtype count payload link =
+abbrev pub update_touches_under : Gateway → Subject → Code → Dtype → Count → List ℕ → LinkRow → Touched
+update_touches_under w subject status dtype count payload link =
     if status == ECA_NORMAL
-    then value_touches subject link link.state (sub_at subject link.subscriptions) dtype count payload
+    then value_touches w subject link link.state (sub_at subject link.subscriptions) dtype count payload
     else Nothing
 
-abbrev pub update_touches_over : SubId → Code → Dtype → Count → List ℕ → Option Link → Touched
-update_touches_over id status dtype count payload None = Nothing
-update_touches_over id status dtype count payload (Some link) =
-    update_touches_under (subject_of id link) status dtype count payload link
+abbrev pub update_touches_over : Gateway → SubId → Code → Dtype → Count → List ℕ → Option LinkRow → Touched
+update_touches_over w id status dtype count payload None = Nothing
+update_touches_over w id status dtype count payload (Some link) =
+    update_touches_under w (subject_of id link) status dtype count payload link
 
 -- an update that counts
 abbrev pub update_touches : Gateway → ServerNumber → SubId → Code → Dtype → Count → List ℕ → Touched
 update_touches w server id status dtype count payload =
-    update_touches_over id status dtype count payload (find (has_subscription server id) w.upstream.links)
+    update_touches_over w id status dtype count payload (find (has_subscription server id) w.upstream.links)
 
-abbrev pub created_touches_over : Option Link → Touched
+abbrev pub created_touches_over : Option LinkRow → Touched
 created_touches_over None = Nothing
 created_touches_over (Some link) = if is_creating link.state then Interest link.name else Nothing
 
@@ -227,7 +232,7 @@ created_touches_over (Some link) = if is_creating link.state then Interest link.
 abbrev pub created_touches : Gateway → ℕ → ℕ → Touched
 created_touches w server cid = created_touches_over (find (is_link server cid) w.upstream.links)
 
-abbrev pub rights_touches_over : Option Link → Touched
+abbrev pub rights_touches_over : Option LinkRow → Touched
 rights_touches_over None = Nothing
 rights_touches_over (Some link) = if is_creating link.state then Interest link.name else Variable link.name
 
@@ -235,7 +240,7 @@ rights_touches_over (Some link) = if is_creating link.state then Interest link.n
 abbrev pub rights_touches : Gateway → ℕ → ℕ → Touched
 rights_touches w server cid = rights_touches_over (find (is_link server cid) w.upstream.links)
 
-abbrev pub gone_touches_over : Option Link → Touched
+abbrev pub gone_touches_over : Option LinkRow → Touched
 gone_touches_over None = Nothing
 gone_touches_over (Some link) = if is_connected link.state then Variable link.name else Nothing
 
@@ -257,7 +262,7 @@ reply_touches w server (Err fault) = Nothing
 
 -- an outbox that took updates before makes room for none that was held back
 abbrev pub drain_touches : Gateway → Dest → Touched
-drain_touches w (dests.Session number) = if is_taking w number then Nothing else Session number
+drain_touches w (dests.Session number) = if takes_updates w number then Nothing else Session number
 drain_touches w (dests.Upstream number) = Nothing
 
 -- a search that is remembered, for which another may go
@@ -270,8 +275,8 @@ searched_touches w host name =
 abbrev pub names_of : Gateway → ℕ → List (List ℕ)
 names_of w number = channel_names (filter (is_channel_of number) w.clients.channels)
 
-abbrev pub link_names : List Link → List (List ℕ)
-link_names links = map (λ (link : Link). link.name) links
+abbrev pub link_names : List LinkRow → List (List ℕ)
+link_names links = map (λ (link : LinkRow). link.name) links
 
 -- the variables of a server's links, in the order of links
 abbrev pub server_names : Gateway → ℕ → List (List ℕ)

@@ -7,11 +7,11 @@ use std::marker::Model;
 
 /// The names of variables, in the order in which they were pushed. A name may stand here more than once.
 #[derive(Drop)]
-pub struct Names {
+pub struct TouchedNames {
     names: Vec<Name>,
 }
 
-impl Model for Names {
+impl Model for TouchedNames {
     ghost use Rattle.std.specs.Prelude.{ℕ, List};
 
     ghost Value = { List (List ℕ) };
@@ -19,21 +19,21 @@ impl Model for Names {
     ghost view = { λ n. n.names.items };
 }
 
-impl Names {
+impl TouchedNames {
     /// No name. This takes no memory.
-    pub fn new(alloc: Global) -> Names
+    pub fn new(alloc: Global) -> TouchedNames
         ensures { result ≡ [] }
     {
-        Names {
+        TouchedNames {
             names: Vec::new(alloc),
         }
     }
 
     /// Copies of these names.
-    pub fn copied(alloc: Global, names: &[Name]) -> Result<Names, AllocError>
+    pub fn copied(alloc: Global, names: &[Name]) -> Result<TouchedNames, AllocError>
         ensures { IfOk result (λ copies. copies ≡ names.now) }
     {
-        let mut copies = Names::new(alloc);
+        let mut copies = TouchedNames::new(alloc);
         for name in names {
             copies.push(name.copy()?)?;
         }

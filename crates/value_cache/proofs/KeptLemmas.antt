@@ -7,7 +7,7 @@ use Rattle.std.proofs.lemmas.Bool.{and_parts, eqb-true}
 use Rattle.std.proofs.lemmas.List.{drop-map, length-map, map-append}
 use Rattle.std.proofs.lemmas.List.Sums.{sum_by-cons}
 use Rattle.value_cache.specs.declared.cached.Described.{Described}
-use Rattle.value_cache.specs.declared.cached.Message.{Message}
+use Rattle.value_cache.specs.declared.cached.HeldMessage.{HeldMessage}
 use Rattle.value_cache.specs.declared.encodings.Encoding.{Encoding}
 use Rattle.value_cache.specs.Encodings.{AreAnswers, is_large_one, is_of, is_small_one, pair_of, thinned_list}
 use Rattle.value_cache.specs.Held.{Held, answer}
@@ -51,11 +51,11 @@ answers_either (Ok done) held old new e ok err is answers =
 answers_either (Err refused) held old new e ok err is answers = rw err answers
 
 -- nothing changes where the pair is kept
-pub kept_already : (last : Option Message) (described : Option Described) (list : List Encoding) (dtype count : ℕ) → is_some (find (is_of dtype count) list) ≡ true → keeping_in last described list ≡ keeping dtype count (keeping_in last described list)
+pub kept_already : (last : Option HeldMessage) (described : Option Described) (list : List Encoding) (dtype count : ℕ) → is_some (find (is_of dtype count) list) ≡ true → keeping_in last described list ≡ keeping dtype count (keeping_in last described list)
 kept_already last described list dtype count found = rw (any_kept dtype count list ∙ found) refl
 
 -- else it is the last one then
-pub kept_more : (last : Option Message) (described : Option Described) (list : List Encoding) (e : Encoding) → is_some (find (is_of e.dtype e.count) list) ≡ false → is_some (answer e.dtype e.count (held_in last described)) ≡ true → keeping_in last described (last_eight (list ++ e ∷ [])) ≡ keeping e.dtype e.count (keeping_in last described list)
+pub kept_more : (last : Option HeldMessage) (described : Option Described) (list : List Encoding) (e : Encoding) → is_some (find (is_of e.dtype e.count) list) ≡ false → is_some (answer e.dtype e.count (held_in last described)) ≡ true → keeping_in last described (last_eight (list ++ e ∷ [])) ≡ keeping e.dtype e.count (keeping_in last described list)
 kept_more last described list e new is =
     let pairs : map pair_of (last_eight (list ++ e ∷ [])) ≡ last_eight (map pair_of list ++ pair_of e ∷ []) =
     sym (drop-map pair_of (length (list ++ e ∷ []) - 8) (list ++ e ∷ []))
@@ -73,7 +73,7 @@ pub some_either : {E : Type 0} (result : Result (Option (ℕ × List ℕ)) E) {g
 some_either (Ok r) same = tt
 some_either (Err refused) same = ap is_some same
 
-pub kept_either : {E : Type 0} (result : Result (Unit {0}) E) (last : Option Message) (described : Option Described) (old new : List Encoding) (e : Encoding) {k : Keeping} → OnOk result (new ≡ last_eight (old ++ e ∷ [])) → is_some (find (is_of e.dtype e.count) old) ≡ false → is_some (answer e.dtype e.count (held_in last described)) ≡ true → keeping_in last described old ≡ k → OnOk result (keeping_in last described new ≡ keeping e.dtype e.count k)
+pub kept_either : {E : Type 0} (result : Result (Unit {0}) E) (last : Option HeldMessage) (described : Option Described) (old new : List Encoding) (e : Encoding) {k : Keeping} → OnOk result (new ≡ last_eight (old ++ e ∷ [])) → is_some (find (is_of e.dtype e.count) old) ≡ false → is_some (answer e.dtype e.count (held_in last described)) ≡ true → keeping_in last described old ≡ k → OnOk result (keeping_in last described new ≡ keeping e.dtype e.count k)
 kept_either (Ok done) last described old new e ok none is seen =
     ap (keeping_in last described) ok ∙ kept_more last described old e none is ∙ ap (keeping e.dtype e.count) seen
 kept_either (Err refused) last described old new e ok none is seen = tt
@@ -111,7 +111,7 @@ pub thinned_answers : (held : Held) (list : List Encoding) → AreAnswers held l
 thinned_answers held list answers =
     elim (nat_lt 1 (count_by is_large_one list)) as (λ t. AreAnswers held (cond t (filter is_small_one list) list)) [ true ↦ small_answers held list answers | false ↦ answers ]
 
-pub thinned_as_pairs : (last : Option Message) (described : Option Described) (list : List Encoding) → AreAnswers (held_in last described) list → keeping_in last described (thinned_list list) ≡ thinned (keeping_in last described list)
+pub thinned_as_pairs : (last : Option HeldMessage) (described : Option Described) (list : List Encoding) → AreAnswers (held_in last described) list → keeping_in last described (thinned_list list) ≡ thinned (keeping_in last described list)
 thinned_as_pairs last described list answers =
     let held : Held = held_in last described in
     rw (larges held list answers)

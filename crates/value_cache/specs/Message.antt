@@ -3,14 +3,14 @@ use Rattle.std.specs.Prelude.{◌≡◌, ℕ, true, List, map, is_some, Option, 
 use Rattle.dbr_layout.specs.Properties.{Properties}
 use Rattle.dbr_layout.specs.View.{shown}
 use Rattle.value_cache.specs.declared.cached.Described.{Described}
-use Rattle.value_cache.specs.declared.cached.Message.{Message}
+use Rattle.value_cache.specs.declared.cached.HeldMessage.{HeldMessage}
 use Rattle.value_cache.specs.declared.encodings.Encoding.{Encoding}
 use Rattle.value_cache.specs.Encodings.{AreAnswers, pair_of}
 use Rattle.value_cache.specs.Held.{Held, Value, properties_in, value_of}
 use Rattle.value_cache.specs.Kept.{Keeping}
 
 -- the value in the message that is kept
-abbrev pub value_in : Option Message → Option Value
+abbrev pub value_in : Option HeldMessage → Option Value
 value_in None = None
 value_in (Some m) = value_of (shown m.dtype m.count m.payload) m.asked_with
 
@@ -20,11 +20,11 @@ told_in None = None
 told_in (Some d) = properties_in (shown d.dtype 0 d.payload)
 
 -- what is held where these are kept
-abbrev pub held_in : Option Message → Option Described → Held
+abbrev pub held_in : Option HeldMessage → Option Described → Held
 held_in last described = record { value = value_in last; properties = told_in described }
 
 -- what is kept can be viewed
-abbrev pub IsReadable : Option Message → Type 0
+abbrev pub IsReadable : Option HeldMessage → Type 0
 IsReadable None = Unit {0}
 IsReadable (Some m) = IsOk (shown m.dtype m.count m.payload)
 
@@ -37,11 +37,11 @@ IsDescription None = Unit {0}
 IsDescription (Some d) = TellsProperties d.dtype d.payload
 
 -- with these encodings beside them
-abbrev pub keeping_in : Option Message → Option Described → List Encoding → Keeping
+abbrev pub keeping_in : Option HeldMessage → Option Described → List Encoding → Keeping
 keeping_in last described kept = record { held = held_in last described; kept = map pair_of kept }
 
 -- and the encodings are their own
-pub record IsSound (last : Option Message) (described : Option Described) (kept : List Encoding) : Type 0 where
+pub record IsSound (last : Option HeldMessage) (described : Option Described) (kept : List Encoding) : Type 0 where
   pub readable : IsReadable last
   pub told : IsDescription described
   pub answers : AreAnswers (held_in last described) kept

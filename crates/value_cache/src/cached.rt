@@ -14,7 +14,7 @@ use std::ops::Range;
 
 /// A message as it came.
 #[derive(Debug, Drop)]
-struct Message {
+struct HeldMessage {
     dtype: u16,
     count: u32,
     payload: Bytes,
@@ -32,7 +32,7 @@ struct Described {
 /// came, and beside them the encodings that several readers share.
 #[derive(Debug, Drop)]
 pub struct Cached {
-    last: Option<Message>,
+    last: Option<HeldMessage>,
     described: Option<Described>,
     kept: Encodings,
 }
@@ -73,7 +73,7 @@ impl Cached {
         requires { IsOk (shown dtype count payload) }
         ensures { self.new ≡ fresh (with_value dtype count payload asked_with self.old.held) }
     {
-        let message = Message {
+        let message = HeldMessage {
             dtype,
             count,
             payload,
@@ -219,7 +219,7 @@ fn differ(old: &View<'_>, new: &View<'_>) -> bool
     old.status() != new.status() || old.severity() != new.severity()
 }
 
-fn is_covered(message: &Message, described: &Option<Described>, dtype: u16, count: u32) -> bool
+fn is_covered(message: &HeldMessage, described: &Option<Described>, dtype: u16, count: u32) -> bool
     requires { IsDescription described.now }
     ensures { result ≡ covers_by dtype count (told_in described.now) (value_in (Some message.now)) }
 {
@@ -256,7 +256,7 @@ fn are_there(base: Base, described: &Option<Described>) -> bool
     }
 }
 
-fn view_of(last: &Option<Message>) -> Option<View<'_>>
+fn view_of(last: &Option<HeldMessage>) -> Option<View<'_>>
     requires { IsReadable last.now }
     ensures { result ≡ option_map (λ value. value.shown) (value_in last.now) }
 {
@@ -288,7 +288,7 @@ fn shared(encoding: &Encoding) -> Result<Option<(u32, Bytes)>, AllocError>
 // What is answered of a message and of properties, where it isn't kept.
 fn encoded(
     alloc: Global,
-    last: &Option<Message>,
+    last: &Option<HeldMessage>,
     described: &Option<Described>,
     dtype: u16,
     count: u32,
@@ -308,7 +308,7 @@ fn encoded(
 }
 
 // All elements of a message, as a part of its payload, which is shared.
-fn part_of(message: &Message, part: Range<usize>) -> Result<Option<(u32, Bytes)>, AllocError>
+fn part_of(message: &HeldMessage, part: Range<usize>) -> Result<Option<(u32, Bytes)>, AllocError>
     requires ordered { part.start ≤ part.end }
     requires within { part.end ≤ length message.now.payload }
     ensures { IfOk result (λ given. given ≡ Some (message.now.count, slice_range message.now.payload part.start part.end)) }
@@ -319,7 +319,7 @@ fn part_of(message: &Message, part: Range<usize>) -> Result<Option<(u32, Bytes)>
 // What is answered of a message and of properties, laid out afresh.
 fn laid_out(
     alloc: Global,
-    last: &Option<Message>,
+    last: &Option<HeldMessage>,
     described: &Option<Described>,
     dtype: u16,
     count: u32,

@@ -7,7 +7,7 @@
 use crate::searches::{t1_alone, tell_reply};
 use crate::words::{Call, Told};
 use pv_name::Name;
-use pv_search::{Ask, AskDatagram, Datagram, ask_datagram, first_part};
+use pv_search::{AskDatagram, Datagram, NameAsk, ask_datagram, first_part};
 use std::alloc::Global;
 
 pub(crate) fn call(verb: &str, call: &Call, told: &mut Told) {
@@ -21,13 +21,13 @@ pub(crate) fn call(verb: &str, call: &Call, told: &mut Told) {
     }
 }
 
-fn read_asks(call: &Call) -> Option<Vec<Ask>> {
+fn read_asks(call: &Call) -> Option<Vec<NameAsk>> {
     let mut asks = Vec::new(call.alloc);
     let mut cid = call.number(0);
     for text in call.bytes.split(|byte| *byte == 0) {
         if !text.is_empty() {
             let name = Name::read(call.alloc, text).ok()?;
-            asks.push(Ask { name, cid }).ok()?;
+            asks.push(NameAsk { name, cid }).ok()?;
             cid = cid.wrapping_add(1);
         }
     }
@@ -44,7 +44,7 @@ fn tell_datagram(datagram: &AskDatagram, in_full: bool, told: &mut Told) {
     }
 }
 
-fn tell_asks(alloc: Global, asks: &[Ask], in_full: bool, told: &mut Told) {
+fn tell_asks(alloc: Global, asks: &[NameAsk], in_full: bool, told: &mut Told) {
     let mut left = asks;
     for _ in asks {
         if left.is_empty() {

@@ -13,13 +13,15 @@
 //!
 //! The calls are said in the files that make them: `headers`, `streams`, `messages`, `to_clients`,
 //! `to_servers`, `searches`, `datagrams`, `schedules`, `newcomers`, `servers`, `layouts`,
-//! `caches`, `outboxes`. The files named `.._stories` have the stories.
+//! `caches`, `outboxes`. The files named `.._stories` have the stories. In `crowds` calls are made one by one.
 #![tactic(auto)]
 
 #[cfg(test)]
 mod cache_stories;
 #[cfg(test)]
 mod caches;
+#[cfg(test)]
+mod crowds;
 #[cfg(test)]
 mod datagram_stories;
 #[cfg(test)]

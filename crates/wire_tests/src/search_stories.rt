@@ -127,6 +127,32 @@ found: 0006 0008 13c8 0000 ffffffff 00000011 000d0000000000
     )
 }
 
+#[test]
+fn replies_that_say_where_a_server_is_are_read(rt: HostRuntime) -> Result<(), Fail> {
+    tells(
+        &rt,
+        rt.alloc(),
+        "\
+replies: 0000 0000 0000 000d 00000000 00000000 0006 0008 13c8 0000 ffffffff 00000011 000d000000000000
+> replies 17 sender 5064
+replies: 0006 0008 13c9 0000 0a000114 00000012 0008000000000000 0006 0008 13c8 0000 ffffffff 00000013 000d000000000000
+> replies 18 167772436 5065 19 sender 5064
+replies
+> replies
+# Too old a version, no version, no port, and another command say nothing.
+replies: 0006 0008 13c8 0000 ffffffff 00000011 0007000000000000 0006 0000 13c8 0000 ffffffff 00000012
+> replies
+replies: 0006 0008 0000 0000 ffffffff 00000011 000d000000000000 000e 0008 13c8 0000 ffffffff 00000012 000d000000000000
+> replies
+# What follows a fault isn't read, nor is a cut one.
+replies: 0006 0008 13c8 0000 ffffffff 00000011 000d000000000000 0006 0001 13c8 0000 ffffffff 00000012
+> replies 17 sender 5064
+replies: 0006 0008 13c8 0000 ffffffff 00000011 000d0000000000
+> replies
+",
+    )
+}
+
 /// The example at the head of `pv_search`.
 #[test]
 fn a_name_is_asked_for_and_found(rt: HostRuntime) -> Result<(), Fail> {

@@ -5,10 +5,12 @@
 //! - `answer-cut FIRST LAST: DATAGRAM`: the same of each number of its bytes from the first to the last;
 //! - `test FAILING: DATAGRAM`: a test that answers at each call but this one whether the name is the next
 //!   of T1, D and U: how often it is asked, and how many bytes are sent back, or `failed`;
-//! - `found: DATAGRAM`: the CIDs that it replies to.
+//! - `found: DATAGRAM`: the CIDs that it replies to;
+//! - `replies: DATAGRAM`: the CIDs that it replies to by saying where their servers are: the host as a number, or `sender`, and
+//!   the port.
 use crate::words::{Call, Told};
 use pv_name::Name;
-use pv_search::{NoMemory, SearchAnswer, answer, ask_text, read_found};
+use pv_search::{NoMemory, Reply, SearchAnswer, answer, ask_text, read_found, read_replies};
 use std::alloc::{AllocError, Global};
 use std::cell::Cell;
 
@@ -23,6 +25,10 @@ pub(crate) fn call(verb: &str, call: &Call, told: &mut Told) {
             tell_answer(t1_alone(call.alloc, front), told);
         },
         "test" => test(call.alloc, call.number(0), &call.bytes, told),
+        "replies" => match read_replies(call.alloc, &call.bytes) {
+            Ok(replies) => tell_replies(&replies, told),
+            Err(_) => told.line(&"out of memory"),
+        },
         _ => found(call, told),
     }
 }
@@ -94,4 +100,17 @@ fn found(call: &Call, told: &mut Told) {
         }
         Err(_) => told.line(&"out of memory"),
     }
+}
+
+fn tell_replies(replies: &[Reply], told: &mut Told) {
+    told.word(&"replies");
+    for reply in replies {
+        told.word(&reply.cid);
+        match reply.host {
+            Some(host) => told.word(&host),
+            None => told.word(&"sender"),
+        }
+        told.word(&reply.port);
+    }
+    told.end();
 }

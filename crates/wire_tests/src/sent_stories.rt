@@ -85,6 +85,25 @@ server-write 101 0 1 1: 3132000000000000
 > 00040028 00000001 00000065 00000000 3132 00*38
 server-clear 101 1
 > 000c0000 00000000 00000065 00000001
+server-echo
+> 0017 00*14
+",
+    )
+}
+
+// Zero bytes stand for the value: those before it in its type, or one, and their padding.
+#[test]
+fn refused_updates(rt: HostRuntime) -> Result<(), Fail> {
+    tells(
+        &rt,
+        rt.alloc(),
+        "\
+client-no-update 49 5 376
+> 00010008 00050000 00000178 00000031 00000000 00000000
+client-no-update 49 20 376
+> 00010010 00140000 00000178 00000031 00*16
+client-no-update 49 99 376
+> 00010008 00630000 00000178 00000031 00000000 00000000
 ",
     )
 }

@@ -77,9 +77,9 @@ impl Wire {
             "request" | "reply" | "name" | "host" | "error-text" => {
                 messages::call(verb, call, told);
             }
-            "search" | "answer" | "answer-cut" | "test" | "found" => searches::call(
-                verb, call, told,
-            ),
+            "search" | "answer" | "answer-cut" | "test" | "found" | "replies" => {
+                searches::call(verb, call, told);
+            }
             "plan" | "look" | "unplan" | "sooner" => {
                 schedules::call(&mut self.schedule, verb, call, told);
             }

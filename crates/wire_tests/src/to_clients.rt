@@ -3,7 +3,7 @@
 //!
 //! - `client-version`; `client-echo SIZE: PAYLOAD`; `client-error CID CODE HEADER`;
 //! - `client-update ID TYPE COUNT: VALUE`, `client-value IOID TYPE COUNT: VALUE`,
-//!   `client-no-value IOID TYPE COUNT CODE`, `client-written IOID TYPE COUNT STATUS`;
+//!   `client-no-update ID TYPE CODE`, `client-no-value IOID TYPE COUNT CODE`, `client-written IOID TYPE COUNT STATUS`;
 //! - `client-cancelled SID ID TYPE COUNT`, `client-cleared SID CID`;
 //! - `client-created CID SID TYPE COUNT`, `client-not-created CID`, `client-rights CID RIGHTS`,
 //!   `client-disconnected CID`.

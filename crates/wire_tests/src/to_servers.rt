@@ -1,7 +1,7 @@
 //! Calls on messages that are sent to servers. They are told as they are sent; with `reread-` before the
 //! call, as what a gateway reads in them. Where a name or a value is refused, that is told.
 //!
-//! - `server-version`, `server-user: NAME`, `server-host: NAME`, each name with its NUL;
+//! - `server-version`, `server-echo`, `server-user: NAME`, `server-host: NAME`, each name with its NUL;
 //! - `server-create CID: NAME`, `server-clear SID CID`;
 //! - `server-subscribe SID ID TYPE COUNT MASK`, `server-cancel SID ID TYPE COUNT`;
 //! - `server-write SID TYPE COUNT NATIVE: VALUE`, `server-write-notify SID TYPE COUNT NATIVE IOID: VALUE`;
@@ -41,6 +41,7 @@ pub(crate) fn reread(kind: &str, call: &Call, told: &mut Told) {
 fn message<'a>(kind: &str, call: &'a Call, told: &mut Told) -> Option<ToServer<'a>> {
     match kind {
         "version" => Some(ToServer::Version),
+        "echo" => Some(ToServer::Echo),
         "subscribe" => Some(ToServer::EventAdd {
             sid: call.number(0),
             id: call.number(1),

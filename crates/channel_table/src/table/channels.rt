@@ -1,16 +1,15 @@
 //! The table's channels.
-ghost use Rattle.std.specs.Prelude.{◌≡◌, ◌≤◌, ◌<◌, ◌↔◌, ◌+◌, [], ◌∷◌, ◌++◌, length, map, slice_get, true, false, Err, OnOk, OnErr, IfOk, IsErrOf};
-ghost use Rattle.std.specs.Io.Iter.{u64_saturate};
+ghost use Rattle.std.specs.Prelude.{◌≡◌, ◌≤◌, ◌<◌, ◌↔◌, [], ◌∷◌, ◌++◌, length, map, slice_get, true, false, Err, OnOk, OnErr, IfOk, IsErrOf};
 ghost use Rattle.std.specs.List.{filter, find, list_any};
 ghost use Rattle.std.specs.Option.{option_copied};
 ghost use Rattle.rows.specs.Rows.{change_first};
-ghost use Rattle.channel_table.specs.Channels.{count_on_each, is_channel, is_channel_of, is_on, is_on_any, with_reach_and_rights};
+ghost use Rattle.named_rows.specs.Channels.{count_on_each, is_channel, is_channel_of, is_on, is_on_any, with_reach_and_rights};
 ghost use Rattle.channel_table.specs.ClientRows.{has_session, has_channel, channel_count};
+ghost use Rattle.channel_table.specs.Looks.{IsCounted, IsCountedExactly};
 
 use super::{CHANNEL_LIMIT, Table, TableFault};
-use crate::channels::{Channel, Reach};
-use crate::counted_rows;
 use crate::visits::Visits;
+use named_rows::{Channel, Reach, counted_rows};
 use pv_name::Name;
 use std::alloc::{AllocError, Global};
 
@@ -23,10 +22,7 @@ impl Table {
     ) -> Result<Vec<&'a Channel>, AllocError>
         requires own { visits.old.brand ≡ self.now.brand }
         ensures all { IfOk result (λ rows. map (λ row. row.now) rows.items ≡ self.now.rows.channels) }
-        ensures visits { visits.new.looks ≡ u64_saturate (visits.old.looks + length self.now.rows.channels) }
-        ensures bound { visits.new.looks ≤ visits.old.looks + length self.now.rows.channels }
-        ensures no_less { visits.old.looks ≤ visits.new.looks }
-        ensures own { visits.new.brand ≡ visits.old.brand }
+        ensures looked { IsCountedExactly (length self.now.rows.channels) visits.old visits.new }
     {
         visits.count(self.channels.len());
         self.channels.all(alloc)
@@ -36,10 +32,7 @@ impl Table {
     pub fn channel<'a>(&'a self, visits: &mut Visits, session: u32, sid: u32) -> Option<&'a Channel>
         requires own { visits.old.brand ≡ self.now.brand }
         ensures found { option_copied result ≡ find (is_channel session sid) self.now.rows.channels }
-        ensures visits { visits.new.looks ≡ u64_saturate (visits.old.looks + 1) }
-        ensures bound { visits.new.looks ≤ visits.old.looks + 1 }
-        ensures no_less { visits.old.looks ≤ visits.new.looks }
-        ensures own { visits.new.brand ≡ visits.old.brand }
+        ensures looked { IsCountedExactly 1 visits.old visits.new }
     {
         visits.count(1);
         self.channels.get(session, sid)
@@ -67,7 +60,7 @@ impl Table {
     }
 
     /// The session's nth channel, counted from 0 in the order in which they were added.
-    pub fn channel_of<'a>(
+    pub fn nth_channel_of<'a>(
         &'a self,
         visits: &mut Visits,
         session: u32,
@@ -75,10 +68,7 @@ impl Table {
     ) -> Option<&'a Channel>
         requires own { visits.old.brand ≡ self.now.brand }
         ensures nth { option_copied result ≡ slice_get (filter (is_channel_of session) self.now.rows.channels) n }
-        ensures visits { visits.new.looks ≡ u64_saturate (visits.old.looks + 1) }
-        ensures bound { visits.new.looks ≤ visits.old.looks + 1 }
-        ensures no_less { visits.old.looks ≤ visits.new.looks }
-        ensures own { visits.new.brand ≡ visits.old.brand }
+        ensures looked { IsCountedExactly 1 visits.old visits.new }
     {
         visits.count(1);
         self.channels.nth_of(session, n)
@@ -107,10 +97,7 @@ impl Table {
     ) -> Option<&'a Channel>
         requires own { visits.old.brand ≡ self.now.brand }
         ensures nth { option_copied result ≡ slice_get (filter (is_on name.now) self.now.rows.channels) n }
-        ensures visits { visits.new.looks ≡ u64_saturate (visits.old.looks + 1) }
-        ensures bound { visits.new.looks ≤ visits.old.looks + 1 }
-        ensures no_less { visits.old.looks ≤ visits.new.looks }
-        ensures own { visits.new.brand ≡ visits.old.brand }
+        ensures looked { IsCountedExactly 1 visits.old visits.new }
     {
         visits.count(1);
         self.channels.nth_on(name, n)
@@ -126,10 +113,8 @@ impl Table {
     ) -> Result<Vec<&'a Channel>, AllocError>
         requires own { visits.old.brand ≡ self.now.brand }
         ensures found { IfOk result (λ rows. map (λ row. row.now) rows.items ≡ filter (is_on_any names.now) self.now.rows.channels) }
-        ensures visits { OnOk result (visits.new.looks ≡ u64_saturate (visits.old.looks + count_on_each names.now self.now.rows.channels)) }
-        ensures bound { visits.new.looks ≤ visits.old.looks + count_on_each names.now self.now.rows.channels }
-        ensures no_less { visits.old.looks ≤ visits.new.looks }
-        ensures own { visits.new.brand ≡ visits.old.brand }
+        ensures looked { IsCounted (count_on_each names.now self.now.rows.channels) visits.old visits.new }
+        ensures exact { OnOk result (IsCountedExactly (count_on_each names.now self.now.rows.channels) visits.old visits.new) }
     {
         let keys = self.channels.keys_on_each(alloc, names)?;
         visits.count(keys.len());
@@ -195,11 +180,8 @@ impl Table {
           channels = change_first
               (is_channel session sid) (with_reach_and_rights reach rights) self.old.rows.channels;
         } }
-        ensures visits { visits.new.looks ≡ u64_saturate (visits.old.looks + 1) }
-        ensures bound { visits.new.looks ≤ visits.old.looks + 1 }
-        ensures no_less { visits.old.looks ≤ visits.new.looks }
+        ensures looked { IsCountedExactly 1 visits.old visits.new }
         ensures brand { self.new.brand ≡ self.old.brand }
-        ensures own { visits.new.brand ≡ visits.old.brand }
     {
         visits.count(1);
         if self.channels.has(session, sid, reach, rights) {

@@ -1,14 +1,14 @@
 //! The table's waiting reads.
-ghost use Rattle.std.specs.Prelude.{◌≡◌, ◌≤◌, ◌<◌, ◌↔◌, ◌+◌, [], ◌∷◌, ◌++◌, length, slice_get, true, false, Err, OnOk, OnErr, IfOk, IsErrOf, IsTrue};
-ghost use Rattle.std.specs.Io.Iter.{u64_saturate};
+ghost use Rattle.std.specs.Prelude.{◌≡◌, ◌≤◌, ◌<◌, ◌↔◌, [], ◌∷◌, ◌++◌, length, slice_get, true, false, Err, OnOk, OnErr, IfOk, IsErrOf, IsTrue};
 ghost use Rattle.std.specs.List.{filter, list_any};
 ghost use Rattle.rows.specs.Rows.{remove_first};
 ghost use Rattle.channel_table.specs.ClientRows.{has_channel, read_count, is_read_for};
-ghost use Rattle.channel_table.specs.Reads.{same_read, is_read_of, is_read_on, is_not_read_on};
+ghost use Rattle.channel_table.specs.Looks.{GoesOn, IsCountedExactly};
+ghost use Rattle.named_rows.specs.Reads.{same_read, is_read_of, is_read_on, is_not_read_on};
 
 use super::{READ_LIMIT, Table, TableFault};
-use crate::reads::{KeptRead, WaitingRead};
 use crate::visits::Visits;
+use named_rows::{KeptRead, WaitingRead};
 use pv_name::Name;
 use std::alloc::{AllocError, Global};
 
@@ -17,10 +17,7 @@ impl Table {
     pub fn reads(&self, visits: &mut Visits, alloc: Global) -> Result<Vec<WaitingRead>, AllocError>
         requires own { visits.old.brand ≡ self.now.brand }
         ensures all { IfOk result (λ rows. rows.items ≡ self.now.rows.reads) }
-        ensures visits { visits.new.looks ≡ u64_saturate (visits.old.looks + length self.now.rows.reads) }
-        ensures bound { visits.new.looks ≤ visits.old.looks + length self.now.rows.reads }
-        ensures no_less { visits.old.looks ≤ visits.new.looks }
-        ensures own { visits.new.brand ≡ visits.old.brand }
+        ensures looked { IsCountedExactly (length self.now.rows.reads) visits.old visits.new }
     {
         visits.count(self.reads.len());
         self.reads.all(alloc)
@@ -41,13 +38,10 @@ impl Table {
     }
 
     /// The session's nth waiting read.
-    pub fn read_of(&self, visits: &mut Visits, session: u32, n: usize) -> Option<WaitingRead>
+    pub fn nth_read_of(&self, visits: &mut Visits, session: u32, n: usize) -> Option<WaitingRead>
         requires own { visits.old.brand ≡ self.now.brand }
         ensures nth { result ≡ slice_get (filter (is_read_of session) self.now.rows.reads) n }
-        ensures visits { visits.new.looks ≡ u64_saturate (visits.old.looks + 1) }
-        ensures bound { visits.new.looks ≤ visits.old.looks + 1 }
-        ensures no_less { visits.old.looks ≤ visits.new.looks }
-        ensures own { visits.new.brand ≡ visits.old.brand }
+        ensures looked { IsCountedExactly 1 visits.old visits.new }
     {
         visits.count(1);
         self.reads.nth_of(session, n)
@@ -64,10 +58,7 @@ impl Table {
     pub fn read_on(&self, visits: &mut Visits, name: &Name, n: usize) -> Option<WaitingRead>
         requires own { visits.old.brand ≡ self.now.brand }
         ensures nth { result ≡ slice_get (filter (is_read_for self.now.rows name.now) self.now.rows.reads) n }
-        ensures visits { visits.new.looks ≡ u64_saturate (visits.old.looks + 1) }
-        ensures bound { visits.new.looks ≤ visits.old.looks + 1 }
-        ensures no_less { visits.old.looks ≤ visits.new.looks }
-        ensures own { visits.new.brand ≡ visits.old.brand }
+        ensures looked { IsCountedExactly 1 visits.old visits.new }
     {
         visits.count(1);
         self.reads.are_apart();
@@ -84,10 +75,8 @@ impl Table {
     ) -> Result<Vec<WaitingRead>, AllocError>
         requires own { visits.old.brand ≡ self.now.brand }
         ensures found { IfOk result (λ reads. reads.items ≡ filter (is_read_for self.now.rows name.now) self.now.rows.reads) }
-        ensures visits { IfOk result (λ reads. visits.new.looks ≡ u64_saturate (visits.old.looks + length reads.items)) }
-        ensures bound { IfOk result (λ reads. visits.new.looks ≤ visits.old.looks + length reads.items) }
-        ensures no_less { visits.old.looks ≤ visits.new.looks }
-        ensures own { visits.new.brand ≡ visits.old.brand }
+        ensures looked { IfOk result (λ reads. IsCountedExactly (length reads.items) visits.old visits.new) }
+        ensures goes_on { GoesOn visits.old visits.new }
     {
         self.reads.are_apart();
         let reads = self.reads.all_on(name, alloc)?;

@@ -1,10 +1,10 @@
 //! The table's sessions.
-ghost use Rattle.std.specs.Prelude.{◌≡◌, ◌≢◌, ◌≤◌, ◌<◌, ◌↔◌, ◌+◌, [], ◌∷◌, ◌++◌, length, false, Err, OnOk, OnErr, IsErrOf};
-ghost use Rattle.std.specs.Io.Iter.{u64_saturate};
+ghost use Rattle.std.specs.Prelude.{◌≡◌, ◌≢◌, ◌≤◌, ◌<◌, ◌↔◌, [], ◌∷◌, ◌++◌, length, false, Err, OnOk, OnErr, IsErrOf};
 ghost use Rattle.std.specs.List.{find};
 ghost use Rattle.std.specs.Option.{option_copied};
 ghost use Rattle.rows.specs.Rows.{change_first};
 ghost use Rattle.channel_table.specs.ClientRows.{has_session};
+ghost use Rattle.channel_table.specs.Looks.{IsCountedExactly};
 ghost use Rattle.channel_table.specs.Sessions.{is_numbered, nth_by_number, with_host_and_pause, with_user};
 
 use super::{SESSION_LIMIT, Table, TableFault};
@@ -18,10 +18,7 @@ impl Table {
     pub fn session<'a>(&'a self, visits: &mut Visits, number: u32) -> Option<&'a Session>
         requires own { visits.old.brand ≡ self.now.brand }
         ensures found { option_copied result ≡ find (is_numbered number) self.now.rows.sessions }
-        ensures visits { visits.new.looks ≡ u64_saturate (visits.old.looks + 1) }
-        ensures bound { visits.new.looks ≤ visits.old.looks + 1 }
-        ensures no_less { visits.old.looks ≤ visits.new.looks }
-        ensures own { visits.new.brand ≡ visits.old.brand }
+        ensures looked { IsCountedExactly 1 visits.old visits.new }
     {
         visits.count(1);
         self.sessions.get(number)
@@ -31,10 +28,7 @@ impl Table {
     pub fn nth_session<'a>(&'a self, visits: &mut Visits, n: usize) -> Option<&'a Session>
         requires own { visits.old.brand ≡ self.now.brand }
         ensures nth { option_copied result ≡ nth_by_number n self.now.rows.sessions }
-        ensures visits { visits.new.looks ≡ u64_saturate (visits.old.looks + 1) }
-        ensures bound { visits.new.looks ≤ visits.old.looks + 1 }
-        ensures no_less { visits.old.looks ≤ visits.new.looks }
-        ensures own { visits.new.brand ≡ visits.old.brand }
+        ensures looked { IsCountedExactly 1 visits.old visits.new }
     {
         visits.count(1);
         self.sessions.nth(n)
@@ -93,11 +87,8 @@ impl Table {
           sessions = change_first
               (is_numbered number) (with_host_and_pause host host_fixed paused) self.old.rows.sessions;
         } }
-        ensures visits { visits.new.looks ≡ u64_saturate (visits.old.looks + 1) }
-        ensures bound { visits.new.looks ≤ visits.old.looks + 1 }
-        ensures no_less { visits.old.looks ≤ visits.new.looks }
+        ensures looked { IsCountedExactly 1 visits.old visits.new }
         ensures brand { self.new.brand ≡ self.old.brand }
-        ensures own { visits.new.brand ≡ visits.old.brand }
     {
         visits.count(1);
         self.sessions.put(number, host, host_fixed, paused);
@@ -109,11 +100,8 @@ impl Table {
         ensures put { self.new.rows ≡ record self.old.rows {
           sessions = change_first (is_numbered number) (with_user user) self.old.rows.sessions;
         } }
-        ensures visits { visits.new.looks ≡ u64_saturate (visits.old.looks + 1) }
-        ensures bound { visits.new.looks ≤ visits.old.looks + 1 }
-        ensures no_less { visits.old.looks ≤ visits.new.looks }
+        ensures looked { IsCountedExactly 1 visits.old visits.new }
         ensures brand { self.new.brand ≡ self.old.brand }
-        ensures own { visits.new.brand ≡ visits.old.brand }
     {
         visits.count(1);
         self.sessions.put_user(number, user);

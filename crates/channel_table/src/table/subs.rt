@@ -1,16 +1,15 @@
 //! The table's subscriptions.
-ghost use Rattle.std.specs.Prelude.{◌≡◌, ◌≤◌, ◌<◌, ◌↔◌, ◌+◌, [], ◌∷◌, ◌++◌, length, map, slice_get, true, false, Err, OnOk, OnErr, IfOk, IsErrOf, IsTrue};
-ghost use Rattle.std.specs.Io.Iter.{u64_saturate};
+ghost use Rattle.std.specs.Prelude.{◌≡◌, ◌≤◌, ◌<◌, ◌↔◌, [], ◌∷◌, ◌++◌, length, map, slice_get, true, false, Err, OnOk, OnErr, IfOk, IsErrOf, IsTrue};
 ghost use Rattle.std.specs.List.{filter, find, list_any};
 ghost use Rattle.std.specs.Option.{option_copied};
 ghost use Rattle.rows.specs.Rows.{change_first};
 ghost use Rattle.channel_table.specs.ClientRows.{has_channel, has_sub, sub_count, is_sub_to};
-ghost use Rattle.channel_table.specs.Subs.{is_sub, is_not_sub, is_sub_of, is_sub_on, is_not_sub_on, with_owed};
+ghost use Rattle.channel_table.specs.Looks.{GoesOn, IsCountedExactly};
+ghost use Rattle.named_rows.specs.Subs.{is_sub, is_not_sub, is_sub_of, is_sub_on, is_not_sub_on, with_owed};
 
 use super::{SUB_LIMIT, Table, TableFault};
-use crate::counted_rows;
-use crate::subs::ClientSub;
 use crate::visits::Visits;
+use named_rows::{ClientSub, SubList, counted_rows};
 use pv_name::Name;
 use std::alloc::{AllocError, Global};
 
@@ -23,10 +22,7 @@ impl Table {
     ) -> Result<Vec<&'a ClientSub>, AllocError>
         requires own { visits.old.brand ≡ self.now.brand }
         ensures all { IfOk result (λ rows. map (λ row. row.now) rows.items ≡ self.now.rows.subs) }
-        ensures visits { visits.new.looks ≡ u64_saturate (visits.old.looks + length self.now.rows.subs) }
-        ensures bound { visits.new.looks ≤ visits.old.looks + length self.now.rows.subs }
-        ensures no_less { visits.old.looks ≤ visits.new.looks }
-        ensures own { visits.new.brand ≡ visits.old.brand }
+        ensures looked { IsCountedExactly (length self.now.rows.subs) visits.old visits.new }
     {
         visits.count(self.subs.len());
         self.subs.all(alloc)
@@ -36,10 +32,7 @@ impl Table {
     pub fn sub<'a>(&'a self, visits: &mut Visits, session: u32, id: u32) -> Option<&'a ClientSub>
         requires own { visits.old.brand ≡ self.now.brand }
         ensures found { option_copied result ≡ find (is_sub session id) self.now.rows.subs }
-        ensures visits { visits.new.looks ≡ u64_saturate (visits.old.looks + 1) }
-        ensures bound { visits.new.looks ≤ visits.old.looks + 1 }
-        ensures no_less { visits.old.looks ≤ visits.new.looks }
-        ensures own { visits.new.brand ≡ visits.old.brand }
+        ensures looked { IsCountedExactly 1 visits.old visits.new }
     {
         visits.count(1);
         self.subs.get(session, id)
@@ -60,7 +53,7 @@ impl Table {
     }
 
     /// The session's nth subscription.
-    pub fn sub_of<'a>(
+    pub fn nth_sub_of<'a>(
         &'a self,
         visits: &mut Visits,
         session: u32,
@@ -68,10 +61,7 @@ impl Table {
     ) -> Option<&'a ClientSub>
         requires own { visits.old.brand ≡ self.now.brand }
         ensures nth { option_copied result ≡ slice_get (filter (is_sub_of session) self.now.rows.subs) n }
-        ensures visits { visits.new.looks ≡ u64_saturate (visits.old.looks + 1) }
-        ensures bound { visits.new.looks ≤ visits.old.looks + 1 }
-        ensures no_less { visits.old.looks ≤ visits.new.looks }
-        ensures own { visits.new.brand ≡ visits.old.brand }
+        ensures looked { IsCountedExactly 1 visits.old visits.new }
     {
         visits.count(1);
         self.subs.nth_of(session, n)
@@ -84,26 +74,23 @@ impl Table {
         self.subs.count_on(name)
     }
 
-    /// Fills an empty list with the subscriptions to channels on this real name, in the order in which they
-    /// were added. They are counted as looked at.
-    pub fn list_subs_to(
+    /// The subscriptions to channels on this real name, in the order in which they were added. They are
+    /// counted as looked at.
+    pub fn subs_to(
         &self,
         visits: &mut Visits,
+        alloc: Global,
         name: &Name,
-        subs: &mut Vec<ClientSub>,
-    ) -> Result<(), AllocError>
+    ) -> Result<SubList, AllocError>
         requires own { visits.old.brand ≡ self.now.brand }
-        requires empty { subs.old.items ≡ [] }
-        ensures found { OnOk result (subs.new.items ≡ filter (is_sub_to self.now.rows name.now) self.now.rows.subs) }
-        ensures visits { OnOk result (visits.new.looks ≡ u64_saturate (visits.old.looks + length subs.new.items)) }
-        ensures bound { OnOk result (visits.new.looks ≤ visits.old.looks + length subs.new.items) }
-        ensures no_less { visits.old.looks ≤ visits.new.looks }
-        ensures own { visits.new.brand ≡ visits.old.brand }
+        ensures found { IfOk result (λ subs. subs ≡ filter (is_sub_to self.now.rows name.now) self.now.rows.subs) }
+        ensures looked { IfOk result (λ subs. IsCountedExactly (length subs) visits.old visits.new) }
+        ensures goes_on { GoesOn visits.old visits.new }
     {
         self.subs.are_apart();
-        self.subs.list_on(name, subs)?;
+        let subs = self.subs.on(name, alloc)?;
         visits.count(subs.len());
-        Ok(())
+        Ok(subs)
     }
 
     /// The subscriptions on the session's channel of this ID, in the order in which they were added. They are
@@ -117,10 +104,8 @@ impl Table {
     ) -> Result<Vec<ClientSub>, AllocError>
         requires own { visits.old.brand ≡ self.now.brand }
         ensures found { IfOk result (λ subs. subs.items ≡ filter (is_sub_on session sid) self.now.rows.subs) }
-        ensures visits { IfOk result (λ subs. visits.new.looks ≡ u64_saturate (visits.old.looks + length subs.items)) }
-        ensures bound { IfOk result (λ subs. visits.new.looks ≤ visits.old.looks + length subs.items) }
-        ensures no_less { visits.old.looks ≤ visits.new.looks }
-        ensures own { visits.new.brand ≡ visits.old.brand }
+        ensures looked { IfOk result (λ subs. IsCountedExactly (length subs.items) visits.old visits.new) }
+        ensures goes_on { GoesOn visits.old visits.new }
     {
         let subs = self.subs.all_on(alloc, session, sid)?;
         visits.count(subs.len());
@@ -177,11 +162,8 @@ impl Table {
         ensures put { self.new.rows ≡ record self.old.rows {
           subs = change_first (is_sub session id) (with_owed owed) self.old.rows.subs;
         } }
-        ensures visits { visits.new.looks ≡ u64_saturate (visits.old.looks + 1) }
-        ensures bound { visits.new.looks ≤ visits.old.looks + 1 }
-        ensures no_less { visits.old.looks ≤ visits.new.looks }
+        ensures looked { IsCountedExactly 1 visits.old visits.new }
         ensures brand { self.new.brand ≡ self.old.brand }
-        ensures own { visits.new.brand ≡ visits.old.brand }
     {
         visits.count(1);
         self.subs.put(session, id, owed);

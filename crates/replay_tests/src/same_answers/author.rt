@@ -31,10 +31,10 @@ const NUMBERS: u32 = 12;
 const AGAIN: &[u8] = b"limit reuses-numbers 1\n";
 
 /// The beginning of a line of a message: its connection, and sixteen bytes as digits.
-type Source = [u8; 35];
+type SourceText = [u8; 35];
 
 // The source where there is no such line.
-const NOWHERE: Source = *b"s1 00120000000500030000000100000001";
+const NOWHERE: SourceText = *b"s1 00120000000500030000000100000001";
 
 // What is drawn as a source is mostly one of so many last ones.
 const LAST: usize = 6;
@@ -92,7 +92,7 @@ pub(crate) fn count(text: &[u8], pattern: &[u8]) -> usize {
 }
 
 /// The source that is the n-th line that begins so.
-fn nth_source(text: &[u8], pattern: &[u8], n: usize) -> Source {
+fn nth_source(text: &[u8], pattern: &[u8], n: usize) -> SourceText {
     let mut source = NOWHERE;
     let mut left = n;
     for line in text.split(|b| *b == b'\n') {
@@ -111,7 +111,7 @@ fn nth_source(text: &[u8], pattern: &[u8], n: usize) -> Source {
 }
 
 /// One of the lines that begin so.
-fn drawn_source(chance: &mut Chance, text: &[u8], pattern: &[u8]) -> Source {
+fn drawn_source(chance: &mut Chance, text: &[u8], pattern: &[u8]) -> SourceText {
     let lines = count(text, pattern);
     let first = if chance.below(3) == 0 {
         0
@@ -213,7 +213,7 @@ fn table(chance: &mut Chance, beside: Beside) -> &'static [u8] {
 fn fill(
     chance: &mut Chance,
     lines: &[u8],
-    source: &Source,
+    source: &SourceText,
     out: &mut Vec<u8>,
 ) -> Result<(), AllocError> {
     let mut is_place = false;
@@ -231,7 +231,7 @@ fn fill(
 fn fill_place(
     chance: &mut Chance,
     place: u8,
-    source: &Source,
+    source: &SourceText,
     out: &mut Vec<u8>,
 ) -> Result<(), AllocError> {
     let digits = decimal(source);
@@ -247,7 +247,7 @@ fn fill_place(
 }
 
 /// The second parameter's last byte in decimal.
-fn decimal(source: &Source) -> [u8; 3] {
+fn decimal(source: &SourceText) -> [u8; 3] {
     let number = digit(source[33]) * 16 + digit(source[34]);
     [
         b'0' + number / 100,

@@ -19,24 +19,28 @@ const CREATE: Header = Header {
 
 /// An engine whose contract isn't followed: the test looks at what it answers.
 #[derive(Drop)]
-struct Tried {
-    engine: Engine,
+pub(crate) struct TriedEngine {
+    pub(crate) engine: Engine,
 }
 
-impl Model for Tried {
+impl Model for TriedEngine {
     ghost Value = { Unit {0} };
 
     ghost view = { λ _. tt };
 }
 
-impl Tried {
+impl TriedEngine {
     /// What the event is refused with, where there is memory for it.
-    fn step(&mut self, event: Option<Event>) -> Option<Option<StepFault>> {
+    pub(crate) fn step(&mut self, event: Option<Event>) -> Option<Option<StepFault>> {
         Some(self.engine.step(event?).err())
     }
 
     fn refusal(&mut self) -> Option<Failed> {
         self.engine.is_open(Dest::Session(1)).err()
+    }
+
+    pub(crate) fn visited(&mut self) -> u64 {
+        self.engine.visited()
     }
 }
 
@@ -51,30 +55,30 @@ pub(crate) fn last_numbers(alloc: Global) -> Option<Engine> {
     Engine::new(alloc, config, Policy::open_to_all(alloc)).ok()
 }
 
-fn made(alloc: Global) -> Option<Tried> {
+fn made(alloc: Global) -> Option<TriedEngine> {
     let engine = last_numbers(alloc)?;
-    Some(Tried { engine })
+    Some(TriedEngine { engine })
 }
 
 /// A client connects.
-fn opened(alloc: Global) -> Option<Event> {
+pub(crate) fn opened(alloc: Global) -> Option<Event> {
     Some(Event::Opened(1, Host::read(alloc, b"10.0.0.5").ok()?))
 }
 
 /// The client wants a channel on a variable.
-fn want(alloc: Global, name: &[u8; 8]) -> Option<Event> {
+pub(crate) fn want(alloc: Global, name: &[u8; 8]) -> Option<Event> {
     let payload = Bytes::copy_from_slice(alloc, name).ok()?;
     let head = CREATE;
     Some(Event::Client(1, Message { head, payload }))
 }
 
 /// The server has a variable.
-fn found(alloc: Global, name: &[u8]) -> Option<Event> {
+pub(crate) fn found(alloc: Global, name: &[u8]) -> Option<Event> {
     Some(Event::Found(Name::read(alloc, name).ok()?, 1))
 }
 
 /// What is told where a client wants T1 and T2 of a server that has both, and of a step after that.
-fn link_both(alloc: Global, engine: &mut Tried) -> [Option<Option<StepFault>>; 7] {
+fn link_both(alloc: Global, engine: &mut TriedEngine) -> [Option<Option<StepFault>>; 7] {
     [
         engine.step(Some(Event::UpOpened(1))),
         engine.step(opened(alloc)),

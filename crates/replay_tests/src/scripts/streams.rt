@@ -12,13 +12,13 @@ const VERSION: &[u8] = b"s1 000000000000000d0000000000000000\n";
 
 /// Gives its bytes, at most `step` at a time, and then ends, or fails with an error of this kind.
 #[derive(Drop)]
-struct Source<'a> {
+struct SteppedBytes<'a> {
     text: &'a [u8],
     step: usize,
     fault: Option<ErrorKind>,
 }
 
-impl<'a> Read for Source<'a> {
+impl<'a> Read for SteppedBytes<'a> {
     fn read(&mut self, buf: &mut [u8]) -> io::Result<usize> {
         let len = self.step.min(buf.len()).min(self.text.len());
         if let (0, Some(kind)) = (len, self.fault) {
@@ -81,7 +81,7 @@ fn script(text: &[u8]) -> Streams<'_> {
 
 /// Asserts that a replay over these streams ends with this status, and that this is taken.
 fn ends(rt: &impl Abort, alloc: Global, streams: Streams<'_>, status: u8, output: &[u8]) {
-    let source = Source {
+    let source = SteppedBytes {
         text: streams.text,
         step: streams.step,
         fault: streams.fault,

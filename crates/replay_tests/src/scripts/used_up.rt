@@ -1,7 +1,7 @@
 //! Numbers that are used up or gone, and reads that are counted.
 use crate::scripts::engine::last_numbers;
-use script_player::counted::Counted;
-use script_player::play;
+use replay::counted::Counted;
+use replay::play;
 use std::alloc::Global;
 use std::io::Read;
 use std::process::Abort;
@@ -189,7 +189,7 @@ fn knows_the_numbers_that_it_gave_out(rt: HostRuntime) {
     ends(&rt, rt.alloc(), ONE_GONE, 0);
 }
 
-/// The example at the head of `script_player`.
+/// The example at the head of `replay`.
 #[test]
 fn an_engine_greets_a_client(rt: HostRuntime) {
     let mut out = Vec::new(rt.alloc());

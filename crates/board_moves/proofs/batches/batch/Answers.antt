@@ -1,6 +1,7 @@
 use Rattle.std.proofs.Common.{◌≡◌, ◌+◌, ◌-◌, min, Ok, Err, suc, ap, refl, arith}
 use Rattle.std.specs.Prelude.{◌^◌}
 use Rattle.board_moves.proofs.Changed.{rings_stay}
+use Rattle.board_moves.proofs.Told.{noted_through}
 use Rattle.board_moves.specs.Answers.{board_of}
 use Rattle.board_moves.proofs.batches.batch.Goals as goal
 
@@ -9,13 +10,14 @@ pub returns-in-Err : goal.returns-in-Err
 returns-in-Err g c = record {
   batch = (board_of (g.G.GatewayCalls.state c.weigh_all.new.gate) c.weigh_all.new.attachments, (c.weigh_all.ensures.calls, (0, c.in-Err.ensures.round)));
   rings = rings_stay c.args.attachments.now c.weigh_all.new.attachments c.free_round.new.attachments c.weigh_all.ensures.rings c.free_round.ensures.rings;
+  kept = c.free_round.ensures.kept;
 }
 
 -- the first round was performed
 pub loop-init : goal.loop-init
 loop-init g c = (
   (board_of (g.G.GatewayCalls.state c.weigh_all.new.gate) c.weigh_all.new.attachments, (c.weigh_all.ensures.calls, (0, c.in-Ok.ensures.round))),
-  rings_stay c.args.attachments.now c.weigh_all.new.attachments c.free_round.new.attachments c.weigh_all.ensures.rings c.free_round.ensures.rings,
+  (rings_stay c.args.attachments.now c.weigh_all.new.attachments c.free_round.new.attachments c.weigh_all.ensures.rings c.free_round.ensures.rings, c.free_round.ensures.kept),
 )
 
 -- a later one met a fault
@@ -30,5 +32,8 @@ loop-preserved g c =
     let so_far = c.loop.invariant.0 in
     let told : c.saturating_add-moved.result ≡ min (c.loop.moved + c.in-Ok-free_round.count) (2 ^ 64 - 1) = omega (arith, c.saturating_add-moved.ensures) in (
       (so_far.0, (so_far.1.0, (suc so_far.1.1.0, (c.loop.moved, (Ok c.in-Ok-free_round.count, (board_of (g.G.GatewayCalls.state c.loop.gate) c.loop.attachments, (so_far.1.1.1, (c.in-Ok-free_round.ensures.round, ap Ok told)))))))),
-      rings_stay c.args.attachments.now c.loop.attachments c.free_round-in-loop.new.attachments c.loop.invariant.1 c.free_round-in-loop.ensures.rings,
+      (
+        rings_stay c.args.attachments.now c.loop.attachments c.free_round-in-loop.new.attachments c.loop.invariant.1.0 c.free_round-in-loop.ensures.rings,
+        noted_through c.args.news.now c.loop.news c.free_round-in-loop.new.news c.loop.invariant.1.1 c.free_round-in-loop.ensures.kept,
+      ),
     )

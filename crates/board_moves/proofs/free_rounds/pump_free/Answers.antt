@@ -1,8 +1,9 @@
 use Rattle.std.proofs.Common.{sym, ◌∙◌, arith}
 use Rattle.board_moves.proofs.Changed.{rings_stay}
 use Rattle.board_moves.proofs.RoundCalls.{all_performed_there, next_performed, next_refused}
+use Rattle.board_moves.proofs.Told.{noted_through}
 use Rattle.board_moves.specs.Answers.{board_of}
-use Rattle.board_moves.specs.declared.rounds.Call.TheVariants.{PumpFree}
+use Rattle.board_moves.specs.declared.rounds.RoundCall.TheVariants.{PumpFree}
 use Rattle.board_moves.proofs.free_rounds.pump_free.Goals as goal
 
 -- the call was refused
@@ -17,7 +18,19 @@ loop-n-preserved g c = (
   next_performed PumpFree c.loop-n.attachments c.args.attachments.now c.loop-n.n c.in-Some.dest (board_of (g.G.GatewayCalls.state c.args.gate.now) c.args.attachments.now) (board_of (g.G.GatewayCalls.state c.loop-n.gate) c.loop-n.attachments)
       (board_of (g.G.GatewayCalls.state c.pump_unless_held.new.gate) c.pump_unless_held.new.attachments) c.loop-n.moved c.in-Ok.count c.saturating_add-moved.result c.loop-n.invariant.1.0 (sym c.in-Some.ensures) c.loop-n.invariant.0
       c.in-Ok.ensures.performed (omega (arith, c.saturating_add-moved.ensures)),
-  (c.pump_unless_held.ensures.dests ∙ c.loop-n.invariant.1.0, (rings_stay c.args.attachments.now c.loop-n.attachments c.pump_unless_held.new.attachments c.loop-n.invariant.1.1.0 c.pump_unless_held.ensures.rings, (c.in-Ok.ensures.stands, c.loop-n.invariant.1.1.1.1 ∙ sym c.pump_unless_held.ensures.full))),
+  (
+    c.pump_unless_held.ensures.dests ∙ c.loop-n.invariant.1.0,
+    (
+      rings_stay c.args.attachments.now c.loop-n.attachments c.pump_unless_held.new.attachments c.loop-n.invariant.1.1.0 c.pump_unless_held.ensures.rings,
+      (
+        c.in-Ok.ensures.stands,
+        (
+          c.loop-n.invariant.1.1.1.1.0 ∙ sym c.pump_unless_held.ensures.full,
+          noted_through c.args.news.now c.loop-n.news c.pump_unless_held.new.news c.loop-n.invariant.1.1.1.1.1 c.pump_unless_held.ensures.kept,
+        ),
+      ),
+    ),
+  ),
 )
 
 -- no connection is left

@@ -2,7 +2,7 @@ use Rattle.std.proofs.Common.{refl, sym, ◌∙◌, arith}
 use Rattle.board_moves.proofs.Changed.{rings_stay}
 use Rattle.board_moves.proofs.RoundCalls.{next_performed}
 use Rattle.board_moves.specs.Answers.{board_of}
-use Rattle.board_moves.specs.declared.rounds.Call.TheVariants.{Weigh}
+use Rattle.board_moves.specs.declared.rounds.RoundCall.TheVariants.{Weigh}
 use Rattle.board_moves.proofs.free_rounds.weigh_all.Goals as goal
 
 -- one more was weighed

@@ -2,7 +2,7 @@ use Rattle.std.proofs.Common.{◌≡◌, map}
 use Rattle.board_moves.proofs.RoundCalls.{IsPerformed}
 use Rattle.board_moves.specs.Answers.{board_of, KeepsRings}
 use Rattle.board_moves.specs.Rounds.{dests_of}
-use Rattle.board_moves.specs.declared.rounds.Call.TheVariants.{Weigh}
+use Rattle.board_moves.specs.declared.rounds.RoundCall.TheVariants.{Weigh}
 use Rattle.board_moves.proofs.free_rounds.weigh_all.Given as goal
 
 -- the first n connections were weighed

@@ -8,7 +8,7 @@ use Rattle.gateway_state.specs.declared.event.Event.TheVariants.{Drain}
 use Rattle.board_rings.proofs.AttachmentChanges.{free_as_found}
 use Rattle.board_rings.specs.Attachments.{attachment_of}
 use Rattle.board_rings.specs.Rings.{AttachmentState}
-use Rattle.board_history.specs.Calls.{uses_up}
+use Rattle.board_rings.specs.Calls.{uses_up}
 use Rattle.board_moves.proofs.Changed.{looked_dests, looked_rings, no_more_taken, pushed_dests, pushed_rings, rings_stay}
 use Rattle.board_moves.proofs.Moved.{held_back, places_of_attached, send_faults, sent_nothing, sent_out, share_is_few, share_of_way}
 use Rattle.board_moves.specs.Answers.{board_of}

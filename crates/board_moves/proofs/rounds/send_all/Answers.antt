@@ -1,8 +1,9 @@
 use Rattle.std.proofs.Common.{sym, ◌∙◌, arith}
 use Rattle.board_moves.proofs.Changed.{rings_stay}
 use Rattle.board_moves.proofs.RoundCalls.{all_performed_there, next_performed, next_refused}
+use Rattle.board_moves.proofs.Told.{noted_through}
 use Rattle.board_moves.specs.Answers.{board_of}
-use Rattle.board_moves.specs.declared.rounds.Call.TheVariants.{SendOut}
+use Rattle.board_moves.specs.declared.rounds.RoundCall.TheVariants.{SendOut}
 use Rattle.board_moves.proofs.rounds.send_all.Goals as goal
 
 -- the call was refused
@@ -17,7 +18,13 @@ loop-n-preserved g c = (
   next_performed SendOut c.loop-n.attachments c.args.attachments.now c.loop-n.n c.in-Some.dest (board_of (g.G.GatewayCalls.state c.args.gate.now) c.args.attachments.now) (board_of (g.G.GatewayCalls.state c.loop-n.gate) c.loop-n.attachments)
       (board_of (g.G.GatewayCalls.state c.send_out.new.gate) c.send_out.new.attachments) c.loop-n.moved c.in-Ok.count c.saturating_add-moved.result c.loop-n.invariant.1.0 (sym c.in-Some.ensures) c.loop-n.invariant.0
       c.in-Ok.ensures.sent (omega (arith, c.saturating_add-moved.ensures)),
-  (c.send_out.ensures.dests ∙ c.loop-n.invariant.1.0, rings_stay c.args.attachments.now c.loop-n.attachments c.send_out.new.attachments c.loop-n.invariant.1.1 c.send_out.ensures.rings),
+  (
+    c.send_out.ensures.dests ∙ c.loop-n.invariant.1.0,
+    (
+      rings_stay c.args.attachments.now c.loop-n.attachments c.send_out.new.attachments c.loop-n.invariant.1.1.0 c.send_out.ensures.rings,
+      noted_through c.args.news.now c.loop-n.news c.send_out.new.news c.loop-n.invariant.1.1.1 c.send_out.ensures.kept,
+    ),
+  ),
 )
 
 -- no connection is left
@@ -27,4 +34,4 @@ returns-in_default-clause-calls g c =
     c.loop-n.invariant.1.0 (sym c.dest.ensures ∙ c.in_default.is) c.loop-n.invariant.0
 
 pub returns-in-Err-clause-rings : goal.returns-in-Err-clause-rings
-returns-in-Err-clause-rings g c = rings_stay c.args.attachments.now c.loop-n.attachments c.send_out.new.attachments c.loop-n.invariant.1.1 c.send_out.ensures.rings
+returns-in-Err-clause-rings g c = rings_stay c.args.attachments.now c.loop-n.attachments c.send_out.new.attachments c.loop-n.invariant.1.1.0 c.send_out.ensures.rings

@@ -3,8 +3,8 @@ use Rattle.std.specs.List.{find}
 use Rattle.rows.proofs.RowLemmas.{change_first_unfound}
 use Rattle.row_index.specs.Rows.{has_key, row_of}
 use Rattle.channel_table.specs.Sessions.{with_user}
-use Rattle.channel_table.specs.Indexes.{changed_by}
-use Rattle.channel_table.proofs.Keyed.{put_is_change}
+use Rattle.named_rows.specs.Indexes.{changed_by}
+use Rattle.named_rows.proofs.Keyed.{put_is_change}
 use Rattle.row_index.proofs.Keys.{unmapped}
 use Rattle.channel_table.proofs.sessions.put_user.Goals as goal
 

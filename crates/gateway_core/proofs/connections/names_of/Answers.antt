@@ -1,6 +1,6 @@
 use Rattle.std.proofs.Common.{◌≡◌, arith}
 use Rattle.std.specs.Prelude.{count_by}
-use Rattle.channel_table.specs.Channels.{is_channel_of}
+use Rattle.named_rows.specs.Channels.{is_channel_of}
 use Rattle.gateway_core.proofs.Named.{all_named}
 use Rattle.gateway_core.proofs.connections.names_of.Goals as goal
 

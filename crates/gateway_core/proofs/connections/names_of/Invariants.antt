@@ -1,5 +1,6 @@
-use Rattle.std.proofs.Common.{◌≡◌, ◌≤◌, ◌+◌, ◌++◌, drop, filter}
-use Rattle.channel_table.specs.Channels.{is_channel_of}
+use Rattle.std.proofs.Common.{◌≡◌, ◌++◌, drop, filter}
+use Rattle.named_rows.specs.Channels.{is_channel_of}
+use Rattle.channel_table.specs.Looks.{IsCounted}
 use Rattle.gateway_state.specs.Variables.{channel_names}
 use Rattle.gateway_core.proofs.connections.names_of.Given as goal
 
@@ -7,6 +8,4 @@ use Rattle.gateway_core.proofs.connections.names_of.Given as goal
 abbrev pub invariant-loop-n : goal.invariant-loop-n
 invariant-loop-n l =
     (l.names ++ drop l.n (channel_names (filter (is_channel_of l.number) l.clients.rows.channels)) ≡ channel_names (filter (is_channel_of l.number) l.clients.rows.channels))
-    × (l.visits.looks ≤ l.fn.visits.looks + l.n)
-    × (l.fn.visits.looks ≤ l.visits.looks)
-    × (l.visits.brand ≡ l.fn.visits.brand)
+    × IsCounted l.n l.fn.visits l.visits

@@ -1,6 +1,6 @@
 use Rattle.std.proofs.Common.{◌≡◌, arith}
 use Rattle.std.specs.Prelude.{count_by}
-use Rattle.channel_table.specs.Subs.{is_sub_of}
+use Rattle.named_rows.specs.Subs.{is_sub_of}
 use Rattle.gateway_rows.specs.Own.{is_owed}
 use Rattle.gateway_rows.proofs.Counted.{all_kept}
 use Rattle.gateway_rows.proofs.own.owed_of.Goals as goal
@@ -12,6 +12,5 @@ returns c =
     record {
       found = all_kept is_owed (is_sub_of c.args.session) c.args.clients.now.rows.subs c.loop-n.subs.items c.loop-n.n
           (omega (arith, c.loop-n-test.false, counted)) c.loop-n.invariant.0;
-      no_less = c.loop-n.invariant.1;
-      own = c.loop-n.invariant.2;
+      looked = c.loop-n.invariant.1;
     }

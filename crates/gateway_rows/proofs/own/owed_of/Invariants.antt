@@ -1,5 +1,6 @@
-use Rattle.std.proofs.Common.{◌≡◌, ◌≤◌, ◌++◌, filter, drop}
-use Rattle.channel_table.specs.Subs.{is_sub_of}
+use Rattle.std.proofs.Common.{◌≡◌, ◌++◌, filter, drop}
+use Rattle.named_rows.specs.Subs.{is_sub_of}
+use Rattle.channel_table.specs.Looks.{GoesOn}
 use Rattle.gateway_rows.specs.Own.{is_owed}
 use Rattle.gateway_rows.proofs.own.owed_of.Given as goal
 
@@ -7,5 +8,4 @@ use Rattle.gateway_rows.proofs.own.owed_of.Given as goal
 abbrev pub invariant-loop-n : goal.invariant-loop-n
 invariant-loop-n l =
     (l.subs.items ++ filter is_owed (drop l.n (filter (is_sub_of l.session) l.clients.rows.subs)) ≡ filter is_owed (filter (is_sub_of l.session) l.clients.rows.subs))
-    × (l.fn.visits.looks ≤ l.visits.looks)
-    × (l.visits.brand ≡ l.fn.visits.brand)
+    × GoesOn l.fn.visits l.visits

@@ -1,6 +1,6 @@
 use Rattle.std.proofs.Common.{◌≡◌, ◌++◌, drop}
 use Rattle.std.specs.List.{filter}
-use Rattle.channel_table.specs.Subs.{is_sub_on}
+use Rattle.named_rows.specs.Subs.{is_sub_on}
 use Rattle.plain_gate.proofs.channels_pass.subs_on.Given as goal
 
 -- those found so far and those that are left are all

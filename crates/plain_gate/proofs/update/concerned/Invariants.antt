@@ -1,5 +1,5 @@
 use Rattle.std.proofs.Common.{◌≡◌, ◌++◌, ◌&&◌, filter, drop}
-use Rattle.channel_table.specs.declared.subs.ClientSub.{ClientSub}
+use Rattle.named_rows.specs.declared.subs.ClientSub.{ClientSub}
 use Rattle.gateway_state.specs.Servers.{concerns}
 use Rattle.gateway_state.specs.Updates.{concerned, is_sub_to}
 use Rattle.plain_gate.proofs.update.concerned.Given as goal

@@ -1,6 +1,6 @@
 use Rattle.std.proofs.Common.{◌∙◌, refl, rules}
 use Rattle.session_worker.proofs.Hearing.{begins, goes_further, held_fits, stops_after}
-use Rattle.session_links.proofs.Keeping.{keeps_on, keeps_same}
+use Rattle.session_worker.proofs.Keeping.{keeps_on, keeps_same}
 use Rattle.session_worker.proofs.reader.hear_all.Goals as goal
 
 pub loop-init : goal.loop-init

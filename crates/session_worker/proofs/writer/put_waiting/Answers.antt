@@ -1,11 +1,11 @@
 use Rattle.std.proofs.Common.{◌∙◌, false, refl, true}
-use Rattle.session_links.proofs.Keeping.{keeps_on, keeps_same}
+use Rattle.session_worker.proofs.Keeping.{keeps_on, keeps_same}
 use Rattle.session_worker.specs.Sending.{Sending}
 use Rattle.session_worker.proofs.Sending.{sends_more, sends_none, sends_one}
 use Rattle.session_worker.proofs.writer.put_waiting.Goals as goal
 
 pub loop-init : goal.loop-init
-loop-init g c = (sends_none _, (refl, keeps_same (g.L.Link.unread c.args.link.now)))
+loop-init g c = (sends_none _, (refl, (keeps_same (g.L.Link.unread c.args.link.now), (refl, refl))))
 
 -- the link failed at the message that was taken last
 pub returns-in-Err-clause-sent : goal.returns-in-Err-clause-sent
@@ -24,6 +24,9 @@ loop-preserved g c =
       sends_more true start at now c.loop.invariant.0 (sends_one true at now c.in-Some.out c.in-Some.ensures.some c.in-Ok.ensures.written),
       (
         c.next.ensures.ring ∙ c.loop.invariant.1.0,
-        keeps_on (g.L.Link.unread c.args.link.now) (g.L.Link.unread c.loop.link) (g.L.Link.unread c.put_out.new.link) c.loop.invariant.1.1 c.put_out.ensures.kept,
+        (
+          keeps_on (g.L.Link.unread c.args.link.now) (g.L.Link.unread c.loop.link) (g.L.Link.unread c.put_out.new.link) c.loop.invariant.1.1.0 c.put_out.ensures.kept,
+          (c.next.ensures.told.0 ∙ c.loop.invariant.1.1.1.0, c.next.ensures.told.1 ∙ c.loop.invariant.1.1.1.1),
+        ),
       ),
     )

@@ -8,4 +8,4 @@ abbrev pub invariant-loop : goal.invariant-loop
 invariant-loop g l =
     Sends true (record { written = g.L.Link.written l.fn.link; failed = g.L.Link.failed l.fn.link; taken = l.fn.outlet.taken; buffer = l.fn.buffer })
     (record { written = g.L.Link.written l.link; failed = g.L.Link.failed l.link; taken = l.outlet.taken; buffer = l.buffer })
-    × ((l.outlet.ring ≡ l.fn.outlet.ring) × Keeps (g.L.Link.unread l.fn.link) (g.L.Link.unread l.link))
+    × ((l.outlet.ring ≡ l.fn.outlet.ring) × (Keeps (g.L.Link.unread l.fn.link) (g.L.Link.unread l.link) × ((l.outlet.stops ≡ l.fn.outlet.stops) × (l.outlet.ends ≡ l.fn.outlet.ends))))

@@ -1,5 +1,5 @@
 use Rattle.std.proofs.Common.{is_ok, refl}
-use Rattle.session_links.proofs.Keeping.{keeps_on}
+use Rattle.session_worker.proofs.Keeping.{keeps_on}
 use Rattle.session_worker.proofs.Sending.{sends_held, sends_more}
 use Rattle.session_worker.proofs.writer.write_waiting.Goals as goal
 

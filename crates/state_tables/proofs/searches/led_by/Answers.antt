@@ -1,5 +1,5 @@
 use Rattle.std.proofs.Common.{map, ap, ◌∙◌}
-use Rattle.channel_table.proofs.Mapped.{map_twice}
+use Rattle.named_rows.proofs.Mapped.{map_twice}
 use Rattle.state_tables.specs.Kept.{search_of, searches_of}
 use Rattle.state_tables.proofs.searches.led_by.Goals as goal
 

@@ -1,6 +1,6 @@
 use Rattle.std.proofs.Common.{ap, ◌∙◌}
 use Rattle.std.specs.List.{filter, find}
-use Rattle.channel_table.specs.Indexes.{is_at, is_not_at}
+use Rattle.named_rows.specs.Indexes.{is_at, is_not_at}
 use Rattle.state_tables.specs.Kept.{kept_key, search_in}
 use Rattle.state_tables.proofs.SearchChanges.{goes_for_one, gone_for_one}
 use Rattle.state_tables.proofs.searches.take_in.Goals as goal

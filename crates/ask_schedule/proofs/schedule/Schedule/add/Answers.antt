@@ -1,7 +1,7 @@
 use Rattle.std.proofs.Common.{◌≡◌, ℕ, ◌<◌, ◌≤◌, List, length, Some, cond, rules, bytes_eq, sym, ap, subst, ◌∙◌}
 use Rattle.std.specs.HashMap.{get}
 use Rattle.std.specs.List.{count_by, insert}
-use Rattle.ask_schedule.specs.declared.row.Row.{Row}
+use Rattle.ask_schedule.specs.declared.row.ScheduleRow.{ScheduleRow}
 use Rattle.ask_schedule.specs.Places.{AreRows, due_of}
 use Rattle.ask_schedule.specs.Plan.{Plan, fresh, is_due, placed}
 use Rattle.ask_schedule.proofs.Found.{answer-full, answer-known, answer-new, due-added, no_row, rows-placed}
@@ -23,7 +23,7 @@ returns-clause-answer c =
     rw (← c.self.view_is) (answer-new c.args.name.now _ (get bytes_eq c.self.inside.dues c.args.name.now) (c.self.invariant.1 c.args.name.now) (sym c.if-contains_key.ensures) room)
 
 -- the new row stands behind those that are due as soon
-stands : (rows new : List Row) (place : ℕ) (copy name : List ℕ) (limit : ℕ) → AreRows limit rows → copy ≡ name → place ≡ count_by (is_due 0) rows
+stands : (rows new : List ScheduleRow) (place : ℕ) (copy name : List ℕ) (limit : ℕ) → AreRows limit rows → copy ≡ name → place ≡ count_by (is_due 0) rows
     → new ≡ insert rows place (fresh copy) → new ≡ placed (fresh name) rows
 stands rows new place copy name limit are same at put =
     put ∙ ap (insert rows place) (ap fresh same) ∙ ap (λ (k : ℕ). insert rows k (fresh name)) at ∙ insert-placed (fresh name) 0 rows are.ordered
@@ -50,5 +50,5 @@ returns-clause-ok c =
     let rows = c.self.inside.rows.items in
     let name = c.args.name.now in
     let is = stands rows c.insert-2.new.self.items c.due_by-place.result c.in_ok-copy.field-0 name c.self.inside.limit c.self.invariant.0 c.in_ok-copy.ensures c.due_by-place.ensures.count c.in_default-insert.ensures.items in
-    let plan : List Row → Plan = λ xs. record { limit = c.self.inside.limit; rows = xs } in
+    let plan : List ScheduleRow → Plan = λ xs. record { limit = c.self.inside.limit; rows = xs } in
     rw (← c.self.view_is) (ap plan is)

@@ -2,7 +2,7 @@ use Rattle.std.proofs.Common.{◌≡◌, ℕ, ◌+◌, min, Bool, cond, bytes_eq
 use Rattle.std.specs.List.{count_by, insert}
 use Rattle.std.specs.HashMap.{get}
 use Rattle.std.specs.Option.{option_map}
-use Rattle.ask_schedule.specs.declared.row.Row.{Row}
+use Rattle.ask_schedule.specs.declared.row.ScheduleRow.{ScheduleRow}
 use Rattle.ask_schedule.specs.declared.row.TheConstants.{MOST_TRIES}
 use Rattle.ask_schedule.specs.Places.{AreRows, InOrder, due_of, first_asked}
 use Rattle.ask_schedule.specs.Plan.{Plan, again, due_after, is_due, placed}
@@ -12,7 +12,7 @@ use Rattle.ask_schedule.proofs.Order.{earlier, insert-placed}
 use Rattle.ask_schedule.proofs.schedule.Schedule.ask_first.Goals as goal
 
 -- the rows behind the first are in order
-others : (limit : ℕ) (old new : List Row) (row : Row) → AreRows limit old → old ≡ row ∷ new → InOrder new
+others : (limit : ℕ) (old new : List ScheduleRow) (row : ScheduleRow) → AreRows limit old → old ≡ row ∷ new → InOrder new
 others limit old new row are front =
     let all = subst (AreRows limit) front are in
     earlier 0 row.due new (omega arith) all.ordered.1
@@ -21,20 +21,20 @@ pub due_by-place-requires : goal.due_by-place-requires
 due_by-place-requires c = others c.self.inside.limit c.self.inside.rows.items c.pop_front.new.self.items c.in-Some.row c.self.invariant.0 c.in-Some.ensures.items
 
 -- the row stands where it is due
-stands : (limit now : ℕ) (old left new : List Row) (row put : Row) (place : ℕ) → AreRows limit old → old ≡ row ∷ left → put ≡ again now row → place ≡ count_by (is_due put.due) left
+stands : (limit now : ℕ) (old left new : List ScheduleRow) (row put : ScheduleRow) (place : ℕ) → AreRows limit old → old ≡ row ∷ left → put ≡ again now row → place ≡ count_by (is_due put.due) left
     → new ≡ insert left place put → new ≡ first_asked now old
 stands limit now old left new row put place are front is at there =
-    there ∙ ap (λ (k : ℕ). insert left k put) at ∙ insert-placed put 0 left (others limit old left row are front) ∙ ap (λ (r : Row). placed r left) is ∙ ap (first_asked now) (sym front)
+    there ∙ ap (λ (k : ℕ). insert left k put) at ∙ insert-placed put 0 left (others limit old left row are front) ∙ ap (λ (r : ScheduleRow). placed r left) is ∙ ap (first_asked now) (sym front)
 
-again-is : (now : ℕ) (row : Row) (tries due : ℕ) → tries ≡ min (row.tries + 1) MOST_TRIES → due ≡ due_after now row.tries
-    → let put : Row = record { name = row.name; tries = tries; due = due } in put ≡ again now row
+again-is : (now : ℕ) (row : ScheduleRow) (tries due : ℕ) → tries ≡ min (row.tries + 1) MOST_TRIES → due ≡ due_after now row.tries
+    → let put : ScheduleRow = record { name = row.name; tries = tries; due = due } in put ≡ again now row
 again-is now row tries due t d =
-    let by_tries : ℕ → Row = λ k. record { name = row.name; tries = k; due = due } in
-    let by_due : ℕ → Row = λ k. record { name = row.name; tries = min (row.tries + 1) MOST_TRIES; due = k } in
+    let by_tries : ℕ → ScheduleRow = λ k. record { name = row.name; tries = k; due = due } in
+    let by_due : ℕ → ScheduleRow = λ k. record { name = row.name; tries = min (row.tries + 1) MOST_TRIES; due = k } in
     ap by_tries t ∙ ap by_due d
 
 -- when a name is due
-kept : (limit now : ℕ) (old left new : List Row) (row : Row) (due : ℕ) (before after : Option ℕ) (n : List ℕ) → AreRows limit old → old ≡ row ∷ left
+kept : (limit now : ℕ) (old left new : List ScheduleRow) (row : ScheduleRow) (due : ℕ) (before after : Option ℕ) (n : List ℕ) → AreRows limit old → old ≡ row ∷ left
     → new ≡ first_asked now old → due ≡ due_after now row.tries → before ≡ due_of n old
     → after ≡ cond (bytes_eq row.name n) (option_map (λ (x : ℕ). due) before) before → after ≡ due_of n new
 kept limit now old left new row due before after n are front is due_is was set =
@@ -44,7 +44,7 @@ kept limit now old left new row due before after n are front is due_is was set =
     ∙ ap (changed due (due_of n (row ∷ left))) (same_either_way row.name n)
     ∙ ap (λ (k : ℕ). changed k (due_of n (row ∷ left)) (bytes_eq n row.name)) due_is
     ∙ sym (due-asked limit now row left n (subst (AreRows limit) front are))
-    ∙ ap (λ (xs : List Row). due_of n (first_asked now xs)) (sym front)
+    ∙ ap (λ (xs : List ScheduleRow). due_of n (first_asked now xs)) (sym front)
     ∙ ap (due_of n) (sym is)
 
 pub invariant_of-self-2 : goal.invariant_of-self-2
@@ -64,5 +64,5 @@ returns c =
     let tries : c.min.result ≡ min (c.in-Some.row.tries + 1) MOST_TRIES = omega arith in
     let put = again-is c.args.now row c.min.result c.due_after-due.result tries c.due_after-due.ensures in
     let is = stands c.self.inside.limit c.args.now c.self.inside.rows.items c.pop_front.new.self.items c.insert.new.self.items row _ c.due_by-place.result c.self.invariant.0 c.in-Some.ensures.items put c.due_by-place.ensures.count c.in_default-insert.ensures.items in
-    let plan : List Row → Plan = λ xs. record { limit = c.self.inside.limit; rows = xs } in
+    let plan : List ScheduleRow → Plan = λ xs. record { limit = c.self.inside.limit; rows = xs } in
     rw (← c.self.view_is) (ap plan is)

@@ -1,6 +1,6 @@
 use Rattle.std.proofs.Common.{◌≡◌, ℕ, ◌≤◌, List, map, min, take, sym, ap, ◌∙◌, arith}
 use Rattle.std.specs.List.{count_by}
-use Rattle.ask_schedule.specs.declared.row.Row.{Row}
+use Rattle.ask_schedule.specs.declared.row.ScheduleRow.{ScheduleRow}
 use Rattle.ask_schedule.specs.declared.row.TheConstants.{LAST_LOOK}
 use Rattle.ask_schedule.specs.Places.{InOrder}
 use Rattle.ask_schedule.specs.Plan.{Plan, is_due, name_of}
@@ -22,7 +22,7 @@ returns-clause-ok c =
     let count : c.min-count.result ≡ min (count_by (is_due c.args.now) c.args.self.now.rows) c.args.most = c.min-count.ensures ∙ ap (λ (k : ℕ). min k c.args.most) by_rows in
     let done : c.loop.counter ≡ c.min-count.result = omega arith in
     let last : c.args.now ≤ LAST_LOOK = omega arith in
-    let plan : ℕ → List Row → Plan = λ k xs. record { limit = k; rows = xs } in
+    let plan : ℕ → List ScheduleRow → Plan = λ k xs. record { limit = k; rows = xs } in
     ap (λ (k : ℕ). plan k c.loop.self.rows) c.loop.invariant.limit
     ∙ ap (plan c.args.self.now.limit) (
     c.loop.invariant.rows

@@ -2,7 +2,7 @@ use Rattle.std.proofs.Common.{◌≡◌, ℕ, List, Option, Some, None, cond, is
 use Rattle.std.specs.HashMap.{get}
 use Rattle.std.specs.List.{filter, remove}
 use Rattle.std.specs.Option.{IsSome, OnSome}
-use Rattle.ask_schedule.specs.declared.row.Row.{Row}
+use Rattle.ask_schedule.specs.declared.row.ScheduleRow.{ScheduleRow}
 use Rattle.ask_schedule.specs.Places.{AreRows, due_of}
 use Rattle.ask_schedule.specs.Plan.{Plan, lacks_name}
 use Rattle.ask_schedule.proofs.Found.{due-gone, filter-none, no_row, rows-without}
@@ -13,10 +13,10 @@ returns-in_default c =
     let rows = c.self.inside.rows.items in
     let name = c.args.name.now in
     let none = no_row name rows (get bytes_eq c.self.inside.dues name) (c.self.invariant.1 name) (ap is_some (sym c.in_default.ensures.value)) in
-    let plan : List Row → Plan = λ xs. record { limit = c.self.inside.limit; rows = xs } in
+    let plan : List ScheduleRow → Plan = λ xs. record { limit = c.self.inside.limit; rows = xs } in
     rw (← c.self.view_is) (ap plan (sym (filter-none name rows none)))
 
-on_some : (taken : Option Row) (P : Type 0) → IsSome taken → OnSome taken P → P
+on_some : (taken : Option ScheduleRow) (P : Type 0) → IsSome taken → OnSome taken P → P
 on_some None P some p = absurd cc
 on_some (Some row) P some p = p
 

@@ -2,9 +2,9 @@ use Rattle.std.proofs.Common.{map, ap, ◌∙◌}
 use Rattle.std.specs.List.{list_any}
 use Rattle.row_index.specs.Rows.{row_of}
 use Rattle.channel_table.specs.Sessions.{is_numbered}
-use Rattle.channel_table.specs.Indexes.{session_key}
+use Rattle.channel_table.specs.SessionIndex.{session_key}
 use Rattle.channel_table.proofs.ByNumber.{numbers_more, numbers_undone}
-use Rattle.channel_table.proofs.Keyed.{entry_absent, keyed_again, rows_more, under_more}
+use Rattle.named_rows.proofs.Keyed.{entry_absent, keyed_again, rows_more, under_more}
 use Rattle.channel_table.proofs.Numbered.{by_number}
 use Rattle.channel_table.proofs.sessions.Sessions.add.Goals as goal
 

@@ -2,9 +2,9 @@ use Rattle.std.proofs.Common.{is_some, map, ap, ◌∙◌}
 use Rattle.std.specs.List.{find, list_any}
 use Rattle.row_index.specs.Rows.{row_of}
 use Rattle.channel_table.specs.Sessions.{is_numbered}
-use Rattle.channel_table.specs.Indexes.{session_key}
-use Rattle.channel_table.proofs.Keyed.{entry_found}
-use Rattle.channel_table.proofs.Lists.{found_where_any}
+use Rattle.channel_table.specs.SessionIndex.{session_key}
+use Rattle.named_rows.proofs.Keyed.{entry_found}
+use Rattle.named_rows.proofs.Lists.{found_where_any}
 use Rattle.channel_table.proofs.Numbered.{by_number}
 use Rattle.channel_table.proofs.sessions.Sessions.contains.Goals as goal
 

@@ -2,8 +2,8 @@ use Rattle.std.proofs.Common.{map, ap, ◌∙◌}
 use Rattle.std.specs.List.{find}
 use Rattle.row_index.specs.Rows.{row_of}
 use Rattle.channel_table.specs.Sessions.{is_numbered}
-use Rattle.channel_table.specs.Indexes.{session_key}
-use Rattle.channel_table.proofs.Keyed.{entry_found}
+use Rattle.channel_table.specs.SessionIndex.{session_key}
+use Rattle.named_rows.proofs.Keyed.{entry_found}
 use Rattle.channel_table.proofs.Numbered.{by_number}
 use Rattle.channel_table.proofs.sessions.Sessions.get.Goals as goal
 

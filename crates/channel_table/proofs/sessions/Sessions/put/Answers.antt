@@ -3,9 +3,9 @@ use Rattle.rows.specs.Rows.{change_first}
 use Rattle.row_index.specs.Rows.{row_of, same_key}
 use Rattle.channel_table.specs.declared.sessions.Session.{Session}
 use Rattle.channel_table.specs.Sessions.{is_numbered, with_host_and_pause}
-use Rattle.channel_table.specs.Indexes.{AreNumbersOf, session_key}
+use Rattle.channel_table.specs.SessionIndex.{AreNumbersOf, session_key}
 use Rattle.channel_table.proofs.ByNumber.{numbers_kept}
-use Rattle.channel_table.proofs.Keyed.{keyed_again, rows_changed, under_change}
+use Rattle.named_rows.proofs.Keyed.{keyed_again, rows_changed, under_change}
 use Rattle.channel_table.proofs.Numbered.{by_number, number_key}
 use Rattle.channel_table.proofs.sessions.Sessions.put.Goals as goal
 

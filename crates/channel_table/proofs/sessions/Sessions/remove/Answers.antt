@@ -2,9 +2,9 @@ use Rattle.std.proofs.Common.{map, not, ap, ◌∙◌}
 use Rattle.std.specs.List.{filter}
 use Rattle.row_index.specs.Rows.{row_of}
 use Rattle.channel_table.specs.Sessions.{is_not_numbered}
-use Rattle.channel_table.specs.Indexes.{session_key}
+use Rattle.channel_table.specs.SessionIndex.{session_key}
 use Rattle.channel_table.proofs.ByNumber.{numbers_less}
-use Rattle.channel_table.proofs.Keyed.{keyed_again, rows_less, under_less}
+use Rattle.named_rows.proofs.Keyed.{keyed_again, rows_less, under_less}
 use Rattle.channel_table.proofs.Numbered.{by_number}
 use Rattle.channel_table.proofs.sessions.Sessions.remove.Goals as goal
 

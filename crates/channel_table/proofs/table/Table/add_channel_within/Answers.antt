@@ -1,6 +1,6 @@
-use Rattle.channel_table.specs.Indexes.{read_home, read_key, sub_home, sub_key}
-use Rattle.channel_table.proofs.Following.{follow_more}
-use Rattle.channel_table.proofs.Asking.{demand_more_channel, demand_same_channels}
+use Rattle.named_rows.specs.Indexes.{read_home, read_key, sub_home, sub_key}
+use Rattle.named_rows.proofs.Following.{follow_more}
+use Rattle.named_rows.proofs.Asking.{demand_more_channel, demand_same_channels}
 use Rattle.channel_table.proofs.table.Table.add_channel_within.Goals.{in-Ok, in-Err}
 use Rattle.channel_table.proofs.table.Table.add_channel_within.Goals as goal
 

@@ -1,13 +1,13 @@
 use Rattle.std.proofs.Common.{◌≡◌, true, false, Ok, Err, OnOk, bytes_eq, refl, sym, ap, ◌∙◌, arith, true≢false}
-use Rattle.channel_table.specs.Channels.{is_channel}
+use Rattle.named_rows.specs.Channels.{is_channel}
 use Rattle.channel_table.specs.ClientRows.{has_channel, has_sub, sub_count}
-use Rattle.channel_table.specs.Indexes.{sub_home, sub_key}
+use Rattle.named_rows.specs.Indexes.{sub_home, sub_key}
 use Rattle.channel_table.specs.Looks.{BrandedRows}
-use Rattle.channel_table.proofs.Following.{follow_added, follow_same}
-use Rattle.channel_table.specs.Demand.{asks_on}
-use Rattle.channel_table.proofs.Asking.{demand_added, demand_same}
-use Rattle.channel_table.proofs.Listed.{unlisted}
-use Rattle.channel_table.proofs.Lists.{found_is_there, unfound_is_absent}
+use Rattle.named_rows.proofs.Following.{follow_added, follow_same}
+use Rattle.named_rows.specs.Demand.{asks_on}
+use Rattle.named_rows.proofs.Asking.{demand_added, demand_same}
+use Rattle.named_rows.proofs.Listed.{unlisted}
+use Rattle.named_rows.proofs.Lists.{found_is_there, unfound_is_absent}
 use Rattle.channel_table.proofs.table.Table.add_sub_within.Goals.{in-Ok, in-Err}
 use Rattle.channel_table.proofs.table.Table.add_sub_within.Goals as goal
 

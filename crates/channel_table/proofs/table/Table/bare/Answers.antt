@@ -1,6 +1,6 @@
-use Rattle.channel_table.specs.Indexes.{read_home, read_key, sub_home, sub_key}
-use Rattle.channel_table.proofs.Following.{follow_none}
-use Rattle.channel_table.proofs.Asking.{demand_none}
+use Rattle.named_rows.specs.Indexes.{read_home, read_key, sub_home, sub_key}
+use Rattle.named_rows.proofs.Following.{follow_none}
+use Rattle.named_rows.proofs.Asking.{demand_none}
 use Rattle.channel_table.proofs.table.Table.bare.Goals as goal
 
 pub invariant_of-result : goal.invariant_of-result

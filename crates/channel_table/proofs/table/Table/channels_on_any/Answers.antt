@@ -1,7 +1,7 @@
 use Rattle.std.proofs.Common.{◌≡◌, map, ap, ◌∙◌}
 use Rattle.std.specs.List.{filter}
 use Rattle.std.proofs.lemmas.Result.{IfOk-weaker}
-use Rattle.channel_table.specs.Channels.{is_on_any}
+use Rattle.named_rows.specs.Channels.{is_on_any}
 use Rattle.channel_table.specs.Looks.{BrandedRows}
 use Rattle.channel_table.proofs.table.Table.channels_on_any.Goals as goal
 

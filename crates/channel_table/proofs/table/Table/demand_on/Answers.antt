@@ -1,7 +1,7 @@
 use Rattle.std.proofs.Common.{ap, ◌∙◌}
 use Rattle.mask_merge.specs.Counts.{props_wanted, wanted_of}
 use Rattle.mask_merge.proofs.CountLemmas.{props_are_asked, wanted_is_merged}
-use Rattle.channel_table.specs.Demand.{asks_on, props_on, want_on}
+use Rattle.named_rows.specs.Demand.{asks_on, props_on, want_on}
 use Rattle.channel_table.specs.Looks.{BrandedRows}
 use Rattle.channel_table.proofs.table.Table.demand_on.Goals as goal
 

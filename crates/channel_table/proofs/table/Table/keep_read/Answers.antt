@@ -1,7 +1,7 @@
 use Rattle.std.proofs.Common.{bytes_eq, sym}
-use Rattle.channel_table.specs.Indexes.{read_home, read_key}
-use Rattle.channel_table.proofs.Following.{follow_added}
-use Rattle.channel_table.proofs.Listed.{unlisted}
+use Rattle.named_rows.specs.Indexes.{read_home, read_key}
+use Rattle.named_rows.proofs.Following.{follow_added}
+use Rattle.named_rows.proofs.Listed.{unlisted}
 use Rattle.channel_table.proofs.table.Table.keep_read.Goals as goal
 
 -- listed under the real name of its channel

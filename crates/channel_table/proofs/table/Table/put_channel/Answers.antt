@@ -1,6 +1,6 @@
-use Rattle.channel_table.specs.Indexes.{read_home, read_key, sub_home, sub_key}
-use Rattle.channel_table.proofs.Following.{follow_changed}
-use Rattle.channel_table.proofs.Asking.{demand_put}
+use Rattle.named_rows.specs.Indexes.{read_home, read_key, sub_home, sub_key}
+use Rattle.named_rows.proofs.Following.{follow_changed}
+use Rattle.named_rows.proofs.Asking.{demand_put}
 use Rattle.channel_table.proofs.table.Table.put_channel.Goals as goal
 
 pub invariant_of-self : goal.invariant_of-self

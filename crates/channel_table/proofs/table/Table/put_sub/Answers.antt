@@ -1,8 +1,8 @@
 use Rattle.std.proofs.Common.{refl}
-use Rattle.channel_table.specs.Subs.{is_sub, with_owed}
-use Rattle.channel_table.specs.Indexes.{sub_home, sub_key}
-use Rattle.channel_table.proofs.Following.{follow_put}
-use Rattle.channel_table.proofs.Asking.{demand_owed}
+use Rattle.named_rows.specs.Subs.{is_sub, with_owed}
+use Rattle.named_rows.specs.Indexes.{sub_home, sub_key}
+use Rattle.named_rows.proofs.Following.{follow_put}
+use Rattle.named_rows.proofs.Asking.{demand_owed}
 use Rattle.channel_table.proofs.table.Table.put_sub.Goals as goal
 
 pub invariant_of-self : goal.invariant_of-self

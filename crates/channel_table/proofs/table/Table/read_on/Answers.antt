@@ -2,7 +2,7 @@ use Rattle.std.proofs.Common.{slice_get, ap, ◌∙◌}
 use Rattle.std.specs.List.{filter}
 use Rattle.channel_table.specs.ClientRows.{is_read_for}
 use Rattle.channel_table.specs.Looks.{BrandedRows}
-use Rattle.channel_table.proofs.Waiting.{nth_waiting}
+use Rattle.named_rows.proofs.Waiting.{nth_waiting}
 use Rattle.channel_table.proofs.table.Table.read_on.Goals as goal
 
 -- the nth key of the name is the key of the nth read that waits for it

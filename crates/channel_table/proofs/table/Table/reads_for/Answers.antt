@@ -2,7 +2,7 @@ use Rattle.std.proofs.Common.{ap, ◌∙◌}
 use Rattle.std.specs.List.{filter}
 use Rattle.channel_table.specs.ClientRows.{is_read_for}
 use Rattle.channel_table.specs.Looks.{BrandedRows}
-use Rattle.channel_table.proofs.Waiting.{all_waiting}
+use Rattle.named_rows.proofs.Waiting.{all_waiting}
 use Rattle.channel_table.proofs.table.Table.reads_for.Goals as goal
 
 -- the keys of the name are those of the reads that wait for it

@@ -2,7 +2,7 @@ use Rattle.std.proofs.Common.{length, ap, ◌∙◌}
 use Rattle.std.specs.List.{filter}
 use Rattle.channel_table.specs.ClientRows.{is_read_for}
 use Rattle.channel_table.specs.Looks.{BrandedRows}
-use Rattle.channel_table.proofs.Waiting.{count_waiting}
+use Rattle.named_rows.proofs.Waiting.{count_waiting}
 use Rattle.channel_table.proofs.table.Table.reads_on.Goals as goal
 
 pub returns : goal.returns

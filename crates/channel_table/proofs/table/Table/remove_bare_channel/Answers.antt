@@ -1,12 +1,12 @@
 use Rattle.std.proofs.Common.{sym, ap, ◌∙◌}
 use Rattle.std.specs.List.{list_any}
-use Rattle.channel_table.specs.Reads.{is_read_on}
-use Rattle.channel_table.specs.Subs.{is_sub_on}
-use Rattle.channel_table.specs.Indexes.{read_home, read_in, read_key, sub_home, sub_key}
+use Rattle.named_rows.specs.Reads.{is_read_on}
+use Rattle.named_rows.specs.Subs.{is_sub_on}
+use Rattle.named_rows.specs.Indexes.{read_home, read_in, read_key, sub_home, sub_key}
 use Rattle.channel_table.specs.Looks.{BrandedRows}
-use Rattle.channel_table.proofs.Following.{follow_without}
-use Rattle.channel_table.proofs.Asking.{demand_removed}
-use Rattle.channel_table.proofs.Mapped.{any_mapped}
+use Rattle.named_rows.proofs.Following.{follow_without}
+use Rattle.named_rows.proofs.Asking.{demand_removed}
+use Rattle.named_rows.proofs.Mapped.{any_mapped}
 use Rattle.channel_table.proofs.table.Table.remove_bare_channel.Goals as goal
 
 pub invariant_of-self : goal.invariant_of-self

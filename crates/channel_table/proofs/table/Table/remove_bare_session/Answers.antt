@@ -1,14 +1,14 @@
 use Rattle.std.proofs.Common.{sym, ap, ◌∙◌}
 use Rattle.std.specs.List.{filter, list_any}
-use Rattle.channel_table.specs.Channels.{is_channel_of, is_not_channel_of}
-use Rattle.channel_table.specs.Subs.{is_sub_of, is_not_sub_of}
-use Rattle.channel_table.specs.Reads.{is_read_of, is_not_read_of}
+use Rattle.named_rows.specs.Channels.{is_channel_of, is_not_channel_of}
+use Rattle.named_rows.specs.Subs.{is_sub_of, is_not_sub_of}
+use Rattle.named_rows.specs.Reads.{is_read_of, is_not_read_of}
 use Rattle.channel_table.specs.Sessions.{is_not_numbered}
-use Rattle.channel_table.specs.Indexes.{read_home, read_in, read_key, reads_in, sub_home, sub_key}
+use Rattle.named_rows.specs.Indexes.{read_home, read_in, read_key, reads_in, sub_home, sub_key}
 use Rattle.channel_table.specs.Looks.{BrandedRows}
-use Rattle.channel_table.proofs.Following.{none_without}
-use Rattle.channel_table.proofs.Lists.{none_dropped}
-use Rattle.channel_table.proofs.Mapped.{any_mapped}
+use Rattle.named_rows.proofs.Following.{none_without}
+use Rattle.named_rows.proofs.Lists.{none_dropped}
+use Rattle.named_rows.proofs.Mapped.{any_mapped}
 use Rattle.channel_table.proofs.table.Table.remove_bare_session.Goals as goal
 
 -- with no channel there is no subscription and no read

@@ -1,10 +1,10 @@
 use Rattle.std.proofs.Common.{ap, ◌∙◌}
 use Rattle.std.specs.List.{filter, list_any}
-use Rattle.channel_table.specs.Channels.{is_not_channel}
-use Rattle.channel_table.specs.Reads.{is_not_read_on, is_read_on}
-use Rattle.channel_table.specs.Subs.{is_sub_on}
+use Rattle.named_rows.specs.Channels.{is_not_channel}
+use Rattle.named_rows.specs.Reads.{is_not_read_on, is_read_on}
+use Rattle.named_rows.specs.Subs.{is_sub_on}
 use Rattle.channel_table.specs.ClientRows.{ClientRows}
-use Rattle.channel_table.proofs.Lists.{none_among_others}
+use Rattle.named_rows.proofs.Lists.{none_among_others}
 use Rattle.channel_table.proofs.table.Table.remove_channel.Goals as goal
 
 -- what hung on the channel is gone

@@ -1,12 +1,12 @@
 use Rattle.std.proofs.Common.{length, arith, sym, ap, ◌∙◌}
 use Rattle.std.specs.List.{filter, list_any}
-use Rattle.channel_table.specs.Channels.{is_not_channel, is_channel_of, is_not_channel_of}
-use Rattle.channel_table.specs.Reads.{is_not_read_of}
-use Rattle.channel_table.specs.Subs.{is_not_sub_of}
+use Rattle.named_rows.specs.Channels.{is_not_channel, is_channel_of, is_not_channel_of}
+use Rattle.named_rows.specs.Reads.{is_not_read_of}
+use Rattle.named_rows.specs.Subs.{is_not_sub_of}
 use Rattle.channel_table.specs.ClientRows.{ClientRows}
 use Rattle.channel_table.specs.Looks.{BrandedRows}
 use Rattle.channel_table.proofs.Removal.{other_channels_stay, other_subs_stay, other_reads_stay, fewer_channels}
-use Rattle.channel_table.proofs.Lists.{no_last}
+use Rattle.named_rows.proofs.Lists.{no_last}
 use Rattle.channel_table.proofs.table.Table.remove_channel_of.Goals as goal
 
 pub returns-in_default-clause-none : goal.returns-in_default-clause-none

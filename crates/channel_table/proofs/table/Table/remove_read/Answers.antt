@@ -1,15 +1,15 @@
 use Rattle.std.proofs.Common.{sym, ap, ◌∙◌}
 use Rattle.std.specs.List.{find, list_any}
 use Rattle.rows.specs.Rows.{remove_first}
-use Rattle.channel_table.specs.Channels.{is_channel}
-use Rattle.channel_table.specs.Indexes.{is_kept_like, read_home, read_in, read_key}
-use Rattle.channel_table.specs.Reads.{same_read}
+use Rattle.named_rows.specs.Channels.{is_channel}
+use Rattle.named_rows.specs.Indexes.{is_kept_like, read_home, read_in, read_key}
+use Rattle.named_rows.specs.Reads.{same_read}
 use Rattle.channel_table.specs.Looks.{BrandedRows}
-use Rattle.channel_table.proofs.Following.{follow_removed}
-use Rattle.channel_table.proofs.Keyed.{found_again}
-use Rattle.channel_table.proofs.Lists.{found_passes, none_is_first, unfound_is_absent}
-use Rattle.channel_table.proofs.Mapped.{any_mapped}
-use Rattle.channel_table.proofs.Waiting.{first_like_goes, like_ids, none_like}
+use Rattle.named_rows.proofs.Following.{follow_removed}
+use Rattle.named_rows.proofs.Keyed.{found_again}
+use Rattle.named_rows.proofs.Lists.{found_passes, none_is_first, unfound_is_absent}
+use Rattle.named_rows.proofs.Mapped.{any_mapped}
+use Rattle.named_rows.proofs.Waiting.{first_like_goes, like_ids, none_like}
 use Rattle.channel_table.proofs.table.Table.remove_read.Goals as goal
 
 -- where no channel of its IDs stands, no equal read waits

@@ -1,12 +1,12 @@
 use Rattle.std.proofs.Common.{length, arith, sym, ap, ◌∙◌}
 use Rattle.std.specs.List.{filter, list_any}
-use Rattle.channel_table.specs.Indexes.{is_kept_on, read_in}
-use Rattle.channel_table.specs.Reads.{is_not_read_on, is_read_on, same_read}
+use Rattle.named_rows.specs.Indexes.{is_kept_on, read_in}
+use Rattle.named_rows.specs.Reads.{is_not_read_on, is_read_on, same_read}
 use Rattle.channel_table.specs.ClientRows.{ClientRows}
 use Rattle.channel_table.specs.Looks.{BrandedRows}
-use Rattle.channel_table.proofs.Lists.{fewer_without_first, kept_without_first, unfound_is_absent}
-use Rattle.channel_table.proofs.Mapped.{any_mapped}
-use Rattle.channel_table.proofs.Waiting.{first_on_waits, like_stays}
+use Rattle.named_rows.proofs.Lists.{fewer_without_first, kept_without_first, unfound_is_absent}
+use Rattle.named_rows.proofs.Mapped.{any_mapped}
+use Rattle.named_rows.proofs.Waiting.{first_on_waits, like_stays}
 use Rattle.channel_table.proofs.table.Table.remove_read_on.Goals as goal
 
 pub returns-in-Some-clause-elsewhere : goal.returns-in-Some-clause-elsewhere

@@ -1,6 +1,6 @@
 use Rattle.std.proofs.Common.{◌≡◌, length}
 use Rattle.std.specs.List.{filter}
-use Rattle.channel_table.specs.Reads.{is_not_read_on}
+use Rattle.named_rows.specs.Reads.{is_not_read_on}
 use Rattle.channel_table.proofs.table.Table.remove_reads_on.Given as goal
 
 -- reads go alone, and none that is on another channel

@@ -1,8 +1,8 @@
 use Rattle.std.proofs.Common.{◌≡◌, length}
 use Rattle.std.specs.List.{filter}
-use Rattle.channel_table.specs.Channels.{is_not_channel_of}
-use Rattle.channel_table.specs.Reads.{is_not_read_of}
-use Rattle.channel_table.specs.Subs.{is_not_sub_of}
+use Rattle.named_rows.specs.Channels.{is_not_channel_of}
+use Rattle.named_rows.specs.Reads.{is_not_read_of}
+use Rattle.named_rows.specs.Subs.{is_not_sub_of}
 use Rattle.channel_table.proofs.table.Table.remove_session.Given as goal
 
 -- what is another session's stays

@@ -1,12 +1,12 @@
 use Rattle.std.proofs.Common.{◌≡◌, None, sym, ap, ◌∙◌, true≢false}
 use Rattle.std.specs.List.{find}
-use Rattle.channel_table.specs.Channels.{is_channel}
-use Rattle.channel_table.specs.Subs.{is_sub}
-use Rattle.channel_table.specs.Indexes.{sub_home, sub_key}
+use Rattle.named_rows.specs.Channels.{is_channel}
+use Rattle.named_rows.specs.Subs.{is_sub}
+use Rattle.named_rows.specs.Indexes.{sub_home, sub_key}
 use Rattle.channel_table.specs.Looks.{BrandedRows}
-use Rattle.channel_table.proofs.Following.{follow_removed, stands_of}
-use Rattle.channel_table.proofs.Asking.{demand_less_row}
-use Rattle.channel_table.proofs.Lists.{none_dropped, unfound_is_absent}
+use Rattle.named_rows.proofs.Following.{follow_removed, stands_of}
+use Rattle.named_rows.proofs.Asking.{demand_less_row}
+use Rattle.named_rows.proofs.Lists.{none_dropped, unfound_is_absent}
 use Rattle.channel_table.proofs.table.Table.remove_sub.Goals as goal
 
 -- no subscription of these IDs

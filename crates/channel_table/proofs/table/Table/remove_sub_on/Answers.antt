@@ -1,12 +1,12 @@
 use Rattle.std.proofs.Common.{arith, length, sym, ap, ◌∙◌}
 use Rattle.std.specs.List.{filter, find, list_any}
-use Rattle.channel_table.specs.Channels.{is_channel}
-use Rattle.channel_table.specs.Subs.{is_sub, is_sub_on, is_not_sub_on}
-use Rattle.channel_table.specs.Indexes.{sub_home, sub_key}
+use Rattle.named_rows.specs.Channels.{is_channel}
+use Rattle.named_rows.specs.Subs.{is_sub, is_sub_on, is_not_sub_on}
+use Rattle.named_rows.specs.Indexes.{sub_home, sub_key}
 use Rattle.channel_table.specs.Looks.{BrandedRows}
-use Rattle.channel_table.proofs.Following.{bare_without, elsewhere_kept, follow_first_removed, found_by_key, on_ids}
-use Rattle.channel_table.proofs.Asking.{demand_less_row}
-use Rattle.channel_table.proofs.Lists.{found_is_there, found_passes, one_fewer_left, unfound_is_absent}
+use Rattle.named_rows.proofs.Following.{bare_without, elsewhere_kept, follow_first_removed, found_by_key, on_ids}
+use Rattle.named_rows.proofs.Asking.{demand_less_row}
+use Rattle.named_rows.proofs.Lists.{found_is_there, found_passes, one_fewer_left, unfound_is_absent}
 use Rattle.channel_table.proofs.table.Table.remove_sub_on.Goals as goal
 
 -- no such channel

@@ -1,6 +1,6 @@
 use Rattle.std.proofs.Common.{◌≡◌, length}
 use Rattle.std.specs.List.{filter}
-use Rattle.channel_table.specs.Subs.{is_not_sub_on}
+use Rattle.named_rows.specs.Subs.{is_not_sub_on}
 use Rattle.channel_table.proofs.table.Table.remove_subs_on.Given as goal
 
 -- subscriptions go alone, and none that is on another channel

@@ -5,9 +5,4 @@ use Rattle.gateway_core.proofs.engine.Engine.drain.Goals as goal
 -- one event more
 pub invariant_of-self-in-Ok : goal.invariant_of-self-in-Ok
 invariant_of-self-in-Ok c = λ x is.
-    running_after _ c.in-Some.rows (Drain c.args.dest c.args.count) c.drain.new.visits c.drain.new.rows x (c.self.invariant c.in-Some.rows c.in-Some.is)
-    c.in-Ok.ensures.ok c.in-Ok.ensures.own c.in-Ok.ensures.brand is
-
--- looks are counted on the table's own count
-pub drain-requires-clause-own : goal.drain-requires-clause-own
-drain-requires-clause-own c = (c.self.invariant c.in-Some.rows c.in-Some.is).own
+    running_after c.in-Some.rows (Drain c.args.dest c.args.count) c.drain.new.rows x (c.self.invariant c.in-Some.rows c.in-Some.is) c.in-Ok.ensures.ok is

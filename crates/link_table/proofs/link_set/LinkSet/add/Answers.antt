@@ -5,7 +5,7 @@ use Rattle.std.proofs.lemmas.Option.{same_Some}
 use Rattle.row_index.proofs.Owned.{undone}
 use Rattle.row_index.specs.Lists.{AddsTo}
 use Rattle.row_index.specs.Rows.{row_of, lacks_key, value_at}
-use Rattle.link_table.specs.declared.links.Link.{Link}
+use Rattle.link_table.specs.declared.links.LinkRow.{LinkRow}
 use Rattle.link_table.specs.Links.{is_link, is_named, new_link}
 use Rattle.link_table.specs.LinkIndex.{key, key_of}
 use Rattle.link_table.proofs.KeyedLemmas.{new_key}
@@ -37,7 +37,7 @@ invariant_of-self-in-Ok c =
     let new = new_key key_of s.rows c.self.invariant.keyed k (ap (list_any (is_link c.args.server c.args.cid)) c.self.view_is ∙ c.requires.new_id) in
     let free = unnamed s.rows s.by_name s.leads c.self.invariant c.args.name (ap (list_any (is_named c.args.name)) c.self.view_is ∙ c.requires.new_name) in
     let same = same_Some _ _ (sym (ap option_copied c.in-Some.is) ∙ c.get.ensures ∙ ap (value_at k) c.in_ok-add.ensures.ok ∙ value_of_added k c.new_link.result s.rows new) ∙ c.new_link.ensures in
-    let Q : Link → Type 0 = λ l. AddsTo l.name k s.by_name c.add-2.new.self in
+    let Q : LinkRow → Type 0 = λ l. AddsTo l.name k s.by_name c.add-2.new.self in
     rw (c.in_ok-add.ensures.ok, c.new_link.ensures) (indexed_with_more s.rows s.by_name c.add-2.new.self s.leads c.self.invariant link new free (bare c.args.server c.args.cid c.args.name) (subst Q same c.in-Ok.ensures.ok))
 
 -- a link that is added and removed again leaves the links as they were

@@ -6,7 +6,7 @@ use Rattle.std.proofs.lemmas.Option.{same_Some}
 use Rattle.rows.specs.Rows.{change_first}
 use Rattle.row_index.specs.Rows.{row_of, put_at}
 use Rattle.link_table.specs.declared.link_set.LinkSet.TheInside.{Inside}
-use Rattle.link_table.specs.declared.links.Link.{Link}
+use Rattle.link_table.specs.declared.links.LinkRow.{LinkRow}
 use Rattle.link_table.specs.declared.links.Subject.{Subject}
 use Rattle.link_table.specs.Links.{is_link, has_other_sub, is_same_id, sub_at, with_subscription}
 use Rattle.link_table.specs.LinkIndex.{key, leads_at, renewed, sub_key, AreIndexed, IsFree}
@@ -28,7 +28,7 @@ renew-requires c =
     λ differs.
     let s = c.self.inside in
     let there = sym c.get.ensures ∙ ap option_copied c.in-Some.is in
-    let P : List Link → Type 0 = λ rows. IfSome c.args.sub (λ x. list_any (has_other_sub c.args.server c.args.cid c.args.subject x.id) rows ≡ false) in
+    let P : List LinkRow → Type 0 = λ rows. IfSome c.args.sub (λ x. list_any (has_other_sub c.args.server c.args.cid c.args.subject x.id) rows ≡ false) in
     unused s.rows s.by_name s.leads c.self.invariant c.args.server c.args.cid c.args.subject c.args.sub c.in-Some.link.now there (ap (λ was. is_same_id was c.args.sub) (sym c.at-was.ensures) ∙ differs) (subst P (sym c.self.view_is) c.requires) c.args.subject
 
 -- it leads to the link, in place of the one that it had
@@ -40,7 +40,7 @@ invariant_of-self-2 c =
     let row = c.in-Some.link.now in
     let there = sym c.get.ensures ∙ ap option_copied c.in-Some.is in
     let own = ap (λ x. x.owner) (key_at s.rows c.self.invariant.keyed k row there) in
-    let P : List Link → Type 0 = λ rows. IfSome c.args.sub (λ x. list_any (has_other_sub c.args.server c.args.cid c.args.subject x.id) rows ≡ false) in
+    let P : List LinkRow → Type 0 = λ rows. IfSome c.args.sub (λ x. list_any (has_other_sub c.args.server c.args.cid c.args.subject x.id) rows ≡ false) in
     let Q : Inside → Type 0 = λ t. AreIndexed t.rows t.by_name t.leads in
     let free : is_same_id (sub_at c.args.subject row.subscriptions) c.args.sub ≡ false → (to : Subject) → IsFree (sub_key c.args.server c.args.sub) (leads_at to s.leads) = λ differs. unused s.rows s.by_name s.leads c.self.invariant c.args.server c.args.cid c.args.subject c.args.sub row there differs (subst P (sym c.self.view_is) c.requires) in
     let moved = indexed_with_renewed s.rows s.by_name s.leads c.self.invariant k c.args.subject c.args.sub row there own free in

@@ -21,7 +21,8 @@ invariant_of-self-2 g c =
     let found : (q : Key) → lookup (same_key q) c.put_place.new.places.entries ≡ cond (same_key c.args.key q) (Some (length inside.slots.items)) (lookup (same_key q) inside.places.entries) =
     λ q. c.put_place.ensures.found q ∙ (λ i. cond (same_key c.args.key q) (Some (place i)) (lookup (same_key q) (kept i))) in
     let more : length c.put_place.new.places.entries ≡ length inside.places.entries + 1 = c.put_place.ensures.count ∙ ap (λ entries. length entries + 1) kept in
-    rw c.in_ok-push.ensures.items (bounded_more c.args.key inside.slots.items inside.places.entries c.self.invariant c.args.value c.put_place.new.places.entries (rw (← c.self.view_is) at c.requires.new) found more)
+    let room = rw (c.deref.ensures.value, c.in_ok-push.ensures.items) at c.note_new.ensures in
+    rw c.in_ok-push.ensures.items (bounded_more c.args.key inside.slots.items inside.places.entries inside.hints c.self.invariant c.args.value c.put_place.new.places.entries c.note_new.new.hints (rw (← c.self.view_is) at c.requires.new) found more room)
 
 pub returns-clause-ok : goal.returns-clause-ok
 returns-clause-ok g c =

@@ -21,8 +21,8 @@ invariant_of-self-lent g c =
     λ _. (
     let inside = c.self.inside in
     let at = place_here c.args.key inside.slots.items c.deref.result.now c.in-Some.place c.deref.ensures.value c.in-Some.ensures in (
-      λ w. rw c.index_mut.ensures.value (bounded_put c.args.key inside.slots.items inside.places.entries c.self.invariant c.in-Some.place c.index_mut.result.now w at),
-      bounded_same inside.slots.items inside.places.entries c.in-Some.place c.index_mut.result.now c.index_mut.ensures.value c.self.invariant,
+      λ w. rw c.index_mut.ensures.value (bounded_put c.args.key inside.slots.items inside.places.entries inside.hints c.self.invariant c.in-Some.place c.index_mut.result.now w at),
+      bounded_same inside.slots.items inside.places.entries inside.hints c.in-Some.place c.index_mut.result.now c.index_mut.ensures.value c.self.invariant,
     )
     )
 

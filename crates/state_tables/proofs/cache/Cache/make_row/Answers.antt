@@ -2,7 +2,7 @@ use Rattle.std.proofs.Common.{sym, ap, ◌∙◌}
 use Rattle.std.specs.List.{filter}
 use Rattle.row_index.specs.Rows.{lacks_key}
 use Rattle.link_table.specs.LinkIndex.{key}
-use Rattle.channel_table.proofs.Lists.{absent_is_unfound}
+use Rattle.named_rows.proofs.Lists.{absent_is_unfound}
 use Rattle.gateway_state.specs.CachedRows.{is_cached_of, put_row}
 use Rattle.state_tables.specs.LatestRows.{unchanged, bare}
 use Rattle.state_tables.proofs.LatestLemmas.{made_already, made_last}

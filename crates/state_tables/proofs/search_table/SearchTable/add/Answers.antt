@@ -1,7 +1,7 @@
 use Rattle.std.proofs.Common.{map, ap, ◌∙◌}
 use Rattle.std.specs.List.{list_any}
 use Rattle.row_index.specs.Rows.{row_of}
-use Rattle.channel_table.specs.Indexes.{is_at}
+use Rattle.named_rows.specs.Indexes.{is_at}
 use Rattle.state_tables.specs.Kept.{kept_key}
 use Rattle.state_tables.proofs.SearchRows.{as_before, listed_as_before, listed_with_one, new_key, under_as_before, under_with_more}
 use Rattle.state_tables.proofs.search_table.SearchTable.add.Goals as goal

@@ -1,7 +1,7 @@
 use Rattle.std.proofs.Common.{ap, ◌∙◌}
 use Rattle.std.specs.List.{find}
-use Rattle.channel_table.specs.Indexes.{is_at}
-use Rattle.channel_table.proofs.Keyed.{entry_found}
+use Rattle.named_rows.specs.Indexes.{is_at}
+use Rattle.named_rows.proofs.Keyed.{entry_found}
 use Rattle.state_tables.specs.Kept.{kept_key}
 use Rattle.state_tables.proofs.search_table.SearchTable.get.Goals as goal
 

@@ -1,9 +1,9 @@
 use Rattle.std.proofs.Common.{is_some, ap, ◌∙◌}
 use Rattle.std.specs.List.{list_any}
 use Rattle.row_index.specs.Rows.{value_at}
-use Rattle.channel_table.specs.Indexes.{is_at}
-use Rattle.channel_table.proofs.Keyed.{entry_found}
-use Rattle.channel_table.proofs.Lists.{found_where_any}
+use Rattle.named_rows.specs.Indexes.{is_at}
+use Rattle.named_rows.proofs.Keyed.{entry_found}
+use Rattle.named_rows.proofs.Lists.{found_where_any}
 use Rattle.state_tables.specs.Kept.{kept_key, serial_key}
 use Rattle.state_tables.proofs.search_table.SearchTable.has.Goals as goal
 

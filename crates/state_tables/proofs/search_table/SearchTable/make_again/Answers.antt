@@ -1,6 +1,6 @@
 use Rattle.std.proofs.Common.{refl, ap, ◌∙◌}
 use Rattle.rows.specs.Rows.{change_first}
-use Rattle.channel_table.specs.Indexes.{is_at}
+use Rattle.named_rows.specs.Indexes.{is_at}
 use Rattle.state_tables.specs.Kept.{made_again, kept_key}
 use Rattle.state_tables.proofs.SearchRows.{listed_with_changed, under_with_changed, with_changed}
 use Rattle.state_tables.proofs.search_table.SearchTable.make_again.Goals as goal

@@ -1,7 +1,7 @@
 use Rattle.std.proofs.Common.{ap, ◌∙◌}
 use Rattle.std.specs.List.{filter, find}
-use Rattle.channel_table.specs.Indexes.{is_at, is_not_at}
-use Rattle.channel_table.proofs.Keyed.{entry_found}
+use Rattle.named_rows.specs.Indexes.{is_at, is_not_at}
+use Rattle.named_rows.proofs.Keyed.{entry_found}
 use Rattle.state_tables.specs.Kept.{kept_key, search_in}
 use Rattle.state_tables.proofs.SearchRows.{listed_with_less, under_with_less, with_less}
 use Rattle.state_tables.proofs.search_table.SearchTable.take.Goals as goal

@@ -1,5 +1,5 @@
 use Rattle.std.proofs.Common.{◌≡◌, List, filter, map, sym, ap, subst, ◌∙◌}
-use Rattle.gateway_state.specs.declared.search.Search.{Search}
+use Rattle.gateway_state.specs.declared.search.RememberedSearch.{RememberedSearch}
 use Rattle.gateway_state.specs.Searches.{grown_stale, is_fresh, is_stale}
 use Rattle.gateway_state.specs.Variables.{search_names}
 use Rattle.state_tables.specs.Kept.{AreRight, all_aged, kept_key, searches_of}
@@ -18,7 +18,7 @@ pub returns-clause-ok : goal.returns-clause-ok
 returns-clause-ok c =
     let is : c.age.new.self ≡ all_aged (map kept_key c.self.inside.rows) c.self.inside.rows =
     c.age.ensures ∙ ap (λ keys. all_aged keys c.self.inside.rows) (c.deref.ensures.value ∙ c.in_ok-keys.ensures) in
-    ap (λ (rows : List Search). let s : SearchRows = record { policy = c.self.inside.policy; rows = rows } in s)
+    ap (λ (rows : List RememberedSearch). let s : SearchRows = record { policy = c.self.inside.policy; rows = rows } in s)
     (ap searches_of is ∙ aged_searches c.self.inside.policy c.self.inside.rows c.self.invariant.0 c.are_apart.ensures)
     ∙ ap (λ (s : SearchRows). let t : SearchRows = record { policy = s.policy; rows = map grown_stale (filter is_fresh s.rows) } in t) c.self.view_is
 

@@ -1,6 +1,6 @@
 use Rattle.std.proofs.Common.{◌≡◌, List, Some, None, true, false, sym, ap, ◌∙◌}
 use Rattle.std.specs.List.{list_any}
-use Rattle.gateway_state.specs.declared.search.Search.{Search}
+use Rattle.gateway_state.specs.declared.search.RememberedSearch.{RememberedSearch}
 use Rattle.gateway_state.specs.Searches.{left_by_search, same_search, searched_first, with_search}
 use Rattle.state_tables.specs.Kept.{searches_of}
 use Rattle.state_tables.specs.Searches.{SearchRows}
@@ -19,7 +19,7 @@ pub returns-in_ok-again-in-Some-clause-ok : goal.returns-in_ok-again-in-Some-cla
 returns-in_ok-again-in-Some-clause-ok c =
     let there : list_any (same_search c.args.host.now c.args.name.now) (searches_of c.self.inside.rows) ≡ true =
     sym (any_sought c.self.inside.policy c.args.host.now c.args.name.now c.self.inside.rows c.self.invariant.0 (Some c.in-Some.key) c.in-Some.ensures) in
-    ap (λ (rows : List Search). let s : SearchRows = record { policy = c.self.inside.policy; rows = rows } in s)
+    ap (λ (rows : List RememberedSearch). let s : SearchRows = record { policy = c.self.inside.policy; rows = rows } in s)
     (ap searches_of c.in_ok-again-in-Some.ensures.ok
     ∙ again_is c.self.inside.policy c.self.inside.rows c.self.invariant.0 c.are_apart.ensures c.args.host.now c.args.name.now c.args.limits.now c.in_ok-again-in-Some.field-0 c.in-Some.key c.in-Some.ensures
     ∙ with_it_again c.args.limits.now c.args.host.now c.args.name.now (searches_of c.self.inside.rows) there)
@@ -47,5 +47,5 @@ returns-in-None-clause-ok c =
     ∙ sym (any_sought c.self.inside.policy c.args.host.now c.args.name.now c.self.inside.rows c.self.invariant.0 None c.in-None.ensures) in
     on_ok c.remember_first.result _ _
     (λ (e : c.remember_first.new.self ≡ record c.args.self.now { rows = searched_first c.args.limits.now c.args.host.now c.args.name.now c.args.self.now.rows }).
-    e ∙ ap (λ (rows : List Search). let s : SearchRows = record c.args.self.now { rows = rows } in s) (with_it_first c.args.limits.now c.args.host.now c.args.name.now c.args.self.now.rows new))
+    e ∙ ap (λ (rows : List RememberedSearch). let s : SearchRows = record c.args.self.now { rows = rows } in s) (with_it_first c.args.limits.now c.args.host.now c.args.name.now c.args.self.now.rows new))
     c.remember_first.ensures.ok

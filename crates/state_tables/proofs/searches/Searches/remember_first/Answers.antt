@@ -1,10 +1,10 @@
 use Rattle.std.proofs.Common.{◌≡◌, List, [], ◌∷◌, ◌++◌, None, Option, sym, ap, ◌∙◌, false}
 use Rattle.std.specs.List.{list_any}
 use Rattle.pv_name.specs.Host.{lowercase}
-use Rattle.gateway_state.specs.declared.search.Search.{Search}
+use Rattle.gateway_state.specs.declared.search.RememberedSearch.{RememberedSearch}
 use Rattle.gateway_state.specs.Resolution.{lead_of}
 use Rattle.gateway_state.specs.Searches.{left_by_search, made_now, same_search, searched_first}
-use Rattle.state_tables.specs.declared.kept.Kept.{Kept}
+use Rattle.state_tables.specs.declared.kept.KeptSearch.{KeptSearch}
 use Rattle.state_tables.specs.Kept.{outworn_row, rows_after, search_in, search_of, searches_of}
 use Rattle.state_tables.specs.Searches.{SearchRows}
 use Rattle.state_tables.proofs.KeptSearches.{right_made}
@@ -34,10 +34,10 @@ pub returns-then-limits-clause-ok : goal.returns-then-limits-clause-ok
 returns-then-limits-clause-ok c =
     let kept = c.in_ok-kept.kept in
     let made : search_of kept ≡ made_now c.args.host.now c.args.name.now = ap search_of c.in_ok-kept.ensures.row in
-    let owner : kept.owner ≡ lowercase c.args.host.now = ap (λ (k : Kept). k.owner) c.in_ok-kept.ensures.row in
+    let owner : kept.owner ≡ lowercase c.args.host.now = ap (λ (k : KeptSearch). k.owner) c.in_ok-kept.ensures.row in
     on_ok c.take_in.result _ _
     (λ (e : c.take_in.new.rows ≡ rows_after (outworn_row c.args.limits.now kept.owner c.self.inside.rows) c.self.inside.rows ++ kept ∷ []).
-    ap (λ (rows : List Search). let s : SearchRows = record { policy = c.self.inside.policy; rows = rows } in s)
+    ap (λ (rows : List RememberedSearch). let s : SearchRows = record { policy = c.self.inside.policy; rows = rows } in s)
     (ap searches_of e ∙ first_taken_in c.self.inside.policy c.self.inside.rows c.self.invariant.0 c.args.limits.now c.args.host.now c.args.name.now c.if-limits.true c.are_apart.ensures kept made kept.owner owner)
     ∙ ap (λ (s : SearchRows). let t : SearchRows = record { policy = s.policy; rows = searched_first c.args.limits.now c.args.host.now c.args.name.now s.rows } in t) c.self.view_is)
     c.take_in.ensures.ok
@@ -45,11 +45,11 @@ returns-then-limits-clause-ok c =
 pub returns-then-limits-clause-left : goal.returns-then-limits-clause-left
 returns-then-limits-clause-left c =
     let kept = c.in_ok-kept.kept in
-    let owner : kept.owner ≡ lowercase c.args.host.now = ap (λ (k : Kept). k.owner) c.in_ok-kept.ensures.row in
+    let owner : kept.owner ≡ lowercase c.args.host.now = ap (λ (k : KeptSearch). k.owner) c.in_ok-kept.ensures.row in
     let new : list_any (same_search c.args.host.now c.args.name.now) (searches_of c.self.inside.rows) ≡ false =
     ap (λ (s : SearchRows). list_any (same_search c.args.host.now c.args.name.now) s.rows) c.self.view_is ∙ c.requires.new in
     if_ok c.take_in.result _ _
-    (λ (left : Option Search) (e : left ≡ search_in (outworn_row c.args.limits.now kept.owner c.self.inside.rows)).
+    (λ (left : Option RememberedSearch) (e : left ≡ search_in (outworn_row c.args.limits.now kept.owner c.self.inside.rows)).
     e ∙ left_is c.self.inside.policy c.self.inside.rows c.self.invariant.0 c.args.limits.now c.args.host.now c.args.name.now c.are_apart.ensures new c.if-limits.true kept.owner owner
     ∙ ap (λ (s : SearchRows). left_by_search c.args.limits.now c.args.host.now c.args.name.now s.rows) c.self.view_is)
     c.take_in.ensures.left

@@ -1,5 +1,0 @@
-use Rattle.board_history.proofs.OnRun.{attached}
-use Rattle.board_history.proofs.laws.attaches_go_on.Goals as goal
-
-pub returns : goal.returns
-returns c config policy history dest in_ring out_ring free old new on_run attaches = attached config policy history old new on_run dest in_ring out_ring free attaches

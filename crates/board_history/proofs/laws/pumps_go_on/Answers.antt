@@ -1,5 +1,0 @@
-use Rattle.board_history.proofs.OnRun.{pumped}
-use Rattle.board_history.proofs.laws.pumps_go_on.Goals as goal
-
-pub returns : goal.returns
-returns c config policy history dest item old new on_run pumps = pumped config policy history old new on_run dest item pumps

@@ -1,5 +1,0 @@
-use Rattle.board_history.proofs.OnRun.{retired}
-use Rattle.board_history.proofs.laws.retires_go_on.Goals as goal
-
-pub returns : goal.returns
-returns c config policy history dest old new on_run retires = retired config policy history old new on_run dest retires

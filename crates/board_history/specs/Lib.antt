@@ -1,3 +1,0 @@
-pub mod Board
-pub mod Calls
-pub mod History

@@ -1,0 +1,90 @@
+-- Who is noted in news, and what is counted in them.
+use Rattle.std.specs.Prelude.{◌≡◌, ◌≢◌, ℕ, zero, suc, ◌+◌, ◌-◌, ◌/◌, ◌%◌, ◌^◌, ◌<◌, ◌⊎◌, List, min, Bool, true, false, if◌then◌else◌, Option, Some, None, slice_index}
+use Rattle.std.specs.Int.{bit_at}
+use Rattle.std.specs.Option.{option_map}
+use Rattle.rows.specs.Rows.{change_first}
+use Rattle.gateway_state.specs.Asked.{must_end}
+use Rattle.gateway_state.specs.Gateway.{Gateway}
+use Rattle.gateway_state.specs.declared.event.Dest.{Dest}
+use Rattle.gateway_state.specs.declared.event.Dest.TheVariants.{Session, Upstream}
+use Rattle.gateway_state.specs.declared.event.Event.{Event}
+use Rattle.gateway_state.specs.declared.event.Event.TheVariants as events
+use Rattle.board_rings.specs.Attachments.{is_attachment_of, with_received}
+use Rattle.board_rings.specs.Rings.{AttachmentState}
+use Rattle.board_rings.specs.declared.inbound.Inbound.{Inbound}
+use Rattle.board_rings.specs.declared.inbound.Inbound.TheVariants.{Message, Gone}
+use Rattle.board_rings.specs.Board.{BoardState}
+use Rattle.board_moves.specs.declared.news.News.{News}
+
+-- the seat of a connection: one of 1,024 for clients, or one of as many behind these for servers
+abbrev pub seat_of : Dest → ℕ
+seat_of (Session number) = number % 1024
+seat_of (Upstream number) = 1024 + number % 1024
+
+-- the bit of a seat, among words of 64 seats
+abbrev pub seat_bit : ℕ → List ℕ → ℕ
+seat_bit seat words = bit_at (slice_index words (seat / 64)) (seat % 64)
+
+abbrev pub IsNoted : Dest → News → Type 0
+IsNoted dest news = seat_bit (seat_of dest) news.words ≡ 1
+
+-- the seat is noted, and each other is as it was
+pub record Notes (dest : Dest) (old new : List ℕ) : Type 0 where
+  pub noted : seat_bit (seat_of dest) new ≡ 1
+  pub others : (seat : ℕ) → seat ≢ seat_of dest → seat_bit seat new ≡ seat_bit seat old
+
+-- who was noted still is
+abbrev pub StayNoted : News → News → Type 0
+StayNoted old new = (seat : ℕ) → seat_bit seat old.words ≡ 1 → seat_bit seat new.words ≡ 1
+
+-- so many more, up to the largest number that can be told
+abbrev pub counted_on : ℕ → ℕ → ℕ
+counted_on count zero = count
+counted_on count (suc more) = min (count + suc more) (2 ^ 64 - 1)
+
+-- an end is no message
+abbrev pub is_message : Inbound → Bool
+is_message (Message message) = true
+is_message Gone = false
+
+-- how many messages there are with one more, if it is one
+abbrev pub counted_if : Bool → ℕ → ℕ
+counted_if is count = if is then counted_on count 1 else count
+
+-- the gateway stands, and the connection must end
+abbrev pub IsEnding : Dest → Option Gateway → Type 0
+IsEnding dest rows = option_map (λ w. must_end w dest) rows ≡ Some true
+
+-- an item was received and performed: its connection is noted where that was its end or it must end now, and where its
+-- ring in has come down to half or to nothing
+pub record TellsPump (dest : Dest) (attachments left : List AttachmentState) (rows : Option Gateway) (old new : News) : Type 0 where
+  pub item : Inbound
+  pub seen : ℕ
+  pub moved : left ≡ change_first (is_attachment_of dest) (with_received item seen) attachments
+  pub gone : item ≡ Gone → IsNoted dest new
+  pub ending : IsEnding dest rows → IsNoted dest new
+  pub places : (seen ≡ 0) ⊎ (seen ≡ 128) → IsNoted dest new
+  pub received : new.traffic.received ≡ counted_if (is_message item) old.traffic.received
+  pub sent : new.traffic.sent ≡ old.traffic.sent
+
+-- so many messages were pushed: their connection is noted where there were some
+pub record TellsSent (dest : Dest) (count : ℕ) (old new : News) : Type 0 where
+  pub some : 0 < count → IsNoted dest new
+  pub sent : new.traffic.sent ≡ counted_on old.traffic.sent count
+  pub received : new.traffic.received ≡ old.traffic.received
+
+-- the connection that is lost by an event
+abbrev pub lost_by : Event → Option Dest
+lost_by (events.Lost number) = Some (Session number)
+lost_by (events.UpLost number) = Some (Upstream number)
+lost_by event = None
+
+-- what contracts see of a board: its rows and attachments, and whom its moves concern
+pub record NotedBoard : Type 0 where
+  pub rows : Option Gateway
+  pub attachments : List AttachmentState
+  pub news : News
+
+-- the board without its news
+abbrev pub bare : NotedBoard → BoardState
+bare board = record { rows = board.rows; attachments = board.attachments }

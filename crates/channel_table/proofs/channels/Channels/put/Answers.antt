@@ -1,5 +1,0 @@
-use Rattle.channel_table.proofs.Indexed.{channels_put}
-use Rattle.channel_table.proofs.channels.Channels.put.Goals as goal
-
-pub invariant_of-self : goal.invariant_of-self
-invariant_of-self c = channels_put c.self.inside.rows c.put.new.self c.key_of.result c.args.reach c.args.rights c.put.ensures.rows c.put.ensures.on c.self.invariant

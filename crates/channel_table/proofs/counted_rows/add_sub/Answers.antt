@@ -1,7 +1,0 @@
-use Rattle.channel_table.proofs.TalliesByName.{demand_back}
-use Rattle.channel_table.proofs.counted_rows.add_sub.Goals as goal
-
--- what was counted is counted no longer
-pub returns-in-Err-clause-err_demand : goal.returns-in-Err-clause-err_demand
-returns-in-Err-clause-err_demand c =
-    demand_back c.args.channel.now.real _ _ _ _ c.in_ok-add.ensures.ok c.remove.ensures c.requires.counts

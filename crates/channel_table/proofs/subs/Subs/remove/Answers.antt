@@ -1,7 +1,0 @@
-use Rattle.channel_table.specs.Indexes.{sub_home, sub_key}
-use Rattle.channel_table.proofs.BySid.{by_sid_less}
-use Rattle.channel_table.proofs.subs.Subs.remove.Goals as goal
-
-pub invariant_of-self : goal.invariant_of-self
-invariant_of-self c =
-    by_sid_less sub_key sub_home c.self.inside.rows.rows _ c.key_of-key.result _ _ c.are_apart.ensures c.remove.ensures.rows c.unlist.ensures c.self.invariant

@@ -1,0 +1,11 @@
+pub mod GoneChannels
+pub mod KeptLate
+pub mod NextNotice
+pub mod OnceEach
+pub mod OneWalk
+pub mod Owed
+pub mod RightsLooks
+pub mod SubsStay
+pub mod TellingInTurn
+pub mod Turns
+pub mod ValueWalk

@@ -1,0 +1,5 @@
+pub mod Giving
+pub mod InTurn
+pub mod LateReads
+pub mod Looks
+pub mod Met

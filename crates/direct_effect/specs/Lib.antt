@@ -1,0 +1,4 @@
+pub mod Reaching
+pub mod Kept
+pub mod Looks
+pub mod Overdue

@@ -1,4 +1,0 @@
-pub mod InTurn
-pub mod LateReads
-pub mod Looks
-pub mod Met

@@ -1,0 +1,4 @@
+pub mod Greeting
+pub mod Pieces
+pub mod Streams
+pub mod Tries

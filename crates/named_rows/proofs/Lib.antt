@@ -1,0 +1,15 @@
+pub mod Asking
+pub mod BySid
+pub mod Counting
+pub mod Following
+pub mod Indexed
+pub mod Joined
+pub mod Keyed
+pub mod Listed
+pub mod Lists
+pub mod Mapped
+pub mod OnAny
+pub mod Somebody
+pub mod TalliesByName
+pub mod Unchanged
+pub mod Waiting

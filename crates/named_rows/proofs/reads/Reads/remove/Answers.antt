@@ -1,0 +1,7 @@
+use Rattle.named_rows.specs.Indexes.{read_home, read_key}
+use Rattle.named_rows.proofs.BySid.{by_sid_less}
+use Rattle.named_rows.proofs.reads.Reads.remove.Goals as goal
+
+pub invariant_of-self : goal.invariant_of-self
+invariant_of-self c =
+    by_sid_less read_key read_home c.self.inside.rows.rows _ c.key-key.result _ _ c.are_apart.ensures c.remove.ensures.rows c.unlist.ensures c.self.invariant

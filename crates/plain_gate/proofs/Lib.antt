@@ -1,3 +1,0 @@
-pub mod LedTo
-pub mod PutRows
-pub mod TakenNumbers

@@ -1,0 +1,4 @@
+pub mod Counted
+pub mod LedTo
+pub mod PutRows
+pub mod TakenNumbers

@@ -1,0 +1,193 @@
+//! What the help says.
+
+pub const ABOUT: &str = "A gateway for EPICS process variables over Channel Access";
+
+pub const REPLAY_ABOUT: &str = "Performs a script on a gateway, with no network";
+
+pub const REPLAY_LONG_ABOUT: &str = "\
+Performs a script on a gateway, with no network.
+
+The script is read from standard input, one command a line. What the gateway sends is printed, one
+line a message: the connection, and the bytes of the message as hexadecimal digits.";
+
+pub const REPLAY_AFTER_HELP: &str = "\
+Lines of a script (N is a number, D is sN, the connection of a client, or uN, that of a server):
+  open sN HOST    a client connects from the host
+  open uN         the gateway connects to a server
+  client sN HEX   these bytes come from the client (- for none)
+  server uN HEX   these bytes come from the server
+  lost D          the connection is lost
+  found NAME uN   the server has the variable of this name, if the gateway still asks for it
+  search HOST HEX these bytes are a datagram of searches from the host; what is sent back is printed:
+                  reply HEX, or reply - for nothing
+  sweep           the gateway forgets which names clients looked for
+  edit R G        the R lines that follow are the rule file from now on, and the G lines after those
+                  the group file (0: no such file); a fault in them is printed, and changes nothing:
+                  refused line N: CAUSE, or refused groups line N: CAUSE
+  hold D          D's messages are kept back from now on
+  flow D          they are no longer kept back
+  drain D K       the first K messages that wait for D are printed
+  # TEXT          nothing, as an empty line
+
+Lines that change nothing, and what they print:
+  asks                     asks NAME NAME .., the names that servers are asked for
+  read sN SID TYPE COUNT   what a read on the client's channel SID would be answered now:
+                           value COUNT HEX, refused CODE, waits, or no channel
+  sub NAME                 sub ID MASK COUNT, the gateway's own subscription to the variable, or sub -
+  props NAME               props ID, its subscription to the variable's properties, or props -
+  rights sN SID            rights N (1: read, 2: write, 3: both), or rights - for no such channel
+
+Also printed:
+  shut D misaligned, shut D toolarge    the bytes that came are no messages, so D is cut off
+  end D                                 D is cut off for another reason
+  line N: bad                           line N is none of the above, or an edit whose lines are missing
+                                        or are no UTF-8, and the replay ends
+  failed                                the gateway ran out of memory or numbers, and the replay ends
+
+Exit status: 0 at the end of the script, 2 after a bad line, 3 where a standard stream can't be read
+or written, 4 where memory or the gateway's numbers run out.
+
+Examples, a client that connects and is greeted, and a server:
+  echo 'open s1 10.0.0.5' | pvgate replay
+  echo 'open u1' | pvgate replay
+More are in the folder examples.";
+
+pub const CHECK_RULES_ABOUT: &str = "Checks a rule file, and tells what it answers a client";
+
+pub const CHECK_RULES_LONG_ABOUT: &str = "\
+Checks a rule file and a group file, and tells what they answer a client, with no network.
+
+The first faulty line is printed, that of the rule file before that of the group file. Of good files
+the number of rules and their order are printed, and with --name what the name leads to.";
+
+pub const CHECK_RULES_AFTER_HELP: &str = "\
+What is printed:
+  ok N rows ORDER              the files are good: N rules, under the order ALLOW, DENY or DENY, ALLOW
+  admitted REAL GROUP RIGHTS   the name is served as REAL, with the rights of GROUP (- for none):
+                               none, read or write
+  refused                      the name is not served to the host
+  line N: CAUSE                line N of the rule file is faulty, and nothing else is printed
+  groups line N: CAUSE         line N of the group file is faulty, and nothing else is printed
+
+Lines of a rule file (# begins a comment):
+  EVALUATION ORDER ALLOW, DENY          a DENY that names no host refuses every name that it matches
+  EVALUATION ORDER DENY, ALLOW          such a DENY has no effect on names that another rule allows
+  PATTERN ALLOW [GROUP [LEVEL]]         names that the pattern matches are served
+  PATTERN ALIAS REAL [GROUP [LEVEL]]    they are served as REAL, where \\1 to \\9 are parts of the name
+  PATTERN DENY                          they are refused
+  PATTERN DENY FROM HOST ..             they are refused to these hosts
+In a pattern \\( and \\) enclose a part of the name, and \\| stands between two choices; ( ) | stand for
+themselves. With --plain-groups it is the other way round. The first rule that seems to be meant so is
+noted on standard error:
+  note: line N: ( ) | stand for themselves here; --plain-groups reads them as groups
+and so is the first rule whose pattern is dear, of which thousands would fill the memory:
+  note: line N: its pattern takes more than 1 MiB or 5 ms to make ready
+A group file has lines GROUP NONE, GROUP READ and GROUP WRITE.
+
+Causes, of which the first that applies is printed:
+  LineTooLong    the line has more than 1024 bytes, its comment counted
+  BadOrder       it begins with EVALUATION ORDER, and neither order follows
+  NoVerb         its second word is none of ALLOW, ALIAS and DENY; a pattern has no blanks
+  TooManyLines   it is rule number 4097, or line number 4097 of the groups
+  BadFrom        behind FROM there is no host, or one that is too long or isn't printable ASCII
+  BadGroup       a group or level is none, or words follow them; in a group file, the line is none
+  BadPattern     the pattern is no expression: an escaped letter or digit, or a bracket left open
+  BadReference   an alias has no real name, or one with a \\ that refers to no part of the pattern
+What the faulty line said is printed on standard error, bytes that aren't printable ASCII as \\xHH, and
+200 characters at most:
+  line N: says: TEXT, or groups line N: says: TEXT
+
+Exit status: 0 for good files, 1 for a faulty line, 2 for bad arguments, 3 where a file can't be
+read or standard output can't be written, 4 where memory runs out.
+
+Example:
+  pvgate check-rules examples/site.pvlist --groups examples/site.groups --name BEAM:CURRENT";
+
+pub const SERVE_ABOUT: &str = "Serves clients with the variables of servers, over TCP and UDP";
+
+pub const SERVE_LONG_ABOUT: &str = "\
+Serves clients with the variables of servers, over TCP and UDP.
+
+Clients find it at LISTEN. It connects to each UPSTREAM once, at the start; they are numbered from 1.
+With --reconnect it connects again to those that can't be reached or are lost. With no rule file every
+name is served. Once it listens it prints: listening ADDR";
+
+pub const SERVE_AFTER_HELP: &str = "\
+Lines of standard input:
+  ask         the servers are asked for the names that clients look for
+  sweep       the gateway forgets which names clients looked for; one that is still looked for needs
+              two searches before the next sweep
+  reload      the rule files are read again; a faulty line is printed, and changes nothing
+  connect N   UPSTREAM number N is connected to again, where it is lost
+  quit        the gateway ends, as at the end of input
+
+What happens is told on standard error, one line each. With --log error it is want of memory alone, with
+warn also what somebody may want to do something about, with info also what is as it should be, and with
+debug also what may help to find a cause.
+
+With --reconnect each UPSTREAM that isn't connected is tried again every so many seconds, as by
+`connect N`, and names are asked for once it is connected, as by `ask`. That it can't be reached is told
+once until then. With --sweep names are forgotten every so many seconds, as by `sweep`. SECONDS is a
+whole number from 1 to 86400; neither is done without its option, and no time is kept to the second.
+
+With --listen clients find it on ADDR too: they connect there, and searches are answered from there, each with its
+port. A socket on one address hears no broadcasts; so where LISTEN is one, --listen says the broadcast address of
+its net, with the same port. For each it prints: listening ADDR
+
+An UPSTREAM's host may be named, as ioc1.lab:5064. It is looked up each time that it is connected to; with --search
+that is done at the start alone, as for ADDR, since a server that moved is found.
+
+With --back-off a name that no server has is asked for when it is first looked for, and then after gaps
+that double up to 4.4 minutes, and each UPSTREAM gets at most 4 datagrams in 32 ms. Without it each
+search has all names asked for that no server has, at most ten times a second.
+
+With --search servers are found too that answer searches sent to ADDR, beside UPSTREAMs or in their place, and
+connected to once one has a name that is missing: 1024 at most where --servers doesn't say another number.
+With --from only answers from these nets count, and servers in them. --search has --back-off with it, and
+--alive 15 where that isn't said.
+
+A found server that has had no variable of anybody for so many seconds as --idle says, or 300, is left; it is
+found again once one of its names is wanted.
+
+With --hear-beacons the repeater at port 5065 of this host is asked to send beacons on, and where none answers
+that port is taken. Where a beacon's server is new or began anew, names that a server had are asked for at once,
+and others that are missing within 8.2 s.
+
+With --beacons clients that hear of it at ADDR search sooner: at the start and once an UPSTREAM came back on
+which names had been found, but at most once a minute, it sends beacons after gaps that double from 20 ms to 15 s.
+
+With --alive an UPSTREAM that says nothing for so many seconds is asked whether it is there, and is lost
+where it says nothing for 5 seconds more. A client is cut off where for four times the seconds nothing
+came from it and nothing could be written to it. `connect N` then also connects again to an UPSTREAM that
+was asked and said nothing yet. Without it nothing is watched. SECONDS is from 1 to 3600.
+
+With --names so many searched names are remembered, by host and name, and a new one takes the place of an
+old one: of the oldest of its host, where that has a sixteenth of them (256 at least), else of the oldest
+of all. Without it 4096 are remembered, and then no new one. With --forget those that nobody looked for
+since the last time are forgotten every so many seconds; so are reads and names for which an UPSTREAM owes
+an answer for so long.
+
+With --late a search for a name that isn't connected yet is answered once it is, within 5 seconds.
+
+With --most-in-all, where more than so many MiB wait for all clients together, as few as will do are cut off,
+first those for which most wait. What clients share is counted for each. Without it only --most-waiting
+bounds what waits, for each client by itself.
+
+--site is what a site wants together: --back-off, --late, --alive 15, --forget 300, --names 65536,
+--servers 1024, --clients-of-host 256, --most-in-all 1024, and that a reload of an empty rule file is
+refused. Each that has a value may be said otherwise beside it. It also has 262144 variables upstream at
+most in place of 65536, 65536 channels and as many subscriptions of a client in place of 4096 and 8192,
+8192 reads and as many writes of it that wait in place of 256, and updates held back while 256 KiB wait for
+it. Requests on channels that are gone are passed over, and a subscription that may not read is told so.
+
+With --status each who connects to ADDRESS is told of the gateway in one line of JSON, and is hung up on:
+clients, upstreams, rows of each kind, edits of the rules, messages in and out, and the largest outbox.
+
+With --clients-of-host one more client of a host that has N is refused at once: it is told on standard
+error, and its connection is closed.
+
+Exit status: 0 where it was told to end, 1 for a faulty line of the rule files, 2 for bad arguments, 3
+where a file, LISTEN or a standard stream can't be opened, read or written, 4 where memory runs out.
+
+Example:
+  pvgate serve 127.0.0.1:5064 127.0.0.1:5070 --rules examples/site.pvlist --groups examples/site.groups";

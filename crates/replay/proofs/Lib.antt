@@ -1,0 +1,9 @@
+mod ScriptLemmas
+mod EntryLemmas
+mod ReadingLemmas
+mod ReplayLemmas
+mod PerformingLemmas
+mod PlayerLemmas
+mod GatewayLemmas
+mod ReceivingLemmas
+mod LinesLemmas

@@ -1,5 +1,0 @@
-pub mod Answer
-pub mod Check
-pub mod Note
-pub mod Output
-pub mod Said

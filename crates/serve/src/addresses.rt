@@ -1,0 +1,19 @@
+//! What a command line says of addresses.
+use crate::finding::Discovery;
+use crate::upstreams::Upstream;
+use std::net::SocketAddr;
+
+/// The addresses of a gateway, and of those that it speaks with.
+#[derive(Drop)]
+pub struct Addresses {
+    /// Clients are served on this one.
+    pub listen: SocketAddr,
+    /// And on these; at a broadcast one searches alone are heard.
+    pub more: Vec<SocketAddr>,
+    /// Where servers are that are known for good.
+    pub servers: Vec<Upstream>,
+    /// How other servers are found, where they are searched for.
+    pub discovery: Option<Discovery>,
+    /// Beacons are sent to these.
+    pub beacons: Vec<SocketAddr>,
+}

@@ -1,0 +1,389 @@
+//! Servers that are found by search: which are connected to, and which names wait for that.
+use crate::asker::milliseconds;
+use crate::finding::{Came, Told, address_of, socket_address};
+use crate::hub::{AsHub, Hub};
+use crate::late::note_found;
+use crate::machine::System;
+use crate::servers::connect_found;
+use crate::status;
+use crate::watcher::shut;
+use gateway_core::{Dest, Event};
+use pv_name::{Name, NoMemory};
+use serve_state::{Clashes, Cut, Notice};
+use server_book::{Address, Heard, LAST_LOOK, LOOKS_OF_SECOND, ServerBook, Standing};
+use std::alloc::{AllocError, Global};
+use std::collections::{HashMap, VecDeque};
+use std::net::{Net, TcpListener, TcpStream};
+use std::sync::{Arc, CondvarTimeouts};
+use std::thread::Threads;
+use std::time::Duration;
+
+/// How many milliseconds a look of the book has.
+const LOOK: u64 = 32;
+
+/// So many connections to servers that were found are being made at once.
+const MOST_MADE: u32 = 32;
+
+/// Of so many asks it is known who answered first.
+const FIRST_LIMIT: usize = 65_536;
+
+/// How many milliseconds pass between two looks at servers that can't be reached.
+const PAUSE: u64 = 1_000;
+
+/// How many milliseconds pass at least between two times that servers which came have all names asked for anew.
+const MINUTE: u64 = 60_000;
+
+/// An hour, in milliseconds.
+const HOUR: u64 = 3_600_000;
+
+/// A server that couldn't be reached is forgotten so many looks after it is held off no longer.
+const FORGOTTEN_AFTER: u64 = 300 * LOOKS_OF_SECOND;
+
+/// What whoever finds servers knows.
+#[derive(Drop)]
+struct Finder {
+    book: ServerBook,
+    // So many servers are known for good, and so many may be known.
+    fixed: u32,
+    most: u32,
+    // A server that has had no link at so many looks in a row, a second apart, is left.
+    idle: u32,
+    // These are to be connected to.
+    waiting: VecDeque<u32>,
+    // So many connections to servers that were found are being made.
+    made: u32,
+    // Who answered an ask first.
+    firsts: HashMap<u32, Address>,
+    clashes: Clashes,
+    // The hour in which it was told that there are as many servers as may be.
+    told_full: Option<u64>,
+    // A server came, since all names were asked for anew at this time.
+    has_come: bool,
+    hurried: Option<u64>,
+    // When it was looked at last which servers can't be reached, and in which look room was made for others.
+    looked: u64,
+    emptied: u64,
+    // The time, in milliseconds of the system's clock.
+    now: u64,
+}
+
+impl Finder {
+    fn new<R: System>(rt: R, hub: &Hub) -> Result<Finder, NoMemory> {
+        let most = hub.options.scale.servers;
+        let idle = match &hub.finding {
+            Some(finding) => finding.discovery.idle,
+            None => u32::MAX,
+        };
+        let mut book = ServerBook::new(hub.alloc, most, idle)?;
+        for number in 1..=hub.server_count() {
+            if let Some(address) = hub.servers.at(&rt, number) {
+                book.fix(address_of(address.ip(), address.port()))?;
+            }
+        }
+        Ok(Finder {
+            book,
+            fixed: hub.server_count(),
+            most,
+            idle,
+            waiting: VecDeque::with_capacity(hub.alloc, most as usize)?,
+            made: 0,
+            firsts: HashMap::new(hub.alloc),
+            clashes: Clashes::new(hub.alloc),
+            told_full: None,
+            has_come: false,
+            hurried: None,
+            looked: 0,
+            emptied: 0,
+            now: 0,
+        })
+    }
+
+    fn look(&self) -> u64 {
+        self.now / LOOK
+    }
+
+    // The other server that answered this ask before.
+    fn other_first(&mut self, cid: u32, address: Address) -> Result<Option<Address>, NoMemory> {
+        if let Some(first) = self.firsts.get(&cid) {
+            return Ok(if *first == address {
+                None
+            } else {
+                Some(*first)
+            });
+        }
+        if self.firsts.len() >= FIRST_LIMIT {
+            self.firsts.clear();
+        }
+        match self.firsts.insert(cid, address) {
+            Ok(_) => Ok(None),
+            Err(_) => Err(AllocError),
+        }
+    }
+
+    // A connection is being made.
+    fn begin_one(&mut self, number: u32) {
+        if number > self.fixed {
+            self.made = self.made.saturating_add(1);
+        }
+    }
+
+    // A connection that was being made is made, or can't be.
+    fn end_one(&mut self, number: u32) {
+        if number > self.fixed {
+            self.made = self.made.saturating_sub(1);
+        }
+    }
+
+    // The names that waited for the connection, which stands, whoever had it made.
+    fn connected(&mut self, number: u32) -> Vec<Name> {
+        self.has_come = true;
+        self.book.retry(number, LAST_LOOK);
+        self.book.connected(number)
+    }
+
+    // Whether all names are to be asked for anew, since servers came.
+    fn hurries(&mut self) -> bool {
+        let rests = match self.hurried {
+            Some(last) => self.now.saturating_sub(last) < MINUTE,
+            None => false,
+        };
+        if rests || !self.has_come {
+            return false;
+        }
+        self.has_come = false;
+        self.hurried = Some(self.now);
+        true
+    }
+
+    // Whether the server of this number is connected.
+    fn stands(&self, number: u32) -> bool {
+        match self.book.server(number) {
+            Some(server) => matches!(server.standing, Standing::Stands),
+            None => false,
+        }
+    }
+
+    // Whether the server of this number is held off no longer since so many looks.
+    fn is_over(&self, number: u32, after: u64) -> bool {
+        match self.book.server(number) {
+            Some(server) => match server.standing {
+                Standing::HeldOff(until) => until.saturating_add(after) <= self.look(),
+                Standing::Connecting | Standing::Stands => false,
+            },
+            None => false,
+        }
+    }
+}
+
+/// Finds servers until the gateway closes.
+pub fn find_servers<
+    R: System + Threads + Net<Listener = TcpListener, Stream = TcpStream> + 'static,
+    H: AsHub + Send + Sync + Drop + 'static,
+>(rt: R, hub: Arc<H, Global>) {
+    let Ok(mut finder) = Finder::new(rt, hub.hub()) else {
+        hub.hub().tell(&rt, Notice::OutOfMemory);
+        hub.end(&rt, status::FAILED);
+        return;
+    };
+    for _ in rt.forever() {
+        let Some(told) = next_told(rt, hub.hub()) else {
+            return;
+        };
+        finder.now = milliseconds(rt, finder.now);
+        let shared: &H = &hub;
+        note_all(rt, shared, &mut finder);
+        for told in told {
+            if hear(rt, shared, &mut finder, told).is_err() {
+                hub.hub().tell(&rt, Notice::OutOfMemory);
+            }
+        }
+        connect_some(rt, &hub, &mut finder);
+        look_around(rt, shared, &mut finder);
+    }
+}
+
+// The replies that came, once anything did or time passed. None where the gateway ends.
+fn next_told<R: System>(rt: R, hub: &Hub) -> Option<Vec<Told>> {
+    let finding = hub.finding.as_ref()?;
+    let inbox = finding.inbox.lock(&rt);
+    let pause = Duration::from_millis(PAUSE);
+    let (mut inbox, _) = finding
+        .came
+        .wait_timeout_while(&rt, inbox, pause, |inbox| inbox.is_empty());
+    if inbox.end {
+        return None;
+    }
+    Some(inbox.take_told(hub.alloc))
+}
+
+// Takes in what came of connections.
+fn note_all<R: System, H: AsHub>(rt: R, hub: &H, finder: &mut Finder) {
+    for _ in rt.forever() {
+        let Some((number, came)) = next_came(rt, hub.hub()) else {
+            return;
+        };
+        note(rt, hub, finder, number, came);
+    }
+}
+
+fn next_came<R: System>(rt: R, hub: &Hub) -> Option<(u32, Came)> {
+    let finding = hub.finding.as_ref()?;
+    finding.inbox.lock(&rt).take_came()
+}
+
+fn note<R: System, H: AsHub>(rt: R, hub: &H, finder: &mut Finder, number: u32, came: Came) {
+    let look = finder.look();
+    match came {
+        Came::Connected => {
+            finder.end_one(number);
+            for name in finder.connected(number) {
+                hand_in(rt, hub, name, number);
+            }
+        }
+        Came::Failed => {
+            finder.end_one(number);
+            finder.book.failed(number, look);
+        }
+        Came::Lost => finder.book.lost(number, look),
+    }
+}
+
+// A name is found on a server that stands.
+fn hand_in<R: System, H: AsHub>(rt: R, hub: &H, name: Name, number: u32) {
+    let mut names = Vec::new(hub.hub().alloc);
+    let is_noted = match name.copy() {
+        Ok(again) => names.push(again).is_ok(),
+        Err(_) => false,
+    };
+    let _ = hub.gate().desk(&rt, Event::Found(name, number));
+    if is_noted {
+        note_found(rt, hub.hub(), names.as_slice());
+        hub.hub().note_found(&rt, names, number);
+    }
+}
+
+// The first that answers an ask has the name, where that is missing still.
+fn hear<R: System, H: AsHub>(
+    rt: R,
+    hub: &H,
+    finder: &mut Finder,
+    told: Told,
+) -> Result<(), NoMemory> {
+    if let Some(first) = finder.other_first(told.cid, told.address)? {
+        tell_of_two(rt, hub.hub(), finder, &told, first);
+        return Ok(());
+    }
+    if !matches!(hub.gate().is_missing(&rt, &told.name), Ok(true)) {
+        return Ok(());
+    }
+    match hear_of(rt, hub.hub(), finder, &told)? {
+        Heard::Find(number) => hand_in(rt, hub, told.name, number),
+        Heard::Connect(number) => {
+            if finder.waiting.push_back(number).is_err() {
+                let look = finder.look();
+                finder.book.failed(number, look);
+                return Err(AllocError);
+            }
+        }
+        Heard::Full => tell_full(rt, hub.hub(), finder),
+        Heard::Waits(_) | Heard::HeldOff | Heard::Dropped => (),
+    }
+    Ok(())
+}
+
+// Where there is no number, servers that can't be reached make room, once a look.
+fn hear_of<R: System>(
+    rt: R,
+    hub: &Hub,
+    finder: &mut Finder,
+    told: &Told,
+) -> Result<Heard, NoMemory> {
+    let look = finder.look();
+    let heard = finder.book.heard(told.address, &told.name, look)?;
+    if heard != Heard::Full || finder.emptied == look {
+        return Ok(heard);
+    }
+    finder.emptied = look;
+    forget(rt, hub, finder, 0);
+    finder.book.heard(told.address, &told.name, look)
+}
+
+// Two servers have a name: that is told once.
+fn tell_of_two<R: System>(rt: R, hub: &Hub, finder: &mut Finder, told: &Told, first: Address) {
+    let hour = finder.now / HOUR;
+    let is_news = match told.name.copy() {
+        Ok(again) => finder.clashes.tell(again, hour),
+        Err(fault) => Err(fault),
+    };
+    if matches!(is_news, Ok(true)) {
+        let (one, other) = (socket_address(first), socket_address(told.address));
+        hub.tell(&rt, Notice::NameAtTwo(told.name.text(), one, other));
+    }
+}
+
+// That is told once an hour.
+fn tell_full<R: System>(rt: R, hub: &Hub, finder: &mut Finder) {
+    let hour = finder.now / HOUR;
+    if finder.told_full != Some(hour) {
+        finder.told_full = Some(hour);
+        hub.tell(&rt, Notice::ServersFull(finder.most));
+    }
+}
+
+// Begins connections, as many as are made at once.
+fn connect_some<
+    R: System + Threads + Net<Listener = TcpListener, Stream = TcpStream> + 'static,
+    H: AsHub + Send + Sync + Drop + 'static,
+>(rt: R, hub: &Arc<H, Global>, finder: &mut Finder) {
+    for _ in rt.forever() {
+        if finder.made >= MOST_MADE {
+            return;
+        }
+        let Some(number) = finder.waiting.pop_front() else {
+            return;
+        };
+        let peer = match finder.book.server(number) {
+            Some(server) => socket_address(server.address),
+            None => continue,
+        };
+        finder.begin_one(number);
+        connect_found(rt, hub, number, peer);
+    }
+}
+
+// Once a second leaves servers that nobody needs, and forgets those that can't be reached, so that others have their numbers.
+fn look_around<R: System, H: AsHub>(rt: R, hub: &H, finder: &mut Finder) {
+    if finder.hurries() {
+        hub.hub().ask(&rt);
+    }
+    if finder.now.saturating_sub(finder.looked) >= PAUSE {
+        finder.looked = finder.now;
+        leave_idle(rt, hub, finder);
+        forget(rt, hub.hub(), finder, FORGOTTEN_AFTER);
+    }
+}
+
+// Ends connections to servers that were found and have had no link for long. What is lost with one is found again.
+fn leave_idle<R: System, H: AsHub>(rt: R, hub: &H, finder: &mut Finder) {
+    for number in finder.fixed.saturating_add(1)..=finder.most {
+        if !finder.stands(number) {
+            continue;
+        }
+        let Ok(links) = hub.gate().link_count_of(&rt, number) else {
+            return;
+        };
+        if finder.book.look(number, links) {
+            let dest = Dest::Upstream(number);
+            hub.hub().cut(&rt, dest, Cut::Idle(finder.idle));
+            shut(rt, hub.hub(), dest);
+        }
+    }
+}
+
+fn forget<R: System>(rt: R, hub: &Hub, finder: &mut Finder, after: u64) {
+    for number in finder.fixed.saturating_add(1)..=finder.most {
+        if finder.is_over(number, after) && finder.book.free(number) {
+            hub.forget_server(&rt, number);
+        }
+    }
+}

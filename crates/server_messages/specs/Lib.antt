@@ -1,4 +1,0 @@
-pub mod Concern
-pub mod Kept
-pub mod Looks
-pub mod Overdue

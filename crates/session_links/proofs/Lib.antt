@@ -1,3 +1,0 @@
-pub mod Keeping
-mod Pieces
-pub mod Writings
