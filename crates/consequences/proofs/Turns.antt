@@ -11,7 +11,7 @@ use Rattle.gateway_state.specs.Telling.{sent, told}
 use Rattle.gateway_state.specs.Told.{KnowRights}
 use Rattle.gateway_state.specs.Updates.{is_sub_to, owed_to, update_notice, with_owed_of}
 use Rattle.gateway_state.specs.Variables.{connected}
-use Rattle.consequences.specs.Giving.{IsGivenStill}
+use Rattle.consequences.specs.Giving.{GivesOf, IsGivenStill}
 use Rattle.consequences.specs.InTurn.{source_over, told_once, told_once_by}
 use Rattle.consequences.specs.declared.giving.Giving.{Giving}
 use Rattle.consequences.specs.declared.source.ValueSource.{ValueSource}
@@ -41,7 +41,7 @@ turn_connected w sub due (Some n) name =
     elim sub.owed as (λ t. connected (told n.session (replies.Update n.id n.dtype n.count n.payload) (cond t (with_owed_of sub.session sub.id false w) w)) name ≡ connected w name) [ true ↦ refl | false ↦ refl ]
 
 -- the value is where it was
-pub source_then : (passes : ClientSub → Bool) (w : Gateway) (sub : ClientSub) (name : List ℕ) (source : Option ValueSource) → source ≡ source_over (connected w name) → source ≡ source_over (connected (told_once passes w sub) name)
+source_then : (passes : ClientSub → Bool) (w : Gateway) (sub : ClientSub) (name : List ℕ) (source : Option ValueSource) → source ≡ source_over (connected w name) → source ≡ source_over (connected (told_once passes w sub) name)
 unfolding told_once
 source_then passes w sub name source is = is ∙ ap source_over (sym (turn_connected w sub (owed_where passes sub) (update_notice w (owed_where passes sub)) name))
 
@@ -53,10 +53,12 @@ turn_cache w sub due (Some n) =
     elim sub.owed as (λ t. (told n.session (replies.Update n.id n.dtype n.count n.payload) (cond t (with_owed_of sub.session sub.id false w) w)).cache ≡ w.cache) [ true ↦ refl | false ↦ refl ]
 
 -- and what was given of it is what would be given
-pub given_then : (passes : ClientSub → Bool) (w : Gateway) (sub : ClientSub) (giving : Giving) → IsGivenStill w.cache giving → IsGivenStill (told_once passes w sub).cache giving
+pub gives_then : (passes : ClientSub → Bool) (w : Gateway) (sub : ClientSub) (name : List ℕ) (giving : Giving) → GivesOf w name giving → GivesOf (told_once passes w sub) name giving
 unfolding told_once
-given_then passes w sub giving still =
-    subst (λ (cache : List LastMessage). IsGivenStill cache giving) (sym (turn_cache w sub (owed_where passes sub) (update_notice w (owed_where passes sub)))) still
+gives_then passes w sub name giving gives = (
+  source_then passes w sub name giving.source gives.0,
+  subst (λ (cache : List LastMessage). IsGivenStill cache giving) (sym (turn_cache w sub (owed_where passes sub) (update_notice w (owed_where passes sub)))) gives.1,
+)
 
 turn_on : (w : Gateway) (sub due : ClientSub) (notice : Option UpdateNotice) (name : List ℕ) (other : ClientSub) → is_sub_to (told_once_by sub due notice w) name other ≡ is_sub_to w name other
 unfolding sent

@@ -5,7 +5,10 @@ use Rattle.gateway_state.specs.declared.cached.LastMessage.{LastMessage}
 use Rattle.gateway_state.specs.declared.reading.Given.{Given}
 use Rattle.gateway_state.specs.Answer.{cached_as}
 use Rattle.gateway_state.specs.CachedRows.{is_cached_of}
+use Rattle.gateway_state.specs.Gateway.{Gateway}
 use Rattle.gateway_state.specs.Quantities.{Count, Dtype}
+use Rattle.gateway_state.specs.Variables.{connected}
+use Rattle.consequences.specs.InTurn.{source_over}
 use Rattle.consequences.specs.declared.giving.Giving.{Giving}
 use Rattle.consequences.specs.declared.giving.LastGiven.{LastGiven}
 use Rattle.consequences.specs.declared.source.ValueSource.{ValueSource}
@@ -24,3 +27,7 @@ IsHadStill cache source last = IfSome last (λ given. Some (given_of given) ≡ 
 
 abbrev pub IsGivenStill : List LastMessage → Giving → Type 0
 IsGivenStill cache giving = IsHadStill cache giving.source giving.last
+
+-- all of it is of the variable that this name is connected to, if it is to one
+abbrev pub GivesOf : Gateway → List ℕ → Giving → Type 0
+GivesOf w name giving = (giving.source ≡ source_over (connected w name)) × IsGivenStill w.cache giving

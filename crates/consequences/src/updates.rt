@@ -2,8 +2,8 @@
 ghost use Rattle.std.specs.Prelude.{◌≡◌, ◌≤◌, ◌+◌, ◌*◌, All, filter, true, Some, fold, OnOk, IfOk};
 ghost use Rattle.ca_message.specs.declared.to_client.ToClient.TheVariants as replies;
 ghost use Rattle.named_rows.specs.Subs.{is_sub_of};
-ghost use Rattle.consequences.specs.Giving.{IsGivenStill};
-ghost use Rattle.consequences.specs.InTurn.{source_over, told_in_turn};
+ghost use Rattle.consequences.specs.Giving.{GivesOf};
+ghost use Rattle.consequences.specs.InTurn.{told_in_turn};
 ghost use Rattle.channel_table.specs.Looks.{GoesOn};
 ghost use Rattle.gateway_rows.specs.Looked.{Looked, LookedOn, OnlyLooked, OnlyLookedOn};
 ghost use Rattle.gateway_rows.specs.Own.{is_owed, subs_on};
@@ -174,11 +174,9 @@ fn update_from(
     name: &Name,
     giving: &mut Giving,
 ) -> Result<Option<UpdateNotice>, AllocError>
-    requires source { giving.old.source ≡ source_over (connected known.now.state name.now) }
-    requires still { IsGivenStill known.now.state.cache giving.old }
+    requires gives { GivesOf known.now.state name.now giving.old }
     ensures found { IfOk result (λ notice. notice ≡ update_over known.now.state sub.now (connected known.now.state name.now)) }
-    ensures source { giving.new.source ≡ giving.old.source }
-    ensures still { IsGivenStill known.now.state.cache giving.new }
+    ensures gives { GivesOf known.now.state name.now giving.new }
 {
     match giving.give(known, sub)? {
         Some(given) => Ok(Some(UpdateNotice {
@@ -203,11 +201,9 @@ fn update_on_name(
 ) -> Result<Option<UpdateNotice>, AllocError>
     requires told { KnowsRights known.now.state channel.now }
     requires real { channel.now.real ≡ name.now }
-    requires source { giving.old.source ≡ source_over (connected known.now.state name.now) }
-    requires still { IsGivenStill known.now.state.cache giving.old }
+    requires gives { GivesOf known.now.state name.now giving.old }
     ensures found { IfOk result (λ notice. notice ≡ update_on known.now.state sub.now (Some channel.now)) }
-    ensures source { giving.new.source ≡ giving.old.source }
-    ensures still { IsGivenStill known.now.state.cache giving.new }
+    ensures gives { GivesOf known.now.state name.now giving.new }
 {
     if !may_read(channel.rights_told) {
         return Ok(None);
@@ -225,11 +221,9 @@ pub(crate) fn update_notice_of(
 ) -> Result<Option<UpdateNotice>, AllocError>
     requires told { KnowRights rows.old.state }
     requires on { is_sub_to rows.old.state name.now sub ≡ true }
-    requires source { giving.old.source ≡ source_over (connected rows.old.state name.now) }
-    requires still { IsGivenStill rows.old.state.cache giving.old }
+    requires gives { GivesOf rows.old.state name.now giving.old }
     ensures found { IfOk result (λ notice. notice ≡ update_notice rows.old.state sub) }
-    ensures source { giving.new.source ≡ giving.old.source }
-    ensures still { IsGivenStill rows.old.state.cache giving.new }
+    ensures gives { GivesOf rows.old.state name.now giving.new }
     ensures looked { OnlyLooked 2 rows.old rows.new }
 {
     if !(sub.owed && is_open_to(rows, &sub)) {
@@ -332,7 +326,7 @@ fn tell_while_taking(
     subs: &[ClientSub],
 ) -> Result<(), AllocError>
     requires told { KnowRights rows.old.state }
-    requires of { All (λ sub. is_sub_of number sub ≡ true) subs.now }
+    requires gives { All (λ sub. is_sub_of number sub ≡ true) subs.now }
     ensures ok { OnOk result (rows.new.state ≡ fold told_in_turn rows.old.state subs.now) }
     ensures looked { LookedOn rows.old rows.new }
 {

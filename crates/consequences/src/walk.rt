@@ -1,12 +1,11 @@
 //! The walk over the subscriptions to a variable, once an update of it came. No row says that the update is
 //! owed before its turn comes, and none that is told at once ever does.
 ghost use Rattle.std.specs.Prelude.{◌≡◌, ◌*◌, All, true, fold, length, OnOk};
-ghost use Rattle.consequences.specs.Giving.{IsGivenStill};
-ghost use Rattle.consequences.specs.InTurn.{owed_from_now, owed_no_more, source_over, told_once, told_once_by};
+ghost use Rattle.consequences.specs.Giving.{GivesOf};
+ghost use Rattle.consequences.specs.InTurn.{owed_from_now, owed_no_more, told_once, told_once_by};
 ghost use Rattle.gateway_rows.specs.Looked.{Looked};
 ghost use Rattle.gateway_state.specs.Told.{KnowRights};
 ghost use Rattle.gateway_state.specs.Updates.{is_sub_to, update_notice};
-ghost use Rattle.gateway_state.specs.Variables.{connected};
 ghost use Rattle.touched_rows.specs.Concern.{passes};
 
 use crate::giving::Giving;
@@ -51,10 +50,8 @@ fn tell_due(
 ) -> Result<(), AllocError>
     requires told { KnowRights rows.old.state }
     requires on { is_sub_to rows.old.state name.now due ≡ true }
-    requires source { giving.old.source ≡ source_over (connected rows.old.state name.now) }
-    requires still { IsGivenStill rows.old.state.cache giving.old }
-    ensures source { giving.new.source ≡ giving.old.source }
-    ensures still { IsGivenStill rows.old.state.cache giving.new }
+    requires gives { GivesOf rows.old.state name.now giving.old }
+    ensures gives { GivesOf rows.old.state name.now giving.new }
     ensures ok { OnOk result (rows.new.state ≡ told_once_by sub due (update_notice rows.old.state due) rows.old.state) }
     ensures looked { Looked 3 rows.old rows.new }
 {
@@ -81,10 +78,8 @@ fn tell_in_turn(
 ) -> Result<(), AllocError>
     requires told { KnowRights rows.old.state }
     requires on { is_sub_to rows.old.state name.now sub ≡ true }
-    requires source { giving.old.source ≡ source_over (connected rows.old.state name.now) }
-    requires still { IsGivenStill rows.old.state.cache giving.old }
-    ensures source { giving.new.source ≡ giving.old.source }
-    ensures still { IsGivenStill rows.old.state.cache giving.new }
+    requires gives { GivesOf rows.old.state name.now giving.old }
+    ensures gives { GivesOf rows.old.state name.now giving.new }
     ensures ok { OnOk result (rows.new.state ≡ told_once (passes concern) rows.old.state sub) }
     ensures looked { Looked 3 rows.old rows.new }
 {
@@ -93,7 +88,7 @@ fn tell_in_turn(
 }
 
 /// The same of each of these, in their order.
-#[tactic(auto, using(crate::proofs::Turns::know_rights_then, crate::proofs::Turns::source_then))]
+#[tactic(auto, using(crate::proofs::Turns::know_rights_then))]
 pub(crate) fn tell_each(
     rows: &mut CountedRows,
     name: &Name,

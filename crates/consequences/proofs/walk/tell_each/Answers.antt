@@ -3,11 +3,10 @@ use Rattle.std.specs.List.{All}
 use Rattle.gateway_state.specs.Gateway.{Gateway}
 use Rattle.gateway_state.specs.Told.{KnowRights}
 use Rattle.gateway_state.specs.Updates.{is_sub_to}
-use Rattle.gateway_state.specs.Variables.{connected}
-use Rattle.consequences.specs.Giving.{IsGivenStill}
-use Rattle.consequences.specs.InTurn.{source_over, told_once}
+use Rattle.consequences.specs.Giving.{GivesOf}
+use Rattle.consequences.specs.InTurn.{told_once}
 use Rattle.consequences.proofs.NextNotice.{told_next}
-use Rattle.consequences.proofs.Turns.{given_then, know_rights_then, on_then, source_then}
+use Rattle.consequences.proofs.Turns.{gives_then, know_rights_then, on_then}
 use Rattle.touched_rows.specs.Concern.{passes}
 use Rattle.consequences.proofs.walk.tell_each.Goals as goal
 
@@ -21,8 +20,7 @@ loop-sub-preserved c =
       rest = told_next (told_once test) c.tell_in_turn.new.rows.state c.loop-sub.rows.state _ c.args.subs.now c.loop-sub.sub-index _ (omega (arith, c.loop-sub-test.true)) told.ok before.rest;
       told = subst KnowRights (sym told.ok) (know_rights_then test c.loop-sub.rows.state _ before.told);
       on = subst (λ w. All (λ sub. is_sub_to w c.args.name.now sub ≡ true) c.args.subs.now) (sym told.ok) (on_then test c.loop-sub.rows.state _ c.args.name.now c.args.subs.now before.on);
-      source = told.source ∙ (source_then test c.loop-sub.rows.state _ c.args.name.now c.loop-sub.giving.source before.source ∙ ap (λ w. source_over (connected w c.args.name.now)) (sym told.ok));
-      still = subst (λ (w : Gateway). IsGivenStill w.cache c.tell_in_turn.new.giving) (sym told.ok) (given_then test c.loop-sub.rows.state _ c.tell_in_turn.new.giving told.still);
+      gives = subst (λ (w : Gateway). GivesOf w c.args.name.now c.tell_in_turn.new.giving) (sym told.ok) (gives_then test c.loop-sub.rows.state _ c.args.name.now c.tell_in_turn.new.giving told.gives);
       looked = (
         told.looked.0 ∙ before.looked.0,
         omega (arith, told.looked.1, before.looked.1),

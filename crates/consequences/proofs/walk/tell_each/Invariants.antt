@@ -3,9 +3,8 @@ use Rattle.std.specs.List.{All}
 use Rattle.gateway_rows.specs.Looked.{Looked}
 use Rattle.gateway_state.specs.Told.{KnowRights}
 use Rattle.gateway_state.specs.Updates.{is_sub_to}
-use Rattle.gateway_state.specs.Variables.{connected}
-use Rattle.consequences.specs.Giving.{IsGivenStill}
-use Rattle.consequences.specs.InTurn.{source_over, told_once}
+use Rattle.consequences.specs.Giving.{GivesOf}
+use Rattle.consequences.specs.InTurn.{told_once}
 use Rattle.touched_rows.specs.Concern.{passes}
 use Rattle.consequences.proofs.walk.tell_each.Given as goal
 
@@ -15,7 +14,6 @@ invariant-loop-sub l = record {
   rest : fold (told_once (passes l.concern)) l.rows.state (drop l.sub-index l.subs) ≡ fold (told_once (passes l.concern)) l.fn.rows.state l.subs;
   told : KnowRights l.rows.state;
   on : All (λ sub. is_sub_to l.rows.state l.name sub ≡ true) l.subs;
-  source : l.giving.source ≡ source_over (connected l.rows.state l.name);
-  still : IsGivenStill l.rows.state.cache l.giving;
+  gives : GivesOf l.rows.state l.name l.giving;
   looked : Looked (3 * l.sub-index) l.fn.rows l.rows;
 }
