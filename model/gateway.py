@@ -8,7 +8,7 @@ from codes import (
     ECA_NORDACCESS, ECA_NOWTACCESS, ECA_PUTFAIL, ECA_TOLARGE, TEXTS,
 )
 from rows import (
-    ALARM, FIRST, LAST, LOWEST_MINOR, MESSAGES_WAIT, MINOR, PROPERTIES, PROPERTY, SERVED_EVENTS,
+    ALARM, FIRST, LAST, LOWEST_MINOR, MESSAGES_WAIT, MINOR, PORT, PROPERTIES, PROPERTY, SERVED_EVENTS,
     UPDATES_WAIT, VALUE, VALUES,
     Channel, Limits, Link, Outbox, Search, Session, Subscription, Upstream, Waiting,
 )
@@ -402,6 +402,8 @@ class Gateway(Servers):
                 row.host = host
         elif request.command == wire.ECHO:
             self.tell(session, *request)
+        elif request.command == wire.SEARCH and self.limits.answers_searches:
+            self.search_on(session, request)
         elif request.command == wire.CLIENT_NAME:
             user = wire.nul_ended(request.payload, wire.is_name)
             if user and not row.host_fixed:
@@ -412,6 +414,26 @@ class Gateway(Servers):
     def error(self, session, request, code, cid=wire.NO_CHANNEL):
         head = wire.head(request.command, len(request.payload), *request[1:5])
         self.tell(session, wire.ERROR, 0, 0, cid, code, head + TEXTS.get(code, b"") + b"\0")
+
+    def search_on(self, session, request):
+        """A client searches on its connection."""
+        name = wire.nul_ended(request.payload, wire.is_name)
+        if name:
+            self.seek(session, request.p1, name)
+        else:
+            self.error(session, request, ECA_INTERNAL)
+
+    def seek(self, session, cid, name):
+        """A search on a connection is answered where the name is connected."""
+        if not self.acts(("s", session)):
+            return
+        host = self.sessions[session].host
+        lead = resolved(self.rules, host, name)
+        link = self.link(lead[0]) if lead else None
+        if lead:
+            self.remember(host, name)
+        if link and link.state == "connected":
+            self.tell(session, wire.SEARCH, PORT, 0, wire.NO_CHANNEL, cid, struct.pack(">H", MINOR))
 
     def create_channel(self, session, request):
         row = self.sessions[session]

@@ -25,7 +25,7 @@ LIMITS = [
     "sessions", "servers", "links", "searches", "share", "channels", "subscriptions", "reads",
     "writes", "searches", "share",
 ]
-FLAGS = ["makes-room", "passes-over-gone"] * 3 + ["reuses-numbers", "tells-unreadable"]
+FLAGS = ["makes-room", "passes-over-gone", "answers-searches"] * 3 + ["reuses-numbers", "tells-unreadable"]
 
 
 def text(word):
@@ -83,7 +83,7 @@ class Scripts:
     def begin(self):
         for _ in range(self.pick(0, 0, 0, 1, 2, 4)):
             self.limit()
-        for chance, line in [(0.2, "limit passes-over-gone 1"),
+        for chance, line in [(0.2, "limit passes-over-gone 1"), (0.3, "limit answers-searches 1"),
                              (0.9, "open s1 10.0.0.5"), (0.7, f"open s2 {self.pick(HOSTS)}"),
                              (0.9, "open u1"), (0.6, "open u2")]:
             if self.chance(chance):
@@ -168,7 +168,8 @@ class Scripts:
             message(wire.CLIENT_NAME, 0, 0, 0, 0, self.pick(text("me"), text("you"), b" ")),
             message(wire.VERSION, 0, self.pick(13, 13, 11, 9, 8), 0, 0),
             message(wire.ECHO, self.pick(0, 3), self.pick(0, 70_000), 5, 6, bytes(self.pick(0, 8))),
-            message(self.pick(3, 7, 99, 27), 1, 1, 1, 1))
+            message(self.pick(3, 7, 99, 27), 1, 1, 1, 1),
+            message(wire.SEARCH, 5, 13, 17, 99, self.pick(text(self.pick(NAMES)), text(self.pick(NAMES)), b"  ")))
 
     def write(self):
         command, dtype = self.pick(wire.WRITE, wire.WRITE_NOTIFY), self.pick(5, 5, 0, 4, 6, 7)
@@ -284,7 +285,7 @@ class Scripts:
 
     def upkeep(self):
         """Somebody sees after the gateway."""
-        self.pick(self.limit, self.age, self.age, self.probe)()
+        self.pick(self.limit, self.age, self.age, self.probe, self.seek)()
 
     def limit(self):
         if self.chance(0.3):
@@ -301,6 +302,9 @@ class Scripts:
 
     def probe(self):
         self.add("probe", self.pick(1, 1, 2, 3))
+
+    def seek(self):
+        self.add("seek", self.session(), self.pick(17, 18), self.pick(NAMES))
 
 
 PIECES = [

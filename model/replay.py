@@ -7,12 +7,11 @@ import rules
 import values
 import wire
 from gateway import Gateway, UsedUp
-from rows import FIRST, PROPERTIES, VALUES, Limits
+from rows import FIRST, PORT, PROPERTIES, VALUES, Limits
 from wire import framed, is_name, is_word, message
 
 GOOD, BAD_INPUT, FAILED = 0, 2, 4
 U32, USIZE = 2**32 - 1, 2**64 - 1
-PORT = 5064
 LIMITS = {field.replace("_", "-"): field for field in vars(Limits())}
 
 
@@ -108,6 +107,7 @@ class Replay:
                 ("rights", 3): self.rights,
                 ("hold", 2): self.hold, ("flow", 2): self.flow, ("drain", 3): self.drain,
                 ("limit", 3): self.limit, ("age", 1): self.age, ("probe", 2): self.probe,
+                ("seek", 4): self.seek,
             }.get((words[0], len(words)))
             if perform is None or "" in words:
                 raise BadLine
@@ -254,6 +254,9 @@ class Replay:
 
     def probe(self, server):
         self.gateway.step("probe", number(server, U32))
+
+    def seek(self, at, cid, variable):
+        self.gateway.step("seek", dest(at, "s")[1], number(cid, U32), name(variable))
 
     # What follows each line.
 

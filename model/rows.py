@@ -6,6 +6,7 @@ VALUE, LOG, ALARM, PROPERTY = 1, 2, 4, 8
 SERVED_EVENTS = VALUE | LOG | ALARM | PROPERTY
 VALUES, PROPERTIES = "values", "properties"
 MINOR, LOWEST_MINOR = 13, 9
+PORT = 5064
 FIRST, LAST = 1, 0xFFFF_FFFE
 UPDATES_WAIT, MESSAGES_WAIT = 4_096, 16_384
 
@@ -28,6 +29,7 @@ class Limits:
     reuses_numbers: bool = False
     passes_over_gone: bool = False
     tells_unreadable: bool = False
+    answers_searches: bool = False
 
 
 @dataclass

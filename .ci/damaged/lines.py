@@ -25,7 +25,7 @@ def one_of(words):
 
 
 LIMITS = {b"sessions", b"servers", b"links", b"searches", b"share", b"channels", b"subscriptions", b"reads", b"writes", b"update-bytes"}
-FLAGS = {b"makes-room", b"reuses-numbers", b"passes-over-gone", b"tells-unreadable"}
+FLAGS = {b"makes-room", b"reuses-numbers", b"passes-over-gone", b"tells-unreadable", b"answers-searches"}
 CLIENT, SERVER, EITHER = connection((b"s",)), connection((b"u",)), connection((b"s", b"u"))
 NAME, HOST = of_printable(255), of_printable(127)
 
@@ -37,7 +37,7 @@ FORMS = {
     b"asks": [()], b"read": [(CLIENT, number(NUMBER32), number(NUMBER16), number(NUMBER32))], b"sub": [(NAME,)],
     b"props": [(NAME,)], b"rights": [(CLIENT, number(NUMBER32))],
     b"limit": [(one_of(LIMITS), number(SIZE)), (one_of({b"messages"}), number(NUMBER32)), (one_of(FLAGS), one_of({b"0", b"1"}))],
-    b"age": [()], b"probe": [(number(NUMBER32),)],
+    b"age": [()], b"probe": [(number(NUMBER32),)], b"seek": [(CLIENT, number(NUMBER32), NAME)],
 }
 
 

@@ -20,10 +20,10 @@ use crate::news::{News, Traffic};
 use crate::{batches, moves, rounds};
 use board_rings::{Attachments, Ends, Inlet, Outlet};
 use gateway_calls::{AskFault, Failed, GatewayCalls};
-use gateway_state::{Dest, Event, Fullest, LimitsMet, RowCounts};
+use gateway_state::{Dest, Event, Fullest, LimitsMet, RowCounts, UnansweredSince};
 use pv_name::{Host, Name};
 use pv_search::SearchAnswer;
-use std::alloc::Global;
+use std::alloc::{AllocError, Global};
 use std::marker::Model;
 
 /// A gateway, and an attachment with two rings for each connection that is attached. A refused step leaves it
@@ -236,6 +236,16 @@ impl<G: GatewayCalls + Drop> BoardOver<G> {
     /// How often limits were met since the start. No contract speaks of it: it is for whoever watches.
     pub fn limits_met(&self) -> LimitsMet {
         self.gate.limits_met()
+    }
+
+    /// The searches on connections that had no answer when they came, behind the first so many, as far as they are
+    /// known. No contract speaks of it: it is for whoever makes them again.
+    pub fn unanswered_since(
+        &self,
+        alloc: Global,
+        seen: u64,
+    ) -> Result<UnansweredSince, AllocError> {
+        self.gate.unanswered_since(alloc, seen)
     }
 
     /// The most that one client or server has now. No contract speaks of it: it is for whoever watches.

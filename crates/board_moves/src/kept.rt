@@ -21,9 +21,10 @@ use crate::news::{News, Traffic};
 use crate::turn::Turn;
 use board_rings::{Ends, Inlet, Outlet, Teller};
 use gateway_calls::{AskFault, Failed, GatewayCalls};
-use gateway_state::{Dest, Event, Fullest, LimitsMet, RowCounts};
+use gateway_state::{Dest, Event, Fullest, LimitsMet, RowCounts, UnansweredSince};
 use pv_name::{Host, Name};
 use pv_search::SearchAnswer;
+use std::alloc::{AllocError, Global};
 use std::marker::Model;
 
 /// A board, a mark that its gate is closed, and a count of wakes: a thread that remembers the count from
@@ -248,6 +249,16 @@ impl<G: GatewayCalls + Drop> KeptBoard<G> {
     /// How often limits were met since the start. No contract speaks of it: it is for whoever watches.
     pub fn limits_met(&self) -> LimitsMet {
         self.board.limits_met()
+    }
+
+    /// The searches on connections that had no answer when they came, behind the first so many, as far as they are
+    /// known. No contract speaks of it: it is for whoever makes them again.
+    pub fn unanswered_since(
+        &self,
+        alloc: Global,
+        seen: u64,
+    ) -> Result<UnansweredSince, AllocError> {
+        self.board.unanswered_since(alloc, seen)
     }
 
     /// The most that one client or server has now. No contract speaks of it: it is for whoever watches.

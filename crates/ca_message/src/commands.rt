@@ -41,6 +41,9 @@ pub const CA_PROTO_SERVER_DISCONN: u16 = 27;
 /// VERSION.
 pub const MINOR_VERSION: u32 = 13;
 
+/// What stands in place of a server's address in a SEARCH reply where the server is who sent it.
+pub const SENDER_ADDRESS: u32 = 0xFFFF_FFFF;
+
 /// What stands in place of a CID in an ERROR that concerns no channel.
 pub const NO_CHANNEL: u32 = 0xFFFF_FFFF;
 

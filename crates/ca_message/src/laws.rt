@@ -4,7 +4,7 @@ ghost use Rattle.pv_name.specs.Name.{IsName};
 ghost use Rattle.pv_name.specs.Host.{IsHost};
 ghost use Rattle.ca_message.specs.declared.codes.TheConstants.{ECA_NORMAL, ECA_ALLOCMEM, ECA_TOLARGE, ECA_BADTYPE, ECA_INTERNAL, ECA_GETFAIL, ECA_PUTFAIL, ECA_BADCOUNT, ECA_BADMASK, ECA_NORDACCESS, ECA_NOWTACCESS, ECA_BADCHID, ERROR_TEXT_LIMIT};
 ghost use Rattle.ca_message.specs.declared.commands.TheConstants.{CA_PROTO_VERSION, CA_PROTO_EVENT_ADD, CA_PROTO_EVENT_CANCEL, CA_PROTO_WRITE, CA_PROTO_SEARCH, CA_PROTO_EVENTS_OFF, CA_PROTO_EVENTS_ON, CA_PROTO_ERROR, CA_PROTO_CLEAR_CHANNEL, CA_PROTO_READ_NOTIFY, CA_PROTO_CREATE_CHAN, CA_PROTO_WRITE_NOTIFY, CA_PROTO_CLIENT_NAME, CA_PROTO_HOST_NAME, CA_PROTO_ACCESS_RIGHTS, CA_PROTO_ECHO, CA_PROTO_CREATE_CH_FAIL, CA_PROTO_SERVER_DISCONN};
-ghost use Rattle.ca_message.specs.declared.commands.TheConstants.{MINOR_VERSION, NO_CHANNEL, CA_PROTO_ACCESS_RIGHT_READ, CA_PROTO_ACCESS_RIGHT_WRITE, READ_AND_WRITE};
+ghost use Rattle.ca_message.specs.declared.commands.TheConstants.{MINOR_VERSION, NO_CHANNEL, SENDER_ADDRESS, CA_PROTO_ACCESS_RIGHT_READ, CA_PROTO_ACCESS_RIGHT_WRITE, READ_AND_WRITE};
 ghost use Rattle.ca_message.specs.declared.payload.TheConstants.{EVENT_MASK_OFFSET, EVENT_PAYLOAD_LEN, LARGEST_SIZE};
 ghost use Rattle.ca_message.specs.declared.text.TheConstants.{NUL};
 ghost use Rattle.ca_message.specs.declared.reply.ServerReply.TheVariants as replies;
@@ -64,6 +64,7 @@ pub fn codes_are_these()
 /// The other numbers of messages.
 pub fn numbers_are_these()
     ensures minor_version { MINOR_VERSION ≡ 13 }
+    ensures sender_address { SENDER_ADDRESS ≡ 0xFFFF_FFFF }
     ensures no_channel { NO_CHANNEL ≡ 0xFFFF_FFFF }
     ensures right_to_read { CA_PROTO_ACCESS_RIGHT_READ ≡ 1 }
     ensures right_to_write { CA_PROTO_ACCESS_RIGHT_WRITE ≡ 2 }

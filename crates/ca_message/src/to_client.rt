@@ -2,15 +2,16 @@
 ghost use Rattle.std.specs.Prelude.{◌≡◌, ◌≤◌, length, IfOk, IsOk};
 ghost use Rattle.ca_message.specs.Wire.{message, size_field};
 ghost use Rattle.ca_message.specs.declared.codes.TheConstants.{ECA_NORMAL};
-ghost use Rattle.ca_message.specs.ToClient.{bytes_before, client_head, client_payload, error_payload, no_value};
+ghost use Rattle.ca_message.specs.ToClient.{bytes_before, client_head, client_payload, error_payload, no_value, spoken_version};
 ghost use Rattle.dbr_layout.specs.Dbr.{dbr_of};
 
 use crate::NoMemory;
 use crate::codes::{ECA_NORMAL, error_text};
 use crate::commands::{
     CA_PROTO_ACCESS_RIGHTS, CA_PROTO_CLEAR_CHANNEL, CA_PROTO_CREATE_CH_FAIL, CA_PROTO_CREATE_CHAN,
-    CA_PROTO_ERROR, CA_PROTO_EVENT_ADD, CA_PROTO_READ_NOTIFY, CA_PROTO_SERVER_DISCONN,
-    CA_PROTO_VERSION, CA_PROTO_WRITE_NOTIFY, MINOR_VERSION,
+    CA_PROTO_ERROR, CA_PROTO_EVENT_ADD, CA_PROTO_READ_NOTIFY, CA_PROTO_SEARCH,
+    CA_PROTO_SERVER_DISCONN, CA_PROTO_VERSION, CA_PROTO_WRITE_NOTIFY, MINOR_VERSION,
+    SENDER_ADDRESS,
 };
 use crate::payload::{
     header, padded_len, size_of, size_of_len, size_of_nul_ended, write_nul_ended, write_padded,
@@ -20,6 +21,9 @@ use ca_header::{Header, Message, write_head};
 use dbr_layout::Dbr;
 use std::alloc::Global;
 use std::fmt;
+
+/// How many bytes the payload of a SEARCH reply has.
+const VERSION_LEN: u32 = 8;
 
 /// A message to a client. Its wire form is its head, written canonically, and then its payload.
 ///
@@ -79,6 +83,11 @@ pub enum ToClient {
         count: u32,
         code: u32,
     },
+    /// The name that is sought as `cid` is served here, at this TCP port.
+    Search {
+        cid: u32,
+        port: u16,
+    },
     /// The channel that was asked for as `cid` stands as `sid`, with this native type and count.
     CreateChannel {
         cid: u32,
@@ -124,6 +133,7 @@ impl fmt::Debug for ToClient {
             ToClient::ClearChannel { .. } => "ClearChannel",
             ToClient::ReadNotify { .. } => "ReadNotify",
             ToClient::ReadNotifyRefused { .. } => "ReadNotifyRefused",
+            ToClient::Search { .. } => "Search",
             ToClient::CreateChannel { .. } => "CreateChannel",
             ToClient::CreateChannelFail { .. } => "CreateChannelFail",
             ToClient::WriteNotify { .. } => "WriteNotify",
@@ -175,6 +185,10 @@ impl ToClient {
                 count,
                 code,
             } => header(CA_PROTO_READ_NOTIFY, *dtype, *count, *code, *ioid),
+            ToClient::Search { cid, port } => Header {
+                size: VERSION_LEN,
+                ..header(CA_PROTO_SEARCH, *port, 0, SENDER_ADDRESS, *cid)
+            },
             ToClient::CreateChannel {
                 cid,
                 sid,
@@ -206,6 +220,7 @@ impl ToClient {
             ToClient::Echo(message) => message.payload.slice(..),
             ToClient::Error { code, request, .. } => error_payload(alloc, request, *code),
             ToClient::UpdateRefused { dtype, .. } => no_value(alloc, *dtype),
+            ToClient::Search { .. } => spoken_version(alloc),
             ToClient::Update { value, .. } | ToClient::ReadNotify { value, .. } => value.slice(..),
             ToClient::Version
             | ToClient::EventCancelled { .. }
@@ -253,6 +268,14 @@ fn no_value(alloc: Global, dtype: u16) -> Result<Bytes, NoMemory>
     ensures { IfOk result (λ payload. payload ≡ no_value dtype) }
 {
     write_padded(alloc, &[], bytes_before(dtype) as usize)
+}
+
+fn spoken_version(alloc: Global) -> Result<Bytes, NoMemory>
+    ensures { IfOk result (λ payload. payload ≡ spoken_version) }
+{
+    let minor = (MINOR_VERSION as u16).to_be_bytes();
+    let payload = Vec::from_array(alloc, [minor[0], minor[1], 0, 0, 0, 0, 0, 0])?;
+    Ok(Bytes::from_vec(payload)?)
 }
 
 fn error_size(request: &Header, code: u32) -> u32

@@ -1,6 +1,5 @@
 //! What clients ask for.
 ghost use Rattle.std.specs.Prelude.{◌≡◌, true, Ok, OnOk, IfOk, IsErrOf};
-ghost use Rattle.ca_message.specs.ClientRequest.{request_of};
 ghost use Rattle.gateway_rows.specs.BrandedState.{Becomes};
 ghost use Rattle.gateway_rows.specs.Looked.{Looked};
 ghost use Rattle.gateway_state.specs.Numbers.{is_past_numbers};
@@ -10,7 +9,7 @@ ghost use Rattle.gateway_state.specs.Settled.{HasSidsApart, HasWriteIdsApart};
 ghost use Rattle.gateway_state.specs.Telling.{told};
 ghost use Rattle.gateway_state.specs.Told.{KnowRights};
 ghost use Rattle.touched_rows.specs.declared.touched.Touched.TheVariants.{Nothing};
-ghost use Rattle.touched_rows.specs.Touches.{request_touches, with_touched};
+ghost use Rattle.touched_rows.specs.Touches.{client_touches, request_touches, with_touched};
 
 use crate::clear_channel::clear_channel;
 use crate::client_name::hear_client_name;
@@ -19,6 +18,7 @@ use crate::host_name::{fix_host, hear_host_name};
 use crate::pause::{pause, resume};
 use crate::read::{hear_read, new_read};
 use crate::refusals::{refuse_short_subscription, refuse_unknown};
+use crate::search::{hear_search, search_in};
 use crate::subscribe::{new_sub, subscribe_client};
 use crate::unsubscribe::cancel_subscription;
 use crate::write::{hear_write, hear_write_notify};
@@ -33,6 +33,7 @@ use std::alloc::AllocError;
 use touched_rows::Touched;
 
 /// A client sent a message. A read that is touched isn't kept yet.
+#[tactic(auto, using(touched_rows::proofs::KeptLate::seek_keeps_none))]
 pub fn hear_client(
     rows: &mut CountedRows,
     number: u32,
@@ -42,10 +43,13 @@ pub fn hear_client(
     requires ids { HasWriteIdsApart rows.old.state }
     requires told { KnowRights rows.old.state }
     ensures ok { IfOk result (λ touched. with_touched touched rows.new.state ≡ client_said rows.old.state number message) }
-    ensures touched { IfOk result (λ touched. touched ≡ request_touches rows.old.state number (request_of message.head message.payload)) }
+    ensures touched { IfOk result (λ touched. touched ≡ client_touches rows.old.state number message) }
     ensures used_up { IsErrOf result RowsRefusal.NumbersUsedUp → is_past_numbers (client_said rows.old.state number message) ≡ true }
     ensures looked { Looked 4 rows.old rows.new }
 {
+    if let Some(search) = search_in(&rows.known, &message) {
+        return Ok(hear_search(rows, number, &search)?);
+    }
     match read_message(&message) {
         Ok(request) => hear_request(rows, number, request, &message),
         Err(_) => {

@@ -30,7 +30,7 @@ pub(crate) fn fail_creation(known: &mut Known, number: u32, cid: u32) -> Result<
 }
 
 /// The session's host looks for the name. It gives the other search that goes for that.
-fn remember(
+pub(crate) fn remember(
     rows: &mut CountedRows,
     number: u32,
     name: &Name,

@@ -43,9 +43,10 @@ use board_moves::{
 use board_rings::{Ends, Inbound, Inlet, Outlet};
 use fanout::Out;
 use gateway_calls::{AskFault, Failed, GatewayCalls};
-use gateway_state::{Dest, Event, Fullest, LimitsMet, RowCounts};
+use gateway_state::{Dest, Event, Fullest, LimitsMet, RowCounts, UnansweredSince};
 use pv_name::{Host, Name};
 use pv_search::SearchAnswer;
+use std::alloc::{AllocError, Global};
 use std::array;
 use std::sync::{Condvar, Mutex, Wait};
 
@@ -226,6 +227,17 @@ impl<G: GatewayCalls + Drop> GateOver<G> {
     /// How often limits were met since the start.
     pub fn limits_met<R: Wait>(&self, rt: &R) -> LimitsMet {
         self.kept.lock(rt).limits_met()
+    }
+
+    /// The searches on connections that had no answer when they came, behind the first so many, as far as they are
+    /// known: for whoever makes them again.
+    pub fn unanswered_since<R: Wait>(
+        &self,
+        rt: &R,
+        alloc: Global,
+        seen: u64,
+    ) -> Result<UnansweredSince, AllocError> {
+        self.kept.lock(rt).unanswered_since(alloc, seen)
     }
 
     /// The most that one client or server has now.

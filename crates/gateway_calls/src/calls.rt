@@ -20,6 +20,7 @@ use crate::fault::{AskFault, Failed, StepFault};
 use fanout::Out;
 use gateway_state::{
     Config, Dest, Event, Fullest, Limits, LimitsMet, Policy, Reading, RowCounts, Sub,
+    UnansweredSince,
 };
 use pv_name::{Host, Name};
 use pv_search::SearchAnswer;
@@ -156,6 +157,12 @@ pub trait GatewayCalls {
     /// How often limits were met since the start. No definition speaks of it: it is for whoever watches.
     fn limits_met(&self) -> LimitsMet {
         LimitsMet::NONE
+    }
+
+    /// The searches on connections that had no answer when they came, behind the first so many, as far as they are
+    /// known. No definition speaks of it: it is for whoever makes them again.
+    fn unanswered_since(&self, alloc: Global, _seen: u64) -> Result<UnansweredSince, NoMemory> {
+        Ok(UnansweredSince::none(alloc))
     }
 
     /// The most that one client or server has now. No definition speaks of it: it is for whoever watches.

@@ -9,6 +9,7 @@ use Rattle.ca_message.specs.declared.reply.ServerReply.TheVariants as says
 use Rattle.ca_message.specs.declared.request.ClientRequest.{ClientRequest}
 use Rattle.ca_message.specs.declared.request.ClientRequest.TheVariants as requests
 use Rattle.ca_message.specs.declared.request.RequestFault.{RequestFault}
+use Rattle.ca_header.specs.declared.header.Message.{Message}
 use Rattle.ca_message.specs.ClientRequest.{request_of}
 use Rattle.ca_message.specs.ServerReply.{reply_of}
 use Rattle.named_rows.specs.declared.channels.Channel.{Channel}
@@ -23,8 +24,9 @@ use Rattle.gateway_state.specs.declared.notice.ReadVerdict.TheVariants as reads
 use Rattle.gateway_state.specs.declared.notice.SubVerdict.{SubVerdict}
 use Rattle.gateway_state.specs.declared.notice.SubVerdict.TheVariants as subs
 use Rattle.gateway_state.specs.declared.search.RememberedSearch.{RememberedSearch as SearchRow}
-use Rattle.gateway_state.specs.Clients.{read_verdict, search_left_by}
-use Rattle.gateway_state.specs.Requests.{client_said}
+use Rattle.gateway_state.specs.Clients.{read_verdict, search_left_by, sought}
+use Rattle.pv_search.specs.declared.search.SearchRequest.{SearchRequest}
+use Rattle.gateway_state.specs.Requests.{client_said, search_in}
 use Rattle.gateway_state.specs.Rights.{channel_of, lead_in}
 use Rattle.gateway_state.specs.Subscribing.{is_on_sid, new_sub, sub_of, sub_verdict}
 use Rattle.gateway_core.specs.Looks.{direct_looks, event_looks, request_looks, update_looks}
@@ -33,7 +35,7 @@ use Rattle.gateway_rows.specs.Own.{IsWithin, channels_on, own_over, reads_on, su
 use Rattle.gateway_rows.proofs.OwnStays.{reads_on_owed, subs_on_owed}
 use Rattle.gateway_state.specs.declared.event.Dest.TheVariants.{Session, Upstream}
 use Rattle.gateway_state.specs.declared.event.Event.{Event}
-use Rattle.gateway_state.specs.declared.event.Event.TheVariants.{Age, Opened, Limit, Lost, Client, Probe, UpOpened, UpLost, Server, Found, Search, Sweep, Edit, Drain}
+use Rattle.gateway_state.specs.declared.event.Event.TheVariants.{Age, Opened, Limit, Lost, Client, Probe, UpOpened, UpLost, Server, Found, Search, Sweep, Edit, Drain, Seek}
 use Rattle.gateway_state.specs.Answer.{native_in}
 use Rattle.gateway_state.specs.Asked.{acts}
 use Rattle.gateway_state.specs.Direct.{direct_effect, searched}
@@ -54,7 +56,7 @@ use Rattle.rule_desk.specs.declared.policy.Policy.{Policy}
 use Rattle.touched_rows.specs.declared.touched.Touched.{Touched}
 use Rattle.touched_rows.specs.declared.touched.Touched.TheVariants.{Interest, Nothing, Value, Variable}
 use Rattle.touched_rows.specs.Concern.{concern_of}
-use Rattle.touched_rows.specs.Touches.{cancel_touches_by, clear_touches_by, create_touches, create_touches_as, create_touches_over, created_touches_over, event_touches, gone_touches_over, left_touches, new_read, read_touches_by, reply_touches, request_touches, rights_touches_over, search_left_for, sub_touches_by, update_touches_over, update_touches_under, value_touches}
+use Rattle.touched_rows.specs.Touches.{cancel_touches_by, clear_touches_by, client_touches, create_touches, create_touches_as, create_touches_over, created_touches_over, event_touches, gone_touches_over, left_touches, new_read, read_touches_by, reply_touches, request_touches, rights_touches_over, said_touches, search_left_for, seek_touches, seek_touches_as, sub_touches_by, update_touches_over, update_touches_under, value_touches}
 
 -- how many rows a table has of a variable
 abbrev channels_in : ClientRows → List ℕ → ℕ
@@ -124,6 +126,14 @@ module _ (then : Gateway) (direct after : ℕ) where
             as (λ t. IsWithin (looks_after (cond t Nothing (create_touches_over w session name (connected w lead.real))) then) direct after → after ≤ direct + 0)
             [ true ↦ λ rest. rest | false ↦ create_over_within w session name (connected w lead.real) ]
       ]
+
+  seek_as_within : (w : Gateway) (number : ℕ) (name : List ℕ) (lead : Option Lead)
+      → IsWithin (looks_after (seek_touches_as w number name lead) then) direct after → after ≤ direct + 0
+  seek_as_within w number name None = λ rest. rest
+  seek_as_within w number name (Some lead) = left_within w.policy (search_left_for (find (is_numbered number) w.clients.sessions) name w)
+
+  seek_within : (w : Gateway) (number : ℕ) (name : List ℕ) → IsWithin (looks_after (seek_touches w number name) then) direct after → after ≤ direct + 0
+  seek_within w number name = seek_as_within w number name (lead_in w number name)
 
   all_within : (before : ℕ) → direct ≤ before + 4 → after ≤ direct + 4 → after ≤ before + 8
   all_within before first rest = omega (arith, first, rest)
@@ -284,6 +294,17 @@ module _ (w : Gateway) (before direct after : ℕ) where
   looked_quietly server (Ok (says.ServerDisconnect cid)) first rest = none_of (own_over w (find (is_link server cid) w.upstream.links)) first rest
   looked_quietly server (Err fault) first rest = none first rest
 
+-- what a client says, which may be a search
+client_within : (w : Gateway) (number : ℕ) (message : Message) (before direct after : ℕ) → direct ≤ before + 4 → (search : Option SearchRequest)
+    → IsWithin (looks_after (said_touches w number message search) (client_said w number message)) direct after → IsWithin (request_looks (request_of message.head message.payload)) before after
+client_within w number message before direct after first None =
+    request_within (client_said w number message) direct after w before number (request_of message.head message.payload) first
+client_within w number message before direct after first (Some search) =
+    λ rest. unheard_within w direct after before (request_of message.head message.payload) first (seek_within (client_said w number message) direct after w number search.name rest)
+
+few_of : (before direct after : ℕ) → direct ≤ before + 4 → after ≤ direct + 0 → after ≤ before + 4
+few_of before direct after first rest = omega (arith, first, rest)
+
 -- by itself, and for what follows
 pub looked_in_all : (w : Gateway) (event : Event) (before direct after : ℕ) → IsWithin (direct_looks w event) before direct
     → IsWithin (looks_after (event_touches w event) (direct_effect w event)) direct after → IsWithin (event_looks w event) before after
@@ -292,8 +313,8 @@ looked_in_all w (Lost number) before direct after first = λ rest. omega (arith,
 looked_in_all w (Client number message) before direct after first =
     let request = request_of message.head message.payload in
     elim (acts w (Session number))
-    as (λ t. IsWithin (looks_after (cond t (request_touches w number request) Nothing) (cond t (client_said w number message) w)) direct after → IsWithin (request_looks request) before after)
-    [ true ↦ request_within (client_said w number message) direct after w before number request first | false ↦ unheard_within w direct after before request first ]
+    as (λ t. IsWithin (looks_after (cond t (client_touches w number message) Nothing) (cond t (client_said w number message) w)) direct after → IsWithin (request_looks request) before after)
+    [ true ↦ client_within w number message before direct after first (search_in w message) | false ↦ unheard_within w direct after before request first ]
 looked_in_all w (UpOpened number) before direct after first = none w before direct after first
 looked_in_all w (UpLost number) before direct after first = λ rest. tt
 looked_in_all w (Server number message) before direct after first =
@@ -313,3 +334,7 @@ looked_in_all w (Drain dest count) before direct after first = λ rest. tt
 looked_in_all w (Limit limits) before direct after first = λ rest. tt
 looked_in_all w Age before direct after first = λ rest. omega (arith, first, rest)
 looked_in_all w (Probe number) before direct after first = none w before direct after first
+looked_in_all w (Seek number cid name) before direct after first =
+    elim (acts w (Session number))
+    as (λ t. IsWithin (looks_after (cond t (seek_touches w number name) Nothing) (cond t (sought number cid name w) w)) direct after → after ≤ before + 4)
+    [ true ↦ λ rest. few_of before direct after first (seek_within (sought number cid name w) direct after w number name rest) | false ↦ λ rest. few_of before direct after first rest ]

@@ -21,6 +21,7 @@ use Rattle.direct_effect.specs.Looks.{age_looks, reply_looks}
 abbrev pub direct_looks : Gateway → Event → Option ℕ
 direct_looks w (events.Lost number) = Some (channel_count number w.clients)
 direct_looks w (events.Client number message) = Some 4
+direct_looks w (events.Seek number cid name) = Some 4
 direct_looks w (events.Server number message) = reply_looks w number (reply_of message.head message.payload)
 direct_looks w events.Age = Some (age_looks w)
 direct_looks w event = Some 0
@@ -52,5 +53,6 @@ event_looks w (events.Drain dest count) = None
 event_looks w (events.Limit limits) = None
 event_looks w events.Age = Some (age_looks w)
 event_looks w (events.Client number message) = request_looks (request_of message.head message.payload)
+event_looks w (events.Seek number cid name) = Some 4
 event_looks w (events.Server number message) = update_looks w number (reply_of message.head message.payload)
 event_looks w event = Some 0

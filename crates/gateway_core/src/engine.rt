@@ -25,6 +25,7 @@ use gateway_calls::{AskFault, Failed, NoMemory, StepFault};
 use gateway_rows::{CountedRows, RowsRefusal};
 use gateway_state::{
     Config, Dest, Event, Fullest, Limits, LimitsMet, Policy, Reading, RowCounts, Sub,
+    UnansweredSince,
 };
 use pv_name::{Host, Name};
 use pv_search::SearchAnswer;
@@ -355,6 +356,15 @@ impl Engine {
         match &self.rows {
             Some(rows) => rows.known.limits_met(),
             None => LimitsMet::NONE,
+        }
+    }
+
+    /// The searches on connections that had no answer when they came, behind the first so many, as far as they are
+    /// known; none where a step was refused. No definition speaks of it: it is for whoever makes them again.
+    pub fn unanswered_since(&self, alloc: Global, seen: u64) -> Result<UnansweredSince, NoMemory> {
+        match &self.rows {
+            Some(rows) => rows.known.unanswered_since(alloc, seen),
+            None => Ok(UnansweredSince::none(alloc)),
         }
     }
 

@@ -5,6 +5,7 @@ use fanout::Out;
 use gateway_calls::{AskFault, Failed, GatewayCalls, NoMemory, StepFault};
 use gateway_state::{
     Config, Dest, Event, Fullest, Limits, LimitsMet, Policy, Reading, RowCounts, Sub,
+    UnansweredSince,
 };
 use pv_name::{Host, Name};
 use pv_search::SearchAnswer;
@@ -93,6 +94,10 @@ impl GatewayCalls for Engine {
 
     fn limits_met(&self) -> LimitsMet {
         Engine::limits_met(self)
+    }
+
+    fn unanswered_since(&self, alloc: Global, seen: u64) -> Result<UnansweredSince, NoMemory> {
+        Engine::unanswered_since(self, alloc, seen)
     }
 
     fn fullest(&self) -> Fullest {

@@ -15,7 +15,7 @@ use crate::age::age;
 use crate::connections::{lose_server, lose_session, open_server, open_session};
 use crate::orders::{limit, probe};
 use consequences::tell_consequences;
-use direct_effect::{find_at, hear_client, hear_server, left_touches};
+use direct_effect::{find_at, hear_client, hear_server, left_touches, seek};
 use fanout::Out;
 use gateway_rows::{CountedRows, Known, RowsRefusal};
 use gateway_state::{Dest, Event};
@@ -72,7 +72,7 @@ fn drain_touches(known: &Known, dest: Dest) -> Touched
 
 /// What the event does by itself. A read that was touched isn't kept yet, nor an update owed to those whom it
 /// concerns.
-#[tactic(auto, using(gateway_rows::proofs::OwnStays::within_none, touched_rows::proofs::KeptLate::drain_keeps_none, touched_rows::proofs::KeptLate::search_keeps_none))]
+#[tactic(auto, using(gateway_rows::proofs::OwnStays::within_none, touched_rows::proofs::KeptLate::drain_keeps_none, touched_rows::proofs::KeptLate::search_keeps_none, touched_rows::proofs::KeptLate::seek_keeps_none))]
 fn perform(rows: &mut CountedRows, event: Event) -> Result<Touched, RowsRefusal>
     requires ready { IsReadyForEvent rows.old.state }
     ensures ok { IfOk result (λ touched. with_touched touched rows.new.state ≡ direct_effect rows.old.state event) }
@@ -126,6 +126,12 @@ fn perform(rows: &mut CountedRows, event: Event) -> Result<Touched, RowsRefusal>
         Event::Limit(limits) => limit(&mut rows.known, limits),
         Event::Age => Touched::Links(age(rows)?),
         Event::Probe(number) => probe(&mut rows.known, number)?,
+        Event::Seek(number, cid, name) => {
+            if !rows.known.acts(Dest::Session(number)) {
+                return Ok(Touched::Nothing);
+            }
+            seek(rows, number, cid, &name)?
+        }
     })
 }
 

@@ -1,9 +1,11 @@
-//! How often limits were met, and how much of them is used. No contract sees it: it is for whoever watches
-//! a gateway, and nothing that a gateway does depends on it.
+//! How often limits were met, how much of them is used, and which searches had no answer. No contract sees it:
+//! it is for whoever watches a gateway, and nothing that a gateway does depends on it.
 ghost use Rattle.std.specs.Prelude.{◌≡◌};
 
 use crate::state::Known;
-use gateway_state::{Connection, Dest, Fullest, LimitsMet, RowLimit};
+use gateway_state::{Connection, Dest, Fullest, LimitsMet, RowLimit, UnansweredSince};
+use pv_name::Name;
+use std::alloc::{AllocError, Global};
 
 impl Known {
     /// Notes that a limit was met. Nothing changes that contracts see.
@@ -28,6 +30,22 @@ impl Known {
         let mut met = self.met;
         met.full = self.connections.full();
         met
+    }
+
+    /// Notes that a client's search on its connection had no answer. Nothing changes that contracts see.
+    pub fn note_unanswered(&mut self, session: u32, cid: u32, name: &Name)
+        ensures same { self.new ≡ self.old }
+    {
+        self.unanswered.note(session, cid, name);
+    }
+
+    /// The searches on connections that had no answer, behind the first so many, as far as they are known.
+    pub fn unanswered_since(
+        &self,
+        alloc: Global,
+        seen: u64,
+    ) -> Result<UnansweredSince, AllocError> {
+        self.unanswered.since(alloc, seen)
     }
 
     /// The most that one client or server has. It looks at each connection once, and finds nothing where

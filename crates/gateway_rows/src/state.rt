@@ -5,7 +5,7 @@ ghost use Rattle.gateway_state.specs.Numbers.{is_past_numbers};
 ghost use Rattle.gateway_state.specs.RowCounts.{row_counts};
 
 use channel_table::{Table, Visits};
-use gateway_state::{Config, LastAge, Limits, LimitsMet, Policy, RowCounts};
+use gateway_state::{Config, LastAge, Limits, LimitsMet, Policy, RowCounts, Unanswered};
 use link_table::Links;
 use state_tables::{Cache, Connections, Searches};
 use std::alloc::Global;
@@ -31,6 +31,8 @@ pub struct Known {
     pub last_age: LastAge,
     // How often limits were met, without the outboxes that were full. It is no part of what contracts see.
     pub(crate) met: LimitsMet,
+    // Searches on connections that had no answer. They are none either.
+    pub(crate) unanswered: Unanswered,
 }
 
 impl Model for Known {
@@ -68,6 +70,7 @@ impl Drop for Known {
             upstream,
             cache,
             searches,
+            unanswered,
             alloc: _,
             limits: _,
             last_age: _,
@@ -79,6 +82,7 @@ impl Drop for Known {
         drop(upstream);
         drop(cache);
         drop(searches);
+        drop(unanswered);
     }
 }
 
@@ -105,6 +109,7 @@ impl Known {
                 subscription: first,
             },
             met: LimitsMet::NONE,
+            unanswered: Unanswered::new(alloc),
         };
         (known, visits)
     }

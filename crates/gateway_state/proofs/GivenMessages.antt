@@ -19,7 +19,7 @@ use Rattle.gateway_state.specs.declared.connections.Connection.{Connection}
 use Rattle.gateway_state.specs.declared.event.Dest.{Dest}
 use Rattle.gateway_state.specs.declared.event.Dest.TheVariants.{Session, Upstream}
 use Rattle.gateway_state.specs.declared.event.Event.{Event}
-use Rattle.gateway_state.specs.declared.event.Event.TheVariants.{Opened, Lost, Client, UpOpened, UpLost, Server, Found, Search, Sweep, Edit, Drain, Limit, Age, Probe}
+use Rattle.gateway_state.specs.declared.event.Event.TheVariants.{Opened, Lost, Client, UpOpened, UpLost, Server, Found, Search, Sweep, Edit, Drain, Limit, Age, Probe, Seek}
 use Rattle.gateway_state.specs.Asked.{is_open}
 use Rattle.gateway_state.specs.Connections.{fresh, given, is_not_to, is_to, marked_now, most_for, outbox_in, outbox_of, relieved, same_dest}
 use Rattle.gateway_state.specs.Delivered.{IsSaidBy, IsWireForm, before_said, given_by, is_loss_of, waiting_for}
@@ -252,6 +252,7 @@ taken_first w (Drain to count) dest other = drained_parts dest to count w.connec
 taken_first w (Limit limits) dest other = refl
 taken_first w Age dest other = refl
 taken_first w (Probe number) dest other = refl
+taken_first w (Seek number cid name) dest other = refl
 
 -- RUNS
 

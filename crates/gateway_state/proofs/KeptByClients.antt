@@ -45,10 +45,11 @@ use Rattle.pv_alias.specs.declared.lead.Lead.{Lead}
 use Rattle.rule_desk.specs.declared.policy.Policy.{Policy}
 use Rattle.gateway_state.specs.declared.connections.Connection.{Connection}
 use Rattle.gateway_state.specs.Asked.{is_open}
-use Rattle.gateway_state.specs.Clients.{channel_asked, cleared, created, created_as, created_over, creation_failed, judged, next_sid, no_channel, not_connected, read_verdict, remembered, remembered_by, rights_on, versioned, with_channel, with_host_fixed, without_channel, verdict_on, called, fixed, renamed, search_left_by, was_given_out}
+use Rattle.gateway_state.specs.Clients.{channel_asked, cleared, created, created_as, created_over, creation_failed, judged, next_sid, no_channel, not_connected, read_verdict, remembered, remembered_by, rights_on, served_over, sought, sought_as, versioned, with_channel, with_host_fixed, without_channel, verdict_on, called, fixed, renamed, search_left_by, was_given_out}
 use Rattle.gateway_state.specs.Connections.{fresh, is_to}
 use Rattle.gateway_state.specs.Gateway.{Gateway}
-use Rattle.gateway_state.specs.Requests.{client_said, requested, unreadable}
+use Rattle.pv_search.specs.declared.search.SearchRequest.{SearchRequest}
+use Rattle.gateway_state.specs.Requests.{client_said, requested, said_as, search_in, unreadable}
 use Rattle.gateway_state.specs.Rights.{channel_of, lead_for, lead_in, rights_of}
 use Rattle.gateway_state.specs.Searches.{with_search, without_search}
 use Rattle.gateway_state.specs.Sessions.{opened, with_session}
@@ -232,6 +233,21 @@ module _ (P : Gateway → Type 0) (kept : KeepsRows P) where
       kept_created_as number cid name (lead_in w number name) (with_host_fixed number w)
       (λ lead leads. fixed_now w.policy name lead number w.clients.sessions leads) (kept_with_host_fixed number w holds)
 
+  -- names that are sought
+
+  kept_served_over : (number cid : ℕ) (over : Option ConnectedVariable) (w : Gateway) → P w → P (served_over number cid over w)
+  kept_served_over number cid None w holds = holds
+  kept_served_over number cid (Some v) w holds = kept.messages.telling number (replies.Search cid w.config.port) by_any w holds
+
+  kept_sought_as : (number cid : ℕ) (name : List ℕ) (lead : Option Lead) (w : Gateway) → P w → P (sought_as number cid name lead w)
+  kept_sought_as number cid name None w holds = holds
+  kept_sought_as number cid name (Some lead) w holds =
+      let row : Option Session = find (is_numbered number) w.clients.sessions in
+      kept_served_over number cid (connected w lead.real) (remembered_by row name w) (kept_remembered_by row name w holds)
+
+  pub kept_sought : (number cid : ℕ) (name : List ℕ) (w : Gateway) → P w → P (sought number cid name w)
+  kept_sought number cid name w holds = kept_sought_as number cid name (lead_in w number name) w holds
+
   -- requests on no channel
 
   kept_no_channel : (number : ℕ) (head : Header) → KeepsErrors P number head → (w : Gateway) → P w → P (no_channel w number head)
@@ -353,5 +369,9 @@ module _ (P : Gateway → Type 0) (kept : KeepsRows P) where
   kept_requested w number message (Ok requests.Echo) quoted is holds = quoted.echo is w holds
   kept_requested w number message (Err fault) quoted is holds = kept_unreadable w number message.head quoted.errors holds
 
+  kept_said_as : (w : Gateway) (number : ℕ) (message : Message) (search : Option SearchRequest) → KeepsQuotes P number message → P w → P (said_as w number message search)
+  kept_said_as w number message None quoted holds = kept_requested w number message (request_of message.head message.payload) quoted refl holds
+  kept_said_as w number message (Some search) quoted holds = kept_sought number search.cid search.name w holds
+
   pub kept_client_said : (w : Gateway) (number : ℕ) (message : Message) → KeepsQuotes P number message → P w → P (client_said w number message)
-  kept_client_said w number message quoted holds = kept_requested w number message (request_of message.head message.payload) quoted refl holds
+  kept_client_said w number message quoted holds = kept_said_as w number message (search_in w message) quoted holds

@@ -13,7 +13,7 @@ use Rattle.link_table.specs.declared.links.LinkState.TheVariants.{Creating, Conn
 use Rattle.link_table.specs.declared.links.Subject.TheVariants.{Values, Properties}
 use Rattle.gateway_state.specs.declared.event.Dest.TheVariants as dests
 use Rattle.gateway_state.specs.declared.event.Event.{Event}
-use Rattle.gateway_state.specs.declared.event.Event.TheVariants.{Opened, Lost, Client, UpOpened, UpLost, Server, Found, Search, Sweep, Edit, Drain, Limit, Age, Probe}
+use Rattle.gateway_state.specs.declared.event.Event.TheVariants.{Opened, Lost, Client, UpOpened, UpLost, Server, Found, Search, Sweep, Edit, Drain, Limit, Age, Probe, Seek}
 use Rattle.gateway_state.specs.declared.notice.ChannelNotice.{ChannelNotice}
 use Rattle.gateway_state.specs.declared.notice.ChannelNotice.TheVariants.{Disconnected, RightsChanged}
 use Rattle.gateway_state.specs.declared.notice.LinkNotice.{LinkNotice}
@@ -24,7 +24,7 @@ use Rattle.gateway_state.specs.declared.notice.UpdateNotice.{UpdateNotice}
 use Rattle.fanout.specs.Outbox.{without_first}
 use Rattle.gateway_state.specs.Asked.{acts}
 use Rattle.gateway_state.specs.CachedRows.{is_cached_elsewhere}
-use Rattle.gateway_state.specs.Clients.{remembered, without_channel}
+use Rattle.gateway_state.specs.Clients.{remembered, sought, without_channel}
 use Rattle.gateway_state.specs.Delivered.{before_said}
 use Rattle.gateway_state.specs.Direct.{direct_effect}
 use Rattle.gateway_state.specs.Gateway.{Gateway}
@@ -39,7 +39,7 @@ use Rattle.gateway_state.specs.Telling.{told}
 use Rattle.gateway_state.specs.Updates.{takes_updates, update_notices, update_told, updates_withheld, with_owed_of, withheld}
 use Rattle.gateway_state.proofs.Kept.{IsKept, KeepsLinks, KeepsQuotes, KeepsRows, by_any, kept_either, kept_owed_to_all, quotes_kept, with_new_subscription}
 use Rattle.gateway_state.proofs.KeptByAge.{kept_aged}
-use Rattle.gateway_state.proofs.KeptByClients.{kept_client_said, kept_opened, kept_remembered}
+use Rattle.gateway_state.proofs.KeptByClients.{kept_client_said, kept_opened, kept_remembered, kept_sought}
 use Rattle.gateway_state.proofs.LaidOutValues.{IsAnswer, IsUpdate, reads_laid, updates_laid}
 use Rattle.gateway_state.proofs.KeptByServers.{kept_found, kept_server_said, kept_up_opened}
 
@@ -64,6 +64,8 @@ module _ (P : Gateway → Type 0) (kept : KeepsRows P) where
   kept_by_event w (Limit limits) quoted links holds = kept.limits limits w holds
   kept_by_event w Age quoted links holds = kept_aged P kept w holds
   kept_by_event w (Probe number) quoted links holds = kept.messages.asking number requests.Echo w holds
+  kept_by_event w (Seek number cid name) quoted links holds =
+      kept_either P (acts w (dests.Session number)) (sought number cid name w) w (λ _. kept_sought P kept number cid name w holds) holds
 
   -- the passes
 
@@ -166,6 +168,7 @@ module _ (P : Gateway → Type 0) (kept : IsKept P) where
   kept_before_said w (Limit limits) holds = holds
   kept_before_said w Age holds = holds
   kept_before_said w (Probe number) holds = holds
+  kept_before_said w (Seek number cid name) holds = holds
 
   quoted : (event : Event) (number : ℕ) (message : Message) → event ≡ Client number message → KeepsQuotes P number message
   quoted event number message is = quotes_kept P kept.outbox_changed number message

@@ -163,6 +163,27 @@ created_as number cid name (Some lead) w =
 abbrev pub channel_asked : ℕ → ℕ → List ℕ → Gateway → Gateway
 channel_asked number cid name w = created_as number cid name (lead_in w number name) (with_host_fixed number w)
 
+-- SEARCH
+
+-- the session is told that the name is served here
+abbrev pub told_served : ℕ → ℕ → Gateway → Gateway
+told_served number cid w = told number (replies.Search cid w.config.port) w
+
+-- it is told so where the name's variable is connected; else it hears nothing, and seeks the name again
+abbrev pub served_over : ℕ → ℕ → Option ConnectedVariable → Gateway → Gateway
+served_over number cid None w = w
+served_over number cid (Some v) w = told_served number cid w
+
+-- the session's host looks for the name, where it leads somewhere
+abbrev pub sought_as : ℕ → ℕ → List ℕ → Option Lead → Gateway → Gateway
+sought_as number cid name None w = w
+sought_as number cid name (Some lead) w =
+    served_over number cid (connected w lead.real) (remembered_by (find (is_numbered number) w.clients.sessions) name w)
+
+-- the client seeks a name on its connection
+abbrev pub sought : ℕ → ℕ → List ℕ → Gateway → Gateway
+sought number cid name w = sought_as number cid name (lead_in w number name) w
+
 -- CLEAR_CHANNEL
 
 -- without a channel and what is on it: its subscriptions, waiting reads and waiting writes

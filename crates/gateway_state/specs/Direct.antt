@@ -6,11 +6,11 @@ use Rattle.rule_desk.specs.declared.policy.Policy.{Policy}
 use Rattle.gateway_state.specs.declared.event.Dest.{Dest}
 use Rattle.gateway_state.specs.declared.event.Dest.TheVariants as dests
 use Rattle.gateway_state.specs.declared.event.Event.{Event}
-use Rattle.gateway_state.specs.declared.event.Event.TheVariants.{Opened, Lost, Client, UpOpened, UpLost, Server, Found, Search, Sweep, Edit, Drain, Limit, Age, Probe}
+use Rattle.gateway_state.specs.declared.event.Event.TheVariants.{Opened, Lost, Client, UpOpened, UpLost, Server, Found, Search, Sweep, Edit, Drain, Limit, Age, Probe, Seek}
 use Rattle.gateway_state.specs.declared.limits.Limits.{Limits}
 use Rattle.gateway_state.specs.Aged.{aged}
 use Rattle.gateway_state.specs.Asked.{acts}
-use Rattle.gateway_state.specs.Clients.{remembered}
+use Rattle.gateway_state.specs.Clients.{remembered, sought}
 use Rattle.gateway_state.specs.Connections.{is_to, relieved}
 use Rattle.gateway_state.specs.Gateway.{Gateway}
 use Rattle.gateway_state.specs.Requests.{client_said}
@@ -56,3 +56,4 @@ direct_effect w (Drain dest count) = drained w dest count
 direct_effect w (Limit limits) = limited limits w
 direct_effect w Age = aged w
 direct_effect w (Probe number) = asked number requests.Echo w
+direct_effect w (Seek number cid name) = if acts w (dests.Session number) then sought number cid name w else w

@@ -45,6 +45,7 @@ usual_limits = record {
   reuses_numbers = false;
   passes_over_gone = false;
   tells_unreadable = false;
+  answers_searches = false;
 }
 
 -- what it knows before any event: nothing but its configuration, and where its four counters begin

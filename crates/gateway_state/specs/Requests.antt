@@ -1,5 +1,5 @@
 -- What a client's message does, by what it means.
-use Rattle.std.specs.Prelude.{ℕ, true, false, ◌==◌, ◌||◌, if◌then◌else◌, Result, Ok, Err}
+use Rattle.std.specs.Prelude.{ℕ, true, false, ◌==◌, ◌||◌, if◌then◌else◌, Option, Some, None, Result, Ok, Err}
 use Rattle.ca_header.specs.declared.header.Header.{Header}
 use Rattle.ca_header.specs.declared.header.Message.{Message}
 use Rattle.ca_message.specs.declared.commands.TheConstants.{CA_PROTO_CREATE_CHAN, CA_PROTO_CLIENT_NAME, CA_PROTO_EVENT_ADD, CA_PROTO_HOST_NAME}
@@ -8,7 +8,9 @@ use Rattle.ca_message.specs.declared.request.ClientRequest.TheVariants as reques
 use Rattle.ca_message.specs.declared.request.RequestFault.{RequestFault}
 use Rattle.ca_message.specs.declared.to_client.ToClient.TheVariants as replies
 use Rattle.ca_message.specs.ClientRequest.{request_of}
-use Rattle.gateway_state.specs.Clients.{channel_asked, channel_cleared, creation_failed, client_named, host_named, not_understood, read_asked, versioned, with_host_fixed}
+use Rattle.pv_search.specs.declared.search.SearchRequest.{SearchRequest}
+use Rattle.pv_search.specs.Search.{search_of}
+use Rattle.gateway_state.specs.Clients.{channel_asked, channel_cleared, creation_failed, client_named, host_named, not_understood, read_asked, sought, versioned, with_host_fixed}
 use Rattle.gateway_state.specs.Gateway.{Gateway}
 use Rattle.gateway_state.specs.Subscribing.{new_sub, paused_to, short_subscription, subscription_asked, subscription_cancelled}
 use Rattle.gateway_state.specs.Telling.{told}
@@ -45,6 +47,14 @@ requested w number message (Ok (requests.HostName host)) = host_named number hos
 requested w number message (Ok requests.Echo) = told number (replies.Echo message) w
 requested w number message (Err fault) = unreadable w number message.head
 
+-- the search that a message is, where searches are answered on connections; it is read as in a datagram
+abbrev pub search_in : Gateway → Message → Option SearchRequest
+search_in w message = if w.limits.answers_searches then search_of message.head message.payload else None
+
+abbrev pub said_as : Gateway → ℕ → Message → Option SearchRequest → Gateway
+said_as w number message None = requested w number message (request_of message.head message.payload)
+said_as w number message (Some search) = sought number search.cid search.name w
+
 -- a client sent a message
 abbrev pub client_said : Gateway → ℕ → Message → Gateway
-client_said w number message = requested w number message (request_of message.head message.payload)
+client_said w number message = said_as w number message (search_in w message)

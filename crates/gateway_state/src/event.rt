@@ -46,6 +46,9 @@ pub enum Event {
     Age,
     /// A server is asked whether it is there.
     Probe(u32),
+    /// A client's search on its connection, which it calls by this ID, is made again for it: there was no answer
+    /// when it came.
+    Seek(u32, u32, Name),
 }
 
 /// Prints the variant's name alone.
@@ -66,6 +69,7 @@ impl fmt::Debug for Event {
             Event::Limit(..) => "Limit",
             Event::Age => "Age",
             Event::Probe(..) => "Probe",
+            Event::Seek(..) => "Seek",
         })
     }
 }

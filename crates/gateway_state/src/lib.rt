@@ -20,6 +20,7 @@ mod reading;
 mod resolution;
 mod row_counts;
 mod search;
+mod unanswered;
 
 pub use cached::LastMessage;
 pub use config::{Config, LAST_FIRST};
@@ -40,3 +41,4 @@ pub use resolution::{is_real, lead_of, rights_left};
 pub use row_counts::RowCounts;
 pub use rule_desk::Policy;
 pub use search::RememberedSearch;
+pub use unanswered::{SearchOn, Unanswered, UnansweredSince};

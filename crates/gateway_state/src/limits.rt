@@ -62,6 +62,9 @@ pub struct Limits {
     /// Whether a subscription whose channel may not be read is told so, by an update with 368 and no value: as it
     /// is made, and each time its channel may be read no longer.
     pub tells_unreadable: bool,
+    /// Whether a search that a client makes on its connection is remembered, and answered where the name's
+    /// variable is connected. Else it isn't understood.
+    pub answers_searches: bool,
 }
 
 impl Limits {
@@ -85,6 +88,7 @@ impl Limits {
             reuses_numbers: false,
             passes_over_gone: false,
             tells_unreadable: false,
+            answers_searches: false,
         }
     }
 

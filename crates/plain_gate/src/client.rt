@@ -7,6 +7,7 @@ ghost use Rattle.gateway_state.specs.Telling.{told};
 
 use crate::create_channel::{create_channel, fail_creation};
 use crate::read::hear_read;
+use crate::search::{hear_search, search_in};
 use crate::subscribe::{cancel_subscription, new_sub, refuse_short, subscribe_client};
 use crate::write::{hear_write, hear_write_notify};
 use ca_header::{Header, Message};
@@ -32,6 +33,9 @@ pub(crate) fn hear_client(
     ensures ok { OnOk result (rows.new ≡ client_said rows.old number message) }
     ensures used_up { IsErrOf result PlainRefusal.NumbersUsedUp → is_past_numbers (client_said rows.old number message) ≡ true }
 {
+    if let Some(search) = search_in(rows, &message) {
+        return Ok(hear_search(rows, number, &search)?);
+    }
     match read_request(&message.head, &message.payload) {
         Ok(request) => hear_request(rows, number, request, &message),
         Err(_) => Ok(hear_unreadable(rows, number, &message.head)?),

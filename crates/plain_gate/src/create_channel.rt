@@ -4,6 +4,7 @@ ghost use Rattle.gateway_state.specs.Clients.{channel_asked, created_over, creat
 ghost use Rattle.gateway_state.specs.Numbers.{is_past_numbers};
 ghost use Rattle.gateway_state.specs.Variables.{connected};
 
+use crate::search::remember;
 use ca_message::{CreateChannel, ToClient};
 use channel_table::{Channel, Reach};
 use gateway_state::Native;
@@ -99,10 +100,7 @@ fn create_as(
         end_search(rows, number, asked);
         return Ok(());
     }
-    if let Some(session) = find(&rows.sessions, SessionNumbered { number }) {
-        let host = session.host.copy()?;
-        rows.remember(&host, asked)?;
-    }
+    remember(rows, number, asked)?;
     Ok(fail_creation(rows, number, cid)?)
 }
 

@@ -22,6 +22,7 @@ mod links_pass;
 mod opening;
 mod read;
 mod reads_pass;
+mod search;
 mod server;
 mod step;
 mod subscribe;

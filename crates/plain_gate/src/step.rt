@@ -10,6 +10,7 @@ use crate::client::hear_client;
 use crate::links_pass::tell_links;
 use crate::opening::{lose_server, lose_session, open_server, open_session};
 use crate::reads_pass::tell_reads;
+use crate::search::seek;
 use crate::server::{find_at, hear_server};
 use crate::updates_pass::{tell_updates, withhold_updates};
 use ca_message::ToServer;
@@ -121,6 +122,13 @@ fn perform(rows: &mut PlainRows, event: Event) -> Result<(), PlainRefusal>
         }
         Event::Age => Ok(age(rows)?),
         Event::Probe(number) => Ok(rows.ask(number, ToServer::Echo)?),
+        Event::Seek(number, cid, name) => {
+            if rows.acts(Dest::Session(number)) {
+                Ok(seek(rows, number, cid, &name)?)
+            } else {
+                Ok(())
+            }
+        }
     }
 }
 

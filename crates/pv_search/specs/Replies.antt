@@ -2,9 +2,8 @@
 -- version is at least 8 says it, and tells that version in the first two bytes of the payload.
 use Rattle.std.specs.Prelude.{ℕ, List, ◌+◌, ◌*◌, ◌==◌, ◌&&◌, not, nat_lt, if◌then◌else◌, Bool, Option, Some, None, slice_get}
 use Rattle.ca_header.specs.declared.header.Header.{Header}
-use Rattle.ca_message.specs.declared.commands.TheConstants.{CA_PROTO_SEARCH}
+use Rattle.ca_message.specs.declared.commands.TheConstants.{CA_PROTO_SEARCH, SENDER_ADDRESS}
 use Rattle.pv_search.specs.declared.replies.Reply.{Reply}
-use Rattle.pv_search.specs.declared.reply.TheConstants.{SENDER_ADDRESS}
 
 -- the minor version that the first two bytes of a payload tell; 0 where there are fewer
 abbrev pub minor_over : Option ℕ → Option ℕ → ℕ

@@ -6,7 +6,6 @@ ghost use Rattle.pv_search.specs.declared.answering.SearchAnswer.{SearchAnswer};
 ghost use Rattle.pv_search.specs.declared.asking.TheConstants.{DONT_REPLY};
 ghost use Rattle.pv_search.specs.declared.asks.NameAsk.{NameAsk};
 ghost use Rattle.pv_search.specs.declared.asks.TheConstants.{ASK_LIMIT};
-ghost use Rattle.pv_search.specs.declared.reply.TheConstants.{SENDER_ADDRESS};
 ghost use Rattle.pv_search.specs.declared.search.SearchRequest.{SearchRequest};
 ghost use Rattle.pv_search.specs.Answer.{IsAnswer};
 ghost use Rattle.pv_search.specs.Ask.{ask_text};
@@ -22,7 +21,6 @@ ghost use Rattle.pv_search.specs.Search.{search_of};
 pub fn numbers_are_these()
     ensures ask_limit { ASK_LIMIT ≡ 1400 }
     ensures dont_reply { DONT_REPLY ≡ 5 }
-    ensures sender_address { SENDER_ADDRESS ≡ 0xFFFF_FFFF }
 {}
 
 /// A datagram is read in one way.

@@ -8,6 +8,7 @@
 //!   answered as a whole.
 //! - [`ask_text`] is the datagram that asks servers for a name, and [`ask_datagram`] one that asks for
 //!   several, as many as fit.
+//! - [`read_search`] reads one search, which may come on a client's connection as well.
 //! - [`read_found`] gives the CIDs of the replies in a server's datagram, and [`read_replies`] also where
 //!   each says that the server is.
 //!
@@ -30,11 +31,12 @@
 pub use answering::{Names, SearchAnswer, answer};
 pub use asking::{DONT_REPLY, ask_text};
 pub use asks::{ASK_LIMIT, AskDatagram, NameAsk, ask_datagram};
+pub use ca_message::commands::SENDER_ADDRESS;
 pub use datagram::Datagram;
 pub use found::read_found;
 pub use parts::first_part;
 pub use replies::{Reply, read_replies};
-pub use reply::SENDER_ADDRESS;
+pub use search::{SearchRequest, read_search};
 
 mod answering;
 mod asking;

@@ -4,9 +4,8 @@ ghost use Rattle.pv_search.specs.Picked.{IsPicked};
 ghost use Rattle.pv_search.specs.Replies.{host_in, is_reply, minor_in, reply_of};
 
 use crate::NoMemory;
-use crate::reply::SENDER_ADDRESS;
 use ca_header::{Frame, Frames, Header};
-use ca_message::commands::CA_PROTO_SEARCH;
+use ca_message::commands::{CA_PROTO_SEARCH, SENDER_ADDRESS};
 use std::alloc::Global;
 
 /// The least minor version of a server whose replies say where it is.

@@ -6,11 +6,8 @@ ghost use Rattle.pv_search.specs.Reply.{found, search_reply};
 use crate::NoMemory;
 use crate::message::{add_message, add_version};
 use ca_header::Header;
-use ca_message::commands::{CA_PROTO_SEARCH, MINOR_VERSION};
+use ca_message::commands::{CA_PROTO_SEARCH, MINOR_VERSION, SENDER_ADDRESS};
 use std::alloc::Global;
-
-/// What stands in place of a server's address where the server is who sent the datagram.
-pub const SENDER_ADDRESS: u32 = 0xFFFF_FFFF;
 
 /// The datagram that says of each CID that its name is served at the TCP port. Where there is none,
 /// nothing is said.

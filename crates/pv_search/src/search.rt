@@ -1,4 +1,4 @@
-//! What a client's datagram searches for.
+//! What a client searches for.
 ghost use Rattle.std.specs.Prelude.{◌≡◌, IfOk};
 ghost use Rattle.pv_search.specs.Picked.{IsPicked};
 ghost use Rattle.pv_search.specs.Search.{search_of};
@@ -9,15 +9,16 @@ use ca_message::NameText;
 use ca_message::commands::CA_PROTO_SEARCH;
 use std::alloc::Global;
 
-/// A client's search for a name, which it calls `cid`. The name is a slice of the datagram.
+/// A client's search for a name, which it calls `cid`. The name is a slice of the message's payload.
 #[derive(Drop)]
-pub(crate) struct SearchRequest<'a> {
-    pub(crate) cid: u32,
-    pub(crate) name: NameText<'a>,
+pub struct SearchRequest<'a> {
+    pub cid: u32,
+    pub name: NameText<'a>,
 }
 
-/// The search that a message is. Neither its type nor its count is looked at.
-fn search_in<'a>(head: &Header, payload: &'a [u8]) -> Option<SearchRequest<'a>>
+/// The search that a client's message is; `None` of another message, and where its name can't be read. Neither
+/// its type nor its count is looked at. It takes no memory.
+pub fn read_search<'a>(head: &Header, payload: &'a [u8]) -> Option<SearchRequest<'a>>
     ensures { result ≡ search_of head.now payload.now }
 {
     if head.command != CA_PROTO_SEARCH {
@@ -40,7 +41,7 @@ pub(crate) fn searches_in<'a>(
     let mut searches = Vec::new(alloc);
     let mut frames = Frames::new(datagram);
     while let Frame::Message(head, payload) = frames.next() {
-        if let Some(search) = search_in(&head, payload) {
+        if let Some(search) = read_search(&head, payload) {
             searches.push(search)?;
         }
     }

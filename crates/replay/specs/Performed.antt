@@ -85,6 +85,7 @@ IsDone (lines.Drain dest count) files None = OnGateway (IsDrained dest count)
 IsDone (lines.Limit limit) files None = Becomes (relimited limit) silent
 IsDone lines.Age files None = Becomes (stepped events.Age) silent
 IsDone (lines.Probe number) files None = Becomes (stepped (events.Probe number)) silent
+IsDone (lines.Seek number cid name) files None = Becomes (stepped (events.Seek number cid name)) silent
 
 -- what follows from a line: what waits is printed, a connection whose bytes are no messages is cut off, and so are
 -- those that must end

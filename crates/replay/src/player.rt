@@ -161,6 +161,7 @@ impl<G: GatewayCalls + Drop> Player<G> {
             Line::Limit(limit) => change_limit(&mut self.gate, limit)?,
             Line::Age => self.gate.step(Event::Age)?,
             Line::Probe(number) => self.gate.step(Event::Probe(number))?,
+            Line::Seek(number, cid, name) => self.gate.step(Event::Seek(number, cid, name))?,
         }
         Ok(None)
     }

@@ -26,6 +26,7 @@ upkeep_named word =
     if bytes_eq word (codes "limit") then Some commands.Limit
     else if bytes_eq word (codes "age") then Some commands.Age
     else if bytes_eq word (codes "probe") then Some commands.Probe
+    else if bytes_eq word (codes "seek") then Some commands.Seek
     else None
 
 -- one that asks something, or says what is printed
@@ -139,6 +140,13 @@ age_line words = option_map (λ _. lines.Age) (no_word words)
 abbrev pub probe_line : List (List ℕ) → Option Line
 probe_line words = option_map lines.Probe (option_and_then (number_of 32) (one_word words))
 
+-- a session's search, by its ID of it
+abbrev pub seeking : ℕ → List (List ℕ) → Option Line
+seeking number words = option_and_then (λ two. both (lines.Seek number) (number_of 32 two.0) (name_of two.1)) (two_words words)
+
+abbrev pub seek_line : List (List ℕ) → Option Line
+seek_line words = option_and_then (λ number. seeking number (after_first words)) (option_and_then session_of (first words))
+
 -- what a command and the words after it ask for
 abbrev pub command_line : Command → List (List ℕ) → Option Line
 command_line commands.Open = open_line
@@ -160,6 +168,7 @@ command_line commands.Drain = drain_line
 command_line commands.Limit = limit_line
 command_line commands.Age = age_line
 command_line commands.Probe = probe_line
+command_line commands.Seek = seek_line
 
 -- what the words of a line ask for, where it is a line of a script
 abbrev pub words_line : List (List ℕ) → Option Line

@@ -24,6 +24,7 @@ pub enum Command {
     Limit,
     Age,
     Probe,
+    Seek,
 }
 
 impl Command {
@@ -87,6 +88,8 @@ impl Command {
             Some(Command::Age)
         } else if word == b"probe".as_slice() {
             Some(Command::Probe)
+        } else if word == b"seek".as_slice() {
+            Some(Command::Seek)
         } else {
             None
         }

@@ -25,6 +25,7 @@ pub enum NewLimit {
     ReusesNumbers(bool),
     PassesOverGone(bool),
     TellsUnreadable(bool),
+    AnswersSearches(bool),
 }
 
 impl NewLimit {
@@ -61,6 +62,10 @@ impl NewLimit {
             },
             NewLimit::TellsUnreadable(tells_unreadable) => Limits {
                 tells_unreadable,
+                ..limits
+            },
+            NewLimit::AnswersSearches(answers_searches) => Limits {
+                answers_searches,
                 ..limits
             },
         }
@@ -119,6 +124,8 @@ fn new_flag(name: &[u8], holds: bool) -> Option<NewLimit>
         Some(NewLimit::PassesOverGone(holds))
     } else if name == b"tells-unreadable".as_slice() {
         Some(NewLimit::TellsUnreadable(holds))
+    } else if name == b"answers-searches".as_slice() {
+        Some(NewLimit::AnswersSearches(holds))
     } else {
         None
     }

@@ -1,7 +1,7 @@
 //! What a line of a script asks for.
 ghost use Rattle.std.specs.Prelude.{◌≡◌, true, IsTrue, ◌↔◌};
 ghost use Rattle.std.specs.List.{slice_split};
-ghost use Rattle.replay_text.specs.Lines.{IsRead, line_of, words_line, command_line, is_skipped, open_line, opening, dest_line, lost_line, hold_line, flow_line, client_line, server_line, found_line, search_line, sweep_line, edit_line, asks_line, channel_of, read_line as reading_line, sub_line, props_line, rights_line, drain_line, limit_line, age_line, probe_line};
+ghost use Rattle.replay_text.specs.Lines.{IsRead, line_of, words_line, command_line, is_skipped, open_line, opening, dest_line, lost_line, hold_line, flow_line, client_line, server_line, found_line, search_line, sweep_line, edit_line, asks_line, channel_of, read_line as reading_line, sub_line, props_line, rights_line, drain_line, limit_line, age_line, probe_line, seek_line, seeking};
 ghost use Rattle.replay_text.specs.Words.{is_blank};
 
 use crate::command::Command;
@@ -71,6 +71,8 @@ pub enum Line {
     Age,
     /// The server of this number is asked whether it is there.
     Probe(u32),
+    /// A client's search on its connection, which it calls by this ID, is made again for it.
+    Seek(u32, u32, Name),
 }
 
 /// Reads a line of a script, without the LF that ends it.
@@ -126,6 +128,7 @@ fn read_command(alloc: Global, command: Command, words: Words) -> Result<Line, L
         Command::Limit => limit(words).ok_or(LineFault::Bad),
         Command::Age => age(words).ok_or(LineFault::Bad),
         Command::Probe => probe(words).ok_or(LineFault::Bad),
+        Command::Seek => seek(alloc, words),
     }
 }
 
@@ -301,4 +304,21 @@ fn probe(words: Words) -> Option<Line>
     ensures { result ≡ probe_line words.entry }
 {
     Some(Line::Probe(read_u32(words.one()?)?))
+}
+
+fn seek(alloc: Global, mut words: Words) -> Result<Line, LineFault>
+    ensures { IsRead result (seek_line words.entry) }
+{
+    let word = words.take_first().ok_or(LineFault::Bad)?;
+    let number = session(word).ok_or(LineFault::Bad)?;
+    seek_of(alloc, number, words)
+}
+
+/// The same of a session.
+fn seek_of(alloc: Global, number: u32, words: Words) -> Result<Line, LineFault>
+    ensures { IsRead result (seeking number words.entry) }
+{
+    let (digits, variable) = words.two().ok_or(LineFault::Bad)?;
+    let cid = read_u32(digits).ok_or(LineFault::Bad)?;
+    Ok(Line::Seek(number, cid, name(alloc, variable)?))
 }

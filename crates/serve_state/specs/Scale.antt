@@ -23,8 +23,8 @@ with_names None limits = limits
 with_names (Some names) limits = record limits { searches = names; share = share_of names; makes_room = true }
 
 -- on a site there are 262,144 links, 65,536 channels and as many subscriptions of a client, 8,192 reads and as many writes of it
--- that wait, 262,144 messages that wait for it, and updates while less than 256 KiB waits; requests on what is gone are passed over, numbers come again, and who
--- may not read is told so
+-- that wait, 262,144 messages that wait for it, and updates while less than 256 KiB waits; requests on what is gone are passed over, numbers come again, who
+-- may not read is told so, and searches on connections are answered
 abbrev pub site_limits : Limits
 site_limits = record usual_limits {
   links = 262144;
@@ -37,6 +37,7 @@ site_limits = record usual_limits {
   passes_over_gone = true;
   reuses_numbers = true;
   tells_unreadable = true;
+  answers_searches = true;
 }
 
 -- what of it is said by no number

@@ -61,7 +61,8 @@ pub struct Scale {
     /// So many searched names are remembered, and old ones go for new ones. `None`: as many as is usual, and none goes.
     pub names: Option<u32>,
     /// Whether all else is as a site wants it: more variables upstream, more channels and subscriptions of a client,
-    /// more reads and writes that wait, updates held back by bytes, and no fault for a request on what is gone.
+    /// more reads and writes that wait, updates held back by bytes, no fault for a request on what is gone, and an answer
+    /// to who searches on a connection.
     pub site: bool,
 }
 
@@ -98,6 +99,7 @@ fn limits_for(site: bool) -> Limits
         limits.passes_over_gone = true;
         limits.reuses_numbers = true;
         limits.tells_unreadable = true;
+        limits.answers_searches = true;
     }
     limits
 }

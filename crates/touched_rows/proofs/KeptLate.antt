@@ -25,7 +25,7 @@ use Rattle.gateway_state.specs.Subscribing.{is_on_sid, sub_of, sub_verdict}
 use Rattle.gateway_state.specs.Updates.{takes_updates}
 use Rattle.gateway_state.specs.Variables.{ConnectedVariable, connected, is_connected, is_creating}
 use Rattle.touched_rows.specs.declared.touched.Touched.TheVariants.{Nothing, Session, Variable, Interest}
-use Rattle.touched_rows.specs.Touches.{cancel_touches, cancel_touches_by, clear_touches, clear_touches_by, create_touches, create_touches_as, create_touches_over, created_touches, created_touches_over, drain_touches, gone_touches, gone_touches_over, left_touches, made_touches, rights_touches, rights_touches_over, search_left_for, searched_touches, sub_touches, sub_touches_by, with_touched}
+use Rattle.touched_rows.specs.Touches.{cancel_touches, cancel_touches_by, clear_touches, clear_touches_by, create_touches, create_touches_as, create_touches_over, created_touches, created_touches_over, drain_touches, gone_touches, gone_touches_over, left_touches, made_touches, rights_touches, rights_touches_over, search_left_for, searched_touches, seek_touches, seek_touches_as, sub_touches, sub_touches_by, with_touched}
 
 module _ (x : Gateway) where
   made : (sub : ClientSub) (on : Option Channel) → with_touched (made_touches sub on) x ≡ x
@@ -67,6 +67,13 @@ module _ (x : Gateway) where
 
   pub create_keeps_none : (w : Gateway) (number : ℕ) (name : List ℕ) → with_touched (create_touches w number name) x ≡ x
   create_keeps_none w number name = asked_for w number name (lead_in w number name)
+
+  sought : (w : Gateway) (number : ℕ) (name : List ℕ) (lead : Option Lead) → with_touched (seek_touches_as w number name lead) x ≡ x
+  sought w number name None = refl
+  sought w number name (Some lead) = left w.policy (search_left_for (find (is_numbered number) w.clients.sessions) name w)
+
+  pub seek_keeps_none : (w : Gateway) (number : ℕ) (name : List ℕ) → with_touched (seek_touches w number name) x ≡ x
+  seek_keeps_none w number name = sought w number name (lead_in w number name)
 
   pub search_keeps_none : (w : Gateway) (host name : List ℕ) → with_touched (searched_touches w host name) x ≡ x
   search_keeps_none w host name =

@@ -32,6 +32,7 @@ pub mod Searched
 pub mod ServerLost
 pub mod Sessions
 pub mod Shapes
+pub mod Sought
 pub mod Subscribed
 pub mod Swept
 pub mod Tellings

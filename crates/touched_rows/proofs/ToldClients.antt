@@ -9,6 +9,7 @@ use Rattle.ca_message.specs.declared.commands.TheConstants.{CA_PROTO_CLIENT_NAME
 use Rattle.ca_message.specs.declared.request.ClientRequest.{ClientRequest}
 use Rattle.ca_message.specs.declared.request.ClientRequest.TheVariants as requests
 use Rattle.ca_message.specs.declared.request.RequestFault.{RequestFault}
+use Rattle.ca_message.specs.ClientRequest.{request_of}
 use Rattle.ca_message.specs.declared.to_client.ToClient.{ToClient}
 use Rattle.ca_message.specs.declared.to_client.ToClient.TheVariants as replies
 use Rattle.named_rows.specs.declared.channels.Reach.{Reach}
@@ -25,7 +26,8 @@ use Rattle.gateway_state.specs.declared.notice.SubVerdict.TheVariants as subs
 use Rattle.gateway_state.specs.Answer.{cached_value, refusal}
 use Rattle.gateway_state.specs.Clients.{accepted, channel_cleared, cleared, creation_failed, is_one_too_many, judged, no_channel, not_understood, read_asked, verdict_on, verdict_over, verdict_unless, versioned, with_host_fixed}
 use Rattle.gateway_state.specs.Gateway.{Gateway}
-use Rattle.gateway_state.specs.Requests.{requested, unreadable}
+use Rattle.pv_search.specs.declared.search.SearchRequest.{SearchRequest}
+use Rattle.gateway_state.specs.Requests.{requested, said_as, unreadable}
 use Rattle.gateway_state.specs.Rights.{channel_of, rights_of}
 use Rattle.gateway_state.specs.Settled.{IsSettled}
 use Rattle.gateway_state.specs.Step.{consequences}
@@ -36,13 +38,14 @@ use Rattle.gateway_state.specs.Writing.{write_verdict}
 use Rattle.gateway_state.proofs.SettledSteps.{settled_stays}
 use Rattle.touched_rows.specs.declared.touched.Touched.TheVariants.{Nothing, Interest}
 use Rattle.touched_rows.specs.Touched.{interest_told, one_read_told}
-use Rattle.touched_rows.specs.Touches.{cancel_touches, cancel_touches_by, clear_touches, clear_touches_by, consequences_of, new_read, read_touches, read_touches_by, request_touches, sub_touches, sub_touches_by}
+use Rattle.touched_rows.specs.Touches.{cancel_touches, cancel_touches_by, clear_touches, clear_touches_by, consequences_of, new_read, read_touches, read_touches_by, request_touches, said_touches, sub_touches, sub_touches_by}
 use Rattle.touched_rows.proofs.Cleared.{told_after_clearing}
 use Rattle.touched_rows.proofs.Created.{settled_creation_failed, told_after_channel_asked}
 use Rattle.touched_rows.proofs.Nothing.{nothing_after_mark, nothing_after_reply, settled_sent}
 use Rattle.touched_rows.proofs.ReadAsked.{told_after_read}
 use Rattle.touched_rows.proofs.Renamed.{nothing_after_calling, nothing_after_renaming}
 use Rattle.touched_rows.proofs.Sessions.{nothing_after_pausing, settled_host_fixed, told_after_resuming}
+use Rattle.touched_rows.proofs.Sought.{told_after_seeking}
 use Rattle.touched_rows.proofs.Subscribed.{told_after_subscribing}
 use Rattle.touched_rows.proofs.Tidy.{IsTidy}
 use Rattle.touched_rows.proofs.TouchedAlone.{found_passes}
@@ -174,7 +177,7 @@ module _ (w : Gateway) (tidy : IsTidy w) where
             ]
       ]
 
-  pub told_request : (number : ℕ) (message : Message) (asked : Result ClientRequest RequestFault)
+  told_request : (number : ℕ) (message : Message) (asked : Result ClientRequest RequestFault)
       → consequences (requested w number message asked) ≡ consequences_of (request_touches w number asked) (requested w number message asked)
   told_request number message (Ok (requests.Version minor)) = told_version number minor
   told_request number message (Ok (requests.EventAdd add)) =
@@ -195,3 +198,8 @@ module _ (w : Gateway) (tidy : IsTidy w) where
   told_request number message (Ok (requests.HostName host)) = nothing_after_renaming w tidy.settled tidy.hosts_fixed number host
   told_request number message (Ok requests.Echo) = replied_all number (replies.Echo message)
   told_request number message (Err fault) = settled_stays (unreadable w number message.head) (settled_unreadable number message.head)
+
+  pub told_client : (number : ℕ) (message : Message) (search : Option SearchRequest)
+      → consequences (said_as w number message search) ≡ consequences_of (said_touches w number message search) (said_as w number message search)
+  told_client number message None = told_request number message (request_of message.head message.payload)
+  told_client number message (Some search) = told_after_seeking w tidy.settled tidy.order.links number search.cid search.name

@@ -1,6 +1,7 @@
 -- What each event touches.
 use Rattle.std.specs.Prelude.{◌≡◌, ℕ, List, [], ◌∷◌, ◌++◌, filter, map, ◌==◌, nat_le, is_some, if◌then◌else◌, Option, Some, None, Result, Ok, Err}
 use Rattle.std.specs.List.{find}
+use Rattle.ca_header.specs.declared.header.Message.{Message}
 use Rattle.ca_message.specs.declared.codes.TheConstants.{ECA_NORMAL}
 use Rattle.ca_message.specs.declared.reply.ReplyFault.{ReplyFault}
 use Rattle.ca_message.specs.declared.reply.ServerReply.{ServerReply}
@@ -18,6 +19,7 @@ use Rattle.named_rows.specs.Channels.{is_channel_of}
 use Rattle.channel_table.specs.ClientRows.{channel_count}
 use Rattle.channel_table.specs.Sessions.{is_numbered}
 use Rattle.pv_alias.specs.declared.lead.Lead.{Lead}
+use Rattle.pv_search.specs.declared.search.SearchRequest.{SearchRequest}
 use Rattle.rule_desk.specs.declared.policy.Policy.{Policy}
 use Rattle.link_table.specs.declared.links.LinkRow.{LinkRow}
 use Rattle.link_table.specs.declared.links.LinkState.{LinkState}
@@ -38,6 +40,7 @@ use Rattle.gateway_state.specs.Asked.{acts}
 use Rattle.gateway_state.specs.Clients.{read_verdict, search_left_by}
 use Rattle.gateway_state.specs.Gateway.{Gateway}
 use Rattle.gateway_state.specs.Quantities.{Code, Count, Dtype, Ioid, ServerNumber, SessionNumber, Sid, SubId}
+use Rattle.gateway_state.specs.Requests.{search_in}
 use Rattle.gateway_state.specs.Resolution.{lead_of}
 use Rattle.gateway_state.specs.Rights.{channel_of, lead_in}
 use Rattle.gateway_state.specs.Searches.{is_stale, left_by_search}
@@ -177,6 +180,15 @@ create_touches_as w number name (Some lead) =
 abbrev pub create_touches : Gateway → ℕ → List ℕ → Touched
 create_touches w number name = create_touches_as w number name (lead_in w number name)
 
+abbrev pub seek_touches_as : Gateway → ℕ → List ℕ → Option Lead → Touched
+seek_touches_as w number name None = Nothing
+seek_touches_as w number name (Some lead) =
+    left_touches w.policy (search_left_for (find (is_numbered number) w.clients.sessions) name w)
+
+-- nor does a name that a client seeks on its connection
+abbrev pub seek_touches : Gateway → ℕ → List ℕ → Touched
+seek_touches w number name = seek_touches_as w number name (lead_in w number name)
+
 -- a host is fixed once a session has a channel, so another one leads no channel's name elsewhere
 abbrev pub request_touches : Gateway → ℕ → Result ClientRequest RequestFault → Touched
 request_touches w number (Ok (requests.Version minor)) = Nothing
@@ -195,6 +207,13 @@ request_touches w number (Ok (requests.ClientName name)) = Nothing
 request_touches w number (Ok (requests.HostName host)) = Nothing
 request_touches w number (Ok requests.Echo) = Nothing
 request_touches w number (Err fault) = Nothing
+
+abbrev pub said_touches : Gateway → ℕ → Message → Option SearchRequest → Touched
+said_touches w number message None = request_touches w number (request_of message.head message.payload)
+said_touches w number message (Some search) = seek_touches w number search.name
+
+abbrev pub client_touches : Gateway → ℕ → Message → Touched
+client_touches w number message = said_touches w number message (search_in w message)
 
 -- SERVERS' MESSAGES
 
@@ -286,7 +305,7 @@ abbrev pub event_touches : Gateway → Event → Touched
 event_touches w (events.Opened number host) = Nothing
 event_touches w (events.Lost number) = Links (names_of w number)
 event_touches w (events.Client number message) =
-    if acts w (dests.Session number) then request_touches w number (request_of message.head message.payload) else Nothing
+    if acts w (dests.Session number) then client_touches w number message else Nothing
 event_touches w (events.UpOpened number) = Nothing
 event_touches w (events.UpLost number) = Gone (server_names w number)
 event_touches w (events.Server number message) =
@@ -299,3 +318,4 @@ event_touches w (events.Drain dest count) = drain_touches w dest
 event_touches w (events.Limit limits) = All
 event_touches w events.Age = Links (search_names w.policy (filter is_stale w.searches))
 event_touches w (events.Probe number) = Nothing
+event_touches w (events.Seek number cid name) = if acts w (dests.Session number) then seek_touches w number name else Nothing

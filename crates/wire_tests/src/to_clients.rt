@@ -6,7 +6,7 @@
 //!   `client-no-update ID TYPE CODE`, `client-no-value IOID TYPE COUNT CODE`, `client-written IOID TYPE COUNT STATUS`;
 //! - `client-cancelled SID ID TYPE COUNT`, `client-cleared SID CID`;
 //! - `client-created CID SID TYPE COUNT`, `client-not-created CID`, `client-rights CID RIGHTS`,
-//!   `client-disconnected CID`.
+//!   `client-disconnected CID`, `client-served CID PORT`.
 use crate::headers::header;
 use crate::readings::tell_reply;
 use crate::words::{Call, Told};
@@ -143,6 +143,10 @@ fn of_channel(kind: &str, call: &Call) -> ToClient {
         },
         "not-created" => ToClient::CreateChannelFail {
             cid: call.number(0),
+        },
+        "served" => ToClient::Search {
+            cid: call.number(0),
+            port: call.short(1),
         },
         "cleared" => ToClient::ClearChannel {
             sid: call.number(0),

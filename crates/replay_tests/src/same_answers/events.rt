@@ -93,6 +93,7 @@ pub(crate) const UPKEEP: &[u8] = b"|limit $Z $z
 |limit makes-room 1
 |limit makes-room $y
 |limit passes-over-gone 1
+|limit answers-searches 1
 |limit passes-over-gone $y
 s? 0012|client s$d 000c000000000000$q$p$/client s$d 000f0000$t$k$q000000$9$9$/client s$d 00010010$t$k$q0000003$9000000000000000000000000$M0000$/client s$d 00020000$t$k$q0000003$9
 s? 0012|client s$d 000c000000000000$q$p$/client s$d 00040008$W$K$q00000000$V$V$/client s$d 00130008$W$K$q000000$9$9$V$V$/client s$d 000c000000000000$q$p
@@ -238,7 +239,7 @@ pub(crate) fn words(letter: u8) -> &'static [u8] {
         b'H' => b"31 32 33 37",
         // Limits, those that hold or don't, and what they may be.
         b'Z' => b"sessions servers links searches share channels subscriptions reads writes",
-        b'O' => b"makes-room reuses-numbers passes-over-gone tells-unreadable",
+        b'O' => b"makes-room reuses-numbers passes-over-gone tells-unreadable answers-searches",
         b'z' => b"0 1 2 3 3 4 5 6",
         b'y' => b"0 1",
         b'w' => b"0 1 24 40 100 1000",

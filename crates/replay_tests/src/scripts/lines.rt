@@ -156,7 +156,9 @@ limit reuses-numbers 1
 limit passes-over-gone 0
 > Ok(Limit(PassesOverGone(false)))
 limit tells-unreadable 1
-> Ok(Limit(TellsUnreadable(true)))",
+> Ok(Limit(TellsUnreadable(true)))
+limit answers-searches 1
+> Ok(Limit(AnswersSearches(true)))",
     );
 }
 

@@ -10,7 +10,7 @@ loop-head-smaller-in-Continue-1 c =
 pub loop-head-preserved-in-Continue-1 : goal.loop-head-preserved-in-Continue-1
 loop-head-preserved-in-Continue-1 c =
     let message = taken c.loop-head.frames c.next.new.self c.in-Message.head c.in-Message.payload c.loop-head.invariant.fits c.in-Message.ensures in
-    rw c.in_ok-push.ensures.items (reading-some search_of _ _ _ _ _ _ message c.loop-head.invariant (sym c.search_in.ensures ∙ c.in-Some.is))
+    rw c.in_ok-push.ensures.items (reading-some search_of _ _ _ _ _ _ message c.loop-head.invariant (sym c.read_search.ensures ∙ c.in-Some.is))
 
 pub loop-head-smaller : goal.loop-head-smaller
 loop-head-smaller c =
@@ -19,7 +19,7 @@ loop-head-smaller c =
 pub loop-head-preserved : goal.loop-head-preserved
 loop-head-preserved c =
     let message = taken c.loop-head.frames c.next.new.self c.in-Message.head c.in-Message.payload c.loop-head.invariant.fits c.in-Message.ensures in
-    reading-none search_of _ _ _ _ _ message c.loop-head.invariant (sym c.search_in.ensures ∙ c.in_default-search_in.is)
+    reading-none search_of _ _ _ _ _ message c.loop-head.invariant (sym c.read_search.ensures ∙ c.in_default-read_search.is)
 
 pub returns : goal.returns
 returns c =
