@@ -26,6 +26,7 @@ cut_text (cut.Unanswering seconds) = codes "it said nothing for " ++ decimal sec
 cut_text (cut.Silent seconds) = codes "nothing came from it or went to it for " ++ decimal seconds ++ codes " s"
 cut_text cut.Replaced = codes "it said nothing when it was asked, and is connected to again"
 cut_text (cut.Idle seconds) = codes "nobody wanted a variable of it for " ++ decimal seconds ++ codes " s"
+cut_text cut.NoAnswers = codes "it sent what no name server sends"
 cut_text cut.OutOfMemory = codes "out of memory"
 
 -- why a rule file isn't taken, said of the file
@@ -41,6 +42,9 @@ of_peer kind number peer what = said (kind ∷ decimal number ∷ codes " (" ∷
 
 abbrev pub of_server : ℕ → SocketAddr → List ℕ → List ℕ
 of_server number peer what = of_peer (codes "upstream ") number peer what
+
+abbrev pub of_name_server : ℕ → SocketAddr → List ℕ → List ℕ
+of_name_server number peer what = of_peer (codes "name server ") number peer what
 
 abbrev pub of_client : ℕ → SocketAddr → List ℕ → List ℕ
 of_client number peer what = of_peer (codes "client ") number peer what
@@ -74,6 +78,11 @@ notice_text (notice.FoundUnreached number peer) = of_server number peer (codes "
 notice_text (notice.FoundLost number peer) = of_server number peer (codes ", found by search, lost: its names are searched for")
 notice_text (notice.FoundCut number peer why) =
     of_server number peer (said (codes ", found by search, cut off: " ∷ cut_text why ∷ codes "; its names are searched for" ∷ []))
+notice_text (notice.NameServerConnected number peer) = of_name_server number peer (codes " connected")
+notice_text (notice.NameServerUnreached number peer) = of_name_server number peer (codes " can't be reached, and is tried again")
+notice_text (notice.NameServerLost number peer) = of_name_server number peer (codes " lost: its connection ended; it is tried again")
+notice_text (notice.NameServerCut number peer why) =
+    of_name_server number peer (said (codes " cut off: " ∷ cut_text why ∷ codes "; it is tried again" ∷ []))
 notice_text (notice.ServersFull most) = said (codes "one server more than " ∷ decimal most ∷ codes " was found: it isn't connected to" ∷ [])
 notice_text (notice.NameAtTwo name first other) = said (
     socket_text first ∷ codes " and " ∷ socket_text other ∷ codes " both have " ∷ name.now

@@ -32,6 +32,8 @@ pub enum Cut {
     Replaced,
     /// It is a server that was found by search and has had no variable of the gateway's for so many seconds.
     Idle(u32),
+    /// It is a name server that sent what none sends.
+    NoAnswers,
     OutOfMemory,
 }
 
@@ -65,6 +67,7 @@ impl fmt::Display for Cut {
                 "it said nothing when it was asked, and is connected to again",
             ),
             Cut::Idle(seconds) => write!(f, "nobody wanted a variable of it for {seconds} s"),
+            Cut::NoAnswers => f.write_str("it sent what no name server sends"),
             Cut::OutOfMemory => f.write_str("out of memory"),
         }
     }
@@ -129,6 +132,11 @@ pub enum Notice<'a> {
     FoundUnreached(u32, SocketAddr),
     FoundLost(u32, SocketAddr),
     FoundCut(u32, SocketAddr, Cut),
+    /// What is told of name servers, by number and address, is told once an outage.
+    NameServerConnected(u32, SocketAddr),
+    NameServerUnreached(u32, SocketAddr),
+    NameServerLost(u32, SocketAddr),
+    NameServerCut(u32, SocketAddr, Cut),
     /// As many servers are known as may be, and one more was found.
     ServersFull(u32),
     /// The servers at both addresses say that they have the name.
@@ -182,6 +190,9 @@ impl<'a> Notice<'a> {
             | Notice::ServerCut(_, _, _)
             | Notice::FoundUnreached(_, _)
             | Notice::FoundLost(_, _)
+            | Notice::NameServerUnreached(_, _)
+            | Notice::NameServerLost(_, _)
+            | Notice::NameServerCut(_, _, _)
             | Notice::ServersFull(_)
             | Notice::NameAtTwo(_, _, _)
             | Notice::ClientCut(_, _, _)
@@ -194,6 +205,7 @@ impl<'a> Notice<'a> {
             | Notice::Reloaded
             | Notice::ReportsAt(_)
             | Notice::ServerConnected(_, _)
+            | Notice::NameServerConnected(_, _)
             | Notice::ClientConnected(_, _)
             | Notice::ClientGone(_, _)
             | Notice::Watching(_)
@@ -261,6 +273,10 @@ impl<'a> Notice<'a> {
             Notice::FoundCut(_, _, _) => 33,
             Notice::ServersFull(_) => 34,
             Notice::NameAtTwo(_, _, _) => 35,
+            Notice::NameServerConnected(_, _) => 36,
+            Notice::NameServerUnreached(_, _) => 37,
+            Notice::NameServerLost(_, _) => 38,
+            Notice::NameServerCut(_, _, _) => 39,
         }
     }
 }
@@ -334,6 +350,28 @@ impl<'a> fmt::Display for Notice<'a> {
                 write!(
                     f,
                     "upstream {number} ({peer}), found by search, cut off: {why}; its names are searched for"
+                )
+            }
+            Notice::NameServerConnected(number, peer) => write!(
+                f,
+                "name server {number} ({peer}) connected"
+            ),
+            Notice::NameServerUnreached(number, peer) => {
+                write!(
+                    f,
+                    "name server {number} ({peer}) can't be reached, and is tried again"
+                )
+            }
+            Notice::NameServerLost(number, peer) => {
+                write!(
+                    f,
+                    "name server {number} ({peer}) lost: its connection ended; it is tried again"
+                )
+            }
+            Notice::NameServerCut(number, peer, why) => {
+                write!(
+                    f,
+                    "name server {number} ({peer}) cut off: {why}; it is tried again"
                 )
             }
             Notice::ServersFull(most) => {

@@ -4,6 +4,9 @@ use Rattle.serve_state.proofs.notice.NoticeDisplay.fmt.Goals as goal
 pub returns-in-FoundCut-clause-writes : goal.returns-in-FoundCut-clause-writes
 returns-in-FoundCut-clause-writes g c = rw c.in-FoundCut.is c.write-in-FoundCut.ensures.writes
 
+pub returns-in-NameServerCut-clause-writes : goal.returns-in-NameServerCut-clause-writes
+returns-in-NameServerCut-clause-writes g c = rw c.in-NameServerCut.is c.write-in-NameServerCut.ensures.writes
+
 pub returns-in-ServersFull-clause-writes : goal.returns-in-ServersFull-clause-writes
 returns-in-ServersFull-clause-writes g c = rw c.in-ServersFull.is c.write-in-ServersFull.ensures.writes
 
