@@ -251,6 +251,12 @@ impl<G: GatewayCalls + Drop> KeptBoard<G> {
         self.board.limits_met()
     }
 
+    /// How many searches on connections had no answer when they came. No contract speaks of it: it is for whoever
+    /// makes them again.
+    pub fn unanswered_count(&self) -> u64 {
+        self.board.unanswered_count()
+    }
+
     /// The searches on connections that had no answer when they came, behind the first so many, as far as they are
     /// known. No contract speaks of it: it is for whoever makes them again.
     pub fn unanswered_since(

@@ -5,11 +5,11 @@ use Rattle.gateway_rows.specs.contracts.counted_rows.CountedRows as rows
 use Rattle.gateway_rows.specs.contracts.state.Known as known
 use Rattle.gateway_core.specs.contracts.engine.Engine as engine
 use Rattle.gate_board.proofs.PartsCross.{table_send, links_send}
-use Rattle.gate_board.proofs.StateCrosses.{connections_send, cache_send, searches_send}
+use Rattle.gate_board.proofs.StateCrosses.{connections_send, cache_send, searches_send, unanswered_send}
 use Rattle.gate_board.proofs.RingsCross.{attachments_send, inlet_send, outlet_send}
 
 known_send : IsSend known.the_row
-known_send = search (sendable, crosses, connections_send, table_send, links_send, cache_send, searches_send) depth 60 fits 20000
+known_send = search (sendable, crosses, connections_send, table_send, links_send, cache_send, searches_send, unanswered_send) depth 60 fits 20000
 
 rows_send : IsSend rows.the_row
 rows_send = search (sendable, crosses, known_send) depth 60 fits 20000

@@ -7,6 +7,7 @@ use Rattle.state_tables.specs.contracts.cache.Cache as cache
 use Rattle.state_tables.specs.contracts.searches.Searches as searches
 use Rattle.state_tables.specs.contracts.searches.Searches.TheInside as searches_parts
 use Rattle.gateway_state.specs.contracts.search.RememberedSearch as looked
+use Rattle.gateway_state.specs.contracts.unanswered.Unanswered as unanswered
 use Rattle.state_tables.specs.contracts.kept.KeptSearch as kept
 use Rattle.state_tables.specs.contracts.search_lists.SearchLists as search_lists
 use Rattle.state_tables.specs.contracts.search_table.SearchTable as search_table
@@ -45,3 +46,6 @@ searches_parts_send = declared_send searches_parts.the_type
 
 pub searches_send : IsSend searches.the_row
 searches_send = search (view_send, searches_parts_send) depth 5
+
+pub unanswered_send : IsSend unanswered.the_row
+unanswered_send = search (sendable, crosses, name_send) depth 60 fits 20000

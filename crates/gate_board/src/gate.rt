@@ -84,6 +84,8 @@ pub struct GateOver<G: GatewayCalls + Drop> {
     kept: Mutex<KeptBoard<G>>,
     core: Condvar,
     paused: Condvar,
+    // Who waits for searches without an answer.
+    unanswered: Condvar,
     seats: [Condvar; SEATS],
 }
 
@@ -105,6 +107,7 @@ impl<G: GatewayCalls + Drop> GateOver<G> {
             kept: Mutex::new(KeptBoard::new(board)),
             core: Condvar::new(),
             paused: Condvar::new(),
+            unanswered: Condvar::new(),
             seats: array::from_fn(|_| Condvar::new()),
         }
     }
@@ -229,15 +232,22 @@ impl<G: GatewayCalls + Drop> GateOver<G> {
         self.kept.lock(rt).limits_met()
     }
 
-    /// The searches on connections that had no answer when they came, behind the first so many, as far as they are
-    /// known: for whoever makes them again.
-    pub fn unanswered_since<R: Wait>(
+    /// Waits while so many searches on connections had no answer when they came, and gives those that came since, as
+    /// far as they are known: for whoever makes them again. `None` where the gate is closed or the engine has failed.
+    pub fn next_unanswered<R: Wait>(
         &self,
         rt: &R,
         alloc: Global,
         seen: u64,
-    ) -> Result<UnansweredSince, AllocError> {
-        self.kept.lock(rt).unanswered_since(alloc, seen)
+    ) -> Option<Result<UnansweredSince, AllocError>> {
+        let kept = self.kept.lock(rt);
+        let kept = self.unanswered.wait_while(rt, kept, |kept| {
+            !kept.has_stopped() && kept.unanswered_count() == seen
+        });
+        if kept.has_stopped() {
+            return None;
+        }
+        Some(kept.unanswered_since(alloc, seen))
     }
 
     /// The most that one client or server has now.
@@ -339,6 +349,7 @@ impl<G: GatewayCalls + Drop> GateOver<G> {
 
     fn notify_all(&self) {
         self.notify_core();
+        self.unanswered.notify_all();
         for seat in &self.seats {
             seat.notify_all();
         }
@@ -480,11 +491,16 @@ impl<G: GatewayCalls + Drop> GateOver<G> {
     {
         for _ in rt.forever() {
             let mut kept = self.kept.lock(rt);
+            let before = kept.unanswered_count();
             match try_at(&mut *kept, pace) {
                 Some(turn) => {
                     let news = kept.take_news();
+                    let has_unanswered = kept.unanswered_count() != before;
                     drop(kept);
                     self.notify_of(turn, &news);
+                    if has_unanswered {
+                        self.unanswered.notify_all();
+                    }
                     return turn;
                 }
                 None => {

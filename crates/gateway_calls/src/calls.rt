@@ -159,6 +159,12 @@ pub trait GatewayCalls {
         LimitsMet::NONE
     }
 
+    /// How many searches on connections had no answer when they came. No definition speaks of it: it is for whoever
+    /// makes them again.
+    fn unanswered_count(&self) -> u64 {
+        0
+    }
+
     /// The searches on connections that had no answer when they came, behind the first so many, as far as they are
     /// known. No definition speaks of it: it is for whoever makes them again.
     fn unanswered_since(&self, alloc: Global, _seen: u64) -> Result<UnansweredSince, NoMemory> {

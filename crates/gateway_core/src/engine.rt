@@ -359,6 +359,15 @@ impl Engine {
         }
     }
 
+    /// How many searches on connections had no answer when they came; none where a step was refused. No definition
+    /// speaks of it: it is for whoever makes them again.
+    pub fn unanswered_count(&self) -> u64 {
+        match &self.rows {
+            Some(rows) => rows.known.unanswered_count(),
+            None => 0,
+        }
+    }
+
     /// The searches on connections that had no answer when they came, behind the first so many, as far as they are
     /// known; none where a step was refused. No definition speaks of it: it is for whoever makes them again.
     pub fn unanswered_since(&self, alloc: Global, seen: u64) -> Result<UnansweredSince, NoMemory> {

@@ -96,6 +96,10 @@ impl GatewayCalls for Engine {
         Engine::limits_met(self)
     }
 
+    fn unanswered_count(&self) -> u64 {
+        Engine::unanswered_count(self)
+    }
+
     fn unanswered_since(&self, alloc: Global, seen: u64) -> Result<UnansweredSince, NoMemory> {
         Engine::unanswered_since(self, alloc, seen)
     }

@@ -39,6 +39,11 @@ impl Known {
         self.unanswered.note(session, cid, name);
     }
 
+    /// How many searches on connections had no answer so far.
+    pub fn unanswered_count(&self) -> u64 {
+        self.unanswered.count()
+    }
+
     /// The searches on connections that had no answer, behind the first so many, as far as they are known.
     pub fn unanswered_since(
         &self,

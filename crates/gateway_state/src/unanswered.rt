@@ -70,6 +70,11 @@ impl Unanswered {
         }
     }
 
+    /// How many came so far.
+    pub fn count(&self) -> u64 {
+        self.count
+    }
+
     /// Those that came behind the first so many, as far as they are known.
     pub fn since(&self, alloc: Global, seen: u64) -> Result<UnansweredSince, NoMemory> {
         let mut searches = Vec::new(alloc);
