@@ -8,12 +8,14 @@ use crate::sockets::Sender;
 use ca_header::{Frame, Frames};
 use ca_message::NameText;
 use ca_message::commands::CA_PROTO_SEARCH;
+use gateway_core::Event;
 use pv_name::{Name, NoMemory};
 use pv_search::{NameAsk, SearchAnswer, ask_datagram, read_found};
 use serve_state::{LATE_LIMIT, Late, LateSearch, Notice};
 use std::alloc::{AllocError, Global};
 use std::collections::{HashSet, VecDeque};
 use std::mem::replace;
+use std::net::SocketAddr;
 use std::sync::CondvarTimeouts;
 use std::time::Duration;
 
@@ -47,7 +49,38 @@ const FOUND_LIMIT: usize = 16_384;
 /// Of so many names it is known that a server had them.
 const KNOWN_LIMIT: usize = 65_536;
 
-type PeerSearch = LateSearch<Sender>;
+/// Who searched, and where the answer goes.
+#[derive(Clone, Copy, PartialEq, Eq)]
+pub enum Seeker {
+    /// The sender of a datagram.
+    Datagram(Sender),
+    /// The client of this number, on its connection from this address.
+    Connection(u32, SocketAddr),
+}
+
+impl Seeker {
+    pub fn address(&self) -> SocketAddr {
+        match self {
+            Seeker::Datagram(sender) => sender.address,
+            Seeker::Connection(_, peer) => *peer,
+        }
+    }
+
+    /// Its search, made now.
+    pub fn search<R: System>(self, rt: R, cid: u32, name: Name) -> LateSearch<Seeker> {
+        let address = self.address();
+        LateSearch {
+            from: self,
+            host: host_number(&address),
+            port: address.port(),
+            cid,
+            name,
+            since: milliseconds(rt, 0),
+        }
+    }
+}
+
+type PeerSearch = LateSearch<Seeker>;
 
 /// What is wanted of whoever answers late.
 #[derive(Drop)]
@@ -102,15 +135,20 @@ pub fn keep_late<R: System>(rt: R, hub: &Hub, part: &[u8], answer: &SearchAnswer
         return;
     }
     match unanswered(rt, hub, part, answer, from) {
-        Ok(searches) if searches.is_empty() => (),
-        Ok(searches) => {
-            {
-                hub.late.lock(&rt).put_all(searches);
-            }
-            hub.late_came.notify_all();
-        }
+        Ok(searches) => keep_seekers(rt, hub, searches),
         Err(_) => hub.tell(&rt, Notice::OutOfMemory),
     }
+}
+
+/// Keeps these searches to be answered once they can be, where late answers are given.
+pub fn keep_seekers<R: System>(rt: R, hub: &Hub, searches: Vec<LateSearch<Seeker>>) {
+    if !hub.options.late || searches.is_empty() {
+        return;
+    }
+    {
+        hub.late.lock(&rt).put_all(searches);
+    }
+    hub.late_came.notify_all();
 }
 
 fn unanswered<R: System>(
@@ -125,7 +163,6 @@ fn unanswered<R: System>(
     if found.len() >= answer.asked.as_slice().len() {
         return Ok(searches);
     }
-    let since = milliseconds(rt, 0);
     let mut frames = Frames::new(part);
     for _ in 0..part.len() {
         let Frame::Message(head, payload) = frames.next() else {
@@ -135,14 +172,8 @@ fn unanswered<R: System>(
             continue;
         }
         if let Ok(name) = NameText::read(payload) {
-            searches.push(LateSearch {
-                from,
-                host: host_number(&from.address),
-                port: from.address.port(),
-                cid: head.p1,
-                name: name.to_name(hub.alloc)?,
-                since,
-            })?;
+            let name = name.to_name(hub.alloc)?;
+            searches.push(Seeker::Datagram(from).search(rt, head.p1, name))?;
         }
     }
     Ok(searches)
@@ -165,7 +196,7 @@ pub fn note_found<R: System>(rt: R, hub: &Hub, names: &[Name]) {
 struct WaitingSearches {
     // Not taken in yet.
     came: VecDeque<PeerSearch>,
-    late: Late<Sender>,
+    late: Late<Seeker>,
     // The round goes on at this place. It begins at the first one.
     place: usize,
     // When it goes on, in milliseconds of the system's clock.
@@ -348,12 +379,12 @@ fn go_on<R: System, H: AsHub>(rt: R, hub: &H, keeper: &mut LateKeeper) -> Result
 /// Searches that stand together and came from one address.
 #[derive(Drop)]
 struct Run {
-    from: Sender,
+    from: Seeker,
     asks: Vec<NameAsk>,
 }
 
 // The searches from this place on, as many as came from one address and are asked of the gate at once.
-fn run_at(alloc: Global, late: &Late<Sender>, place: usize) -> Result<Option<Run>, NoMemory> {
+fn run_at(alloc: Global, late: &Late<Seeker>, place: usize) -> Result<Option<Run>, NoMemory> {
     let Some(first) = late.get(place) else {
         return Ok(None);
     };
@@ -409,13 +440,14 @@ fn answer_some<R: System, H: AsHub>(
 fn answer_run<R: System, H: AsHub>(
     rt: R,
     hub: &H,
-    late: &mut Late<Sender>,
+    late: &mut Late<Seeker>,
     run: &Run,
 ) -> Result<usize, NoMemory> {
     let alloc = hub.hub().alloc;
     let datagram = ask_datagram(alloc, run.asks.as_slice())?;
     let asked = datagram.asked.max(1);
-    let Ok(host) = host_of(hub.hub(), &run.from.address) else {
+    let address = run.from.address();
+    let Ok(host) = host_of(hub.hub(), &address) else {
         return Ok(asked);
     };
     let Ok(answer) = hub.gate().search(&rt, &host, datagram.text.as_slice()) else {
@@ -423,13 +455,29 @@ fn answer_run<R: System, H: AsHub>(
     };
     let reply = answer.reply.as_slice();
     if !reply.is_empty() {
-        hub.hub().sockets.reply(alloc, run.from, reply)?;
         let found = read_found(alloc, reply)?;
-        late.answered(
-            host_number(&run.from.address),
-            run.from.address.port(),
-            found.as_slice(),
-        );
+        match run.from {
+            Seeker::Datagram(sender) => hub.hub().sockets.reply(alloc, sender, reply)?,
+            Seeker::Connection(session, _) => seek_again(rt, hub, session, run, &found)?,
+        }
+        late.answered(host_number(&address), address.port(), found.as_slice());
     }
     Ok(asked)
+}
+
+// Makes the searches of a client again that can be answered now: the core answers them by the client's own rules.
+fn seek_again<R: System, H: AsHub>(
+    rt: R,
+    hub: &H,
+    session: u32,
+    run: &Run,
+    found: &[u32],
+) -> Result<(), NoMemory> {
+    for ask in &run.asks {
+        if found.contains(&ask.cid) {
+            let name = ask.name.copy()?;
+            let _ = hub.gate().desk(&rt, Event::Seek(session, ask.cid, name));
+        }
+    }
+    Ok(())
 }

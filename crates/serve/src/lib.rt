@@ -13,7 +13,8 @@
 //! - one looks now and then whether a connection must end whose writer waits for its peer, or too much waits
 //!   for a client or for all of them, and, where it is to, whether whoever is connected is still there;
 //! - where servers are searched for, one finds out which are to be connected to, and which names wait for that;
-//! - one answers searches that couldn't be answered when they came, and one sends beacons, where they are to;
+//! - one answers searches that couldn't be answered when they came, one hears of those that clients made on their connections,
+//!   and one sends beacons, where they are to;
 //! - two for each connection, which read and write;
 //! - where servers' beacons are heard, one hears them: nobody waits for it;
 //! - one reads the orders of standard input, one performs those that are to be repeated, where any is, one tells of
@@ -45,6 +46,7 @@ mod repeating;
 mod reports;
 mod rules;
 mod searches;
+mod seekers;
 mod servers;
 mod sockets;
 mod upstreams;

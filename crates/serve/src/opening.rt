@@ -18,6 +18,7 @@ use crate::repeating::{repeat_orders, repeats};
 use crate::reports::tell_reports;
 use crate::rules::{RulePaths, When, read_policy, read_texts};
 use crate::searches::hear_searches;
+use crate::seekers::hear_seekers;
 use crate::servers::connect;
 use crate::sockets::{Sockets, open_sockets};
 use crate::status;
@@ -335,11 +336,7 @@ fn start_others<'x, 's: 'x, E: 's, R: System + 's, H: AsHub + Sync + 's>(
         .stack_size(STACK_SIZE)
         .spawn_scoped(&*scope, move || watch(rt, hub));
     let hears_replies = hub.hub().sockets.own_asks.is_none() || start_replies(rt, &*scope, &*hub);
-    let is_late = !hub.hub().options.late
-        || Builder::new()
-            .stack_size(RULES_STACK_SIZE)
-            .spawn_scoped(&*scope, move || answer_late(rt, hub))
-            .is_ok();
+    let is_late = start_late(rt, &*scope, &*hub);
     let sends_beacons = hub.hub().beacons.is_none()
         || Builder::new()
             .stack_size(STACK_SIZE)
@@ -352,6 +349,25 @@ fn start_others<'x, 's: 'x, E: 's, R: System + 's, H: AsHub + Sync + 's>(
         && hears_replies
         && is_late
         && sends_beacons
+}
+
+// Those that see to searches which couldn't be answered when they came.
+fn start_late<'x, 's: 'x, E: 's, R: System + 's, H: AsHub + Sync + 's>(
+    rt: R,
+    scope: &'x Scope<'s, E>,
+    hub: &'s H,
+) -> bool {
+    let answers = !hub.hub().options.late
+        || Builder::new()
+            .stack_size(RULES_STACK_SIZE)
+            .spawn_scoped(&*scope, move || answer_late(rt, hub))
+            .is_ok();
+    let hears_seekers = !hub.hub().limits().answers_searches
+        || Builder::new()
+            .stack_size(RULES_STACK_SIZE)
+            .spawn_scoped(&*scope, move || hear_seekers(rt, hub))
+            .is_ok();
+    answers && hears_seekers
 }
 
 // The two threads that serve at an entrance.
