@@ -263,6 +263,26 @@ def another_gateway(room, up, server, library, channels):
     room.equal("quit again", again.quit(), 0)
 
 
+def by_name_server(room, up, repeater):
+    """The library searches on its connection to the gateway alone, also for what nobody sought before."""
+    server = room.server(up, options=["--site"])
+    library = libca.Library(server.address, repeater, by_datagram=False)
+    channel = library.channel("V")
+    room.eventually("a channel connects without a datagram", channel.is_connected)
+    room.equal("get", channel.get(ca.LONG, 1)[0], ca.NORMAL)
+    room.equal("put", channel.put(ca.LONG, [11]), ca.NORMAL)
+    seen = channel.watch(ca.LONG, 1, 1)
+    up.give("V", [12])
+    room.eventually("monitor", lambda: seen.values()[-1:] == [[12]])
+    many = [library.channel(f"N{it:04}") for it in range(MANY)]
+    room.eventually(f"{MANY} names connect", lambda: all(it.is_connected() for it in many))
+    lost = library.channel("MISSING")
+    room.check("a name that isn't there doesn't connect", not room.wait(lost.is_connected, 1))
+    room.equal("nothing that it complains of", library.exceptions, [])
+    library.end()
+    room.equal("quit by order", server.quit(), 0)
+
+
 def run(room, repeater):
     up = room.upstream(*variables())
     server = room.server(up, rules=".* ALLOW everyone\nLARGE ALLOW large\n", groups="everyone WRITE\nlarge WRITE\n")
@@ -280,6 +300,7 @@ def run(room, repeater):
     many_names(room, library)
     another_gateway(room, up, server, library, channels)
     room.equal("nothing that the library complains of", library.exceptions, [])
+    by_name_server(room, up, repeater)
 
 
 def main():

@@ -63,10 +63,12 @@ def bytes_in(dtype, count, place):
 
 
 class Library:
-    """One context of the library, with callbacks in threads of its own, which searches at one address."""
+    """One context of the library, with callbacks in threads of its own, which searches at one address: by datagram, or on a connection."""
 
-    def __init__(self, address, repeater):
-        os.environ |= {"EPICS_CA_ADDR_LIST": f"{address[0]}:{address[1]}", "EPICS_CA_AUTO_ADDR_LIST": "NO",
+    def __init__(self, address, repeater, by_datagram=True):
+        place = f"{address[0]}:{address[1]}"
+        os.environ |= {"EPICS_CA_ADDR_LIST": place if by_datagram else "", "EPICS_CA_AUTO_ADDR_LIST": "NO",
+                       "EPICS_CA_NAME_SERVERS": "" if by_datagram else place,
                        "EPICS_CA_MAX_SEARCH_PERIOD": "60", "EPICS_CA_REPEATER_PORT": str(repeater), "EPICS_CA_MAX_ARRAY_BYTES": "2000000"}
         for name in LIBRARIES:
             self.calls = ctypes.CDLL(name, ctypes.RTLD_GLOBAL)
