@@ -125,6 +125,8 @@ probe 1
 > Ok(Probe(1))
 probe 04294967295
 > Ok(Probe(4294967295))
+seek s1 17 T1
+> Ok(Seek(1, 17, Name { text: \"T1\" }))
 limit sessions 0
 > Ok(Limit(Sessions(0)))
 limit servers 1024
@@ -176,6 +178,14 @@ probe u1
 probe 1 2
 probe +1
 probe 4294967296
+seek
+seek s1
+seek s1 17
+seek s1 17\x20
+seek u1 17 T1
+seek s1 T1 17
+seek s1 4294967296 T1
+seek s1 17 T1 1
 limit
 limit sessions
 limit sessions\x20

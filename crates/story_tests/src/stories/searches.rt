@@ -269,3 +269,24 @@ asks
 ",
     )
 }
+
+// Whoever makes a search again says whose it is. That of a client that isn't there has no answer.
+#[test]
+fn makes_a_search_again_for_its_client(rt: HostRuntime) -> Result<(), Fail> {
+    tells(
+        &rt,
+        rt.alloc(),
+        b"@served
+seek s1 17 T1
+> s1 0006000813c80000ffffffff00000011000d000000000000
+seek s1 18 U
+asks
+> asks U
+seek s9 19 T1
+sweep
+seek s9 19 U
+asks
+> asks
+",
+    )
+}
