@@ -5,6 +5,7 @@ use crate::late::LateInbox;
 use crate::line::WatchedStream;
 use crate::logging::LogBook;
 use crate::machine::System;
+use crate::name_servers::NameServers;
 use crate::searches::WaitingDatagrams;
 use crate::sockets::Sockets;
 use crate::upstreams::Upstreams;
@@ -156,6 +157,8 @@ pub struct Hub {
     pub servers: Upstreams,
     /// How other servers are found, where they are searched for.
     pub finding: Option<Finding>,
+    /// Where they are searched for over TCP.
+    pub name_servers: NameServers,
     /// How beacons are sent, where they are.
     pub beacons: Option<Beacons>,
     pub options: Options,
@@ -191,6 +194,7 @@ impl Hub {
         sockets: Sockets,
         servers: Upstreams,
         finding: Option<Finding>,
+        name_servers: NameServers,
         beacons: Option<Beacons>,
         options: Options,
         most_files: u64,
@@ -206,6 +210,7 @@ impl Hub {
             sockets,
             servers,
             finding,
+            name_servers,
             beacons,
             options,
             most_files,
@@ -341,7 +346,11 @@ impl Hub {
         match &self.finding {
             Some(_) => {
                 let half = u32::try_from(self.most_files / 2).unwrap_or(u32::MAX);
-                self.options.scale.servers.min(half)
+                self.options
+                    .scale
+                    .servers
+                    .min(half)
+                    .saturating_add(self.name_servers.count())
             }
             None => self.server_count(),
         }
