@@ -1,11 +1,12 @@
 """Name servers, which are asked over TCP for names."""
+import os
 import socket
 import threading
 import time
 
 import ca_wire as ca
 from served.asking import Hearer
-from served.found import SENDER, reply
+from served.found import SENDER, gateway, reply
 from served.room import free_port, text_of, variable
 from served.upstream import Upstream
 
@@ -112,6 +113,8 @@ def name_serving(room):
     room.started.append(far.stop)
 
     def make(cid, name):
+        if name == "B":  # as servers of EPICS base say it on a stream
+            return ca.message(ca.SEARCH, dtype=near.address[1], p1=SENDER, p2=cid)
         return reply(cid, far.address[1], 0x7F000002) if name == "C" else of(near)(cid, name)
     place = NameServer(room, make, piece=3)
     server = room.server(options=through(place))
@@ -147,6 +150,18 @@ def name_serving_beside(room):
     for name, value in (("N", 1), ("A", 2)):
         channel = client.open(name)
         room.equal(f"{name}, with no search", channel and client.values(channel), [value])
+    room.equal("quit", server.quit(), 0)
+
+
+def name_serving_nowhere(room):
+    """Hosts that the system doesn't know, or that lead to the gateway itself, can't be reached."""
+    own = free_port()
+    server = gateway(room, f"0.0.0.0:{own}", "--name-server", "nowhere.invalid:5064", "--name-server", f"localhost:{own}")
+    for number, place in ((1, "0.0.0.0:0"), (2, f"127.0.0.1:{own}")):
+        line = f"name server {number} ({place}) can't be reached, and is tried again"
+        room.eventually(f"that of {number} is told", lambda: server.has_logged("WARN", line))
+    time.sleep(1.5)
+    room.equal("once", len(told(server)), 2)
     room.equal("quit", server.quit(), 0)
 
 
@@ -194,7 +209,11 @@ def name_serving_mute(room):
     """One that says nothing is asked whether it is there, and cut off; one that answers that stays."""
     mute, other = NameServer(room, then=b"", echoes=False), NameServer(room, then=b"")
     server = room.server(options=(*through(mute, other), "--alive", "1"))
-    room.eventually("it is connected to again and again", lambda: len(mute.heard) > 2)
+    tasks = f"/proc/{server.process.pid}/task"
+    room.eventually("both are connected to", lambda: ca.HOST_NAME in mute.commands() and ca.HOST_NAME in other.commands())
+    threads = len(os.listdir(tasks))
+    room.eventually("it is connected to again and again", lambda: ca.HOST_NAME in mute.commands(2))
+    room.equal("no thread stays", len(os.listdir(tasks)), threads)
     room.check("it was asked each time", all(mute.commands(at).count(ca.ECHO) == 1 for at in (0, 1)), mute.heard)
     room.check("after a second, and another one it had", 1.8 < mute.heard[1][0] - mute.heard[0][0] < 6, mute.heard)
     why = "cut off: it said nothing for 1 s, and nothing when it was asked; it is tried again"

@@ -25,6 +25,11 @@ use std::mem::replace;
 use std::net::{Shutdown, SocketAddr, TcpStream};
 use std::sync::{Arc, Condvar, Mutex, Wait};
 
+/// What servers hear of the gateway: the name of its user, and of its host.
+pub const USER: &str = "pvgate";
+
+pub const HOST: &str = "gw";
+
 /// A connection's socket.
 pub type Stream = Arc<TcpStream, Global>;
 

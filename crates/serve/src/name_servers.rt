@@ -2,7 +2,7 @@
 use crate::asker::milliseconds;
 use crate::datagrams::take_replies;
 use crate::finding::{Finding, address_of};
-use crate::hub::{AsHub, Hub, Stream};
+use crate::hub::{AsHub, HOST, Hub, Stream, USER};
 use crate::link::read_once;
 use crate::machine::System;
 use crate::servers::is_own_door;
@@ -116,9 +116,7 @@ impl NameServers {
     pub fn new(alloc: Global, places: Vec<Upstream>) -> Result<NameServers, NoMemory> {
         let mut servers = Vec::new(alloc);
         for _ in 0..places.len() {
-            servers
-                .push(NameServer::new(alloc))
-                .map_err(|_| AllocError)?;
+            servers.push(NameServer::new(alloc))?;
         }
         Ok(NameServers {
             places: Upstreams::new(alloc, places)?,
@@ -158,7 +156,7 @@ enum Told {
 
 /// What whoever keeps the connection to a name server knows.
 #[derive(Drop)]
-struct Line {
+struct NameServerKeeper {
     number: u32,
     // Where it is, as far as is known.
     peer: SocketAddr,
@@ -170,9 +168,9 @@ struct Line {
     is_heard: bool,
 }
 
-impl Line {
-    fn new(number: u32) -> Line {
-        Line {
+impl NameServerKeeper {
+    fn new(number: u32) -> NameServerKeeper {
+        NameServerKeeper {
             number,
             peer: SocketAddr::new(IpAddr::V4(Ipv4Addr::UNSPECIFIED), 0),
             connections: 0,
@@ -232,13 +230,13 @@ pub fn keep_name_server<
     R: System + Threads + Net<Listener = TcpListener, Stream = TcpStream> + 'static,
     H: AsHub + Send + Sync + Drop + 'static,
 >(rt: R, hub: Arc<H, Global>, number: u32) {
-    let mut line = Line::new(number);
+    let mut keeper = NameServerKeeper::new(number);
     for _ in rt.forever() {
-        let stood = keep_once(rt, &hub, &mut line);
+        let stood = keep_once(rt, &hub, &mut keeper);
         if hub.hub().is_closing(&rt) {
             return;
         }
-        let gap = line.tries.lost(stood);
+        let gap = keeper.tries.lost(stood);
         thread::sleep(&rt, Duration::from_secs(gap));
     }
 }
@@ -247,17 +245,17 @@ pub fn keep_name_server<
 fn keep_once<
     R: System + Threads + Net<Listener = TcpListener, Stream = TcpStream> + 'static,
     H: AsHub + Send + Sync + Drop + 'static,
->(rt: R, hub: &Arc<H, Global>, line: &mut Line) -> u64 {
+>(rt: R, hub: &Arc<H, Global>, keeper: &mut NameServerKeeper) -> u64 {
     let shared: &H = hub;
-    let Some(stream) = reach(rt, shared.hub(), line) else {
-        line.fail(rt, shared.hub());
+    let Some(stream) = reach(rt, shared.hub(), keeper) else {
+        keeper.fail(rt, shared.hub());
         return 0;
     };
-    line.connect(rt, shared.hub());
+    keeper.connect(rt, shared.hub());
     let began = milliseconds(rt, 0);
-    let why = converse(rt, hub, line, stream);
+    let why = converse(rt, hub, keeper, stream);
     if !shared.hub().is_closing(&rt) {
-        line.lose(rt, shared.hub(), why);
+        keeper.lose(rt, shared.hub(), why);
     }
     milliseconds(rt, began).saturating_sub(began) / 1_000
 }
@@ -266,15 +264,15 @@ fn keep_once<
 fn reach<R: System + Net<Listener = TcpListener, Stream = TcpStream>>(
     rt: R,
     hub: &Hub,
-    line: &mut Line,
+    keeper: &mut NameServerKeeper,
 ) -> Option<TcpStream> {
-    line.peer = looked_up(rt, hub, line.number)?;
-    if hub.is_own(address_of(line.peer.ip(), line.peer.port())) {
+    keeper.peer = looked_up(rt, hub, keeper.number)?;
+    if hub.is_own(address_of(keeper.peer.ip(), keeper.peer.port())) {
         return None;
     }
     let patience = Duration::from_secs(PATIENCE);
-    let stream: TcpStream = TcpStream::connect_timeout(&rt, &line.peer, patience).ok()?;
-    if is_own_door(hub, line.peer, &stream) {
+    let stream: TcpStream = TcpStream::connect_timeout(&rt, &keeper.peer, patience).ok()?;
+    if is_own_door(hub, keeper.peer, &stream) {
         return None;
     }
     Some(stream)
@@ -300,19 +298,19 @@ fn looked_up<R: System + Net<Listener = TcpListener, Stream = TcpStream>>(
 fn converse<
     R: System + Threads + Net<Listener = TcpListener, Stream = TcpStream> + 'static,
     H: AsHub + Send + Sync + Drop + 'static,
->(rt: R, hub: &Arc<H, Global>, line: &mut Line, stream: TcpStream) -> Option<Cut> {
+>(rt: R, hub: &Arc<H, Global>, keeper: &mut NameServerKeeper, stream: TcpStream) -> Option<Cut> {
     let shared: &H = hub;
     let finding = shared.hub().finding.as_ref()?;
-    let server = shared.hub().name_servers.at(line.number)?;
+    let server = shared.hub().name_servers.at(keeper.number)?;
     let alloc = shared.hub().alloc;
     let _ = stream.set_nodelay(true);
     let (Ok(text), Ok(stream)) = (first_text(alloc), Arc::new(alloc, stream)) else {
         return Some(Cut::OutOfMemory);
     };
-    server.begin(&rt, line.connections, text.as_slice());
-    let why = if start_writer(rt, hub, line, &stream) {
+    server.begin(&rt, keeper.connections, text.as_slice());
+    let why = if start_writer(rt, hub, keeper, &stream) {
         finding.note_name_server(&rt);
-        hear_line(rt, shared.hub(), finding, server, line, &stream)
+        hear_until_end(rt, shared.hub(), finding, server, keeper, &stream)
     } else {
         Some(Cut::OutOfMemory)
     };
@@ -323,7 +321,10 @@ fn converse<
 
 // What is said first: who the gateway is, as servers are told.
 fn first_text(alloc: Global) -> Result<Vec<u8>, NoMemory> {
-    match (Name::read(alloc, b"pvgate"), Name::read(alloc, b"gw")) {
+    match (
+        Name::read(alloc, USER.as_bytes()),
+        Name::read(alloc, HOST.as_bytes()),
+    ) {
         (Ok(user), Ok(host)) => greeting(alloc, &user, &host),
         _ => Err(AllocError),
     }
@@ -332,15 +333,15 @@ fn first_text(alloc: Global) -> Result<Vec<u8>, NoMemory> {
 fn start_writer<
     R: System + Threads + Net<Listener = TcpListener, Stream = TcpStream> + 'static,
     H: AsHub + Send + Sync + Drop + 'static,
->(rt: R, hub: &Arc<H, Global>, line: &Line, stream: &Stream) -> bool {
-    let (number, connection) = (line.number, line.connections);
+>(rt: R, hub: &Arc<H, Global>, keeper: &NameServerKeeper, stream: &Stream) -> bool {
+    let (number, connection) = (keeper.number, keeper.connections);
     let writing: Result<Stream, _> = Arc::try_clone(stream);
     match (Arc::try_clone(hub), writing) {
         (Ok(hub), Ok(writing)) => Builder::new()
             .stack_size(STACK_SIZE)
             .spawn(
                 &rt,
-                move || write_line(rt, hub.hub(), number, connection, &writing),
+                move || write_until_end(rt, hub.hub(), number, connection, &writing),
             )
             .is_ok(),
         _ => false,
@@ -348,7 +349,7 @@ fn start_writer<
 }
 
 // Writes what waits, as long as the connection stands.
-fn write_line<R: System>(rt: R, hub: &Hub, number: u32, connection: u64, stream: &TcpStream) {
+fn write_until_end<R: System>(rt: R, hub: &Hub, number: u32, connection: u64, stream: &TcpStream) {
     let Some(server) = hub.name_servers.at(number) else {
         return;
     };
@@ -366,12 +367,12 @@ fn write_line<R: System>(rt: R, hub: &Hub, number: u32, connection: u64, stream:
 
 // Hears replies until the connection ends. One that says nothing for long is asked whether it is there, and cut off where it says
 // nothing for as long again.
-fn hear_line<R: System>(
+fn hear_until_end<R: System>(
     rt: R,
     hub: &Hub,
     finding: &Finding,
     server: &NameServer,
-    line: &mut Line,
+    keeper: &mut NameServerKeeper,
     stream: &TcpStream,
 ) -> Option<Cut> {
     let alive = patience(hub);
@@ -388,20 +389,18 @@ fn hear_line<R: System>(
                 let heard = replies.hear(hub.alloc, piece.get(..count).unwrap_or(&[]));
                 match heard {
                     Ok(found) => {
-                        line.hear(rt, hub);
-                        take_replies(rt, hub, finding, found, line.peer);
+                        keeper.hear(rt, hub);
+                        take_replies(rt, hub, finding, found, keeper.peer);
                     }
                     Err(fault) => return Some(why_cut(fault)),
                 }
             }
-            Err(fault) if fault.kind() == ErrorKind::WouldBlock => {
-                if is_asked {
-                    return Some(Cut::Unanswering(alive));
-                }
+            Err(fault) if fault.kind() != ErrorKind::WouldBlock => return None,
+            Err(_) if is_asked => return Some(Cut::Unanswering(alive)),
+            Err(_) => {
                 is_asked = true;
                 server.add(&rt, echo().as_slice());
             }
-            Err(_) => return None,
         }
     }
     None

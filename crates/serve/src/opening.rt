@@ -8,7 +8,7 @@ use crate::fault::ServeFault;
 use crate::finder::find_servers;
 use crate::finding::{Discovery, Finding, OwnAsks};
 use crate::hearing::hear_beacons;
-use crate::hub::{AsGate, AsHub, AsRest, Hub, Options, Served};
+use crate::hub::{AsGate, AsHub, AsRest, HOST, Hub, Options, Served, USER};
 use crate::keeper::keep_rows;
 use crate::late::answer_late;
 use crate::logging::{LogBook, Teller, write_lines};
@@ -455,8 +455,10 @@ fn perform_rounds<R: System, H: AsHub>(rt: R, hub: &H) {
 }
 
 fn gate(alloc: Global, port: u16, first: FirstNumber, policy: Policy) -> Result<Gate, ServeFault> {
-    let (Ok(client_name), Ok(host_name)) = (Name::read(alloc, b"pvgate"), Name::read(alloc, b"gw"))
-    else {
+    let (Ok(client_name), Ok(host_name)) = (
+        Name::read(alloc, USER.as_bytes()),
+        Name::read(alloc, HOST.as_bytes()),
+    ) else {
         return Err(ServeFault::OutOfMemory);
     };
     let config = Config {
