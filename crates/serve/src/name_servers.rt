@@ -145,7 +145,7 @@ impl NameServers {
 
 /// What was told last of a name server: so an outage is told once.
 #[derive(Clone, Copy)]
-enum Told {
+enum LastTold {
     /// Nothing, or that it is connected.
     Up,
     /// That it is lost, or can't be reached.
@@ -163,7 +163,7 @@ struct NameServerKeeper {
     // So many connections were made.
     connections: u64,
     tries: Tries,
-    told: Told,
+    last_told: LastTold,
     // Something was heard on this connection.
     is_heard: bool,
 }
@@ -175,7 +175,7 @@ impl NameServerKeeper {
             peer: SocketAddr::new(IpAddr::V4(Ipv4Addr::UNSPECIFIED), 0),
             connections: 0,
             tries: Tries::new(),
-            told: Told::Up,
+            last_told: LastTold::Up,
             is_heard: false,
         }
     }
@@ -184,8 +184,8 @@ impl NameServerKeeper {
     fn connect<R: System>(&mut self, rt: R, hub: &Hub) {
         self.connections = self.connections.saturating_add(1);
         self.is_heard = false;
-        if !matches!(self.told, Told::Mute) {
-            self.told = Told::Up;
+        if !matches!(self.last_told, LastTold::Mute) {
+            self.last_told = LastTold::Up;
             hub.tell(&rt, Notice::NameServerConnected(self.number, self.peer));
         }
     }
@@ -193,29 +193,29 @@ impl NameServerKeeper {
     // It said something.
     fn hear<R: System>(&mut self, rt: R, hub: &Hub) {
         self.is_heard = true;
-        if matches!(self.told, Told::Mute) {
-            self.told = Told::Up;
+        if matches!(self.last_told, LastTold::Mute) {
+            self.last_told = LastTold::Up;
             hub.tell(&rt, Notice::NameServerConnected(self.number, self.peer));
         }
     }
 
     // No connection can be made.
     fn fail<R: System>(&mut self, rt: R, hub: &Hub) {
-        if matches!(self.told, Told::Up) {
-            self.told = Told::Down;
+        if matches!(self.last_told, LastTold::Up) {
+            self.last_told = LastTold::Down;
             hub.tell(&rt, Notice::NameServerUnreached(self.number, self.peer));
         }
     }
 
     // The connection is lost, or cut off for a reason.
     fn lose<R: System>(&mut self, rt: R, hub: &Hub, why: Option<Cut>) {
-        if matches!(self.told, Told::Mute) {
+        if matches!(self.last_told, LastTold::Mute) {
             return;
         }
-        self.told = if self.is_heard {
-            Told::Down
+        self.last_told = if self.is_heard {
+            LastTold::Down
         } else {
-            Told::Mute
+            LastTold::Mute
         };
         let notice = match why {
             Some(why) => Notice::NameServerCut(self.number, self.peer, why),
