@@ -129,6 +129,8 @@ SERVE_REFUSALS = [
     ("127.0.0.1:0 127.0.0.1:1 --rules rules --plain-groups", b"line 1: BadReference\n", 1),
     *((f"127.0.0.1:0 --search{value}", b"", 2) for value in ("", " localhost:0", " localhost", " :5064", " 10.0.0.256:5064", " 10.0.0.1", " 10.0.0.1:0", " 10.0.0.1:70000", " 0.0.0.0:5064", " 10.0.0.0/8",
                                                              " [::1]:5064 --search 10.0.0.1:5064", " [::1]:5064 127.0.0.1:1", " 127.0.0.1:2 127.0.0.1:1 127.0.0.1:1")),
+    *((f"127.0.0.1:0 --name-server{value}", b"", 2) for value in ("", " localhost:0", " localhost", " :5064", " 10.0.0.256:5064", " 10.0.0.1", " 10.0.0.1:0", " 10.0.0.1:70000", " 0.0.0.0:5064", " 10.0.0.0/8",
+                                                                  " 10.0.0.1:5064 [::1]:1", " 10.0.0.1:5064 127.0.0.1:1 127.0.0.1:1", " 10.0.0.1:5064" + " --name-server 10.0.0.1:5064" * 16)),
     *((f"127.0.0.1:0 --search 10.0.0.1:5064 --from{value}", b"", 2) for value in ("", " 10.0.0.0", " 10.0.0.0/33", " 10.0.0.1/8", " ten/8", " 10.0.0.0/-1", " 10.0.0.0/8 --from 10/8")),
     ("127.0.0.1:0 127.0.0.1:1 --from 10.0.0.0/8", b"", 2),
     ("127.0.0.1:0 127.0.0.1:1 --idle 300", b"", 2),
@@ -143,6 +145,8 @@ SERVE_REFUSALS = [
     ("127.0.0.1:0 127.0.0.1:1 --listen [::1]:0 --beacons 127.0.0.1:5065", b"", 2),
     ("127.0.0.1:5998 --search 127.0.0.1:5998", b"", 2),
     ("0.0.0.0:5998 --search 127.0.0.1:5998", b"", 2),
+    ("127.0.0.1:5998 --name-server 127.0.0.1:5998", b"", 2),
+    ("0.0.0.0:5998 --name-server 127.0.0.1:5998", b"", 2),
     ("192.0.2.1:0 127.0.0.1:1 --rules no-verb", b"line 3: NoVerb\n", 1),
     ("192.0.2.1:0 127.0.0.1:1 --rules rules", b"", 3),
 ]
@@ -175,6 +179,7 @@ SERVE_OPTIONS = [
     "--late", "--site --late --clients 10 --servers 20 --names 30 --alive 40 --forget 50 --clients-of-host 60",
     "--search 127.0.0.1:2", "--search 127.255.255.255:2 --search 127.0.0.1:2 --from 10.0.0.0/8 --from 127.0.0.1/32 --servers 2 --idle 86400",
     "localhost:1", "nowhere.invalid:1", "--search localhost:2", "localhost:3 --search 127.0.0.1:2", "--search 127.0.0.1:2 --hear-beacons", "--beacons 127.0.0.1:2", "--beacons 127.255.255.255:2 --beacons 127.0.0.1:3 --site",
+    "--name-server 127.0.0.1:2", "--name-server nowhere.invalid:1 --from 10.0.0.0/8 --idle 1 --hear-beacons", "--name-server [::1]:2 --search localhost:3", "--site" + " --name-server localhost:2" * 16,
     "--servers 17" + " 127.0.0.1:1" * 16, "--site" + " 127.0.0.1:1" * 40,
 ]
 

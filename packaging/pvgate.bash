@@ -9,6 +9,7 @@ _pvgate() {
     check-rules:--host) : ;;
     serve:--listen) : ;;
     serve:--search) : ;;
+    serve:--name-server) : ;;
     serve:--from) : ;;
     serve:--beacons) : ;;
     serve:--idle) : ;;
@@ -32,7 +33,7 @@ _pvgate() {
         0:*) words="replay check-rules serve help -h --help -V --version" ;;
         1:replay) words="--plain --first -h --help" ;;
         1:check-rules) words="--groups --name --host --plain-groups -h --help" files=yes ;;
-        1:serve) words="--listen --search --from --beacons --hear-beacons --idle --rules --groups --plain-groups --clients --servers --names --alive --forget --late --most-waiting --most-in-all --first --reconnect --sweep --log --status --clients-of-host --back-off --site -h --help" ;;
+        1:serve) words="--listen --search --name-server --from --beacons --hear-beacons --idle --rules --groups --plain-groups --clients --servers --names --alive --forget --late --most-waiting --most-in-all --first --reconnect --sweep --log --status --clients-of-host --back-off --site -h --help" ;;
         1:help) words="replay check-rules serve" ;;
         esac
         ;;

@@ -8,8 +8,8 @@ use Rattle.ca_header.specs.Spelling.{IsHeader}
 use Rattle.ca_header.specs.declared.header.Message.{Message}
 use Rattle.ca_header.proofs.Heads.{IsSpelling-canonical}
 use Rattle.name_server.specs.Pieces.{AreHeard, HeardPiece, pieces, replies}
+use Rattle.name_server.specs.StreamReplies.{stream_reply_of}
 use Rattle.pv_search.specs.Picked.{IsPicked, picked_from}
-use Rattle.pv_search.specs.Replies.{reply_of}
 use Rattle.pv_search.specs.Version.{version}
 use Rattle.pv_search.specs.declared.replies.Reply.{Reply}
 use Rattle.pv_search.proofs.Cutting.{spelled-append}
@@ -18,7 +18,7 @@ record IsJoined (bytes : List ℕ) (found : List Reply) : Type 0 where
   messages : List Message
   rest : List ℕ
   framed : IsFramed bytes messages (Rest rest)
-  all : found ≡ picked_from reply_of messages
+  all : found ≡ picked_from stream_reply_of messages
 
 joined : (held : List ℕ) (heard : List HeardPiece) (left : List ℕ) → IsPartial held → AreHeard held heard left → IsJoined (held ++ pieces heard) (replies heard)
 joined held [] left part same =
@@ -47,8 +47,8 @@ joined held (h ∷ more) left part are =
       };
       all =
           ap (λ (xs : List Reply). xs ++ replies more) p.all
-          ∙ ap (λ (xs : List Reply). picked_from reply_of p.messages ++ xs) on.all
-          ∙ sym (filter_map-append (λ (m : Message). reply_of m.head m.payload) p.messages on.messages);
+          ∙ ap (λ (xs : List Reply). picked_from stream_reply_of p.messages ++ xs) on.all
+          ∙ sym (filter_map-append (λ (m : Message). stream_reply_of m.head m.payload) p.messages on.messages);
     }
 
 fits-version : IsHeader version.head
@@ -59,7 +59,7 @@ nothing_is_part : IsPartial []
 nothing_is_part =
     inl (version.head, canonical_header version.head, IsSpelling-canonical version.head fits-version, record { missing = canonical_header version.head; some_missing = omega arith; parts = refl })
 
-pub picked_in_pieces : (heard : List HeardPiece) (left : List ℕ) → AreHeard [] heard left → IsPicked reply_of (pieces heard) (replies heard)
+pub picked_in_pieces : (heard : List HeardPiece) (left : List ℕ) → AreHeard [] heard left → IsPicked stream_reply_of (pieces heard) (replies heard)
 picked_in_pieces heard left are =
     let all = joined [] heard left nothing_is_part are in
     record { messages = all.messages; end = Rest all.rest; framed = all.framed; all = all.all }

@@ -21,8 +21,8 @@ use Rattle.name_server.specs.Streams.{AreShort, IsHeard, IsNoStream, IsWholePart
 use Rattle.name_server.specs.declared.stream_replies.StreamFault.{StreamFault}
 use Rattle.name_server.specs.declared.stream_replies.StreamFault.TheVariants.{NoAnswers}
 use Rattle.name_server.specs.declared.stream_replies.TheConstants.{PAYLOAD_LIMIT}
+use Rattle.name_server.specs.StreamReplies.{stream_reply_of}
 use Rattle.pv_search.specs.Picked.{IsPicked, picked_from}
-use Rattle.pv_search.specs.Replies.{reply_of}
 use Rattle.pv_search.specs.declared.replies.Reply.{Reply}
 use Rattle.pv_search.proofs.Cutting.{spelled-append}
 use Rattle.pv_search.proofs.Taking.{some_bytes}
@@ -182,7 +182,7 @@ is_no_stream bytes len fault s e =
 
 -- ---- what is heard
 
-pub heard : (bytes left : List ℕ) (len : ℕ) (replies : List Reply) → IsBytes bytes → IsWholePart bytes len → IsPicked reply_of bytes replies
+pub heard : (bytes left : List ℕ) (len : ℕ) (replies : List Reply) → IsBytes bytes → IsWholePart bytes len → IsPicked stream_reply_of bytes replies
     → left ≡ drop len bytes → IsHeard bytes replies left
 heard bytes left len replies fits part picked rest =
     let framed : IsFramed bytes part.messages (Rest (drop len bytes)) =
@@ -198,5 +198,5 @@ heard bytes left len replies fits part picked rest =
       messages = part.messages;
       framed = subst (λ (t : List ℕ). IsFramed bytes part.messages (Rest t)) (sym rest) framed;
       short = part.short;
-      all = picked.all ∙ ap (picked_from reply_of) one.0;
+      all = picked.all ∙ ap (picked_from stream_reply_of) one.0;
     }

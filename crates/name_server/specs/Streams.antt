@@ -11,8 +11,8 @@ use Rattle.ca_header.specs.declared.reading.Head.TheVariants.{Got, Misaligned, N
 use Rattle.name_server.specs.declared.stream_replies.StreamFault.{StreamFault}
 use Rattle.name_server.specs.declared.stream_replies.StreamFault.TheVariants.{NoAnswers}
 use Rattle.name_server.specs.declared.stream_replies.TheConstants.{PAYLOAD_LIMIT}
+use Rattle.name_server.specs.StreamReplies.{stream_reply_of}
 use Rattle.pv_search.specs.Picked.{picked_from}
-use Rattle.pv_search.specs.Replies.{reply_of}
 use Rattle.pv_search.specs.declared.replies.Reply.{Reply}
 
 abbrev pub AreShort : List Message → Type 0
@@ -57,4 +57,4 @@ pub record IsHeard (bytes : List ℕ) (replies : List Reply) (left : List ℕ) :
   pub messages : List Message
   pub framed : IsFramed bytes messages (Rest left)
   pub short : AreShort messages
-  pub all : replies ≡ picked_from reply_of messages
+  pub all : replies ≡ picked_from stream_reply_of messages

@@ -2,10 +2,14 @@
 ghost use Rattle.std.specs.Prelude.{◌≡◌, ◌+◌, ◌<◌, [], ◌++◌, length, IfOk, IfErr, OnErr};
 ghost use Rattle.ca_header.specs.Reading.{head_at};
 ghost use Rattle.ca_header.specs.declared.header.TheConstants.{EXTENDED_LEN};
+ghost use Rattle.name_server.specs.StreamReplies.{is_stream_reply, says_enough, stream_reply_of};
 ghost use Rattle.name_server.specs.Streams.{IsHeard, IsNoStream, IsWholePart, len_of};
+ghost use Rattle.pv_search.specs.Picked.{IsPicked};
+ghost use Rattle.pv_search.specs.Replies.{host_in, minor_in};
 
-use ca_header::{Head, read_head};
-use pv_search::{Reply, read_replies};
+use ca_header::{Frame, Frames, Head, Header, read_head};
+use ca_message::commands::CA_PROTO_SEARCH;
+use pv_search::{Reply, SENDER_ADDRESS};
 use std::alloc::{AllocError, Global};
 use std::error::Error;
 use std::fmt;
@@ -13,6 +17,9 @@ use std::marker::Model;
 
 /// The longest payload of a message that a name server sends. That of a reply has 8 bytes.
 pub const PAYLOAD_LIMIT: u32 = 1_024;
+
+/// The least minor version that a reply with a payload tells.
+const MINOR: u32 = 8;
 
 /// Why a piece isn't heard.
 #[derive(Clone, Copy, Debug, PartialEq, Eq)]
@@ -101,9 +108,66 @@ fn hear_bytes(alloc: Global, bytes: &[u8]) -> Result<Heard, StreamFault>
     ensures no_answers { result ≡ Err StreamFault.NoAnswers → IsNoStream bytes.now }
 {
     let len = whole_part(bytes)?;
-    let replies = read_replies(alloc, bytes)?;
+    let replies = replies_in(alloc, bytes)?;
     let left = copy_of(alloc, &bytes[len..])?;
     Ok(Heard { replies, left })
+}
+
+fn replies_in(alloc: Global, bytes: &[u8]) -> Result<Vec<Reply>, AllocError>
+    ensures { IfOk result (λ replies. IsPicked stream_reply_of bytes.now replies.items) }
+{
+    let mut replies = Vec::new(alloc);
+    let mut frames = Frames::new(bytes);
+    while let Frame::Message(head, payload) = frames.next() {
+        if let Some(reply) = reply_in(&head, payload) {
+            replies.push(reply)?;
+        }
+    }
+    Ok(replies)
+}
+
+fn reply_in(head: &Header, payload: &[u8]) -> Option<Reply>
+    ensures { result ≡ stream_reply_of head.now payload.now }
+{
+    if !is_reply(head, payload) {
+        return None;
+    }
+    Some(Reply {
+        cid: head.p2,
+        host: host_in(head.p1),
+        port: head.dtype,
+    })
+}
+
+fn is_reply(head: &Header, payload: &[u8]) -> bool
+    ensures { result ≡ is_stream_reply head.now payload.now }
+{
+    head.command == CA_PROTO_SEARCH && says_enough(payload) && head.dtype != 0
+}
+
+fn says_enough(payload: &[u8]) -> bool
+    ensures { result ≡ says_enough payload.now }
+{
+    payload.len() == 0 || minor_in(payload) >= MINOR
+}
+
+fn minor_in(payload: &[u8]) -> u32
+    ensures { result ≡ minor_in payload.now }
+{
+    match (payload.get(0), payload.get(1)) {
+        (Some(high), Some(low)) => u32::from(*high) * 256 + u32::from(*low),
+        _ => 0,
+    }
+}
+
+fn host_in(address: u32) -> Option<u32>
+    ensures { result ≡ host_in address }
+{
+    if address == SENDER_ADDRESS {
+        None
+    } else {
+        Some(address)
+    }
 }
 
 fn copy_of(alloc: Global, bytes: &[u8]) -> Result<Vec<u8>, AllocError>

@@ -58,8 +58,9 @@ pub struct Serve<'a> {
     /// Further addresses that clients connect to.
     pub more: Vec<&'a str>,
     pub upstreams: Vec<&'a str>,
-    /// Where servers are searched for, and the nets that they may be in.
+    /// Where servers are searched for, over TCP too, and the nets that they may be in.
     pub searches: Vec<&'a str>,
+    pub name_servers: Vec<&'a str>,
     pub nets: Vec<&'a str>,
     /// Where beacons are sent.
     pub beacons: Vec<&'a str>,
@@ -169,6 +170,7 @@ fn serve_command<'a>(alloc: Global) -> Result<Command<'a>, Error> {
             "The address of a server, as 127.0.0.1:5070 or ioc1.lab:5064; at most 16, or what --servers says",
         )
         .required_unless_present("search")?
+        .required_unless_present("name-server")?
         .num_args(1..)
         .action(ArgAction::Append);
     let rules = option(alloc, "rules", "FILE", "The rule file");
@@ -190,9 +192,12 @@ fn serve_command<'a>(alloc: Global) -> Result<Command<'a>, Error> {
 fn address_options<'a>(alloc: Global, command: Command<'a>) -> Result<Command<'a>, Error> {
     let search =
         "Servers are searched for at this address, which may be a broadcast one; again for more";
+    let name_server =
+        "Servers are searched for over TCP at this name server too, as 10.0.0.9:5064; again for more, at most 16";
     let from =
         "Found servers are in this net, as 10.0.0.0/8; again for more, and anywhere where it isn't said";
     let search = option(alloc, "search", "ADDR", search).action(ArgAction::Append);
+    let name_server = option(alloc, "name-server", "ADDR", name_server).action(ArgAction::Append);
     let from = option(alloc, "from", "NET", from).action(ArgAction::Append);
     let more =
         "Clients find it on this address too, or by searches broadcast to it; again for more";
@@ -205,13 +210,14 @@ fn address_options<'a>(alloc: Global, command: Command<'a>) -> Result<Command<'a
         "Beacons are sent to this IPv4 address, which may be a broadcast one, as 10.0.1.255:5065; again for more";
     let beacons = option(alloc, "beacons", "ADDR", beacons).action(ArgAction::Append);
     let hear_beacons =
-        "Names are asked for sooner where a beacon tells of a server that is new; with --search";
+        "Names are asked for sooner where a beacon tells of a server that is new; with --search or --name-server";
     let idle =
         "A found server that has had no variable for so long is left; 1 to 86400, and 300 where it isn't said";
     Ok(
         command
             .arg(more)?
             .arg(search)?
+            .arg(name_server)?
             .arg(from)?
             .arg(beacons)?
             .arg(flag(alloc, "hear-beacons", hear_beacons))?
@@ -252,7 +258,7 @@ fn scale_options<'a>(alloc: Global, command: Command<'a>) -> Result<Command<'a>,
     let clients =
         "So many clients may be connected at once; 1 to 4096, and 1024 where it isn't said";
     let servers =
-        "There may be so many UPSTREAMs and found servers; 1 to 1024, and 16 where it isn't said, or 1024 with --search";
+        "There may be so many UPSTREAMs and found servers; 1 to 1024, and 16 where it isn't said, or 1024 with --search or --name-server";
     let names = "So many searched names are remembered, and old ones go for new ones; 1 to 1048576";
     let alive = "An UPSTREAM that says nothing for so long is asked whether it is there; 1 to 3600";
     let forget =
@@ -328,6 +334,7 @@ fn serve_arguments<'a>(alloc: Global, found: &ArgMatches<'a>) -> Result<Serve<'a
         more: words(alloc, found, "more")?,
         upstreams: words(alloc, found, "upstream")?,
         searches: words(alloc, found, "search")?,
+        name_servers: words(alloc, found, "name-server")?,
         nets: words(alloc, found, "from")?,
         beacons: words(alloc, found, "beacons")?,
         hear_beacons: found.get_flag("hear-beacons"),

@@ -26,22 +26,24 @@ pub enum ProgramFault {
     /// A net that is none, and why.
     #[error("the net is bad, as 10.0.0.0/8 is good: {0}: {1}")]
     BadNet(String, NetFault),
-    #[error("--from says where found servers are, and is nothing without --search")]
+    #[error("--from says where found servers are, and is nothing without --search or --name-server")]
     NetsAlone,
-    #[error("--hear-beacons is nothing without --search")]
+    #[error("--hear-beacons is nothing without --search or --name-server")]
     HearingAlone,
-    #[error("--idle says when found servers are left, and is nothing without --search")]
+    #[error("--idle says when found servers are left, and is nothing without --search or --name-server")]
     IdleAlone,
     /// Nobody else hears what is sent to LISTEN.
     #[error("the address of --search is LISTEN itself: {0}")]
     SearchOfListen(String),
+    #[error("the address of --name-server is LISTEN itself: {0}")]
+    NameServerOfListen(String),
     /// Clients take them for the gateway's where they come from its host.
     #[error("beacons go from an IPv4 LISTEN to IPv4 addresses: {0}")]
     BeaconsByIpv4(String),
     /// One socket asks all servers.
-    #[error("with --search all UPSTREAMs and addresses are IPv4, or all IPv6")]
+    #[error("with --search or --name-server all UPSTREAMs and addresses are IPv4, or all IPv6")]
     TwoFamilies,
-    #[error("with --search an UPSTREAM is named once: {0}")]
+    #[error("with --search or --name-server an UPSTREAM is named once: {0}")]
     UpstreamTwice(SocketAddr),
     /// A number of MiB that is none.
     #[error("the number of MiB is bad, as 256 is good: {0}")]
@@ -60,6 +62,8 @@ pub enum ProgramFault {
     BadLevel(String),
     #[error("there are more than {0} upstreams")]
     TooManyUpstreams(u32),
+    #[error("there are more than {0} name servers")]
+    TooManyNameServers(u32),
     /// LISTEN can't be opened.
     #[error("the address can't be listened on: {0}")]
     Listen(io::Error),
@@ -85,6 +89,7 @@ impl ProgramFault {
             | ProgramFault::HearingAlone
             | ProgramFault::IdleAlone
             | ProgramFault::SearchOfListen(_)
+            | ProgramFault::NameServerOfListen(_)
             | ProgramFault::BeaconsByIpv4(_)
             | ProgramFault::TwoFamilies
             | ProgramFault::UpstreamTwice(_)
@@ -92,7 +97,8 @@ impl ProgramFault {
             | ProgramFault::BadLevel(_)
             | ProgramFault::BadSeats(_)
             | ProgramFault::BadNumber(_, _)
-            | ProgramFault::TooManyUpstreams(_) => status::BAD_INPUT,
+            | ProgramFault::TooManyUpstreams(_)
+            | ProgramFault::TooManyNameServers(_) => status::BAD_INPUT,
             ProgramFault::File(_, _)
             | ProgramFault::UnknownHost(_)
             | ProgramFault::Listen(_)

@@ -1,6 +1,7 @@
 //! A gateway for EPICS process variables over Channel Access.
 #![tactic(auto)]
 
+mod addresses;
 mod arguments;
 mod check_rules;
 mod fault;

@@ -135,7 +135,7 @@ port. A socket on one address hears no broadcasts; so where LISTEN is one, --lis
 its net, with the same port. For each it prints: listening ADDR
 
 An UPSTREAM's host may be named, as ioc1.lab:5064. It is looked up each time that it is connected to; with --search
-that is done at the start alone, as for ADDR, since a server that moved is found.
+or --name-server that is done at the start alone, as for --search, since a server that moved is found.
 
 With --back-off a name that no server has is asked for when it is first looked for, and then after gaps
 that double up to 4.4 minutes, and each UPSTREAM gets at most 4 datagrams in 32 ms. Without it each
@@ -145,6 +145,12 @@ With --search servers are found too that answer searches sent to ADDR, beside UP
 connected to once one has a name that is missing: 1024 at most where --servers doesn't say another number.
 With --from only answers from these nets count, and servers in them. --search has --back-off with it, and
 --alive 15 where that isn't said.
+
+With --name-server the name server at ADDR is asked too, over TCP, and what it answers is taken as what answers a
+search: so it finds servers without --search, and has with it what that has. Its host may be named, and is looked up
+each time that it is connected to. One that isn't connected is tried again after 1 s, 2, 4 and so on up to 32; one that
+says nothing for so many seconds as --alive says is asked whether it is there, and lost where it says nothing for as long
+again. Each outage is told once.
 
 A found server that has had no variable of anybody for so many seconds as --idle says, or 300, is left; it is
 found again once one of its names is wanted.

@@ -14,6 +14,8 @@ pub struct Addresses {
     pub servers: Vec<Upstream>,
     /// How other servers are found, where they are searched for.
     pub discovery: Option<Discovery>,
+    /// Names are asked of these name servers too.
+    pub name_servers: Vec<Upstream>,
     /// Beacons are sent to these.
     pub beacons: Vec<SocketAddr>,
 }

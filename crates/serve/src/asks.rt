@@ -59,14 +59,15 @@ impl Asks {
         Ok(())
     }
 
-    /// Sends each server one datagram, with as many of the names as it holds, from the first on, and answers how many
-    /// these are. They are asked for then.
+    /// Sends each server one datagram, with as many of the names as it holds, from the first on, and each name server what it asks.
+    /// Answers how many these are. They are asked for then.
     pub fn send<R: System>(&mut self, rt: R, hub: &Hub) -> Result<usize, NoMemory> {
         let datagram = ask_datagram(hub.alloc, self.waiting.as_slice())?;
         send_to_servers(rt, hub, datagram.text.as_slice());
         if let Some(finding) = &hub.finding {
             let marked = finding.own.mark(hub.alloc, datagram.text.as_slice())?;
             send_to_all(hub, finding.discovery.targets.as_slice(), marked.as_slice());
+            hub.name_servers.ask(&rt, datagram.text.as_slice());
         }
         let asked = datagram.asked.min(self.waiting.len());
         drop(self.waiting.drain(..asked));

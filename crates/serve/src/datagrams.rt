@@ -11,7 +11,7 @@ use crate::sockets::Sender;
 use ask_schedule::AtOnce;
 use gateway_core::{AskFault, Event};
 use pv_name::{Host, Name, NoMemory};
-use pv_search::{Datagram, SearchAnswer, first_part, read_found, read_replies};
+use pv_search::{Datagram, Reply, SearchAnswer, first_part, read_found, read_replies};
 use serve_state::{Clashes, Notice};
 use server_book::{Address, is_believed};
 use std::net::{IpAddr, Ipv4Addr, SocketAddr};
@@ -109,12 +109,21 @@ pub fn receive_replies<R: System, H: AsHub>(rt: R, hub: &H, buffer: Vec<u8>) {
     }
 }
 
-// What is believed goes to whoever finds servers.
 fn hear_replies<R: System>(rt: R, hub: &Hub, finding: &Finding, datagram: &[u8], from: SocketAddr) {
-    let Ok(replies) = read_replies(hub.alloc, datagram) else {
-        hub.tell(&rt, Notice::OutOfMemory);
-        return;
-    };
+    match read_replies(hub.alloc, datagram) {
+        Ok(replies) => take_replies(rt, hub, finding, replies, from),
+        Err(_) => hub.tell(&rt, Notice::OutOfMemory),
+    }
+}
+
+/// What is believed of replies goes to whoever finds servers.
+pub fn take_replies<R: System>(
+    rt: R,
+    hub: &Hub,
+    finding: &Finding,
+    replies: Vec<Reply>,
+    from: SocketAddr,
+) {
     for reply in replies {
         let ip = match reply.host {
             Some(bits) => IpAddr::V4(Ipv4Addr::from_bits(bits)),

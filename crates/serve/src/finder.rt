@@ -57,7 +57,7 @@ struct Finder {
     clashes: Clashes,
     // The hour in which it was told that there are as many servers as may be.
     told_full: Option<u64>,
-    // A server came, since all names were asked for anew at this time.
+    // A server or a name server came, since all names were asked for anew at this time.
     has_come: bool,
     hurried: Option<u64>,
     // When it was looked at last which servers can't be reached, and in which look room was made for others.
@@ -186,7 +186,7 @@ pub fn find_servers<
         return;
     };
     for _ in rt.forever() {
-        let Some(told) = next_told(rt, hub.hub()) else {
+        let Some(told) = next_told(rt, hub.hub(), &mut finder) else {
             return;
         };
         finder.now = milliseconds(rt, finder.now);
@@ -203,7 +203,7 @@ pub fn find_servers<
 }
 
 // The replies that came, once anything did or time passed. None where the gateway ends.
-fn next_told<R: System>(rt: R, hub: &Hub) -> Option<Vec<Told>> {
+fn next_told<R: System>(rt: R, hub: &Hub, finder: &mut Finder) -> Option<Vec<Told>> {
     let finding = hub.finding.as_ref()?;
     let inbox = finding.inbox.lock(&rt);
     let pause = Duration::from_millis(PAUSE);
@@ -213,6 +213,7 @@ fn next_told<R: System>(rt: R, hub: &Hub) -> Option<Vec<Told>> {
     if inbox.end {
         return None;
     }
+    finder.has_come |= inbox.take_name_server();
     Some(inbox.take_told(hub.alloc))
 }
 

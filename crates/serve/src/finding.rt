@@ -30,6 +30,16 @@ pub struct Discovery {
     pub idle: u32,
 }
 
+impl Discovery {
+    /// Whether all servers are asked by IPv4: as searches are sent, or where none is, as clients are served.
+    pub fn is_ipv4(&self, listen: SocketAddr) -> bool {
+        match self.targets.first() {
+            Some(target) => target.is_ipv4(),
+            None => listen.is_ipv4(),
+        }
+    }
+}
+
 /// By this the gateway knows its own asks, which come back to it where they are broadcast: they come from this port, and their
 /// VERSION has this sequence number.
 #[derive(Clone, Copy)]
@@ -87,6 +97,8 @@ pub enum Came {
 pub struct FinderInbox {
     told: Vec<Told>,
     came: VecDeque<(u32, Came)>,
+    // A name server is connected.
+    name_server_came: bool,
     pub end: bool,
 }
 
@@ -96,12 +108,13 @@ impl FinderInbox {
         Ok(FinderInbox {
             told: Vec::new(alloc),
             came: VecDeque::with_capacity(alloc, room)?,
+            name_server_came: false,
             end: false,
         })
     }
 
     pub fn is_empty(&self) -> bool {
-        !self.end && self.told.is_empty() && self.came.is_empty()
+        !self.end && !self.name_server_came && self.told.is_empty() && self.came.is_empty()
     }
 
     /// The replies that weren't heard yet.
@@ -112,6 +125,11 @@ impl FinderInbox {
     /// What came first of the connection to a server, and its number.
     pub fn take_came(&mut self) -> Option<(u32, Came)> {
         self.came.pop_front()
+    }
+
+    /// Whether name servers came since it was asked last.
+    pub fn take_name_server(&mut self) -> bool {
+        replace(&mut self.name_server_came, false)
     }
 
     // Where too many wait, or memory is refused, the reply is lost: the name is asked for again.
@@ -165,6 +183,12 @@ impl Finding {
         let noted = self.inbox.lock(rt).note(number, came);
         self.came.notify_all();
         noted
+    }
+
+    /// A name server is connected.
+    pub fn note_name_server<R: Wait>(&self, rt: &R) {
+        self.inbox.lock(rt).name_server_came = true;
+        self.came.notify_all();
     }
 
     /// Whoever finds servers is to end.

@@ -5,6 +5,7 @@ use crate::late::LateInbox;
 use crate::line::WatchedStream;
 use crate::logging::LogBook;
 use crate::machine::System;
+use crate::name_servers::NameServers;
 use crate::searches::WaitingDatagrams;
 use crate::sockets::Sockets;
 use crate::upstreams::Upstreams;
@@ -23,6 +24,11 @@ use std::collections::VecDeque;
 use std::mem::replace;
 use std::net::{Shutdown, SocketAddr, TcpStream};
 use std::sync::{Arc, Condvar, Mutex, Wait};
+
+/// What servers hear of the gateway: the name of its user, and of its host.
+pub const USER: &str = "pvgate";
+
+pub const HOST: &str = "gw";
 
 /// A connection's socket.
 pub type Stream = Arc<TcpStream, Global>;
@@ -156,6 +162,8 @@ pub struct Hub {
     pub servers: Upstreams,
     /// How other servers are found, where they are searched for.
     pub finding: Option<Finding>,
+    /// Where they are searched for over TCP.
+    pub name_servers: NameServers,
     /// How beacons are sent, where they are.
     pub beacons: Option<Beacons>,
     pub options: Options,
@@ -191,6 +199,7 @@ impl Hub {
         sockets: Sockets,
         servers: Upstreams,
         finding: Option<Finding>,
+        name_servers: NameServers,
         beacons: Option<Beacons>,
         options: Options,
         most_files: u64,
@@ -206,6 +215,7 @@ impl Hub {
             sockets,
             servers,
             finding,
+            name_servers,
             beacons,
             options,
             most_files,
@@ -341,7 +351,11 @@ impl Hub {
         match &self.finding {
             Some(_) => {
                 let half = u32::try_from(self.most_files / 2).unwrap_or(u32::MAX);
-                self.options.scale.servers.min(half)
+                self.options
+                    .scale
+                    .servers
+                    .min(half)
+                    .saturating_add(self.name_servers.count())
             }
             None => self.server_count(),
         }

@@ -16,6 +16,7 @@
 //! - one answers searches that couldn't be answered when they came, one hears of those that clients made on their connections,
 //!   and one sends beacons, where they are to;
 //! - two for each connection, which read and write;
+//! - for each name server one that connects and hears it, and while it is connected one that writes to it: nobody waits for them;
 //! - where servers' beacons are heard, one hears them: nobody waits for it;
 //! - one reads the orders of standard input, one performs those that are to be repeated, where any is, one tells of
 //!   the gateway, where it is to, one writes the log, and one for each connection to a server that is being made: these
@@ -39,6 +40,7 @@ mod line;
 mod link;
 mod logging;
 mod machine;
+mod name_servers;
 mod opening;
 mod orders;
 mod pace;

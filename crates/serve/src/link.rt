@@ -39,8 +39,8 @@ impl SocketLink {
     }
 }
 
-// Reads once, however often the call is interrupted.
-fn read_once(stream: &TcpStream, buffer: &mut [u8]) -> io::Result<usize>
+/// Reads once, however often the call is interrupted.
+pub fn read_once(stream: &TcpStream, buffer: &mut [u8]) -> io::Result<usize>
     ensures bound { IfOk result (λ n. n ≤ length buffer.new) }
     ensures length { length buffer.new ≡ length buffer.old }
 {

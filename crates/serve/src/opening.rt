@@ -8,11 +8,12 @@ use crate::fault::ServeFault;
 use crate::finder::find_servers;
 use crate::finding::{Discovery, Finding, OwnAsks};
 use crate::hearing::hear_beacons;
-use crate::hub::{AsGate, AsHub, AsRest, Hub, Options, Served};
+use crate::hub::{AsGate, AsHub, AsRest, HOST, Hub, Options, Served, USER};
 use crate::keeper::keep_rows;
 use crate::late::answer_late;
 use crate::logging::{LogBook, Teller, write_lines};
 use crate::machine::{Machine, System};
+use crate::name_servers::{NameServers, keep_name_server};
 use crate::orders::{Orders, read_orders};
 use crate::repeating::{repeat_orders, repeats};
 use crate::reports::tell_reports;
@@ -84,6 +85,7 @@ fn rest<R: Machine + System>(
         more: _,
         servers,
         discovery,
+        name_servers,
         beacons,
     } = addresses;
     let finding = match discovery {
@@ -100,6 +102,7 @@ fn rest<R: Machine + System>(
         sockets,
         Upstreams::new(alloc, servers)?,
         finding,
+        NameServers::new(alloc, name_servers)?,
         beacons,
         options,
         rt.most_files(),
@@ -177,6 +180,7 @@ fn serve<
     start_orders(rt, &hub, orders)?;
     start_reports(rt, &hub, reports)?;
     start_finder(rt, &hub)?;
+    start_name_servers(rt, &hub)?;
     start_hearing(rt, &hub)?;
     let mut buffer = Vec::new(alloc);
     buffer.resize(DATAGRAM_SIZE, 0u8)?;
@@ -252,6 +256,24 @@ fn start_finder<
         Ok(_) => Ok(()),
         Err(_) => Err(ServeFault::OutOfMemory),
     }
+}
+
+// A thread for each name server, which starts another one for each connection. Nobody waits for them. The system needs more than
+// others to look a host up.
+fn start_name_servers<
+    R: System + Threads + Net<Listener = TcpListener, Stream = TcpStream> + 'static,
+    H: AsHub + Send + Sync + Drop + 'static,
+>(rt: R, hub: &Arc<H, Global>) -> Result<(), ServeFault> {
+    for number in 1..=hub.hub().name_servers.count() {
+        let again = Arc::try_clone(hub)?;
+        let keeping = Builder::new()
+            .stack_size(RULES_STACK_SIZE)
+            .spawn(&rt, move || keep_name_server(rt, again, number));
+        if keeping.is_err() {
+            return Err(ServeFault::OutOfMemory);
+        }
+    }
+    Ok(())
 }
 
 // The thread that hears servers' beacons, where it is to. Nobody waits for it.
@@ -433,8 +455,10 @@ fn perform_rounds<R: System, H: AsHub>(rt: R, hub: &H) {
 }
 
 fn gate(alloc: Global, port: u16, first: FirstNumber, policy: Policy) -> Result<Gate, ServeFault> {
-    let (Ok(client_name), Ok(host_name)) = (Name::read(alloc, b"pvgate"), Name::read(alloc, b"gw"))
-    else {
+    let (Ok(client_name), Ok(host_name)) = (
+        Name::read(alloc, USER.as_bytes()),
+        Name::read(alloc, HOST.as_bytes()),
+    ) else {
         return Err(ServeFault::OutOfMemory);
     };
     let config = Config {

@@ -165,9 +165,9 @@ fn reach_found<R: System + Net<Listener = TcpListener, Stream = TcpStream>>(
     }
 }
 
-// Whether the connection leads to an address on which clients are served, where that is each one of the machine: no reply tells
-// which these are.
-fn is_own_door(hub: &Hub, peer: SocketAddr, stream: &TcpStream) -> bool {
+/// Whether the connection leads to an address on which clients are served, where that is each one of the machine: no reply tells
+/// which these are.
+pub fn is_own_door(hub: &Hub, peer: SocketAddr, stream: &TcpStream) -> bool {
     if !is_served(hub, peer.port()) {
         return false;
     }

@@ -154,7 +154,7 @@ pub fn open_sockets<R: System + Net<Listener = TcpListener, Stream = TcpStream>>
         more.push(open_entrance(rt, *listen, addresses, site)?)?;
     }
     let own_asks = match &addresses.discovery {
-        Some(discovery) => Some(open_searches(rt, discovery)?),
+        Some(discovery) => Some(open_searches(rt, discovery, addresses.listen)?),
         None if site => {
             let mut own = first.address;
             own.set_port(0);
@@ -194,16 +194,16 @@ fn open_entrance<R: System + Net<Listener = TcpListener, Stream = TcpStream>>(
     })
 }
 
-// All addresses that are searched at are of one family.
+// All addresses that are searched at are of one family, or where there is none UPSTREAMs are of LISTEN's.
 fn open_searches<R: System + Net<Listener = TcpListener, Stream = TcpStream>>(
     rt: R,
     discovery: &Discovery,
+    listen: SocketAddr,
 ) -> io::Result<Datagrams> {
-    let is_new = discovery.targets.iter().any(|target| !target.is_ipv4());
-    let any = if is_new {
-        IpAddr::V6(Ipv6Addr::UNSPECIFIED)
-    } else {
+    let any = if discovery.is_ipv4(listen) {
         IpAddr::V4(Ipv4Addr::UNSPECIFIED)
+    } else {
+        IpAddr::V6(Ipv6Addr::UNSPECIFIED)
     };
     let own = open_datagrams(rt, SocketAddr::new(any, 0))?;
     own.socket.set_broadcast(true)?;
