@@ -241,7 +241,7 @@ impl<G: GatewayCalls + Drop> GateOver<G> {
         seen: u64,
     ) -> Option<Result<UnansweredSince, AllocError>> {
         let kept = self.kept.lock(rt);
-        let kept = self.unanswered.wait_while(rt, kept, |kept| {
+        let mut kept = self.unanswered.wait_while(rt, kept, |kept| {
             !kept.has_stopped() && kept.unanswered_count() == seen
         });
         if kept.has_stopped() {
