@@ -48,8 +48,9 @@ SCRIPTS = [
     "limits.holds_updates_back_while_4096_messages_wait", "limits.ends_a_client_that_never_reads",
     "told_limits.an_old_search_goes_for_a_new_one", "ages.a_server_is_asked_whether_it_is_there",
     "ages.a_channel_that_a_server_owes_since_before_the_last_age_is_given_up",
+    "searches.answers_searches_on_connections", "searches.makes_a_search_again_for_its_client",
 ]
-FROM_CLIENTS = {0, 1, 2, 4, 8, 9, 12, 15, 18, 19, 20, 21, 23, 99}
+FROM_CLIENTS = {0, 1, 2, 4, 6, 8, 9, 12, 15, 18, 19, 20, 21, 23, 99}
 FROM_SERVERS = {0, 1, 18, 19, 22, 26, 27, 99}
 
 FILES = {
