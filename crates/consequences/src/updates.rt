@@ -326,7 +326,7 @@ fn tell_while_taking(
     subs: &[ClientSub],
 ) -> Result<(), AllocError>
     requires told { KnowRights rows.old.state }
-    requires gives { All (λ sub. is_sub_of number sub ≡ true) subs.now }
+    requires of { All (λ sub. is_sub_of number sub ≡ true) subs.now }
     ensures ok { OnOk result (rows.new.state ≡ fold told_in_turn rows.old.state subs.now) }
     ensures looked { LookedOn rows.old rows.new }
 {
