@@ -249,3 +249,18 @@ def name_serving_outside(room):
     time.sleep(1)
     room.check("a name server outside the nets isn't believed", up.count_clients() == 0 and client.try_open("A") is None, server.logged)
     room.equal("quit", server.quit(), 0)
+
+
+def name_serving_gateway(room):
+    """Another gateway is a name server for what it serves, and answers once it can."""
+    up = room.upstream(variable("A", values=[1]))
+    inner = room.server(up, options=("--site",))
+    outer = room.server(options=through(inner))
+    client = room.client(outer)
+    channel = client.open("A")
+    room.equal("a name that is found through both", channel and client.values(channel), [1])
+    up.give("A", [2])
+    room.eventually("what it is changed to", lambda: client.values(channel) == [2])
+    room.equal("what is logged", told(outer), said_of(1, inner, "connected"))
+    for it in (outer, inner):
+        room.equal("quit", it.quit(), 0)
