@@ -107,6 +107,15 @@ def said_of(number, place, *words):
     return [f"{number} ({text_of(place.address)}) {it}" for it in words]
 
 
+def check_told(room, server, *lines):
+    """Just this is logged of name servers, those of each in order."""
+    room.check("what is logged", room.wait(lambda: sorted(told(server), key=first_word) == list(lines), 10), f"{told(server)}, not {lines}")
+
+
+def first_word(line):
+    return line.split()[0]
+
+
 def name_serving(room):
     """Names that are found through a name server alone, whose replies come in odd pieces, and one of which is on another host."""
     near, far = room.upstream(variable("A", values=[1]), variable("B", values=[2])), Elsewhere([variable("C", values=[3])])
@@ -127,7 +136,7 @@ def name_serving(room):
     room.equal("nothing else is said than what it is asked for", set(place.commands()[3:]), {ca.SEARCH})
     client.search("DEAD")
     room.eventually("a name that it doesn't have is asked for again", lambda: len(place.times("DEAD")) > 2)
-    room.equal("what is logged", told(server), said_of(1, place, "connected"))
+    check_told(room, server, *said_of(1, place, "connected"))
     room.check("the servers are found ones", server.has_logged("INFO", "upstream 1", "connected") and server.has_logged("INFO", "upstream 2", "connected"), server.logged)
     room.equal("quit", server.quit(), 0)
 
@@ -143,7 +152,7 @@ def name_serving_beside(room):
         channel = client.open(name)
         room.equal(name, channel and client.values(channel), [value])
     room.check("both are asked for what the other has", places[0].times("B") and places[1].times("A"))
-    room.equal("what is logged", sorted(told(server)), said_of(1, places[0], "connected") + said_of(2, places[1], "connected"))
+    check_told(room, server, *said_of(1, places[0], "connected"), *said_of(2, places[1], "connected"))
     room.equal("quit", server.quit(), 0)
     server = room.server(named, options=through(places[0]))
     client = room.client(server)
@@ -175,7 +184,7 @@ def name_serving_rubbish(room):
     channel = client.open("A")
     room.equal("once it speaks as one, its names are found", channel and client.values(channel), [1])
     room.equal("connections", len(place.heard), len(RUBBISH) + 1)
-    room.equal("what is logged", told(server), said_of(1, place, "connected", "cut off: it sent what no name server sends; it is tried again", "connected"))
+    check_told(room, server, *said_of(1, place, "connected", "cut off: it sent what no name server sends; it is tried again", "connected"))
     room.equal("quit", server.quit(), 0)
 
 
@@ -200,7 +209,7 @@ def name_serving_lost(room):
     place.start()
     channel = client.open("B")
     room.equal("it is asked again", channel and client.values(channel), [2])
-    room.equal("what is logged", told(server), said_of(
+    check_told(room, server, *said_of(
         1, place, "can't be reached, and is tried again", "connected", "lost: its connection ended; it is tried again", "connected"))
     room.equal("quit", server.quit(), 0)
 
@@ -215,10 +224,10 @@ def name_serving_mute(room):
     room.eventually("it is connected to again and again", lambda: ca.HOST_NAME in mute.commands(2))
     room.equal("no thread stays", len(os.listdir(tasks)), threads)
     room.check("it was asked each time", all(mute.commands(at).count(ca.ECHO) == 1 for at in (0, 1)), mute.heard)
-    room.check("after a second, and another one it had", 1.8 < mute.heard[1][0] - mute.heard[0][0] < 6, mute.heard)
+    room.check("after a second, and another one it had", 1.8 < mute.heard[1][0] - mute.heard[0][0] < 20, mute.heard)
     why = "cut off: it said nothing for 1 s, and nothing when it was asked; it is tried again"
-    room.equal("what is logged of it", [it for it in told(server) if it.startswith("1 ")], said_of(1, mute, "connected", why))
-    room.equal("the other one stays", (len(other.heard), [it for it in told(server) if it.startswith("2 ")]), (1, said_of(2, other, "connected")))
+    check_told(room, server, *said_of(1, mute, "connected", why), *said_of(2, other, "connected"))
+    room.equal("the other one stays", len(other.heard), 1)
     room.check("it is asked too", other.commands().count(ca.ECHO) > 1, other.heard)
     room.equal("quit", server.quit(), 0)
 
@@ -249,3 +258,18 @@ def name_serving_outside(room):
     time.sleep(1)
     room.check("a name server outside the nets isn't believed", up.count_clients() == 0 and client.try_open("A") is None, server.logged)
     room.equal("quit", server.quit(), 0)
+
+
+def name_serving_gateway(room):
+    """Another gateway is a name server for what it serves, and answers once it can."""
+    up = room.upstream(variable("A", values=[1]))
+    inner = room.server(up, options=("--site",))
+    outer = room.server(options=through(inner))
+    client = room.client(outer)
+    channel = client.open("A")
+    room.equal("a name that is found through both", channel and client.values(channel), [1])
+    up.give("A", [2])
+    room.eventually("what it is changed to", lambda: client.values(channel) == [2])
+    check_told(room, outer, *said_of(1, inner, "connected"))
+    for it in (outer, inner):
+        room.equal("quit", it.quit(), 0)
