@@ -7,5 +7,5 @@ mod core_alone;
 mod held;
 mod refused;
 mod stories;
-mod tell;
+pub(crate) mod tell;
 pub(crate) mod told;

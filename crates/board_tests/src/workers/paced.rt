@@ -37,6 +37,11 @@ impl Count {
         self.shared.fetch_add(more, Ordering::SeqCst);
     }
 
+    /// How much it is now.
+    pub(crate) fn now(&self) -> u64 {
+        self.shared.load(Ordering::SeqCst)
+    }
+
     /// Waits until it is so much. False where it never came to that.
     pub(crate) fn comes_to<R: Clock>(&self, rt: &R, wanted: u64) -> bool {
         for _ in 0..LOOKS {
