@@ -7,5 +7,5 @@ mod core_alone;
 mod held;
 mod refused;
 mod stories;
-pub(crate) mod tell;
+mod tell;
 pub(crate) mod told;

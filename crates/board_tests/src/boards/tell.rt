@@ -268,8 +268,8 @@ fn command_of_next(outlet: &mut Outlet) -> Option<u8> {
     outlet.next()?.head.as_slice().get(1).copied()
 }
 
-/// The message that stands in a text as digits.
-pub(crate) fn said(alloc: Global, digits: &str) -> Option<Message> {
+// The message that stands in a text as digits.
+fn said(alloc: Global, digits: &str) -> Option<Message> {
     let bytes = hex::decode(alloc, digits).ok()?;
     let mut intake = Intake::new(alloc);
     intake.feed(bytes.as_slice()).ok()?;

@@ -1,107 +1,81 @@
-//! What stands beside those that wait.
+//! Two connections and a core, and what is done beside them.
+use crate::waits::deeds::Deed;
+use crate::waits::signs::{LAST, Signs};
+use crate::workers::meeting::{Ended, PacedConnection, serve_two};
 use crate::workers::paced::Count;
-use crate::workers::stand::{Lends, attach};
-use gate_board::{Gate, Inbound, Inlet, Outlet, Taken, Turn};
-use gateway_core::Dest;
-use std::alloc::Global;
+use crate::workers::stand::Lends;
+use gate_board::Gate;
+use session_worker::{CoreEnd, InEnd, OutEnd, serve_core};
 use std::rt::Clock;
 use std::sync::Wait;
-use std::test::Fail;
-use std::thread;
 use std::thread::{Threads, join};
-use std::time::{CpuClock, Duration};
+use std::time::CpuClock;
 
-/// How long others get to fall asleep.
-const REST_MILLIS: u64 = 20;
+pub(super) const ECHO: &str = "00170000000000000000000100000000";
 
-/// How long it is looked whether they sleep, and how much of a processor they take meanwhile at most.
-const LOOK_MILLIS: u64 = 100;
+pub(super) const CREATE: &str = "0012000800000000000000070000000D5431000000000000";
 
-const MOST_MILLIS: u64 = 40;
-
-/// Gives others the time to fall asleep.
-pub(super) fn rest<R: Clock>(rt: &R) {
-    thread::sleep(rt, Duration::from_millis(REST_MILLIS));
-}
-
-/// Whether the count comes to so much, and stays there.
-pub(super) fn stays_at<R: Clock>(rt: &R, count: &Count, wanted: u64) -> bool {
-    let came = count.comes_to(rt, wanted);
-    rest(rt);
-    came && count.now() == wanted
-}
-
-/// Whether all threads sleep: for a while they take next to no time of a processor.
-pub(super) fn all_sleep<R: Clock + CpuClock>(rt: &R) -> bool {
-    let began = rt.process_cpu_time();
-    thread::sleep(rt, Duration::from_millis(LOOK_MILLIS));
-    match (began, rt.process_cpu_time()) {
-        (Ok(began), Ok(ended)) => {
-            ended.saturating_sub(began) < Duration::from_millis(MOST_MILLIS)
-        }
-        _ => false,
-    }
-}
-
-/// Whether an item has a place, and is performed by one turn.
-pub(super) fn is_heard<R: Wait>(rt: &R, gate: &Gate, inlet: &mut Inlet, item: Inbound) -> bool {
-    inlet.offer(item).is_ok() && gate.turn(rt) == Turn::Moved
-}
-
-/// A writer that counts its answers.
-#[derive(Drop)]
-pub(super) struct Writer {
-    dest: Dest,
-    outlet: Outlet,
-    answers: Count,
-}
-
-impl Writer {
-    /// A connection's writer, and its reader's end.
-    pub(super) fn attached<R: Wait>(
-        rt: &R,
-        alloc: Global,
-        gate: &Gate,
-        dest: Dest,
-        answers: &Count,
-    ) -> Result<(Inlet, Writer), Fail> {
-        let (inlet, outlet) = attach(rt, alloc, gate, dest)?;
-        let answers = answers.again()?;
-        Ok((
-            inlet,
-            Writer {
-                dest,
-                outlet,
-                answers,
-            },
-        ))
-    }
-
-    /// Takes messages until there are none any more: true where it is told that they came to their end.
-    pub(super) fn takes_all<R: Wait>(mut self, rt: &R, gate: &Gate) -> bool {
-        for _ in 0..1_000 {
-            let taken = gate.take(rt, &mut self.outlet, self.dest);
-            self.answers.add(1);
-            match taken {
-                Taken::Item(_) => (),
-                Taken::Closed => return true,
-                Taken::Stopped => return false,
-            }
-        }
-        false
-    }
-}
-
-/// Two writers at once.
-pub(super) fn both_take<R: Threads + Wait + Sync, G: Lends + Sync>(
+// Then the gate is closed, and all go on to their end.
+fn act_beside<R: Threads + Wait + Clock + CpuClock + Send + Sync + Drop, G: Lends + Sync>(
     rt: &R,
     gate: &G,
-    one: Writer,
-    other: Writer,
-) -> (bool, bool) {
+    one: PacedConnection<R>,
+    other: PacedConnection<R>,
+    core: Count,
+    signs: Signs,
+    deed: Deed,
+) -> ((bool, CoreEnd), ((Ended<R>, Ended<R>), bool)) {
+    let alloc = signs.alloc;
     join(
         rt,
-        move || one.takes_all(rt, gate.gate()),
-        move || other.takes_all(rt, gate.gate()),
+        move || {
+            let is_begun = core.comes_to(rt, 1);
+            let end = serve_core(rt, gate.gate());
+            core.add(1);
+            (is_begun, end)
+        },
+        move || {
+            join(
+                rt,
+                move || serve_two(rt, alloc, gate, one, other),
+                move || {
+                    let is_done = deed.act(rt, gate.gate(), &signs);
+                    gate.gate().close(rt);
+                    signs.core.add(1);
+                    signs.steps.add(LAST);
+                    is_done
+                },
+            )
+        },
+    )
+}
+
+/// How a connection's workers ended.
+pub(super) type Workers = (InEnd, OutEnd);
+
+/// Both came to their ends, where the client was lost or had to end.
+pub(super) const ENDED: Workers = (InEnd::Closed, OutEnd::Closed);
+
+/// The writer waited until the gate was closed.
+pub(super) const STOPPED: Workers = (InEnd::Closed, OutEnd::GateFailed);
+
+/// The core waited until the gate was closed, and what was done came as it must.
+pub(super) const DONE: (CoreEnd, bool) = (CoreEnd::Closed, true);
+
+/// Serves two connections, with a core, beside a deed.
+pub(super) fn serve_beside<R: Threads + Wait + Clock + CpuClock + Send + Sync + Drop>(
+    rt: &R,
+    gate: &Gate,
+    one: PacedConnection<R>,
+    other: PacedConnection<R>,
+    core: Count,
+    signs: Signs,
+    deed: Deed,
+) -> (Workers, Workers, (CoreEnd, bool)) {
+    let (core, ((one, other), is_done)) = act_beside(rt, gate, one, other, core, signs, deed);
+    (
+        (one.read, one.wrote),
+        (other.read, other.wrote),
+        (core.1, core.0 && is_done),
     )
 }

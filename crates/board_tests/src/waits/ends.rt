@@ -1,191 +1,103 @@
 //! All that wait at a gate that stops.
-use crate::waits::beside::{all_sleep, rest};
-use crate::waits::served::{finding, serve_t1};
-use crate::workers::paced::Count;
-use crate::workers::stand::{Lends, attach, bytes, gate};
-use gate_board::{Gate, Inlet, Outlet};
+use crate::waits::beside::{CREATE, DONE, ECHO, STOPPED, Workers, serve_beside};
+use crate::waits::deeds::{Deed, MANY, ONE, Stop, THIRD};
+use crate::waits::signs::{LAST, Signs};
+use crate::workers::meeting::PacedConnection;
+use crate::workers::stand::{attach, bytes, gate};
+use gate_board::Gate;
 use gateway_core::{Dest, Event};
-use session_worker::{CoreEnd, InEnd, MemoryLink, OutEnd, serve_core, serve_in, serve_out};
+use pv_name::{Host, Name};
+use session_worker::{CoreEnd, InEnd, MemoryLink, OutEnd};
 use std::alloc::Global;
-use std::process::Abort;
 use std::rt::Clock;
 use std::sync::Wait;
 use std::test::Fail;
-use std::thread::{Threads, join};
+use std::thread::Threads;
 use std::time::CpuClock;
 
-const READ: Dest = Dest::Session(1);
+const VERSION: &str = "000000000000000D0000000000000000";
 
-const WRITTEN: Dest = Dest::Session(2);
+/// Either worker waited at the gate until it stopped.
+const TOLD: Workers = (InEnd::GateFailed, OutEnd::GateFailed);
 
-const LAST: Dest = Dest::Session(3);
-
-const ECHO: &str = "00170000000000000000000100000000";
-
-const CREATE: &str = "0012000800000000000000070000000D5431000000000000";
-
-/// More messages than a ring has places.
-const MANY: usize = 300;
-
-/// How a gate stops: it is closed, or the event at the desk fails, or what a client says.
-#[derive(Drop)]
-enum Stop {
-    Close,
-    Event(Event),
-    Said(MemoryLink, Inlet),
+// Hands in that a client searches for a name. It answers the event that the server has it.
+fn finding<R: Wait>(rt: &R, alloc: Global, gate: &Gate, name: &[u8]) -> Result<Event, Fail> {
+    let host = Host::read(alloc, b"10.0.0.5")?;
+    gate.desk(rt, Event::Search(host, Name::read(alloc, name)?))?;
+    Ok(Event::Found(Name::read(alloc, name)?, 1))
 }
 
-// Stops the gate.
-fn stop_it<R: Wait>(rt: &R, alloc: Global, gate: &Gate, stop: Stop) {
-    match stop {
-        Stop::Close => gate.close(rt),
-        Stop::Event(event) => {
-            let _fault = gate.desk(rt, event);
-        }
-        Stop::Said(mut link, mut inlet) => {
-            let _end = serve_in(rt, alloc, &mut link, &mut inlet, gate, LAST);
-        }
-    }
-}
-
-/// A reader with more to say than its ring has places, and a writer for whom nothing comes.
-#[derive(Drop)]
-struct Workers {
-    link: MemoryLink,
-    inlet: Inlet,
-    sink: MemoryLink,
-    outlet: Outlet,
-}
-
-fn work<R: Threads + Wait + Sync, G: Lends + Sync>(
-    rt: &R,
+/// A server that was found to have T1, to which the gateway gives this number, as it stands in messages. It says that T1
+/// is there; some of the calls by which it is written to wait for steps.
+pub(super) fn served<R: Wait + Copy + Drop>(
+    rt: R,
     alloc: Global,
-    gate: &G,
-    workers: Workers,
-) -> (InEnd, OutEnd) {
-    let Workers {
-        mut link,
-        mut inlet,
-        mut sink,
-        mut outlet,
-    } = workers;
-    join(
-        rt,
-        move || serve_in(rt, alloc, &mut link, &mut inlet, gate.gate(), READ),
-        move || serve_out(rt, &mut sink, &mut outlet, gate.gate(), WRITTEN),
-    )
+    gate: &Gate,
+    signs: &Signs,
+    number: &str,
+    writes: &[(usize, u64)],
+) -> Result<PacedConnection<R>, Fail> {
+    let said = format!(in alloc;
+        "{VERSION}0016000000000000{number}000000030012000000050001{number}00000065"
+    )?;
+    let reads = [(3, LAST)];
+    let server = Dest::Upstream(1);
+    let server = signs.connection(rt, gate, server, 16, &said, &reads, writes, &signs.other)?;
+    let found = finding(&rt, alloc, gate, b"T1")?;
+    gate.desk(&rt, found)?;
+    Ok(server)
 }
 
-// The workers wait, and the core does once it has begun; then the gate is stopped. It answers how they ended, and whether
-// all slept before that.
-fn stop_beside<R: Threads + Wait + Clock + CpuClock + Sync, G: Lends + Sync>(
-    rt: &R,
-    alloc: Global,
-    gate: &G,
-    workers: Workers,
-    (begin, ended): (Count, Count),
-    stop: Stop,
-) -> ((InEnd, OutEnd), ((bool, CoreEnd), bool)) {
-    join(
-        rt,
-        move || {
-            let ends = work(rt, alloc, gate, workers);
-            ended.add(1);
-            ends
-        },
-        move || {
-            join(
-                rt,
-                move || (begin.comes_to(rt, 1), serve_core(rt, gate.gate())),
-                move || {
-                    rest(rt);
-                    let slept = all_sleep(rt);
-                    stop_it(rt, alloc, gate.gate(), stop);
-                    slept
-                },
-            )
-        },
-    )
-}
-
-// How the core ends that waits where a gate stops. Without one it begins once the workers ended. The reader's ring is
-// emptied by nobody: the board's ends are taken off.
-fn end_all<R: Threads + Wait + Clock + CpuClock + Abort + Sync>(
-    rt: &R,
+// How all end: a reader that has more to say than its ring has places, which nobody empties, as the board's ends are taken
+// off; its writer, and a server's; and the core.
+fn stop_all<R: Threads + Wait + Clock + CpuClock + Copy + Send + Sync + Drop>(
+    rt: R,
     alloc: Global,
     gate: &Gate,
     stop: Stop,
     has_core: bool,
-) -> Result<CoreEnd, Fail> {
-    let (inlet, _read) = attach(rt, alloc, gate, READ)?;
-    let _ends = gate.retire(rt, READ);
-    let (_written, outlet) = attach(rt, alloc, gate, WRITTEN)?;
-    let said = bytes(alloc, ECHO.repeat(alloc, MANY)?.as_str())?;
-    let workers = Workers {
-        link: MemoryLink::new(alloc, said, 1_000),
-        inlet,
-        sink: MemoryLink::new(alloc, Vec::new(alloc), 1_000),
-        outlet,
-    };
-    let begun = Count::new(alloc)?;
-    let ended = Count::new(alloc)?;
-    begun.add(1);
-    let begin = if has_core { begun } else { ended.again()? };
-    let (ends, ((is_begun, core), slept)) = stop_beside(
-        rt,
-        alloc,
-        gate,
-        workers,
-        (begin, ended),
-        stop,
-    );
-    assert_eq!(rt; ends, (InEnd::GateFailed, OutEnd::GateFailed));
-    assert!(rt; is_begun && slept);
-    Ok(core)
+) -> Result<(Workers, Workers, (CoreEnd, bool)), Fail> {
+    let (core, signs) = Signs::new(alloc)?;
+    let said = ECHO.repeat(alloc, MANY)?;
+    let one = signs.connection(rt, gate, ONE, 1_000, &said, &[], &[], &signs.one)?;
+    let other = served(rt, alloc, gate, &signs, "FFFFFFFE", &[])?;
+    let _ends = gate.retire(&rt, ONE);
+    let deed = Deed::Stop(stop, has_core);
+    Ok(serve_beside(&rt, gate, one, other, core, signs, deed))
 }
 
 /// A gate that is closed ends all that wait, and until then they sleep; the workers also where no core tells them.
 #[test]
 fn a_closed_gate_ends_all_that_wait(rt: HostRuntime) -> Result<(), Fail> {
-    let alloc = rt.alloc();
     for has_core in [false, true] {
-        let gate = gate(alloc, 1)?;
-        assert_eq!(rt;
-            end_all(&rt, alloc, &gate, Stop::Close, has_core)?,
-            CoreEnd::Closed
-        );
+        let gate = gate(rt.alloc(), 0xFFFF_FFFE)?;
+        let ends = stop_all(rt, rt.alloc(), &gate, Stop::Close, has_core)?;
+        assert_eq!(rt; ends, (TOLD, STOPPED, DONE));
     }
     Ok(())
 }
 
-/// So does one that fails at the desk, as its core says.
+/// So does one that fails at the desk, for want of numbers.
 #[test]
 fn a_gate_that_fails_at_the_desk_ends_all(rt: HostRuntime) -> Result<(), Fail> {
-    let alloc = rt.alloc();
     for has_core in [false, true] {
-        let gate = gate(alloc, 0xFFFF_FFFE)?;
-        let _server = serve_t1(&rt, alloc, &gate, "FFFFFFFE")?;
-        let stop = Stop::Event(finding(&rt, alloc, &gate, b"T2")?);
-        assert_eq!(rt;
-            end_all(&rt, alloc, &gate, stop, has_core)?,
-            CoreEnd::GateFailed
-        );
+        let gate = gate(rt.alloc(), 0xFFFF_FFFE)?;
+        let stop = Stop::Fail(finding(&rt, rt.alloc(), &gate, b"T2")?);
+        let ends = stop_all(rt, rt.alloc(), &gate, stop, has_core)?;
+        assert_eq!(rt; ends, (TOLD, STOPPED, (CoreEnd::GateFailed, true)));
     }
     Ok(())
 }
 
-/// So does one that fails in a batch of the core, here at a client's second channel, for want of numbers.
+/// So does one that fails in a batch of the core, at a client's second channel.
 #[test]
 fn a_gate_that_fails_in_a_batch_ends_all(rt: HostRuntime) -> Result<(), Fail> {
     let alloc = rt.alloc();
     let gate = gate(alloc, 0xFFFF_FFFE)?;
-    let _server = serve_t1(&rt, alloc, &gate, "FFFFFFFE")?;
-    let (inlet, _outlet) = attach(&rt, alloc, &gate, LAST)?;
+    let (inlet, _outlet) = attach(&rt, alloc, &gate, THIRD)?;
     let said = bytes(alloc, CREATE.repeat(alloc, 2)?.as_str())?;
-    let stop = Stop::Said(MemoryLink::new(alloc, said, 1_000), inlet);
-    assert_eq!(rt;
-        end_all(&rt, alloc, &gate, stop, true)?,
-        CoreEnd::GateFailed
-    );
+    let stop = Stop::Say(MemoryLink::new(alloc, said, 1_000), inlet);
+    let ends = stop_all(rt, alloc, &gate, stop, true)?;
+    assert_eq!(rt; ends, (TOLD, STOPPED, (CoreEnd::GateFailed, true)));
     Ok(())
 }

@@ -1,5 +1,5 @@
 //! One that pauses, and each change that wakes it.
-use crate::waits::beside::stays_at;
+use crate::waits::signs::stays_at;
 use crate::workers::paced::Count;
 use crate::workers::stand::{Lends, attach, gate};
 use gate_board::{Gate, Inbound, Inlet, Turn};
@@ -53,7 +53,8 @@ fn pause_beside_changes<R: Threads + Wait + Clock + Sync, G: Lends + Sync>(
     gate: &G,
     inlet: &mut Inlet,
     seen: u64,
-    (backs, backs_here): (Count, Count),
+    backs: Count,
+    backs_here: Count,
 ) -> (u64, u64) {
     join(
         rt,
@@ -71,10 +72,10 @@ fn a_pause_waits_for_each_change(rt: HostRuntime) -> Result<(), Fail> {
     assert_eq!(rt; gate.turn(&rt), Turn::Moved);
     let start = gate.pause(&rt, u64::MAX);
     let backs = Count::new(alloc)?;
-    let counts = (backs.again()?, backs);
+    let backs_here = backs.again()?;
     let end = start.wrapping_add(CHANGES);
     assert_eq!(rt;
-        pause_beside_changes(&rt, &gate, &mut inlet, start, counts),
+        pause_beside_changes(&rt, &gate, &mut inlet, start, backs, backs_here),
         (end, CHANGES)
     );
     assert_eq!(rt; gate.pause(&rt, start), end);

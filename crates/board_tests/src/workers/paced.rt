@@ -14,6 +14,9 @@ const LOOKS: u32 = 10_000;
 
 const PAUSE_MILLIS: u64 = 1;
 
+/// What the end of a worker adds to its link's count.
+pub(crate) const END: u64 = 1 << 32;
+
 /// A count that threads share: how many bytes a link was written, or what else a test counts.
 #[derive(Drop)]
 pub(crate) struct Count {
@@ -84,6 +87,11 @@ impl<R> PacedLink<R> {
             written,
             faults: 0,
         }
+    }
+
+    /// Notes that the worker of this link ended.
+    pub(crate) fn end(&self) {
+        self.written.add(END);
     }
 
     /// What was written to it.
