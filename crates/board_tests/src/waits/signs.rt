@@ -15,9 +15,9 @@ use std::time::{CpuClock, Duration};
 const REST_MILLIS: u64 = 20;
 
 /// How long it is looked whether they sleep, and how much of a processor they take meanwhile at most.
-const LOOK_MILLIS: u64 = 100;
+const LOOK_MILLIS: u64 = 200;
 
-const MOST_MILLIS: u64 = 40;
+const MOST_MILLIS: u64 = 30;
 
 const LOOKS: u32 = 2_000;
 
