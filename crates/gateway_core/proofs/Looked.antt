@@ -25,6 +25,7 @@ use Rattle.gateway_state.specs.declared.notice.SubVerdict.{SubVerdict}
 use Rattle.gateway_state.specs.declared.notice.SubVerdict.TheVariants as subs
 use Rattle.gateway_state.specs.declared.search.RememberedSearch.{RememberedSearch as SearchRow}
 use Rattle.gateway_state.specs.Clients.{read_verdict, search_left_by, sought}
+use Rattle.pv_alias.specs.declared.lead.Lead.{Lead}
 use Rattle.pv_search.specs.declared.search.SearchRequest.{SearchRequest}
 use Rattle.gateway_state.specs.Requests.{client_said, search_in}
 use Rattle.gateway_state.specs.Rights.{channel_of, lead_in}
