@@ -5,14 +5,11 @@
 //! - `boards`: stories of a board with its rings, and a reader's worker before the core comes.
 //! - `workers`: the workers of connections, the core and the gate between them, in threads where it
 //!   matters.
-//! - `waits`: who waits at a gate and what wakes it, of which no contract speaks.
 //!
 //! The first lines of each folder's `mod.rt` say how a test is added there.
 #![tactic(auto)]
 
 #[cfg(test)]
 mod boards;
-#[cfg(test)]
-mod waits;
 #[cfg(test)]
 mod workers;

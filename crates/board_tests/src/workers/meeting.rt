@@ -44,14 +44,9 @@ pub(crate) fn serve_both_ways<R: Threads + Wait + Clock + Send + Sync + Drop, G:
     } = connection;
     let (read, (wrote, writing)) = join(
         rt,
-        move || {
-            let read = serve_in(rt, alloc, &mut reading, &mut inlet, gate.gate(), dest);
-            reading.end();
-            read
-        },
+        move || serve_in(rt, alloc, &mut reading, &mut inlet, gate.gate(), dest),
         move || {
             let wrote = serve_out(rt, &mut writing, &mut outlet, gate.gate(), dest);
-            writing.end();
             (wrote, writing)
         },
     );

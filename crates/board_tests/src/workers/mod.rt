@@ -16,8 +16,8 @@
 mod backlog;
 mod faulty;
 mod gates;
-pub(crate) mod meeting;
-pub(crate) mod paced;
+mod meeting;
+mod paced;
 mod refused;
 pub(crate) mod rings;
 mod serving;

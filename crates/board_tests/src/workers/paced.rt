@@ -14,9 +14,6 @@ const LOOKS: u32 = 10_000;
 
 const PAUSE_MILLIS: u64 = 1;
 
-/// What the end of a worker adds to its link's count.
-pub(crate) const END: u64 = 1 << 32;
-
 /// A count that threads share: how many bytes a link was written, or what else a test counts.
 #[derive(Drop)]
 pub(crate) struct Count {
@@ -38,11 +35,6 @@ impl Count {
 
     pub(crate) fn add(&self, more: u64) {
         self.shared.fetch_add(more, Ordering::SeqCst);
-    }
-
-    /// How much it is now.
-    pub(crate) fn now(&self) -> u64 {
-        self.shared.load(Ordering::SeqCst)
     }
 
     /// Waits until it is so much. False where it never came to that.
@@ -87,11 +79,6 @@ impl<R> PacedLink<R> {
             written,
             faults: 0,
         }
-    }
-
-    /// Notes that the worker of this link ended.
-    pub(crate) fn end(&self) {
-        self.written.add(END);
     }
 
     /// What was written to it.
