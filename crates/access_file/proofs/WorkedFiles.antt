@@ -1,5 +1,5 @@
 -- Files that are written out, and what they grant.
-use Rattle.std.proofs.Common.{◌≡◌, ℕ, List, [], ◌++◌, codes, true, false, Result, Ok, Err, refl}
+use Rattle.std.proofs.Common.{◌≡◌, ℕ, List, [], ◌∷◌, ◌++◌, codes, true, false, Result, Ok, Err, refl}
 use Rattle.access_file.specs.declared.fault.AccessCause.TheVariants.{BadByte, Unclosed, Unexpected, Unfinished, UnknownWord, Calculated, Unserved, BadName, BadLevel, BadRight, NoUsers, NoHosts, Twice}
 use Rattle.access_file.specs.declared.fault.AccessFault.{AccessFault}
 use Rattle.access_file.specs.declared.fault.AccessFault.TheVariants.{At}
@@ -13,7 +13,7 @@ use Rattle.access_file.specs.Groups.{AccessGroups, granted}
 -- what the file of this text grants, or its fault
 abbrev told : Result AccessGroups AccessFault → List ℕ → List ℕ → List ℕ → Level → Result Grant AccessFault
 told (Err fault) user host group level = Err fault
-told (Ok file) user host group level = Ok (granted file user host group level)
+told (Ok file) user host group level = Ok (granted file user (host ∷ []) group level)
 
 abbrev grant_in : List ℕ → List ℕ → List ℕ → List ℕ → Level → Result Grant AccessFault
 grant_in text user host group level = told (access_of text) user host group level

@@ -2,9 +2,11 @@ pub mod Fault
 pub mod File
 pub mod Grammar
 pub mod Groups
+pub mod HostNames
 pub mod Keywords
 pub mod Named
 pub mod Naming
 pub mod Scanning
 pub mod Tokens
+pub mod WithoutNames
 pub mod Writing

@@ -1,10 +1,10 @@
 //! Keywords. They are in upper case.
 ghost use Rattle.std.specs.Prelude.{◌≡◌};
-ghost use Rattle.access_file.specs.Keywords.{kind_of, party_of, is_rule, no_keyword, is_calculated, is_input, is_unserved, level_of, right_of, recording_of};
+ghost use Rattle.access_file.specs.Keywords.{kind_of, party_of, is_rule, no_keyword, is_calculated, is_input, is_unserved, right_of, recording_of};
 
 use crate::fault::AccessCause;
 use crate::place::{Kind, Party};
-use crate::rule::{Level, Right};
+use crate::rule::Right;
 
 /// What the keyword defines.
 pub(crate) fn kind_of(word: &[u8]) -> Option<Kind>
@@ -69,18 +69,6 @@ fn is_unserved(word: &[u8]) -> bool
     word == b"METHOD".as_slice()
         || word == b"AUTHORITY".as_slice()
         || word == b"PROTOCOL".as_slice()
-}
-
-pub(crate) fn level_of(word: &[u8]) -> Option<Level>
-    ensures { result ≡ level_of word.now }
-{
-    if word == b"0".as_slice() {
-        return Some(Level::Zero);
-    }
-    if word == b"1".as_slice() {
-        return Some(Level::One);
-    }
-    None
 }
 
 pub(crate) fn right_of(word: &[u8]) -> Option<Right>

@@ -6,10 +6,10 @@ ghost use Rattle.access_file.specs.Keywords.{level_of, right_of, recording_of};
 ghost use Rattle.access_file.specs.Naming.{name_of};
 
 use crate::fault::{AccessCause, TokenFault};
-use crate::keyword::{level_of, recording_of, right_of};
+use crate::keyword::{recording_of, right_of};
 use crate::place::{Behind, Expected, Kind, Naming, Party, Setting};
 use crate::reader::{GROUPS_LIMIT, NAMES_LIMIT, Reader};
-use crate::rule::Grant;
+use crate::rule::{Grant, Level};
 use pv_name::{Group, NameFault};
 use std::alloc::{AllocError, Global};
 
@@ -58,7 +58,7 @@ impl Reader {
             return Err(TokenFault::Cause(AccessCause::TooMany));
         }
         self.name_count += 1;
-        self.members.push(name)?;
+        self.members.push(alloc, name)?;
         self.place = Expected::Sign(Behind::Member(party));
         Ok(())
     }
@@ -77,16 +77,16 @@ impl Reader {
         }
         self.name_count += 1;
         self.place = Expected::Sign(Behind::Spoken(party));
-        self.speak_of(party, name)?;
+        self.speak_of(alloc, party, name)?;
         Ok(())
     }
 
-    fn speak_of(&mut self, party: Party, name: Group) -> Result<(), AllocError>
+    fn speak_of(&mut self, alloc: Global, party: Party, name: Group) -> Result<(), AllocError>
         ensures { OnOk result (self.new ≡ speaking_of party name self.old) }
     {
         match party {
-            Party::Users => self.spoken_users.push(name),
-            Party::Hosts => self.spoken_hosts.push(name),
+            Party::Users => self.spoken_users.push(alloc, name),
+            Party::Hosts => self.spoken_hosts.push(alloc, name),
         }
     }
 
@@ -126,7 +126,7 @@ impl Reader {
         ensures ok { OnOk result (level_set self.old (level_of word.now) ≡ Ok self.new) }
         ensures err { IfErr result (IsCauseOf (level_set self.old (level_of word.now))) }
     {
-        self.level = level_of(word).ok_or(AccessCause::BadLevel)?;
+        self.level = Level::read(word).ok_or(AccessCause::BadLevel)?;
         self.place = Expected::Sign(Behind::Level);
         Ok(())
     }

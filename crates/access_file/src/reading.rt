@@ -135,19 +135,28 @@ impl TextReading {
 
     /// Takes the end of the text.
     #[tactic(auto, using(crate::proofs::ReadingLemmas::all_taken_stays))]
-    pub(crate) fn end(mut self, alloc: Global) -> Result<Reader, TokenFault>
+    pub(crate) fn end(self, alloc: Global) -> Result<Reader, TokenFault>
         ensures ok { IfOk result (λ reader. all_taken (Ok self.reader) (ended_last (scan_of self)) ≡ Ok reader) }
         ensures err { IfErr result (IsCauseOf (all_taken (Ok self.reader) (ended_last (scan_of self)))) }
     {
         match self.mode {
             Mode::Between => finish(alloc, self.reader),
-            Mode::Word => {
-                self.reader.word(alloc, self.begun.as_slice())?;
-                finish(alloc, self.reader)
-            }
+            Mode::Word => finish_word(alloc, self.reader, self.begun.as_slice()),
             Mode::Quotes => Err(TokenFault::Cause(AccessCause::Unclosed)),
             Mode::Comment => finish(alloc, self.reader),
         }
+    }
+}
+
+// The end behind a word.
+#[tactic(auto, using(crate::proofs::ReadingLemmas::all_taken_stays))]
+fn finish_word(alloc: Global, mut reader: Reader, word: &[u8]) -> Result<Reader, TokenFault>
+    ensures ok { IfOk result (λ all. all_taken (Ok reader) (ended_last (InWord word.now)) ≡ Ok all) }
+    ensures err { IfErr result (IsCauseOf (all_taken (Ok reader) (ended_last (InWord word.now)))) }
+{
+    match reader.word(alloc, word) {
+        Ok(()) => finish(alloc, reader),
+        Err(fault) => Err(fault),
     }
 }
 
@@ -155,6 +164,8 @@ fn finish(alloc: Global, mut reader: Reader) -> Result<Reader, TokenFault>
     ensures ok { IfOk result (λ all. ended reader ≡ Ok all) }
     ensures err { IfErr result (IsCauseOf (ended reader)) }
 {
-    reader.end(alloc)?;
-    Ok(reader)
+    match reader.end(alloc) {
+        Ok(()) => Ok(reader),
+        Err(fault) => Err(fault),
+    }
 }

@@ -1,6 +1,7 @@
 //! Rules of access security groups.
-ghost use Rattle.std.specs.Prelude.{◌≡◌, ◌∷◌, ◌++◌, [], OnOk};
-ghost use Rattle.access_file.specs.Groups.{no_grant, better, covers, rank};
+ghost use Rattle.std.specs.Prelude.{◌≡◌, ◌∷◌, ◌++◌, [], nat_lt, OnOk};
+ghost use Rattle.access_file.specs.Groups.{no_grant, covers, right_bits};
+ghost use Rattle.access_file.specs.Keywords.{level_of};
 
 use crate::names::ListedNames;
 use std::alloc::{AllocError, Global};
@@ -14,6 +15,19 @@ pub enum Level {
 }
 
 impl Level {
+    /// The level that a word is: `0` or `1`.
+    pub fn read(word: &[u8]) -> Option<Level>
+        ensures { result ≡ level_of word.now }
+    {
+        if word == b"0".as_slice() {
+            return Some(Level::Zero);
+        }
+        if word == b"1".as_slice() {
+            return Some(Level::One);
+        }
+        None
+    }
+
     /// Whether a rule of this level speaks of fields of the other.
     pub(crate) fn covers(self, other: Level) -> bool
         ensures { result ≡ covers self other }
@@ -38,9 +52,10 @@ pub enum Right {
 }
 
 impl Right {
-    // Greater rights have greater ranks.
-    fn rank(self) -> u8
-        ensures { result ≡ rank self }
+    /// The right as Channel Access tells it: bit 0 is to read, bit 1 to write. Greater rights are greater
+    /// numbers.
+    pub fn bits(self) -> u32
+        ensures { result ≡ right_bits self }
     {
         match self {
             Right::None => 0,
@@ -68,15 +83,11 @@ impl Grant {
         }
     }
 
-    /// The other one where its right is greater.
-    pub(crate) fn or_better(self, other: Grant) -> Grant
-        ensures { result ≡ better self other }
+    /// Whether the right of the other one is greater.
+    pub(crate) fn is_below(self, other: Grant) -> bool
+        ensures { result ≡ nat_lt (right_bits self.right) (right_bits other.right) }
     {
-        if self.right.rank() < other.right.rank() {
-            other
-        } else {
-            self
-        }
+        self.right.bits() < other.right.bits()
     }
 }
 

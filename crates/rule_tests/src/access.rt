@@ -1,16 +1,18 @@
 //! Calls on access security files.
 //!
 //! - `access TEXT`: the file that the text is, whose grants are told from then on; or its fault;
-//! - `grant USER HOST GROUP LEVEL`: what the user may do, where `-` is a client that told no user.
+//! - `grant USER HOST GROUP LEVEL`: what the user may do, where `-` is a client that told no user;
+//! - `named ADDRESS NAME`: the host at the address has the name from then on, for grants and leads.
 use crate::tell::tells;
 use crate::words::{Told, two_words};
-use access_file::{Access, AccessFault, Grant, Level, Right};
-use pv_name::Host;
+use access_file::{Access, AccessFault, Grant, HostNames, Level, Right};
+use pv_name::{Host, NameFault};
 use std::alloc::Global;
 
 pub(crate) fn call(
     alloc: Global,
     access: &mut Option<Access>,
+    names: &HostNames,
     verb: &str,
     text: &str,
     told: &mut Told,
@@ -18,7 +20,7 @@ pub(crate) fn call(
     match verb {
         "access" => read(Access::read(alloc, text), access, told),
         _ => match Host::read(alloc, two_words(two_words(text).1).0.as_bytes()) {
-            Ok(host) => grant(access, &host, text, told),
+            Ok(host) => grant(access, &host, names, text, told),
             Err(fault) => told.line(&fault),
         },
     }
@@ -34,7 +36,7 @@ fn read(read: Result<Access, AccessFault>, access: &mut Option<Access>, told: &m
     }
 }
 
-fn grant(access: &Option<Access>, host: &Host, text: &str, told: &mut Told) {
+fn grant(access: &Option<Access>, host: &Host, names: &HostNames, text: &str, told: &mut Told) {
     let (user, behind) = two_words(text);
     let (group, level) = two_words(two_words(behind).1);
     let user = if user == "-" { "" } else { user };
@@ -44,9 +46,26 @@ fn grant(access: &Option<Access>, host: &Host, text: &str, told: &mut Told) {
         Level::One
     };
     match access {
-        Some(access) => tell(access.grant(user, host, group, level), told),
+        Some(access) => tell(
+            access.grant_known(user.as_bytes(), host, names.of(host), group, level),
+            told,
+        ),
         None => told.line(&"no file"),
     }
+}
+
+pub(crate) fn name_host(alloc: Global, names: &mut HostNames, text: &str, told: &mut Told) {
+    match add_name(alloc, names, text) {
+        Ok(()) => told.line(&"named"),
+        Err(fault) => told.line(&fault),
+    }
+}
+
+fn add_name(alloc: Global, names: &mut HostNames, text: &str) -> Result<(), NameFault> {
+    let (address, name) = two_words(text);
+    let address = Host::read(alloc, address.as_bytes())?;
+    let name = Host::read(alloc, name.as_bytes())?;
+    names.add(address, name).map_err(|_| NameFault::OutOfMemory)
 }
 
 fn tell(grant: Grant, told: &mut Told) {

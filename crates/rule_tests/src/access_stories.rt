@@ -216,3 +216,54 @@ grant anna desk1 a 1
 > WRITE"#,
     );
 }
+
+#[test]
+fn hosts_count_as_their_names(rt: HostRuntime) {
+    tells(
+        &rt,
+        rt.alloc(),
+        r#"# A rule that lists a name of a host speaks to it, as one that lists the host; a rule for others doesn't.
+| HAG(desks){desk1,desk2} HAG(labs){lab7} HAG(rooms){10.0.0.9}
+access ASG(a){ RULE(1,READ){HAG(labs)} RULE(1,WRITE,TRAPWRITE){HAG(rooms,desks)} }
+> read
+grant anna 10.0.0.5 a 1
+> NONE
+named 10.0.0.5 Lab7
+> named
+named FE80::1 desk2
+> named
+named 10.0.0.5 DESK1
+> named
+named 10.0.0.9 lab7
+> named
+grant anna 10.0.0.5 a 1
+> WRITE, recorded
+grant anna fe80::1 a 1
+> WRITE, recorded
+grant anna 10.0.0.9 a 1
+> WRITE, recorded
+grant anna 10.0.0.55 a 1
+> NONE
+grant anna lab7 a 1
+> READ
+# The same of hosts to which names are denied.
+| T.* DENY FROM lab7, 10.0.0.6
+read .* ALLOW
+> 2 rows, ALLOW, DENY
+lead 10.0.0.5 T1, lab7 T1
+> T1 -, refused
+named 10.0.0.5 lab7
+> named
+named 10.0.0.5 desk1
+> named
+named 10.0.0.6 desk1
+> named
+lead 10.0.0.5 T1, lab7 T1, 10.0.0.5 A, 10.0.0.6 T1, desk1 T1
+> refused, refused, A -, refused, T1 -
+# What is no host has no name, and no host has what is none.
+named
+> empty
+named 10.0.0.5
+> empty"#,
+    );
+}

@@ -11,10 +11,11 @@
 //! - `groups-read TEXT`: the same of a group file, answered only by its fault;
 //! - `bits`: the rights of a group by their words, as numbers.
 use crate::words::Told;
+use access_file::Level;
 use pv_name::{Group, Name};
 use pvlist::{
-    GroupRight, Groups, Row, RuleFault, Rules, Syntax, TranslateFault, Verb, first_bare_group,
-    translate, translate_as,
+    GroupRight, Groups, Row, RuleFault, Rules, Security, Syntax, TranslateFault, Verb,
+    first_bare_group, translate, translate_as,
 };
 use rule_desk::Policy;
 use std::alloc::Global;
@@ -101,14 +102,14 @@ fn tried(rows: &[Row], name: &Name, told: &mut Told) {
 
 fn verb(verb: &Verb, told: &mut Told) {
     match verb {
-        Verb::Allow(group) => {
-            let written = writeln!(told.text, " allow {}", group_text(group));
-            told.keep(written);
+        Verb::Allow(security) => {
+            told.put(&" allow ");
+            told_security(security, told);
         }
-        Verb::Alias(real, group) => {
-            let (real, group) = (real.text(), group_text(group));
-            let written = writeln!(told.text, " alias {real} {group}");
+        Verb::Alias(real, security) => {
+            let written = write!(told.text, " alias {} ", real.text());
             told.keep(written);
+            told_security(security, told);
         }
         Verb::Deny(hosts) => {
             told.put(&" deny");
@@ -119,6 +120,15 @@ fn verb(verb: &Verb, told: &mut Told) {
             told.put(&'\n');
         }
     }
+}
+
+/// A group, and the level behind it where that is 0.
+fn told_security(security: &Security, told: &mut Told) {
+    told.put(&group_text(&security.group));
+    told.line(match security.level {
+        Level::Zero => &" 0",
+        Level::One => &"",
+    });
 }
 
 /// A group, or `-` where there is none.

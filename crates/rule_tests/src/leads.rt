@@ -5,9 +5,9 @@
 //! - `rights GROUP`: the rights in the group file, and those that hold; of `-`, those without a group.
 use crate::files::group_text;
 use crate::words::{Told, two_words};
-use pv_alias::{Lead, NoMemory, Resolver, group_rights, resolve};
+use pv_alias::{Lead, NoMemory, Resolver, group_rights, resolve_known};
 use pv_name::{Group, Host, Name, NameFault};
-use pvlist::{Groups, Rules};
+use pvlist::Groups;
 use rule_desk::Policy;
 use std::alloc::Global;
 use std::fmt::Write;
@@ -17,7 +17,7 @@ const REFUSED: &str = "out of memory";
 
 pub(crate) fn call(alloc: Global, policy: &Policy, verb: &str, text: &str, told: &mut Told) {
     match (verb, text) {
-        ("lead", _) => leads(alloc, &policy.rules, text, told),
+        ("lead", _) => leads(alloc, policy, text, told),
         (_, "-") => told.line(&group_rights(&policy.groups, None)),
         _ => match Group::read(alloc, text.as_bytes()) {
             Ok(group) => rights(&policy.groups, &group, told),
@@ -26,7 +26,8 @@ pub(crate) fn call(alloc: Global, policy: &Policy, verb: &str, text: &str, told:
     }
 }
 
-fn leads(alloc: Global, rules: &Rules, text: &str, told: &mut Told) {
+fn leads(alloc: Global, policy: &Policy, text: &str, told: &mut Told) {
+    let rules = &policy.rules;
     let Ok(mut resolver) = Resolver::new(alloc, rules) else {
         return told.line(&REFUSED);
     };
@@ -36,8 +37,9 @@ fn leads(alloc: Global, rules: &Rules, text: &str, told: &mut Told) {
         }
         match asked_in(alloc, asked) {
             Ok((host, name)) => {
-                let alone = lead(alloc, resolve(alloc, rules, &host, &name));
-                let among_others = lead(alloc, resolver.resolve(&host, &name));
+                let names = policy.names.of(&host);
+                let alone = lead(alloc, resolve_known(alloc, rules, &host, names, &name));
+                let among_others = lead(alloc, resolver.resolve_known(&host, names, &name));
                 put_same(&alone, &among_others, told);
             }
             Err(fault) => told.put(&fault),

@@ -19,6 +19,8 @@ mod access;
 #[cfg(test)]
 mod access_stories;
 #[cfg(test)]
+mod clearance_stories;
+#[cfg(test)]
 mod file_stories;
 #[cfg(test)]
 mod files;

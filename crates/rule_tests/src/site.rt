@@ -1,4 +1,4 @@
-//! The rule file and the group file of a site. They are those of the folder `examples`.
+//! The rule file, the group file and the access security file of a site. They are those of the folder `examples`.
 use crate::tell::tells;
 
 #[test]
@@ -100,6 +100,94 @@ check desk1 LOG:LAST
 > admitted LOG:LAST logbook write
 > status 0
 check desk1 S01:ILK:DOOR
+> ok 11 rows ALLOW, DENY
+> refused
+> status 0
+| # Who may do what with the variables of a group of site.pvlist, in the place of site.groups.
+| #
+| # To see what a client is answered whose user is anna, on the host desk1:
+| #   pvgate check-rules site.pvlist --access site.access --name S01:MAG:Q1:SET --user anna --host desk1
+| #
+| # A user and a host are what a client says, so this stops mistakes and not malice.
+|
+| UAG(ops) {anna, ben}
+| UAG(vacuum) {vera}
+| HAG(control_room) {desk1, desk2}
+|
+| # What holds for variables without a group, and for groups that have no rules below: everyone.
+| ASG(DEFAULT) {
+|     RULE(1, READ)
+| }
+|
+| # The operators set magnets, from the control room only. By TRAPWRITE it is to be recorded.
+| ASG(operators) {
+|     RULE(1, READ)
+|     RULE(1, WRITE, TRAPWRITE) {
+|         UAG(ops)
+|         HAG(control_room)
+|     }
+| }
+|
+| # Valves are opened by them, too, and from anywhere by who looks after the vacuum.
+| ASG(vacuum) {
+|     RULE(1, READ)
+|     RULE(1, WRITE, TRAPWRITE) {UAG(ops) HAG(control_room)}
+|     RULE(1, WRITE) {UAG(vacuum)}
+| }
+|
+| # Everybody writes into the logbook, and nobody sees pictures.
+| ASG(logbook) {RULE(1, WRITE)}
+| ASG(cameras)
+access-file
+check desk1 S01:DCCT:CURRENT anna
+> ok 11 rows ALLOW, DENY
+> admitted S01:DCCT:CURRENT everyone read
+> status 0
+check desk1 S01:MAG:Q1 anna
+> ok 11 rows ALLOW, DENY
+> admitted S01:MAG:Q1 operators write recorded
+> status 0
+check DESK2 S01:MAG:Q1 ben
+> ok 11 rows ALLOW, DENY
+> admitted S01:MAG:Q1 operators write recorded
+> status 0
+check desk1 S01:MAG:Q1 Anna
+> ok 11 rows ALLOW, DENY
+> admitted S01:MAG:Q1 operators read
+> status 0
+check desk7 S01:MAG:Q1 anna
+> ok 11 rows ALLOW, DENY
+> admitted S01:MAG:Q1 operators read
+> status 0
+check desk1 S01:MAG:Q1
+> ok 11 rows ALLOW, DENY
+> admitted S01:MAG:Q1 operators read
+> status 0
+check lab7 S01:MAG:Q1 anna
+> ok 11 rows ALLOW, DENY
+> refused
+> status 0
+check desk1 S02:MAG:Q1:SET ben
+> ok 11 rows ALLOW, DENY
+> admitted S02:MAG:Q1:SP operators write recorded
+> status 0
+check desk7 S01:VAC:V3:OPEN vera
+> ok 11 rows ALLOW, DENY
+> admitted S01:VAC:V3:OPEN vacuum write
+> status 0
+check desk2 S01:VAC:V3:OPEN anna
+> ok 11 rows ALLOW, DENY
+> admitted S01:VAC:V3:OPEN vacuum write recorded
+> status 0
+check desk7 S01:CAM:3 vera
+> ok 11 rows ALLOW, DENY
+> admitted S01:CAM:3 cameras none
+> status 0
+check desk7 LOG:LAST
+> ok 11 rows ALLOW, DENY
+> admitted LOG:LAST logbook write
+> status 0
+check desk1 S01:ILK:DOOR anna
 > ok 11 rows ALLOW, DENY
 > refused
 > status 0

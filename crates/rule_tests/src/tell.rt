@@ -5,7 +5,7 @@
 //! lists are the same; and behind that what the second call answers. So a story is told otherwise where memory is
 //! refused, and by one such line for each refused call if these leave everything as before.
 //! `.ci/refused_tests.py` refuses each allocation in turn.
-use crate::policies::PolicyTexts;
+use crate::policies::GivenTexts;
 use crate::words::Told;
 use crate::{access, files, leads, names, policies};
 use access_file::Access;
@@ -23,7 +23,7 @@ const ROOM: usize = 65_536;
 struct Office {
     /// The text of the next call.
     text: Told,
-    texts: PolicyTexts,
+    texts: GivenTexts,
     desk: Desk,
     policy: Policy,
     /// The one whose rights are listed.
@@ -123,7 +123,7 @@ fn list(office: &Office, told: &mut Told) {
 fn new_office(alloc: Global) -> Office {
     Office {
         text: Told::with_room(alloc, ROOM),
-        texts: PolicyTexts::none(),
+        texts: GivenTexts::none(),
         desk: Desk::new(alloc),
         policy: Policy::open_to_all(alloc),
         group: Group::read(alloc, b"ops").ok(),
@@ -141,7 +141,17 @@ fn call(alloc: Global, office: &mut Office, verb: &str, told: &mut Told) {
             files::call(alloc, syntax, &mut office.policy, verb, text, told);
         }
         "lead" | "rights" => leads::call(alloc, &office.policy, verb, text, told),
-        "access" | "grant" => access::call(alloc, &mut office.access, verb, text, told),
+        "named" => access::name_host(alloc, &mut office.policy.names, text, told),
+        "access" | "grant" => {
+            access::call(
+                alloc,
+                &mut office.access,
+                &office.policy.names,
+                verb,
+                text,
+                told,
+            );
+        }
         "edit" => policies::edit(&mut office.desk, &mut office.policy, &office.texts, told),
         "shown" => policies::show(&office.desk, &office.policy.rules, told),
         _ => policies::call(alloc, syntax, &mut office.texts, verb, text, told),
