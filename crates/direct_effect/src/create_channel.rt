@@ -16,7 +16,7 @@ use channel_table::{Channel, Reach};
 use gateway_rows::{CountedRows, Known, RowsRefusal};
 use gateway_state::{Native, RememberedSearch, RowLimit};
 use link_table::LinkRow;
-use pv_alias::{Lead, group_rights};
+use pv_alias::Lead;
 use pv_name::Name;
 use std::alloc::AllocError;
 use touched_rows::Touched;
@@ -139,7 +139,7 @@ fn create_on(
 fn rights_on(known: &Known, lead: &Lead, link: &LinkRow) -> u32
     ensures { result ≡ rights_on known.now.state lead.now link.now }
 {
-    link.rights & group_rights(&known.searches.policy().groups, lead.group.as_ref())
+    link.rights & known.searches.policy().rights(lead)
 }
 
 /// The client's channel, whose name leads somewhere, where one more may be open.

@@ -41,17 +41,18 @@ pub(crate) fn hear_host_name(
     Ok(Touched::Nothing)
 }
 
-/// Where a client is, which counts until its host is fixed. It is fixed where the client has a channel,
-/// so no channel's name leads elsewhere.
+/// Where a client is, which counts until its host is fixed, unless hosts are the addresses that connections come
+/// from. It is fixed where the client has a channel, so no channel's name leads elsewhere.
 #[tactic(auto, using(rows::proofs::RowLemmas::change_first_as, rows::proofs::RowLemmas::change_first_unfound, rows::proofs::RowLemmas::change_first_kept))]
 fn name_host(rows: &mut CountedRows, number: u32, host: Host)
     ensures named { rows.new.state ≡ host_named number host rows.old.state }
     ensures looked { Looked 2 rows.old rows.new }
 {
+    let checks_hosts = rows.known.limits.checks_hosts;
     let Some(session) = rows.known.clients.session(&mut rows.visits, number) else {
         return;
     };
-    if session.host_fixed {
+    if session.host_fixed || checks_hosts {
         return;
     }
     let paused = session.paused;

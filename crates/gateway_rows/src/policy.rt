@@ -5,10 +5,12 @@ ghost use Rattle.channel_table.specs.Looks.{GoesOn, IsCounted};
 ghost use Rattle.gateway_rows.specs.Looked.{OnlyLooked, OnlyLookedOn};
 ghost use Rattle.gateway_state.specs.Resolution.{lead_of};
 ghost use Rattle.gateway_state.specs.Rights.{lead_in};
+ghost use Rattle.rule_desk.specs.Granting.{led};
+ghost use Rattle.rule_desk.specs.Policy.{counts_as};
 
 use crate::counted_rows::CountedRows;
 use crate::state::Known;
-use channel_table::{Table, Visits};
+use channel_table::{Session, Table, Visits};
 use pv_alias::Lead;
 use pv_name::{Host, Name};
 use state_tables::{AskedName, Searches};
@@ -42,8 +44,8 @@ impl Known {
         self.searches.learn_leads(self.alloc, &asked)
     }
 
-    /// Where the name leads that the host of a session asks for; nothing where it is refused, or where there
-    /// is no such session.
+    /// Where the name leads that a session asks for, with what its user may do there; nothing where it is refused,
+    /// or where there is no such session.
     pub fn lead_in(
         &self,
         visits: &mut Visits,
@@ -55,22 +57,42 @@ impl Known {
         ensures looked { IsCounted 1 visits.old visits.new }
     {
         match self.clients.session(visits, number) {
-            Some(session) => self.lead_of(&session.host, name),
+            Some(session) => {
+                let lead = self.lead_of(&session.host, name)?;
+                Ok(self.led(lead, session))
+            }
             None => Ok(None),
         }
+    }
+
+    /// A lead that the rules give to a session's host, with what its user may do there.
+    fn led(&self, lead: Option<Lead>, session: &Session) -> Option<Lead>
+        ensures { result ≡ led self.now.state.policy.access session.now.user (counts_as self.now.state.policy session.now.host) lead }
+    {
+        self.searches
+            .policy()
+            .led(lead, session.user.as_slice(), &session.host)
     }
 }
 
 impl CountedRows {
-    /// Where the name leads that the host of a session asks for, which is remembered: asking for it again runs
-    /// no rule. It is nothing where it is refused, or where there is no such session.
+    /// Where the name leads that a session asks for, with what its user may do there. Where it leads is remembered:
+    /// asking for it again runs no rule. It is nothing where it is refused, or where there is no such session.
     pub fn learn_lead_in(&mut self, number: u32, name: &Name) -> Result<Option<Lead>, AllocError>
         ensures found { IfOk result (λ lead. lead ≡ lead_in self.old.state number name.now) }
         ensures looked { OnlyLooked 1 self.old self.new }
     {
         let known = &mut self.known;
         match known.clients.session(&mut self.visits, number) {
-            Some(session) => known.searches.learn_lead(known.alloc, &session.host, name),
+            Some(session) => {
+                let lead = known.searches.learn_lead(known.alloc, &session.host, name)?;
+                Ok(
+                    known
+                        .searches
+                        .policy()
+                        .led(lead, session.user.as_slice(), &session.host),
+                )
+            }
             None => Ok(None),
         }
     }

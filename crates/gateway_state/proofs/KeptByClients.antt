@@ -141,10 +141,10 @@ write_on_link w number sid dtype count ioid payload server upstream_sid handed e
 fixed_keeps : KeepsSession fixed
 fixed_keeps = record { same_number = λ row. refl; stays_fixed = λ row is. refl }
 
-renamed_keeps : (host : List ℕ) → KeepsSession (renamed host)
-renamed_keeps host = record {
-  same_number = λ row. elim row.host_fixed as (λ t. (cond t row (record row { host = host })).number ≡ row.number) [ true ↦ refl | false ↦ refl ];
-  stays_fixed = λ row is. elim row.host_fixed as (λ t. (cond t row (record row { host = host })).host_fixed ≡ true) [ true ↦ is | false ↦ is ];
+renamed_keeps : (checks_hosts : Bool) (host : List ℕ) → KeepsSession (renamed checks_hosts host)
+renamed_keeps checks_hosts host = record {
+  same_number = λ row. elim (row.host_fixed || checks_hosts) as (λ t. (cond t row (record row { host = host })).number ≡ row.number) [ true ↦ refl | false ↦ refl ];
+  stays_fixed = λ row is. elim (row.host_fixed || checks_hosts) as (λ t. (cond t row (record row { host = host })).host_fixed ≡ true) [ true ↦ is | false ↦ is ];
 }
 
 called_keeps : (user : List ℕ) → KeepsSession (called user)
@@ -365,7 +365,7 @@ module _ (P : Gateway → Type 0) (kept : KeepsRows P) where
       kept_notified_by number write.sid write.ioid write.dtype write.count message.head quoted.errors (write_verdict w number write.sid write.dtype write.count write.value) w
       (λ server upstream_sid written accepted. write_on_link w number write.sid write.dtype write.count write.ioid write.value server upstream_sid written accepted) holds
   kept_requested w number message (Ok (requests.ClientName name)) quoted is holds = kept.session_changed number (called name) w (called_keeps name) holds
-  kept_requested w number message (Ok (requests.HostName host)) quoted is holds = kept.session_changed number (renamed host) w (renamed_keeps host) holds
+  kept_requested w number message (Ok (requests.HostName host)) quoted is holds = kept.session_changed number (renamed w.limits.checks_hosts host) w (renamed_keeps w.limits.checks_hosts host) holds
   kept_requested w number message (Ok requests.Echo) quoted is holds = quoted.echo is w holds
   kept_requested w number message (Err fault) quoted is holds = kept_unreadable w number message.head quoted.errors holds
 

@@ -1,5 +1,5 @@
 -- What clients' messages do.
-use Rattle.std.specs.Prelude.{ℕ, ◌+◌, List, [], ◌∷◌, ◌++◌, filter, map, max, bit_and, Bool, true, false, not, ◌||◌, ◌&&◌, nat_lt, nat_le, is_some, if◌then◌else◌, Option, Some, None}
+use Rattle.std.specs.Prelude.{ℕ, List, [], ◌∷◌, ◌++◌, filter, map, max, bit_and, Bool, true, false, not, ◌||◌, ◌&&◌, nat_lt, nat_le, is_some, if◌then◌else◌, Option, Some, None}
 use Rattle.std.specs.List.{find}
 use Rattle.rows.specs.Rows.{change_first}
 use Rattle.ca_header.specs.declared.header.Header.{Header}
@@ -20,7 +20,6 @@ use Rattle.link_table.specs.declared.counter.TheConstants.{LAST_NUMBER}
 use Rattle.link_table.specs.Counters.{given_out, next_number}
 use Rattle.link_table.specs.Writes.{is_not_write_on}
 use Rattle.pv_alias.specs.declared.lead.Lead.{Lead}
-use Rattle.pv_alias.specs.Rights.{group_rights}
 use Rattle.gateway_state.specs.declared.event.Dest.TheVariants as dests
 use Rattle.gateway_state.specs.declared.limits.TheConstants.{LOWEST_MINOR}
 use Rattle.gateway_state.specs.Answer.{needs_by_number, refusal, meant_count, cached_value}
@@ -32,6 +31,7 @@ use Rattle.gateway_state.specs.Gateway.{Gateway}
 use Rattle.gateway_state.specs.Quantities.{Code, Count, Dtype, Ioid, SessionNumber, Sid}
 use Rattle.gateway_state.specs.declared.search.RememberedSearch.{RememberedSearch}
 use Rattle.gateway_state.specs.Searches.{left_by_channel, with_search, without_search}
+use Rattle.gateway_state.specs.Resolution.{rights_left}
 use Rattle.gateway_state.specs.Rights.{channel_of, lead_in, rights_of}
 use Rattle.gateway_state.specs.Telling.{told, marked}
 use Rattle.gateway_state.specs.Variables.{ConnectedVariable, connected}
@@ -111,7 +111,7 @@ with_channel number cid name real rights w = record w {
 
 -- the rights on a link that the policy leaves to who was led to it
 abbrev pub rights_on : Gateway → Lead → LinkRow → ℕ
-rights_on w lead link = bit_and link.rights (group_rights w.policy.groups lead.group)
+rights_on w lead link = bit_and link.rights (rights_left w.policy (Some lead))
 
 -- the client's channel is made, with these rights, and the client is told of both
 abbrev pub created_with : ℕ → ℕ → List ℕ → List ℕ → ℕ → Native → Gateway → Gateway
@@ -275,10 +275,13 @@ client_named number user w =
 
 -- HOST_NAME
 
--- with another host, unless it is fixed
-abbrev pub renamed : List ℕ → Session → Session
-renamed host row = if row.host_fixed then row else record row { host = host }
+-- with another host, unless it is fixed, or hosts are the addresses that connections come from
+abbrev pub renamed : Bool → List ℕ → Session → Session
+renamed checks_hosts host row = if row.host_fixed || checks_hosts then row else record row { host = host }
 
 abbrev pub host_named : ℕ → List ℕ → Gateway → Gateway
-host_named number host w =
-    record w { clients = record w.clients { sessions = change_first (is_numbered number) (renamed host) w.clients.sessions } }
+host_named number host w = record w {
+  clients = record w.clients {
+    sessions = change_first (is_numbered number) (renamed w.limits.checks_hosts host) w.clients.sessions;
+  };
+}

@@ -46,6 +46,7 @@ usual_limits = record {
   passes_over_gone = false;
   tells_unreadable = false;
   answers_searches = false;
+  checks_hosts = false;
 }
 
 -- what it knows before any event: nothing but its configuration, and where its four counters begin

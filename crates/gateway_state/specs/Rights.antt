@@ -10,15 +10,18 @@ use Rattle.channel_table.specs.Sessions.{is_numbered}
 use Rattle.link_table.specs.declared.links.LinkRow.{LinkRow}
 use Rattle.pv_alias.specs.declared.lead.Lead.{Lead}
 use Rattle.rule_desk.specs.declared.policy.Policy.{Policy}
+use Rattle.rule_desk.specs.Granting.{led}
+use Rattle.rule_desk.specs.Policy.{counts_as}
 use Rattle.gateway_state.specs.Gateway.{Gateway}
 use Rattle.gateway_state.specs.Resolution.{is_real, lead_of, rights_left}
 use Rattle.gateway_state.specs.Variables.{link_of, is_connected}
 
+-- what is asked from a session's host, with what the policy grants its user there
 abbrev pub lead_for : Policy → List ℕ → Option Session → Option Lead
 lead_for policy name None = None
-lead_for policy name (Some row) = lead_of policy row.host name
+lead_for policy name (Some row) = led policy.access row.user (counts_as policy row.host) (lead_of policy row.host name)
 
--- where the name leads that a session asks for, from its host; nothing where it is refused
+-- where the name leads that a session asks for, from its host, and what its user may do there; nothing where it is refused
 abbrev pub lead_in : Gateway → ℕ → List ℕ → Option Lead
 lead_in w number name = lead_for w.policy name (find (is_numbered number) w.clients.sessions)
 

@@ -1,5 +1,5 @@
 -- What every state that a run reaches has: nobody is owed anything.
-use Rattle.std.specs.Prelude.{◌≡◌, ℕ, ◌≤◌, List, [], ◌∷◌, length, filter, Bool, true, false, not, ◌&&◌, ◌||◌, ◌==◌, nat_lt, Option, Some, None, option_map}
+use Rattle.std.specs.Prelude.{◌≡◌, ℕ, ◌≤◌, List, [], ◌∷◌, length, filter, Bool, true, false, not, ◌||◌, ◌==◌, nat_lt, Option, Some, None, option_map}
 use Rattle.std.specs.List.{find, list_all, list_any}
 use Rattle.named_rows.specs.declared.channels.Channel.{Channel}
 use Rattle.named_rows.specs.declared.reads.WaitingRead.{WaitingRead}

@@ -65,6 +65,9 @@ pub struct Limits {
     /// Whether a search that a client makes on its connection is remembered, and answered where the name's
     /// variable is connected. Else it isn't understood.
     pub answers_searches: bool,
+    /// Whether, from then on, a client's host is the address that its connection comes from, whatever HOST_NAME
+    /// says.
+    pub checks_hosts: bool,
 }
 
 impl Limits {
@@ -89,6 +92,7 @@ impl Limits {
             passes_over_gone: false,
             tells_unreadable: false,
             answers_searches: false,
+            checks_hosts: false,
         }
     }
 

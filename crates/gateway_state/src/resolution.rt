@@ -3,7 +3,7 @@ ghost use Rattle.std.specs.Prelude.{◌≡◌, IfOk};
 ghost use Rattle.std.specs.Option.{option_copied};
 ghost use Rattle.gateway_state.specs.Resolution.{is_real, lead_of, rights_left};
 
-use pv_alias::{Lead, group_rights, resolve};
+use pv_alias::{Lead, resolve_known};
 use pv_name::{Host, Name};
 use rule_desk::Policy;
 use std::alloc::{AllocError, Global};
@@ -17,7 +17,7 @@ pub fn lead_of(
 ) -> Result<Option<Lead>, AllocError>
     ensures { IfOk result (λ lead. lead ≡ lead_of policy.now host.now name.now) }
 {
-    resolve(alloc, &policy.rules, host, name)
+    resolve_known(alloc, &policy.rules, host, policy.names.of(host), name)
 }
 
 /// Whether a name leads to this real name.
@@ -36,7 +36,7 @@ pub fn rights_left(policy: &Policy, lead: Option<&Lead>) -> u32
     ensures { result ≡ rights_left policy.now (option_copied lead.entry) }
 {
     match lead {
-        Some(lead) => group_rights(&policy.groups, lead.group.as_ref()),
+        Some(lead) => policy.rights(lead),
         None => 0,
     }
 }

@@ -110,7 +110,7 @@ fn hear_host_name(rows: &mut PlainRows, number: u32, host: &HostText<'_>) -> Res
     ensures { OnOk result (rows.new ≡ host_named number host.now rows.old) }
 {
     let host = host.to_host(rows.alloc)?;
-    name_host(&mut rows.sessions, number, host);
+    name_host(&mut rows.sessions, number, host, rows.limits.checks_hosts);
     Ok(())
 }
 

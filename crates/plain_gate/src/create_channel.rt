@@ -13,7 +13,7 @@ use plain_rows::clients::{ChannelsOf, SessionNumbered, fix_host};
 use plain_rows::lists::{count, find};
 use plain_rows::numbers::PlainRefusal;
 use plain_rows::state::PlainRows;
-use pv_alias::{Lead, group_rights};
+use pv_alias::Lead;
 use pv_name::Name;
 use std::alloc::AllocError;
 
@@ -94,8 +94,7 @@ fn create_as(
 {
     if let Some(variable) = rows.connected(&lead.real) {
         let native = variable.native;
-        let groups = &rows.searches.policy().groups;
-        let rights = variable.link.rights & group_rights(groups, lead.group.as_ref());
+        let rights = variable.link.rights & rows.searches.policy().rights(lead);
         create_on(rows, number, cid, asked, &lead.real, rights, native)?;
         end_search(rows, number, asked);
         return Ok(());

@@ -44,12 +44,12 @@ pub fn fix_host(rows: &mut Vec<Session>, number: u32)
 
 /// The session has another host, unless it is fixed.
 #[tactic(auto, using(rows::proofs::RowLemmas::set_is_change_first, rows::proofs::RowLemmas::change_first_none))]
-pub fn name_host(rows: &mut Vec<Session>, number: u32, host: Host)
-    ensures { rows.new.items ≡ change_first (is_numbered number) (renamed host) rows.old.items }
+pub fn name_host(rows: &mut Vec<Session>, number: u32, host: Host, checks_hosts: bool)
+    ensures { rows.new.items ≡ change_first (is_numbered number) (renamed checks_hosts host) rows.old.items }
 {
     if let Some(place) = place_of(rows, SessionNumbered { number }) {
         let row = &mut rows[place];
-        if !row.host_fixed {
+        if !(row.host_fixed || checks_hosts) {
             row.host = host;
         }
     }

@@ -23,13 +23,17 @@ use std::alloc::AllocError;
 use std::cmp::Ordering;
 
 impl PlainRows {
-    /// Where the name leads that a session asks for; nothing where it is refused, or where there is no
-    /// such session.
+    /// Where the name leads that a session asks for, with what its user may do there; nothing where it is refused,
+    /// or where there is no such session.
     pub fn lead_in(&self, number: u32, name: &Name) -> Result<Option<Lead>, AllocError>
         ensures { IfOk result (λ lead. lead ≡ lead_in self.now number name.now) }
     {
         match find(&self.sessions, SessionNumbered { number }) {
-            Some(session) => lead_of(self.alloc, self.searches.policy(), &session.host, name),
+            Some(session) => {
+                let policy = self.searches.policy();
+                let lead = lead_of(self.alloc, policy, &session.host, name)?;
+                Ok(policy.led(lead, session.user.as_slice(), &session.host))
+            }
             None => Ok(None),
         }
     }

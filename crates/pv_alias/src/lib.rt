@@ -13,6 +13,7 @@
 //! decides; `None` is a refusal. It compiles no pattern, and its only error is want of memory.
 //! A `Resolver` answers the same for many names under the same rules. It keeps what `resolve` makes anew
 //! for each name, the matchers of the rows that names were tried on.
+//! `resolve_known`, of both, is told the names that the host has: a DENY row that lists any of them refuses.
 //! `group_rights` promises the rights of the group's last line (`specs/Rights.antt`), and takes no
 //! memory.
 #![tactic(auto)]
@@ -26,7 +27,7 @@ mod tried;
 
 pub use lead::Lead;
 pub use resolver::Resolver;
-pub use resolving::resolve;
+pub use resolving::{resolve, resolve_known};
 pub use rights::group_rights;
 
 /// The error of a call that fails only where memory runs out.

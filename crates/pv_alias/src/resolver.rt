@@ -1,11 +1,13 @@
 //! Many names resolved by the same rules.
-ghost use Rattle.std.specs.Prelude.{◌≡◌, option_and_then, IfOk};
+ghost use Rattle.std.specs.Prelude.{◌≡◌, ◌∷◌, [], option_and_then, IfOk};
+ghost use Rattle.access_file.specs.HostNames.{hosts_of};
 ghost use Rattle.pv_alias.specs.Resolution.{resolution, is_refused, matching, deciding, lead_by};
 
 use crate::NoMemory;
 use crate::lead::Lead;
 use crate::resolving::refuses;
 use crate::tried::Tried;
+use access_file::HostName;
 use pv_name::{Host, Name};
 use pvlist::{Order, Row, Rules};
 use std::alloc::Global;
@@ -47,16 +49,30 @@ impl<'r> Resolver<'r> {
 
     /// Where the name leads that a client on this host asks for; `None` where the rules refuse it.
     /// It is what `resolve` gives under the same rules. Its only error is want of memory.
-    #[tactic(auto, unfolding(crate::specs::Resolution::resolution))]
+    #[tactic(auto, unfolding(access_file::specs::HostNames::hosts_of))]
     pub fn resolve(&mut self, host: &Host, name: &Name) -> Result<Option<Lead>, NoMemory>
-        ensures lead { IfOk result (λ lead. lead ≡ resolution self.old host.now name.now) }
+        ensures lead { IfOk result (λ lead. lead ≡ resolution self.old (host.now ∷ []) name.now) }
+        ensures same { self.new ≡ self.old }
+    {
+        self.resolve_known(host, &[], name)
+    }
+
+    /// The same where the host has names by these rows.
+    #[tactic(auto, unfolding(crate::specs::Resolution::resolution))]
+    pub fn resolve_known(
+        &mut self,
+        host: &Host,
+        names: &[HostName],
+        name: &Name,
+    ) -> Result<Option<Lead>, NoMemory>
+        ensures lead { IfOk result (λ lead. lead ≡ resolution self.old (hosts_of names.now host.now) name.now) }
         ensures same { self.new ≡ self.old }
     {
         if self.rules.is_open() {
-            return Ok(Some(Lead::to_itself(name, &None)?));
+            return Ok(Some(Lead::to_open(name)?));
         }
         let order = self.rules.order();
-        if is_refused(self.alloc, order, &mut self.rows, host, name)? {
+        if is_refused(self.alloc, order, &mut self.rows, host, names, name)? {
             return Ok(None);
         }
         last_lead(self.alloc, &mut self.rows, name)
@@ -80,14 +96,15 @@ fn is_refused(
     order: Order,
     rows: &mut [Tried<'_>],
     host: &Host,
+    names: &[HostName],
     name: &Name,
 ) -> Result<bool, NoMemory>
     ensures refused { IfOk result
-        (λ refused. refused ≡ is_refused order host.now (matching rows.old name.now)) }
+        (λ refused. refused ≡ is_refused order (hosts_of names.now host.now) (matching rows.old name.now)) }
     ensures same { rows.new ≡ rows.old }
 {
     for row in rows.iter_mut() {
-        if refuses(order, row.verb(), host) && row.matches(alloc, name)? {
+        if refuses(order, row.verb(), host, names) && row.matches(alloc, name)? {
             return Ok(true);
         }
     }

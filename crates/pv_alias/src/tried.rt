@@ -91,9 +91,9 @@ impl<'r> Tried<'r> {
         ensures same { self.new ≡ self.old }
     {
         match self.verb() {
-            Verb::Allow(group) => Ok(Some(Lead::to_itself(name, group)?)),
-            Verb::Alias(real, group) => match self.real_name(alloc, real, name)? {
-                Some(real) => Ok(Some(Lead::to_real(real, group)?)),
+            Verb::Allow(security) => Ok(Some(Lead::to_itself(name, security)?)),
+            Verb::Alias(real, security) => match self.real_name(alloc, real, name)? {
+                Some(real) => Ok(Some(Lead::to_real(real, security)?)),
                 None => Ok(None),
             },
             Verb::Deny(_) => Ok(None),

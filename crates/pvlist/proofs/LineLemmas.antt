@@ -5,6 +5,7 @@ use Rattle.pv_name.specs.Host.{is_host}
 use Rattle.pvlist.specs.declared.fault.RuleLineFault.{RuleLineFault}
 use Rattle.pvlist.specs.declared.fault.RuleLineFault.TheVariants.{Cause, OutOfMemory}
 use Rattle.pvlist.specs.declared.fault.RuleCause.TheVariants.{BadFrom, BadReference}
+use Rattle.pvlist.specs.declared.row.Security.{Security}
 use Rattle.pvlist.specs.declared.syntax.Syntax.{Syntax}
 use Rattle.regex.specs.declared.string.regex.Regex.{Regex}
 use Rattle.pvlist.specs.Compiled.{IsCompiled, IsAccepted}
@@ -12,12 +13,12 @@ use Rattle.pvlist.specs.Fault.{Lacks}
 use Rattle.pvlist.specs.RuleLine.{alias_entry, host_word, hosts_among, IsFaultOf}
 
 -- an alias without a real name, whose pattern is fine
-pub alias_without_real : (syntax : Syntax) (pattern : List ℕ) (group : Option (List ℕ)) (found : Option (List ℕ)) (regex : Regex) (fault : RuleLineFault)
-    → IsCompiled syntax pattern regex → Lacks BadReference found fault → IsFaultOf syntax pattern (alias_entry (Some group) found) fault
-alias_without_real syntax pattern group found regex (Cause cause) compiled lacks =
+pub alias_without_real : (syntax : Syntax) (pattern : List ℕ) (security : Security) (found : Option (List ℕ)) (regex : Regex) (fault : RuleLineFault)
+    → IsCompiled syntax pattern regex → Lacks BadReference found fault → IsFaultOf syntax pattern (alias_entry (Some security) found) fault
+alias_without_real syntax pattern security found regex (Cause cause) compiled lacks =
     let accepted : IsAccepted syntax pattern = record { regex = regex; compiled = compiled } in
     rw (lacks.0, lacks.1) (refl, accepted)
-alias_without_real syntax pattern group found regex OutOfMemory compiled lacks = tt
+alias_without_real syntax pattern security found regex OutOfMemory compiled lacks = tt
 
 no_host : (word : List ℕ) → host_word word ≡ None → is_host word ≡ false
 no_host word h = by (is_host word) h

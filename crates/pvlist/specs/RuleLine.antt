@@ -1,7 +1,10 @@
 -- What a line of a rule file is (user's guide, PVLIST).
-use Rattle.std.specs.Prelude.{◌≡◌, ℕ, Bool, true, false, ◌||◌, ◌&&◌, nat_lt, if◌then◌else◌, List, [], ◌∷◌, length, drop, bytes_eq, codes, IsTrue, Option, Some, None, Result, Ok, Err}
+use Rattle.std.specs.Prelude.{◌≡◌, ℕ, Bool, true, false, ◌&&◌, nat_lt, if◌then◌else◌, List, [], ◌∷◌, length, drop, codes, IsTrue, Option, Some, None, Result, Ok, Err}
 use Rattle.std.specs.List.{list_all}
 use Rattle.std.specs.Option.{option_map}
+use Rattle.access_file.specs.Keywords.{level_of}
+use Rattle.access_file.specs.declared.rule.Level.{Level}
+use Rattle.access_file.specs.declared.rule.Level.TheVariants.{One}
 use Rattle.pv_name.specs.Group.{is_group}
 use Rattle.pv_name.specs.Host.{is_host}
 use Rattle.pvlist.specs.declared.fault.RuleCause.{RuleCause}
@@ -14,6 +17,7 @@ use Rattle.pvlist.specs.declared.line.Item.{Item}
 use Rattle.pvlist.specs.declared.line.Item.TheVariants as item
 use Rattle.pvlist.specs.declared.line.TheConstants.{LINE_LIMIT}
 use Rattle.pvlist.specs.declared.row.Row.{Row}
+use Rattle.pvlist.specs.declared.row.Security.{Security}
 use Rattle.pvlist.specs.declared.row.Verb.{Verb}
 use Rattle.pvlist.specs.declared.row.Verb.TheVariants as verb
 use Rattle.pvlist.specs.declared.rules.Order.{Order}
@@ -33,24 +37,29 @@ pub data Entry : Type 0 where
   -- a row, whose verb is none where it is an alias without a real name
   Drafted : Option Verb → Entry
 
--- a level is read and has no use
-abbrev pub is_level : List ℕ → Bool
-is_level word = bytes_eq word (codes "0") || bytes_eq word (codes "1")
-
--- after a group at most a level stands
-abbrev pub is_group_end : List (List ℕ) → Bool
-is_group_end [] = true
-is_group_end (level ∷ []) = is_level level
-is_group_end _ = false
+-- after a group at most a level stands, which is 1 where none does; none where these words are no such end
+abbrev pub level_behind : List (List ℕ) → Option Level
+level_behind [] = Some One
+level_behind (word ∷ []) = level_of word
+level_behind _ = None
 
 -- the group, where the word is one
 abbrev pub group_word : List ℕ → Option (List ℕ)
 group_word word = if is_group word then Some word else None
 
--- the group at the end of a row; none where these words are no such end
-abbrev pub group_of : List (List ℕ) → Option (Option (List ℕ))
-group_of [] = Some None
-group_of (word ∷ rest) = if is_group_end rest then option_map Some (group_word word) else None
+-- no group, and the level 1
+abbrev pub no_group : Security
+no_group = record { group = None; level = One }
+
+-- the group that the word is, where the words behind it are a level
+abbrev pub grouped : List ℕ → Option Level → Option Security
+grouped word None = None
+grouped word (Some level) = option_map (λ group. record { group = Some group; level = level }) (group_word word)
+
+-- the group and the level at the end of a row; none where these words are no such end
+abbrev pub security_of : List (List ℕ) → Option Security
+security_of [] = Some no_group
+security_of (word ∷ rest) = grouped word (level_behind rest)
 
 -- the host, where the word is one
 abbrev pub host_word : List ℕ → Option (List ℕ)
@@ -66,14 +75,14 @@ abbrev pub hosts_of : List (List ℕ) → Option (List (List ℕ))
 hosts_of [] = Some []
 hosts_of (word ∷ rest) = if is_keyword word (codes "FROM") then hosts_among rest else hosts_among (word ∷ rest)
 
-abbrev pub allow_entry : Option (Option (List ℕ)) → Result Entry RuleCause
+abbrev pub allow_entry : Option Security → Result Entry RuleCause
 allow_entry None = Err BadGroup
-allow_entry (Some group) = Ok (Drafted (Some (verb.Allow group)))
+allow_entry (Some security) = Ok (Drafted (Some (verb.Allow security)))
 
-abbrev pub alias_entry : Option (Option (List ℕ)) → Option (List ℕ) → Result Entry RuleCause
+abbrev pub alias_entry : Option Security → Option (List ℕ) → Result Entry RuleCause
 alias_entry None real = Err BadGroup
-alias_entry (Some group) None = Ok (Drafted None)
-alias_entry (Some group) (Some real) = Ok (Drafted (Some (verb.Alias real group)))
+alias_entry (Some security) None = Ok (Drafted None)
+alias_entry (Some security) (Some real) = Ok (Drafted (Some (verb.Alias real security)))
 
 abbrev pub deny_entry : Option (List (List ℕ)) → Result Entry RuleCause
 deny_entry None = Err BadFrom
@@ -81,9 +90,9 @@ deny_entry (Some hosts) = Ok (Drafted (Some (verb.Deny hosts)))
 
 -- a row, by the syntax of patterns, its pattern, its keyword and the words after that
 abbrev pub row_entry : Syntax → List ℕ → Keyword → List (List ℕ) → Result Entry RuleCause
-row_entry syntax pattern keyword.Allow rest = allow_entry (group_of rest)
+row_entry syntax pattern keyword.Allow rest = allow_entry (security_of rest)
 row_entry syntax pattern keyword.Alias rest =
-    alias_entry (group_of (drop 1 rest)) (real_text_of (group_count syntax pattern) (next_word rest))
+    alias_entry (security_of (drop 1 rest)) (real_text_of (group_count syntax pattern) (next_word rest))
 row_entry syntax pattern keyword.Deny rest = deny_entry (hosts_of (between_commas rest))
 
 -- a line that is no order line; one that is full takes no row

@@ -1,29 +1,32 @@
-//! Groups at the end of rows.
-ghost use Rattle.std.specs.Prelude.{◌≡◌, ◌||◌, Some, codes, bytes_eq, IfOk, IfErr};
+//! Groups and levels at the end of rows.
+ghost use Rattle.std.specs.Prelude.{◌≡◌, Some, IfOk, IfErr};
 ghost use Rattle.pvlist.specs.Fault.{Lacks};
-ghost use Rattle.pvlist.specs.RuleLine.{group_of, group_word, is_group_end, is_level};
+ghost use Rattle.pvlist.specs.RuleLine.{security_of, group_word, level_behind};
 
 use crate::fault::{RuleCause, RuleLineFault};
+use crate::row::Security;
 use crate::words::RuleWords;
+use access_file::Level;
 use pv_name::{Group, NameFault};
 use std::alloc::Global;
 
-/// The group at the end of a row, if there is one.
-pub(crate) fn read_group(
-    alloc: Global,
-    mut words: RuleWords,
-) -> Result<Option<Group>, RuleLineFault>
-    ensures ok { IfOk result (λ group. group_of words.entry ≡ Some group) }
-    ensures err { IfErr result (Lacks RuleCause.BadGroup (group_of words.entry)) }
+/// The group and the level at the end of a row.
+pub(crate) fn read_security(alloc: Global, mut words: RuleWords) -> Result<Security, RuleLineFault>
+    ensures ok { IfOk result (λ security. security_of words.entry ≡ Some security) }
+    ensures err { IfErr result (Lacks RuleCause.BadGroup (security_of words.entry)) }
 {
     let Some(word) = words.next() else {
-        return Ok(None);
+        return Ok(Security {
+            group: None,
+            level: Level::One,
+        });
     };
-    if !is_group_end(words) {
-        return Err(RuleLineFault::Cause(RuleCause::BadGroup));
-    }
+    let level = level_behind(words).ok_or(RuleCause::BadGroup)?;
     let group = read_group_word(alloc, word)?;
-    Ok(Some(group))
+    Ok(Security {
+        group: Some(group),
+        level,
+    })
 }
 
 /// The group that the word is.
@@ -38,18 +41,15 @@ pub(crate) fn read_group_word(alloc: Global, word: &str) -> Result<Group, RuleLi
     }
 }
 
-// Whether at most a level follows.
-fn is_group_end(mut words: RuleWords) -> bool
-    ensures { result ≡ is_group_end words.entry }
+// The level that stands behind a group, where nothing else does.
+fn level_behind(mut words: RuleWords) -> Option<Level>
+    ensures { result ≡ level_behind words.entry }
 {
-    let Some(level) = words.next() else {
-        return true;
+    let Some(word) = words.next() else {
+        return Some(Level::One);
     };
-    is_level(level) && words.next().is_none()
-}
-
-fn is_level(word: &str) -> bool
-    ensures { result ≡ is_level word.now }
-{
-    word == "0" || word == "1"
+    match words.next() {
+        Some(_) => None,
+        None => Level::read(word.as_bytes()),
+    }
 }

@@ -49,7 +49,7 @@ pub use hosts::Hosts;
 pub use line::{LINE_LIMIT, ROW_LIMIT};
 pub use pattern::Pattern;
 pub use real_text::RealText;
-pub use row::{Row, Verb};
+pub use row::{Row, Security, Verb};
 pub use rules::{Order, Rules};
 pub use syntax::Syntax;
 pub use translation::{translate, translate_as};

@@ -5,7 +5,7 @@ ghost use Rattle.pvlist.specs.RuleLine.{row_entry, IsRow, IsFaultOf};
 
 use crate::compiled::Compiled;
 use crate::fault::RuleLineFault;
-use crate::group_word::read_group;
+use crate::group_word::read_security;
 use crate::host_words::read_hosts;
 use crate::hosts::Hosts;
 use crate::keyword::Keyword;
@@ -13,6 +13,7 @@ use crate::pattern::Pattern;
 use crate::real_text::{RealText, read_real_text};
 use crate::syntax::Syntax;
 use crate::words::RuleWords;
+use access_file::Level;
 use pv_name::Group;
 use std::alloc::Global;
 
@@ -23,13 +24,21 @@ pub struct Row {
     pub verb: Verb,
 }
 
+/// The access security group of a row, and the level of its variables.
+#[derive(Debug, Drop)]
+pub struct Security {
+    pub group: Option<Group>,
+    /// 1 where the row has none.
+    pub level: Level,
+}
+
 /// What a row does with a name that it matches.
 #[derive(Drop)]
 pub enum Verb {
     /// The name leads to itself, with the rights of the group.
-    Allow(Option<Group>),
+    Allow(Security),
     /// The name leads to another, with the rights of the group.
-    Alias(RealText, Option<Group>),
+    Alias(RealText, Security),
     /// The name is refused.
     Deny(Hosts),
 }
@@ -62,11 +71,11 @@ impl Row {
         ensures ok { IfOk result (IsRow syntax pattern.now (row_entry syntax pattern.now Allow words.entry)) }
         ensures err { IfErr result (IsFaultOf syntax pattern.now (row_entry syntax pattern.now Allow words.entry)) }
     {
-        let group = read_group(alloc, words)?;
+        let security = read_security(alloc, words)?;
         let compiled = Compiled::new(alloc, pattern, syntax)?;
         Ok(Row {
             pattern: compiled.pattern,
-            verb: Verb::Allow(group),
+            verb: Verb::Allow(security),
         })
     }
 
@@ -80,12 +89,12 @@ impl Row {
         ensures err { IfErr result (IsFaultOf syntax pattern.now (row_entry syntax pattern.now Alias words.entry)) }
     {
         let real = words.next();
-        let group = read_group(alloc, words)?;
+        let security = read_security(alloc, words)?;
         let compiled = Compiled::new(alloc, pattern, syntax)?;
         let real = read_real_text(alloc, compiled.groups, real)?;
         Ok(Row {
             pattern: compiled.pattern,
-            verb: Verb::Alias(real, group),
+            verb: Verb::Alias(real, security),
         })
     }
 

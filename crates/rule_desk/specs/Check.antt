@@ -1,5 +1,5 @@
 -- How a check ends. A writer's contents are known or not, and `before` and `after` are those at the call and the return.
-use Rattle.std.specs.Prelude.{◌≡◌, ℕ, ◌⊎◌, List, Option, Some, option_map, Result, Ok, Err}
+use Rattle.std.specs.Prelude.{◌≡◌, ℕ, ◌⊎◌, List, Option, option_map, Result, Ok, Err}
 use Rattle.std.specs.Io.KnownBytes.{Appends}
 use Rattle.pvlist.specs.declared.syntax.Syntax.{Syntax}
 use Rattle.rule_desk.specs.Edit.{IsPolicyOf, IsDeskFault}
@@ -9,6 +9,7 @@ use Rattle.rule_desk.specs.declared.policy.Policy.{Policy}
 use Rattle.rule_desk.specs.declared.answer.Question.{Question}
 use Rattle.rule_desk.specs.Answer.{answer_of}
 use Rattle.rule_desk.specs.Output.{good_lines, fault_line}
+use Rattle.rule_desk.specs.Texts.{Texts}
 
 -- the statuses of a check
 abbrev pub IsStatus : ℕ → Type 0
@@ -24,14 +25,14 @@ abbrev pub IsGoodOf : Policy → Option Question → Option (List ℕ) → Optio
 IsGoodOf policy asked before after = Appends before after (good_lines policy.rules (option_map (answer_of policy) asked))
 
 -- in this syntax the texts say a policy, and that is written, with what the policy answers
-pub record IsGood (syntax : Syntax) (rules : List ℕ) (groups : Option (List ℕ)) (asked : Option Question) (before after : Option (List ℕ)) : Type 0 where
+pub record IsGood (syntax : Syntax) (texts : Texts) (asked : Option Question) (before after : Option (List ℕ)) : Type 0 where
   pub policy : Policy
-  pub are : IsPolicyOf syntax (Some rules) groups policy
+  pub are : IsPolicyOf syntax texts policy
   pub written : IsGoodOf policy asked before after
 
 -- in this syntax a line of the texts is faulty, and the first such line is written
-pub record IsRefused (syntax : Syntax) (rules : List ℕ) (groups : Option (List ℕ)) (before after : Option (List ℕ)) : Type 0 where
+pub record IsRefused (syntax : Syntax) (texts : Texts) (before after : Option (List ℕ)) : Type 0 where
   pub fault : DeskFault
   pub is_line : ¬ (fault ≡ OutOfMemory)
-  pub is : IsDeskFault syntax (Some rules) groups fault
+  pub is : IsDeskFault syntax texts fault
   pub written : Appends before after (fault_line fault)

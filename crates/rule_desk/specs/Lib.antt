@@ -1,9 +1,11 @@
 pub mod DeskState
 pub mod Edit
 pub mod Fault
+pub mod Granting
 pub mod Policy
 pub mod Answer
 pub mod Check
 pub mod Note
 pub mod Output
 pub mod Said
+pub mod Texts

@@ -3,6 +3,7 @@ use Rattle.std.specs.Prelude.{ℕ, List, [], ◌∷◌, ◌++◌, ◌==◌, if�
 use Rattle.std.specs.Fmt.{decimal}
 use Rattle.pvlist.specs.Order.{order_text}
 use Rattle.pvlist.specs.Ruling.{Ruling}
+use Rattle.access_file.specs.declared.rule.Grant.{Grant}
 use Rattle.pv_alias.specs.declared.lead.Lead.{Lead}
 use Rattle.rule_desk.specs.Fault.{fault_text}
 use Rattle.rule_desk.specs.declared.fault.DeskFault.{DeskFault}
@@ -22,9 +23,15 @@ group_text None = codes "-"
 abbrev pub rights_text : ℕ → List ℕ
 rights_text rights = if rights == 0 then codes "none" else if rights == 1 then codes "read" else codes "write"
 
--- the line of a name that is admitted: the name that is served, the group and its rights
+-- that writes are recorded
+abbrev pub recorded_text : Option Grant → List ℕ
+recorded_text None = []
+recorded_text (Some grant) = if grant.recorded then codes " recorded" else []
+
+-- the line of a name that is admitted: the name that is served, the group, the rights, and whether writes are recorded
 abbrev pub admitted_line : Lead → ℕ → List ℕ
-admitted_line lead rights = codes "admitted " ++ lead.real ++ 32 ∷ group_text lead.group ++ 32 ∷ rights_text rights ++ 10 ∷ []
+admitted_line lead rights =
+    codes "admitted " ++ lead.real ++ 32 ∷ group_text lead.group ++ 32 ∷ rights_text rights ++ recorded_text lead.grant ++ 10 ∷ []
 
 -- the line of an answer, if there is one
 abbrev pub answer_line : Option Answer → List ℕ

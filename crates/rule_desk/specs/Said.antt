@@ -1,10 +1,13 @@
 -- What a faulty line said, as it is told beside its number.
-use Rattle.std.specs.Prelude.{◌≡◌, ℕ, ◌+◌, ◌-◌, ◌/◌, ◌%◌, ◌&&◌, nat_le, nat_lt, if◌then◌else◌, Bool, true, false, List, [], ◌∷◌, get_or, take, flat_map, Option, Some, None}
+use Rattle.std.specs.Prelude.{◌≡◌, ℕ, ◌+◌, ◌-◌, ◌/◌, ◌%◌, ◌&&◌, nat_le, nat_lt, if◌then◌else◌, List, [], ◌∷◌, get_or, take, flat_map, Option, Some, None}
 use Rattle.std.specs.Str.Lines.{lines}
 use Rattle.pvlist.specs.declared.syntax.Syntax.{Syntax}
 use Rattle.rule_desk.specs.Edit.{IsDeskFault}
+use Rattle.rule_desk.specs.Texts.{Texts}
 use Rattle.rule_desk.specs.declared.fault.DeskFault.{DeskFault}
-use Rattle.rule_desk.specs.declared.fault.DeskFault.TheVariants.{Rules, Groups, OutOfMemory}
+use Rattle.rule_desk.specs.declared.fault.DeskFault.TheVariants.{Rules, Groups, Access, OutOfMemory}
+use Rattle.rule_desk.specs.declared.said.SaidFile.{SaidFile}
+use Rattle.rule_desk.specs.declared.said.SaidFile.TheVariants.{InRules, InGroups, InAccess}
 
 -- the hexadecimal digit of a number: `0` is 48 and `a` 97
 abbrev pub digit : ℕ → ℕ
@@ -24,21 +27,26 @@ told line = take 200 (flat_map shown (take 200 line))
 abbrev pub line_at : ℕ → List ℕ → List ℕ
 line_at number text = get_or (lines text) (number - 1) []
 
--- whether it is a line of the group file, its number, and what is told of it
+-- of which file a line is, its number, and what is told of it
 pub record SaidLine : Type 0 where
-  pub of_groups : Bool
+  pub file : SaidFile
   pub line : ℕ
   pub text : List ℕ
 
+-- a line of a file that has a text
+abbrev pub said_in : Option (List ℕ) → SaidFile → ℕ → Option SaidLine
+said_in None file line = None
+said_in (Some text) file line = Some (record { file = file; line = line; text = told (line_at line text) })
+
 -- what the line said that a fault is of
-unfoldable pub said_of : List ℕ → Option (List ℕ) → DeskFault → Option SaidLine
-said_of rules groups (Rules line cause) = Some (record { of_groups = false; line = line; text = told (line_at line rules) })
-said_of rules (Some groups) (Groups line cause) = Some (record { of_groups = true; line = line; text = told (line_at line groups) })
-said_of rules None (Groups line cause) = None
-said_of rules groups OutOfMemory = None
+unfoldable pub said_of : Texts → DeskFault → Option SaidLine
+said_of texts (Rules line cause) = said_in texts.rules InRules line
+said_of texts (Groups line cause) = said_in texts.groups InGroups line
+said_of texts (Access line cause) = said_in texts.access InAccess line
+said_of texts OutOfMemory = None
 
 -- what the first faulty line said of texts that are read in this syntax
-pub record IsSaid (syntax : Syntax) (rules : List ℕ) (groups : Option (List ℕ)) (said : SaidLine) : Type 0 where
+pub record IsSaid (syntax : Syntax) (texts : Texts) (said : SaidLine) : Type 0 where
   pub fault : DeskFault
-  pub is : IsDeskFault syntax (Some rules) groups fault
-  pub says : said_of rules groups fault ≡ Some said
+  pub is : IsDeskFault syntax texts fault
+  pub says : said_of texts fault ≡ Some said

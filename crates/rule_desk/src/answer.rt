@@ -3,15 +3,17 @@ ghost use Rattle.std.specs.Prelude.{◌≡◌, IfOk, option_copied, option_map};
 ghost use Rattle.rule_desk.specs.Answer.{answer_of};
 
 use crate::Policy;
-use pv_alias::{Lead, NoMemory, group_rights, resolve};
+use pv_alias::{Lead, NoMemory, resolve_known};
 use pv_name::{Host, Name};
 use std::alloc::Global;
 
-/// What is asked of a policy: where the name leads that a client on the host asks for.
+/// What is asked of a policy: where the name leads that a client on the host asks for, whose user is called so.
 #[derive(Debug, Drop)]
 pub struct Question {
     pub name: Name,
     pub host: Host,
+    /// Any bytes, and none where the client says nothing of its user.
+    pub user: Vec<u8>,
 }
 
 /// What a policy answers of a name.
@@ -39,9 +41,11 @@ pub(crate) fn answer_if_asked(
 fn answer_to(alloc: Global, policy: &Policy, asked: &Question) -> Result<Answer, NoMemory>
     ensures { IfOk result (λ answer. answer ≡ answer_of policy.now asked.now) }
 {
-    match resolve(alloc, &policy.rules, &asked.host, &asked.name)? {
+    let names = policy.names.of(&asked.host);
+    let lead = resolve_known(alloc, &policy.rules, &asked.host, names, &asked.name)?;
+    match policy.led(lead, asked.user.as_slice(), &asked.host) {
         Some(lead) => {
-            let rights = group_rights(&policy.groups, lead.group.as_ref());
+            let rights = policy.rights(&lead);
             Ok(Answer::Admitted(lead, rights))
         }
         None => Ok(Answer::Refused),

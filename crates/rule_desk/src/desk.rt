@@ -1,11 +1,14 @@
 //! The desk.
 ghost use Rattle.std.specs.Prelude.{◌≡◌, ◌+◌, ◌-◌, ◌^◌, min, option_copied, IfOk, IfErr, OnOk, OnErr};
-ghost use Rattle.rule_desk.specs.Edit.{AreRulesOf, AreGroupsOf, IsPolicyOf, IsDeskFault, IsRulesFault, IsGroupsFault};
+ghost use Rattle.rule_desk.specs.Edit.{AreRulesOf, AreGroupsOf, IsAccessOf, IsPolicyOf, IsDeskFault, IsRulesFault, IsGroupsFault, IsAccessFault};
+ghost use Rattle.rule_desk.specs.Texts.{without_access};
 
 use crate::fault::DeskFault;
-use crate::policy::Policy;
+use crate::policy::{BoxedAccess, Policy};
+use crate::texts::PolicyTexts;
+use access_file::{Access, AccessFault, HostNames};
 use pvlist::{Groups, RuleFault, Rules, Syntax};
-use std::alloc::Global;
+use std::alloc::{AllocError, Global};
 use std::marker::Model;
 
 /// Where a policy is edited. A contract sees how many edits were accepted, and the syntax of rule
@@ -60,16 +63,41 @@ impl Desk {
 
     /// The policy of a rule file and a group file. Without a rule file each name leads to itself, and
     /// without a group file no group has a line, whatever the edit before had.
-    pub fn edit(&mut self, rules: Option<&str>, groups: Option<&str>) -> Result<Policy, DeskFault>
-        ensures ok { IfOk result (IsPolicyOf self.old.syntax (option_copied rules.entry) (option_copied groups.entry)) }
+    pub fn edit<'t>(
+        &mut self,
+        rules: Option<&'t str>,
+        groups: Option<&'t str>,
+    ) -> Result<Policy, DeskFault>
+        ensures ok { IfOk result (IsPolicyOf self.old.syntax (without_access (option_copied rules.entry) (option_copied groups.entry))) }
         ensures counted { OnOk result (self.new ≡ record self.old { edits = min (self.old.edits + 1) (2 ^ 64 - 1) }) }
-        ensures err { IfErr result (IsDeskFault self.old.syntax (option_copied rules.entry) (option_copied groups.entry)) }
+        ensures err { IfErr result (IsDeskFault self.old.syntax (without_access (option_copied rules.entry) (option_copied groups.entry))) }
         ensures kept { OnErr result (self.new ≡ self.old) }
     {
-        let rules = read_rules(self.alloc, self.syntax, rules)?;
-        let groups = read_groups(self.alloc, groups)?;
+        self.read(&PolicyTexts {
+            rules,
+            groups,
+            access: None,
+        })
+    }
+
+    /// The policy of all three files, in which no host has a name. Without an access security file all may do what the group file says.
+    /// Nothing is taken over from the edit before.
+    pub fn read(&mut self, texts: &PolicyTexts<'_>) -> Result<Policy, DeskFault>
+        ensures ok { IfOk result (IsPolicyOf self.old.syntax texts.now) }
+        ensures counted { OnOk result (self.new ≡ record self.old { edits = min (self.old.edits + 1) (2 ^ 64 - 1) }) }
+        ensures err { IfErr result (IsDeskFault self.old.syntax texts.now) }
+        ensures kept { OnErr result (self.new ≡ self.old) }
+    {
+        let rules = read_rules(self.alloc, self.syntax, texts.rules)?;
+        let groups = read_groups(self.alloc, texts.groups)?;
+        let access = read_access(self.alloc, texts.access)?;
         self.edits = self.edits.saturating_add(1);
-        Ok(Policy { rules, groups })
+        Ok(Policy {
+            rules,
+            groups,
+            access,
+            names: HostNames::new(self.alloc),
+        })
     }
 }
 
@@ -98,5 +126,23 @@ fn read_groups(alloc: Global, text: Option<&str>) -> Result<Groups, DeskFault>
         Ok(groups) => Ok(groups),
         Err(RuleFault::At(line, cause)) => Err(DeskFault::Groups(line, cause)),
         Err(RuleFault::OutOfMemory) => Err(DeskFault::OutOfMemory),
+    }
+}
+
+fn read_access(alloc: Global, text: Option<&str>) -> Result<Option<BoxedAccess>, DeskFault>
+    ensures ok { IfOk result (IsAccessOf (option_copied text.entry)) }
+    ensures err { IfErr result (IsAccessFault (option_copied text.entry)) }
+{
+    let Some(text) = text else {
+        return Ok(None);
+    };
+    let access = match Access::read(alloc, text) {
+        Ok(access) => access,
+        Err(AccessFault::At(line, cause)) => return Err(DeskFault::Access(line, cause)),
+        Err(AccessFault::OutOfMemory) => return Err(DeskFault::OutOfMemory),
+    };
+    match BoxedAccess::new(alloc, access) {
+        Ok(access) => Ok(Some(access)),
+        Err(AllocError) => Err(DeskFault::OutOfMemory),
     }
 }

@@ -1,5 +1,6 @@
 //! Why an edit is refused.
 
+use access_file::{AccessCause, AccessFault};
 use pvlist::{RuleCause, RuleFault};
 use std::error::Error;
 use std::fmt;
@@ -11,6 +12,8 @@ pub enum DeskFault {
     Rules(usize, RuleCause),
     /// The same of the group file, where the rule file has no fault.
     Groups(usize, RuleCause),
+    /// The first fault of the access security file, where the others have none.
+    Access(usize, AccessCause),
     /// The allocator had no memory.
     OutOfMemory,
 }
@@ -25,6 +28,11 @@ impl fmt::Display for DeskFault {
         match self {
             DeskFault::Rules(line, cause) => write!(f, "{}", RuleFault::At(*line, *cause)),
             DeskFault::Groups(line, cause) => write!(f, "groups {}", RuleFault::At(*line, *cause)),
+            DeskFault::Access(line, cause) => write!(
+                f,
+                "access {}",
+                AccessFault::At(*line, *cause)
+            ),
             DeskFault::OutOfMemory => write!(f, "{}", RuleFault::OutOfMemory),
         }
     }

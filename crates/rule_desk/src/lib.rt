@@ -41,9 +41,10 @@
 //! it is written.
 #![tactic(auto)]
 
-ghost use Rattle.std.specs.Prelude.{◌≡◌, option_copied};
+ghost use Rattle.std.specs.Prelude.{◌≡◌, Some, option_copied};
 ghost use Rattle.std.specs.Io.KnownBytes.{Keeps};
 ghost use Rattle.rule_desk.specs.Check.{IsStatus, IsGood, IsGoodOf, IsRefused, status_after};
+ghost use Rattle.rule_desk.specs.Texts.{without_access};
 
 mod answer;
 mod desk;
@@ -53,6 +54,7 @@ mod output;
 mod policy;
 mod said;
 pub mod status;
+mod texts;
 
 pub use answer::Question;
 use answer::answer_if_asked;
@@ -60,32 +62,54 @@ pub use desk::Desk;
 pub use fault::DeskFault;
 pub use note::Note;
 use output::{print_fault, print_good};
-pub use policy::Policy;
+pub use policy::{BoxedAccess, Policy};
 use pvlist::Syntax;
 pub use said::Said;
 use std::alloc::Global;
 use std::io;
 use std::io::Write;
+pub use texts::PolicyTexts;
 
 /// Checks the texts of a rule file, whose patterns are of the syntax, and of a group file, the rule
 /// file first, and writes their first faulty line; or that they are good, and then what they answer
 /// where a name is asked for. Returns the status that the program ends with. What was written is
 /// flushed then. Where memory is refused nothing is written.
-pub fn check<W: Write>(
+pub fn check<'t, W: Write>(
     alloc: Global,
-    rules: &str,
-    groups: Option<&str>,
+    rules: &'t str,
+    groups: Option<&'t str>,
     asked: Option<&Question>,
     writer: &mut W,
     syntax: Syntax,
 ) -> u8
     ensures among { IsStatus result }
-    ensures good { result ≡ 0 → IsGood syntax rules.now (option_copied groups.entry) (option_copied asked.entry) (W.contents writer.old) (W.contents writer.new) }
-    ensures refused { result ≡ 1 → IsRefused syntax rules.now (option_copied groups.entry) (W.contents writer.old) (W.contents writer.new) }
+    ensures good { result ≡ 0 → IsGood syntax (without_access (Some rules.now) (option_copied groups.entry)) (option_copied asked.entry) (W.contents writer.old) (W.contents writer.new) }
+    ensures refused { result ≡ 1 → IsRefused syntax (without_access (Some rules.now) (option_copied groups.entry)) (W.contents writer.old) (W.contents writer.new) }
+    ensures memory { result ≡ 4 → Keeps (W.contents writer.old) (W.contents writer.new) }
+{
+    let texts = PolicyTexts {
+        rules: Some(rules),
+        groups,
+        access: None,
+    };
+    check_texts(alloc, &texts, asked, writer, syntax)
+}
+
+/// The same of the texts of all files, each of which may be missing.
+pub fn check_texts<W: Write>(
+    alloc: Global,
+    texts: &PolicyTexts<'_>,
+    asked: Option<&Question>,
+    writer: &mut W,
+    syntax: Syntax,
+) -> u8
+    ensures among { IsStatus result }
+    ensures good { result ≡ 0 → IsGood syntax texts.now (option_copied asked.entry) (W.contents writer.old) (W.contents writer.new) }
+    ensures refused { result ≡ 1 → IsRefused syntax texts.now (W.contents writer.old) (W.contents writer.new) }
     ensures memory { result ≡ 4 → Keeps (W.contents writer.old) (W.contents writer.new) }
 {
     let mut desk = Desk::with_syntax(alloc, syntax);
-    match desk.edit(Some(rules), groups) {
+    match desk.read(texts) {
         Ok(policy) => answer_by(alloc, &policy, asked, writer),
         Err(DeskFault::OutOfMemory) => status::FAILED,
         Err(fault) => ended(print_fault(writer, fault), status::REFUSED),

@@ -1,10 +1,11 @@
 //! What is written.
 ghost use Rattle.std.specs.Prelude.{◌≡◌, ◌++◌, OnOk};
 ghost use Rattle.std.specs.Io.KnownBytes.{Appends};
-ghost use Rattle.rule_desk.specs.Output.{ok_line, group_text, rights_text, admitted_line, answer_line, good_lines, fault_line};
+ghost use Rattle.rule_desk.specs.Output.{ok_line, group_text, rights_text, recorded_text, admitted_line, answer_line, good_lines, fault_line};
 
 use crate::DeskFault;
 use crate::answer::Answer;
+use access_file::Grant;
 use pv_alias::Lead;
 use pv_name::Group;
 use pvlist::Rules;
@@ -56,7 +57,8 @@ fn write_admitted<W: Write>(out: &mut W, lead: &Lead, rights: u32) -> io::Result
     let real = lead.real.text();
     let group = group_text(&lead.group);
     let rights = rights_text(rights);
-    writeln!(out, "admitted {real} {group} {rights}")
+    let recorded = recorded_text(lead.grant);
+    writeln!(out, "admitted {real} {group} {rights}{recorded}")
 }
 
 fn group_text(group: &Option<Group>) -> &str
@@ -65,6 +67,15 @@ fn group_text(group: &Option<Group>) -> &str
     match group {
         Some(group) => group.text(),
         None => "-",
+    }
+}
+
+fn recorded_text(grant: Option<Grant>) -> &'static str
+    ensures { result.now ≡ recorded_text grant }
+{
+    match grant {
+        Some(grant) if grant.recorded => " recorded",
+        _ => "",
     }
 }
 

@@ -1,8 +1,9 @@
 //! What a faulty line said.
-ghost use Rattle.std.specs.Prelude.{◌≡◌, ◌<◌, ◌++◌, IfOk, IfSome, OnOk, flat_map, option_copied, take};
-ghost use Rattle.rule_desk.specs.Said.{IsSaid, digit, line_at, said_of, shown, told};
+ghost use Rattle.std.specs.Prelude.{◌≡◌, ◌<◌, ◌++◌, Some, IfOk, IfSome, OnOk, flat_map, option_copied, take};
+ghost use Rattle.rule_desk.specs.Said.{IsSaid, digit, line_at, said_in, said_of, shown, told};
+ghost use Rattle.rule_desk.specs.Texts.{without_access};
 
-use crate::{Desk, DeskFault};
+use crate::{Desk, DeskFault, PolicyTexts};
 use pv_alias::NoMemory;
 use pvlist::Syntax;
 use std::alloc::Global;
@@ -12,11 +13,19 @@ use std::{fmt, str};
 /// How many characters are told of a line.
 const MOST: usize = 200;
 
-/// What a faulty line said. It is printed as `line 3: says: B GRANT`, or as `groups line 1: says: ..` where it
-/// is a line of the group file.
+/// Of which file a line is.
+#[derive(Clone, Copy, Debug)]
+enum SaidFile {
+    InRules,
+    InGroups,
+    InAccess,
+}
+
+/// What a faulty line said. It is printed as `line 3: says: B GRANT`, or as `groups line 1: says: ..` or
+/// `access line 1: says: ..` where it is a line of the group file or of the access security file.
 #[derive(Debug, Drop)]
 pub struct Said {
-    of_groups: bool,
+    file: SaidFile,
     // Counted from 1.
     line: usize,
     // Printable ASCII.
@@ -28,19 +37,36 @@ impl Model for Said {
 
     ghost Value = { SaidLine };
 
-    ghost view = { λ s. record { of_groups = s.of_groups; line = s.line; text = s.text.items } };
+    ghost view = { λ s. record { file = s.file; line = s.line; text = s.text.items } };
 }
 
 impl Said {
     /// What the first faulty line of the texts of a rule file, whose patterns are of the syntax, and of a group
     /// file said; `None` where there is none, or memory is refused.
-    pub fn of(alloc: Global, rules: &str, groups: Option<&str>, syntax: Syntax) -> Option<Said>
-        ensures { IfSome result (IsSaid syntax rules.now (option_copied groups.entry)) }
+    pub fn of<'t>(
+        alloc: Global,
+        rules: &'t str,
+        groups: Option<&'t str>,
+        syntax: Syntax,
+    ) -> Option<Said>
+        ensures { IfSome result (IsSaid syntax (without_access (Some rules.now) (option_copied groups.entry))) }
+    {
+        let texts = PolicyTexts {
+            rules: Some(rules),
+            groups,
+            access: None,
+        };
+        Said::of_texts(alloc, &texts, syntax)
+    }
+
+    /// The same of all files.
+    pub fn of_texts(alloc: Global, texts: &PolicyTexts<'_>, syntax: Syntax) -> Option<Said>
+        ensures { IfSome result (IsSaid syntax texts.now) }
     {
         let mut desk = Desk::with_syntax(alloc, syntax);
-        match desk.edit(Some(rules), groups) {
+        match desk.read(texts) {
             Ok(_) => None,
-            Err(fault) => match said_of(alloc, rules, groups, fault) {
+            Err(fault) => match said_of(alloc, texts, fault) {
                 Ok(Some(said)) => Some(said),
                 Ok(None) | Err(_) => None,
             },
@@ -52,23 +78,33 @@ impl Said {
 #[tactic(auto, unfolding(crate::specs::Said::said_of))]
 fn said_of(
     alloc: Global,
-    rules: &str,
-    groups: Option<&str>,
+    texts: &PolicyTexts<'_>,
     fault: DeskFault,
 ) -> Result<Option<Said>, NoMemory>
-    ensures { IfOk result (λ said. said ≡ said_of rules.now (option_copied groups.entry) fault) }
+    ensures { IfOk result (λ said. said ≡ said_of texts.now fault) }
 {
-    let (of_groups, line, text) = match (fault, groups) {
-        (DeskFault::Rules(line, _), _) => (false, line, rules),
-        (DeskFault::Groups(line, _), Some(groups)) => (true, line, groups),
-        (DeskFault::Groups(_, _), None) | (DeskFault::OutOfMemory, _) => return Ok(None),
+    match fault {
+        DeskFault::Rules(line, _) => said_in(alloc, texts.rules, SaidFile::InRules, line),
+        DeskFault::Groups(line, _) => said_in(alloc, texts.groups, SaidFile::InGroups, line),
+        DeskFault::Access(line, _) => said_in(alloc, texts.access, SaidFile::InAccess, line),
+        DeskFault::OutOfMemory => Ok(None),
+    }
+}
+
+/// A line of a file that has a text.
+fn said_in(
+    alloc: Global,
+    text: Option<&str>,
+    file: SaidFile,
+    line: usize,
+) -> Result<Option<Said>, NoMemory>
+    ensures { IfOk result (λ said. said ≡ said_in (option_copied text.entry) file line) }
+{
+    let Some(text) = text else {
+        return Ok(None);
     };
     let text = told(alloc, line_at(text, line))?;
-    Ok(Some(Said {
-        of_groups,
-        line,
-        text,
-    }))
+    Ok(Some(Said { file, line, text }))
 }
 
 /// The line of a text that has this number, counted from 1.
@@ -139,9 +175,11 @@ fn digit(n: u8) -> u8
 impl fmt::Display for Said {
     fn fmt<W: fmt::Write>(&self, f: &mut fmt::Formatter<W>) -> fmt::Result {
         let text = str::from_utf8(self.text.as_slice()).unwrap_or("");
-        if self.of_groups {
-            f.write_str("groups ")?;
-        }
-        write!(f, "line {}: says: {text}", self.line)
+        let file = match self.file {
+            SaidFile::InRules => "",
+            SaidFile::InGroups => "groups ",
+            SaidFile::InAccess => "access ",
+        };
+        write!(f, "{file}line {}: says: {text}", self.line)
     }
 }

@@ -149,26 +149,8 @@ fn copy(lead: &Option<Lead>) -> Result<Option<Lead>, AllocError>
     ensures { IfOk result (λ copy. copy ≡ lead.now) }
 {
     match lead {
-        Some(lead) => Ok(Some(copy_lead(lead)?)),
+        Some(lead) => Ok(Some(lead.copy()?)),
         None => Ok(None),
-    }
-}
-
-fn copy_lead(lead: &Lead) -> Result<Lead, AllocError>
-    ensures { IfOk result (λ copy. copy ≡ lead.now) }
-{
-    let Ok(real) = lead.real.copy() else {
-        return Err(AllocError);
-    };
-    match &lead.group {
-        Some(group) => match group.copy() {
-            Ok(group) => Ok(Lead {
-                real,
-                group: Some(group),
-            }),
-            Err(_) => Err(AllocError),
-        },
-        None => Ok(Lead { real, group: None }),
     }
 }
 

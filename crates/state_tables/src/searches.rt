@@ -7,7 +7,6 @@ ghost use Rattle.gateway_state.specs.Searches.{grown_stale, is_fresh, is_stale, 
 ghost use Rattle.gateway_state.specs.Variables.{search_names};
 ghost use Rattle.state_tables.specs.Kept.{again_found, is_stale_row, kept_as, kept_key, key_in, made_again_under, outworn_row, reals_of, rows_again, rows_after, search_in, search_of, searches_of, serial_key, LedByOneMore, Stand};
 ghost use Rattle.state_tables.specs.Leads.{AreLeads};
-ghost use Rattle.rule_desk.specs.declared.policy.Policy.{Policy as PolicyValue};
 
 use crate::kept::{KeptSearch, copied, kept_row, made_now};
 use crate::leads::{AskedName, Leads};
@@ -287,7 +286,8 @@ fn learn(
     if known.is_some() {
         return Ok(());
     }
-    let lead = resolver.resolve(asked.host, asked.name)?;
+    let names = policy.names.of(asked.host);
+    let lead = resolver.resolve_known(asked.host, names, asked.name)?;
     leads.add(policy, asked.host, asked.name, &lead)
 }
 
@@ -434,25 +434,28 @@ fn all_led_by(
     let mut resolver = Resolver::new(alloc, &policy.rules)?;
     let mut new = SearchTable::new(alloc);
     for row in rows {
-        add_led(&mut new, alloc, &mut resolver, row)?;
+        add_led(&mut new, alloc, policy, &mut resolver, row)?;
     }
     Ok(new)
 }
 
-/// Adds a search with what it leads to. A row that stands has its search.
+/// Adds a search with what it leads to under the policy, whose rules the resolver has. A row that stands has
+/// its search.
 fn add_led(
     rows: &mut SearchTable,
     alloc: Global,
+    policy: &Policy,
     resolver: &mut Resolver<'_>,
     row: &KeptSearch,
 ) -> Result<(), AllocError>
-    ensures led { (policy : PolicyValue) → resolver.old ≡ policy.rules → OnOk result (LedByOneMore policy row.now rows.old rows.new) }
+    ensures led { resolver.old ≡ policy.now.rules → OnOk result (LedByOneMore policy.now row.now rows.old rows.new) }
     ensures rules { resolver.new ≡ resolver.old }
 {
     let Some(search) = &row.search else {
         return Err(AllocError);
     };
-    let lead = resolver.resolve(&search.host, &search.name)?;
+    let names = policy.names.of(&search.host);
+    let lead = resolver.resolve_known(&search.host, names, &search.name)?;
     let search = copied(search, search.fresh)?;
     let kept = kept_row(alloc, rows.free()?, lead, search)?;
     rows.add(kept)

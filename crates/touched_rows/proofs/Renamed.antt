@@ -1,6 +1,6 @@
 -- A session that says where it is, or who its user is: names lead where they led for all other sessions, and for
 -- this one too, since what it said is fixed where it has a channel.
-use Rattle.std.proofs.Common.{◌≡◌, ℕ, List, [], ◌∷◌, length, Bool, true, false, cond, eqb, not, ◌&&◌, Option, Some, None, refl, sym, ap, subst, ◌∙◌, arith}
+use Rattle.std.proofs.Common.{◌≡◌, ℕ, List, [], ◌∷◌, length, Bool, true, false, cond, eqb, not, ◌&&◌, ◌||◌, Option, Some, None, refl, sym, ap, subst, ◌∙◌, arith}
 use Rattle.std.specs.Prelude.{filter}
 use Rattle.std.specs.List.{All, find}
 use Rattle.std.proofs.lemmas.Bool.{eqb-true}
@@ -80,15 +80,16 @@ module _ (w : Gateway) (settled : IsSettled w) (fixed : HasHostsFixed w) (number
 
 -- ---- its host
 
-renamed_unhosted : (host : List ℕ) (row : Session) → unhosted (renamed host row) ≡ unhosted row
-renamed_unhosted host row = elim row.host_fixed as (λ t. unhosted (cond t row (record row { host = host })) ≡ unhosted row) [ true ↦ refl | false ↦ refl ]
+renamed_unhosted : (checks_hosts : Bool) (host : List ℕ) (row : Session) → unhosted (renamed checks_hosts host row) ≡ unhosted row
+renamed_unhosted checks_hosts host row = elim (row.host_fixed || checks_hosts) as (λ t. unhosted (cond t row (record row { host = host })) ≡ unhosted row) [ true ↦ refl | false ↦ refl ]
 
-renamed_fixed : (host : List ℕ) (row : Session) → row.host_fixed ≡ true → renamed host row ≡ row
-renamed_fixed host row is = rw is refl
+renamed_fixed : (checks_hosts : Bool) (host : List ℕ) (row : Session) → row.host_fixed ≡ true → renamed checks_hosts host row ≡ row
+renamed_fixed checks_hosts host row is = rw is refl
 
 pub nothing_after_renaming : (w : Gateway) → IsSettled w → HasHostsFixed w → (number : ℕ) (host : List ℕ) → consequences (host_named number host w) ≡ host_named number host w
 nothing_after_renaming w settled fixed number host =
-    nothing_after_change w settled fixed number (renamed host) (renamed_unhosted host) (renamed_fixed host)
+    let checks_hosts : Bool = w.limits.checks_hosts in
+    nothing_after_change w settled fixed number (renamed checks_hosts host) (renamed_unhosted checks_hosts host) (renamed_fixed checks_hosts host)
 
 -- ---- its user
 
