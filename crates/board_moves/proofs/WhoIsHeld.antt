@@ -1,6 +1,12 @@
 -- Connections that are held, and those that aren't.
-use Rattle.std.proofs.Common.{◌≡◌, ℕ, List, [], ◌∷◌, Bool, true, false, cond, Option, Some, None, Result, Ok, refl, sym, subst}
+use Rattle.std.proofs.Common.{◌≡◌, ◌∙◌, ℕ, List, [], ◌∷◌, Bool, true, false, cond, Option, Some, None, Result, Ok, refl, sym, ap, subst, length, arith}
+use Rattle.std.specs.Prelude.{◌||◌, nat_lt, unwrap_or}
+use Rattle.std.specs.Option.{option_map}
 use Rattle.std.proofs.lemmas.Bool.{or_parts}
+use Rattle.fanout.specs.declared.outbox.Out.{Out}
+use Rattle.fanout.specs.Waiting.{waiting_bytes, Waiting}
+use Rattle.gateway_state.specs.Asked.{queued}
+use Rattle.gateway_state.specs.Connections.{outbox_of}
 use Rattle.gateway_state.specs.Gateway.{Gateway}
 use Rattle.gateway_state.specs.declared.event.Dest.{Dest}
 use Rattle.gateway_state.specs.declared.event.Dest.TheVariants.{Session, Upstream}
@@ -8,9 +14,10 @@ use Rattle.board_rings.specs.Attachments.{attachment_of, full_or_not, have_full,
 use Rattle.board_rings.specs.Rings.{AttachmentState}
 use Rattle.board_rings.specs.Board.{BoardState}
 use Rattle.board_moves.specs.Answers.{board_of, IsPump}
-use Rattle.board_moves.specs.Held.{is_full_server, is_held, server_for}
+use Rattle.board_moves.specs.Held.{is_full_server, is_held, is_over_half, server_for}
 use Rattle.board_moves.specs.Rounds.{pumped_count, PumpsFree}
 use Rattle.board_moves.specs.declared.fault.BoardFault.{BoardFault}
+use Rattle.board_moves.specs.declared.share.TheConstants.{HELD_BYTES, HELD_MESSAGES}
 
 -- where too much waits for nobody, it does for no connection
 none_full : (dest : Dest) (attachments : List AttachmentState) → have_full attachments ≡ false → is_full dest attachments ≡ false
@@ -27,6 +34,21 @@ none_held (Session number) rows attachments none = by (server_for rows number (l
     by : (server : Option ℕ) → is_full_server server attachments ≡ false
     by None = refl
     by (Some server) = none_full (Upstream server) attachments none
+
+-- where no message waits no byte does
+none_is_short : (messages : List Out) (marked : Bool) → length messages ≡ 0 → waiting_bytes (record { messages = messages; marked = marked }) ≡ 0
+none_is_short [] marked none = refl
+none_is_short (out ∷ messages) marked none = omega (arith, none)
+
+-- a server for which nothing waits isn't over half
+pub none_over : (dest : Dest) (rows : Option Gateway) → Some 0 ≡ option_map (λ w. queued w dest) rows → is_over_half dest rows ≡ false
+none_over (Session number) rows none = refl
+none_over (Upstream number) None none = refl
+none_over (Upstream number) (Some w) none =
+    let box : Waiting = outbox_of (Upstream number) w.connections in
+    let empty : length box.messages ≡ 0 = sym (ap (λ (o : Option ℕ). unwrap_or o 1) none) in
+    ap (λ (n : ℕ). nat_lt HELD_MESSAGES n || nat_lt HELD_BYTES (waiting_bytes box)) empty
+    ∙ ap (λ (n : ℕ). nat_lt HELD_MESSAGES 0 || nat_lt HELD_BYTES n) (none_is_short box.messages box.marked empty)
 
 pub held_stays : (dest : Dest) (old new : BoardState) → is_held dest old ≡ true → new ≡ old → PumpsFree (is_held dest old) dest old (Ok 0) new
 held_stays dest old new is same = subst (λ (b : Bool). PumpsFree b dest old (Ok 0) new) (sym is) (refl, same)

@@ -9,7 +9,9 @@ use board_rings::Attachments;
 use gateway_calls::GatewayCalls;
 use gateway_state::Dest;
 
-/// Whether more than half of what is allowed waits for a server. Of clients it isn't asked.
+/// Whether more than half of what is allowed waits for a server. Of clients it isn't asked. A server for which nothing
+/// waits costs one look.
+#[tactic(auto, using(crate::proofs::WhoIsHeld::none_over))]
 pub(crate) fn is_over_half<G: GatewayCalls>(gate: &mut G, dest: Dest) -> bool
     ensures over { result ≡ is_over_half dest (G.state gate.old) }
     ensures same { G.state gate.new ≡ G.state gate.old }
@@ -17,15 +19,15 @@ pub(crate) fn is_over_half<G: GatewayCalls>(gate: &mut G, dest: Dest) -> bool
     if matches!(dest, Dest::Session(_)) {
         return false;
     }
-    let many = match gate.queued(dest) {
-        Ok(count) => count > HELD_MESSAGES,
-        Err(_) => false,
-    };
-    let long = match gate.queued_bytes(dest) {
+    match gate.queued(dest) {
+        Ok(0) | Err(_) => return false,
+        Ok(count) if count > HELD_MESSAGES => return true,
+        Ok(_) => (),
+    }
+    match gate.queued_bytes(dest) {
         Ok(bytes) => bytes > HELD_BYTES,
         Err(_) => false,
-    };
-    many || long
+    }
 }
 
 /// Whether a connection is held: a client's last request is a write, which went to a server for which

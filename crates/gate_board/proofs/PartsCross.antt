@@ -29,6 +29,11 @@ use Rattle.pvlist.specs.contracts.pattern.Pattern.TheInside as pattern_parts
 use Rattle.pvlist.specs.contracts.row.Row as row
 use Rattle.pvlist.specs.contracts.row.Verb as verb
 use Rattle.pvlist.specs.contracts.clues.Clues as clues
+use Rattle.access_file.specs.contracts.access.Access as access
+use Rattle.access_file.specs.contracts.host_names.HostNames as host_names
+use Rattle.access_file.specs.contracts.names.ListedNames as listed_names
+use Rattle.access_file.specs.contracts.rule.GroupRules as group_rules
+use Rattle.rule_desk.specs.contracts.policy.BoxedAccess as boxed_access
 use Rattle.rule_desk.specs.contracts.policy.Policy as policy
 use Rattle.gate_board.proofs.PatternsCross.{regex_send}
 
@@ -109,5 +114,20 @@ row_send = declared_send row.the_type (pattern_send, (verb_send, tt))
 rules_send : IsSend rules.the_row
 rules_send = search (sendable, crosses, row_send) depth 60 fits 20000
 
+listed_names_send : IsSend listed_names.the_row
+listed_names_send = search (sendable, crosses) depth 60 fits 20000
+
+group_rules_send : IsSend group_rules.the_row
+group_rules_send = search (sendable, crosses, listed_names_send) depth 60 fits 20000
+
+access_send : IsSend access.the_row
+access_send = search (sendable, crosses, listed_names_send, group_rules_send) depth 60 fits 20000
+
+boxed_access_send : IsSend boxed_access.the_row
+boxed_access_send = search (sendable, crosses, access_send) depth 60 fits 20000
+
+host_names_send : IsSend host_names.the_row
+host_names_send = search (sendable, crosses) depth 60 fits 20000
+
 pub policy_send : IsSend policy.the_row
-policy_send = search (sendable, crosses, rules_send, groups_send) depth 60 fits 20000
+policy_send = search (sendable, crosses, rules_send, groups_send, boxed_access_send, host_names_send) depth 60 fits 20000

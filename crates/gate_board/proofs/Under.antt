@@ -21,8 +21,8 @@ use Rattle.board_moves.specs.Noted.{bare}
 use Rattle.board_moves.specs.Keeping.{IsBatchTurn, IsTurn, KeptState, SameBeside, WakesBeside}
 use Rattle.board_moves.specs.declared.fault.BoardFault.{BoardFault}
 use Rattle.board_moves.specs.declared.turn.Turn.{Turn}
-use Rattle.gate_board.specs.declared.gate.Standing.{Standing}
-use Rattle.gate_board.specs.Locked.{AreAsks, HasStopped, IsAnswered, IsAttached, IsBatched, IsDesked, IsRetired, IsSearchedIn, IsStanding, IsTurned, IsWeighed, IsWoken}
+use Rattle.gate_board.specs.declared.gate.Arrears.{Arrears}
+use Rattle.gate_board.specs.Locked.{AreAsks, HasStopped, IsAnswered, IsAttached, IsBatched, IsDesked, IsRetired, IsSearchedIn, AreArrears, IsTurned, IsWeighed, IsWoken}
 
 pub desked : (event : Event) (answer : Result ⊤ BoardFault) (old new : KeptState) → IsDesk event (bare old.board) answer (bare new.board) → WakesBeside old new → IsDesked event answer
 desked event answer old new desk wakes = (old, (new, (desk, wakes)))
@@ -47,11 +47,11 @@ asked answer kept found failed = (kept, (found, failed))
 pub weighed : (dest : Dest) (answer : Result ℕ Failed) (old new : KeptState) → IsWaiting dest (bare old.board) answer (bare new.board) → SameBeside old new → IsWeighed dest answer
 weighed dest answer old new waits same = (old, (new, (waits, same)))
 
-pub stands_so : (dest : Dest) (standing : Standing) (old new : KeptState) → IsWaiting dest (bare old.board) (Ok standing.waiting) (bare new.board) → SameBeside old new
-    → Some standing.must_end ≡ option_map (λ w. must_end w dest) new.board.rows → IsStanding dest (Ok standing)
-stands_so dest standing old new waits beside ends = (old, (new, (waits, (ends, beside))))
+pub arrears_so : (dest : Dest) (arrears : Arrears) (old new : KeptState) → IsWaiting dest (bare old.board) (Ok arrears.waiting) (bare new.board) → SameBeside old new
+    → Some arrears.must_end ≡ option_map (λ w. must_end w dest) new.board.rows → AreArrears dest (Ok arrears)
+arrears_so dest arrears old new waits beside ends = (old, (new, (waits, (ends, beside))))
 
-pub failed_so : (dest : Dest) (failed : Failed) (old new : KeptState) → IsWaiting dest (bare old.board) (Err failed) (bare new.board) → SameBeside old new → IsStanding dest (Err failed)
+pub failed_so : (dest : Dest) (failed : Failed) (old new : KeptState) → IsWaiting dest (bare old.board) (Err failed) (bare new.board) → SameBeside old new → AreArrears dest (Err failed)
 failed_so dest failed old new waits beside = (old, (new, (waits, (tt, beside))))
 
 pub turned : (answer : Turn) (old new : KeptState) (turn : Option Turn) → turn ≡ Some answer → IsTurn old turn new → IsTurned answer

@@ -21,7 +21,7 @@ use Rattle.board_moves.specs.Noted.{bare}
 use Rattle.board_moves.specs.Keeping.{IsBatchTurn, IsTurn, KeptState, SameBeside, WakesBeside}
 use Rattle.board_moves.specs.declared.fault.BoardFault.{BoardFault}
 use Rattle.board_moves.specs.declared.turn.Turn.{Turn}
-use Rattle.gate_board.specs.declared.gate.Standing.{Standing}
+use Rattle.gate_board.specs.declared.gate.Arrears.{Arrears}
 
 -- an event was handed in
 abbrev pub IsDesked : Event → Result ⊤ BoardFault → Type 0
@@ -51,17 +51,17 @@ IsAnswered f answer =
 abbrev pub IsWeighed : Dest → Result ℕ Failed → Type 0
 IsWeighed dest answer = (old : KeptState) × ((new : KeptState) × (IsWaiting dest (bare old.board) answer (bare new.board) × SameBeside old new))
 
-abbrev pub waiting_of : Result Standing Failed → Result ℕ Failed
-waiting_of (Ok standing) = Ok standing.waiting
+abbrev pub waiting_of : Result Arrears Failed → Result ℕ Failed
+waiting_of (Ok arrears) = Ok arrears.waiting
 waiting_of (Err failed) = Err failed
 
 -- whether a connection must end was told, and what waits for it counted, in one state
-abbrev pub IsStanding : Dest → Result Standing Failed → Type 0
-IsStanding dest answer =
+abbrev pub AreArrears : Dest → Result Arrears Failed → Type 0
+AreArrears dest answer =
     (old : KeptState)
     × ((new : KeptState)
     × (IsWaiting dest (bare old.board) (waiting_of answer) (bare new.board)
-    × (IfOk answer (λ standing. Some standing.must_end ≡ option_map (λ w. must_end w dest) new.board.rows) × SameBeside old new)))
+    × (IfOk answer (λ arrears. Some arrears.must_end ≡ option_map (λ w. must_end w dest) new.board.rows) × SameBeside old new)))
 
 -- a round, or a batch
 abbrev pub IsTurned : Turn → Type 0

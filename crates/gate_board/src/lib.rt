@@ -14,7 +14,7 @@ mod gate;
 
 pub use board_moves::{BoardFault, Traffic, Turn};
 pub use board_rings::{Ends, Inbound, Inlet, Outlet, RING_SIZE, laws};
-pub use gate::{GateOver, Standing, Taken};
+pub use gate::{Arrears, GateOver, Taken};
 use gateway_core::Engine;
 
 /// The board of the gateway's engine.

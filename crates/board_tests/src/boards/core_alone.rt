@@ -1,6 +1,6 @@
 //! A reader's worker, the gate, and the core that comes late.
 use crate::boards::tell::board;
-use gate_board::{Board, Gate, Inlet, Outlet, Standing, Turn};
+use gate_board::{Arrears, Board, Gate, Inlet, Outlet, Turn};
 use gateway_core::{Dest, Event};
 use pv_name::Host;
 use session_worker::{CoreEnd, InEnd, MemoryLink, serve_core, serve_in};
@@ -43,8 +43,8 @@ fn the_core_alone_moves_items(rt: HostRuntime) -> Result<(), Fail> {
     assert_eq!(rt; gate.turn(&rt), Turn::Moved);
     assert_eq!(rt; gate.must_end(&rt, CLIENT), Ok(true));
     assert_eq!(rt;
-        gate.standing(&rt, CLIENT),
-        Ok(Standing {
+        gate.arrears(&rt, CLIENT),
+        Ok(Arrears {
             must_end: true,
             waiting: 16
         })
