@@ -74,8 +74,8 @@ def checked(rule_text, group_text, name, host, plain):
     lead = rules.resolved(read, host, name)
     answer = "refused"
     if lead:
-        rights = 3 if lead[1] is None else groups.get(lead[1], 3)
-        answer = f"admitted {lead[0]} {lead[1] or '-'} {RIGHTS[rights]}"
+        rights = 3 if lead.group is None else groups.get(lead.group, 3)
+        answer = f"admitted {lead.real} {lead.group or '-'} {RIGHTS[rights]}"
     return f"ok {len(read.rows)} rows {read.order}\n{answer}\n", 0
 
 

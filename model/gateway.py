@@ -3,6 +3,7 @@ import struct
 
 import values
 import wire
+from access import DEFAULT
 from codes import (
     ECA_ALLOCMEM, ECA_BADCHID, ECA_BADCOUNT, ECA_BADMASK, ECA_BADTYPE, ECA_GETFAIL, ECA_INTERNAL,
     ECA_NORDACCESS, ECA_NOWTACCESS, ECA_PUTFAIL, ECA_TOLARGE, TEXTS,
@@ -28,7 +29,7 @@ class Gateway(Servers):
         self.sessions, self.servers, self.boxes = {}, {}, {}
         self.channels, self.subs, self.reads, self.writes = [], [], [], []
         self.links, self.searches = [], []
-        self.rules, self.groups = None, {}
+        self.rules, self.groups, self.access = None, {}, None
         self.first, self.again = first, set()
         self.next = dict.fromkeys(("sid", "cid", "sub", "ioid"), first)
         self.limits, self.last_age = Limits(), dict(self.next)
@@ -89,14 +90,17 @@ class Gateway(Servers):
     def lead(self, channel):
         return resolved(self.rules, self.sessions[channel.session].host, channel.asked)
 
-    def left_by_group(self, group):
-        return 3 if group is None else self.groups.get(group, 3)
+    def left_to(self, row, lead):
+        """The rights that the policy leaves to a session's user on its host; without an access security file to all."""
+        if self.access is not None:
+            return self.access.granted(row.user, row.host, lead.group or DEFAULT, lead.level).right
+        return 3 if lead.group is None else self.groups.get(lead.group, 3)
 
     def rights(self, channel):
         link, lead = self.link(channel.real), self.lead(channel)
         if link is None or lead is None:
             return 0
-        return link.rights & self.left_by_group(lead[1])
+        return link.rights & self.left_to(self.sessions[channel.session], lead)
 
     def may_read(self, channel):
         return bool(self.rights(channel) & 1)
@@ -104,11 +108,11 @@ class Gateway(Servers):
     def is_served(self, channel):
         link, lead = self.link(channel.real), self.lead(channel)
         connected = link is not None and link.state == "connected"
-        return connected and lead is not None and lead[0] == channel.real
+        return connected and lead is not None and lead.real == channel.real
 
     def wanted(self):
         leads = (resolved(self.rules, search.host, search.name) for search in self.searches)
-        return {channel.real for channel in self.channels} | {lead[0] for lead in leads if lead}
+        return {channel.real for channel in self.channels} | {lead.real for lead in leads if lead}
 
     def asks(self):
         missing = (name for name in self.wanted() if self.link(name) is None)
@@ -237,8 +241,8 @@ class Gateway(Servers):
     def sweep(self):
         self.searches = []
 
-    def edit(self, rules, groups):
-        self.rules, self.groups = rules, groups
+    def edit(self, rules, groups, access):
+        self.rules, self.groups, self.access = rules, groups, access
 
     def limit(self, name, value):
         setattr(self.limits, name, value)
@@ -398,7 +402,7 @@ class Gateway(Servers):
             self.create_channel(session, request)
         elif request.command == wire.HOST_NAME:
             host = wire.nul_ended(request.payload, wire.is_word)
-            if host and not row.host_fixed:
+            if host and not row.host_fixed and not self.limits.checks_hosts:
                 row.host = host
         elif request.command == wire.ECHO:
             self.tell(session, *request)
@@ -429,7 +433,7 @@ class Gateway(Servers):
             return
         host = self.sessions[session].host
         lead = resolved(self.rules, host, name)
-        link = self.link(lead[0]) if lead else None
+        link = self.link(lead.real) if lead else None
         if lead:
             self.remember(host, name)
         if link and link.state == "connected":
@@ -441,15 +445,15 @@ class Gateway(Servers):
         name = wire.nul_ended(request.payload, wire.is_name)
         lead = resolved(self.rules, row.host, name) if name else None
         full = sum(c.session == session for c in self.channels) >= self.limits.channels
-        link = self.link(lead[0]) if lead else None
+        link = self.link(lead.real) if lead else None
         if lead is None or full or link is None or link.state != "connected":
             if lead and not full:
                 self.remember(row.host, name)
             self.tell(session, wire.CREATE_CH_FAIL, 0, 0, request.p1, 0)
             return
-        rights = link.rights & self.left_by_group(lead[1])
+        rights = link.rights & self.left_to(row, lead)
         sid = self.number("sid", {c.sid for c in self.channels if c.session == session})
-        self.channels.append(Channel(session, sid, request.p1, name, lead[0], rights))
+        self.channels.append(Channel(session, sid, request.p1, name, lead.real, rights))
         self.tell(session, wire.ACCESS_RIGHTS, 0, 0, request.p1, rights)
         self.tell(session, wire.CREATE_CHAN, link.native, link.count, request.p1, sid)
         search = self.search_for(row.peer, name)

@@ -17,15 +17,27 @@ SIDS = [1, 1, 1, 2, 2, 3, 4, 9]
 RULES = [
     ".* ALLOW", ".* ALLOW ops 1", "T1 DENY", "T1 ALIAS T2", "A:SET ALIAS A:SP ops",
     "\\(.*\\):SET ALIAS \\1:SP ops", "T1 DENY FROM lab7", "T. ALLOW g2", "B DENY", "B ALIAS T1 ops",
-    "EVALUATION ORDER DENY, ALLOW", "# nothing", ".* DENY FROM desk1",
+    "EVALUATION ORDER DENY, ALLOW", "# nothing", ".* DENY FROM desk1", ".* ALLOW g2 0", "T1 ALLOW ops 0",
 ]
 FAULTY_RULES = ["A", "[A ALLOW", "T1 PERMIT", "X DENY FROM"]
 GROUPS = ["ops READ", "ops NONE", "g2 WRITE", "ops WRITE", "g2 READ"]
+USERS = ["me", "you", "Me"]
+LISTED = ["UAG", "HAG"]
+MEMBERS = {"UAG": [*USERS, '"me"', "him"], "HAG": [*HOSTS, '"DESK1"', "lab8"]}
+LISTS = ["a", "b", '"c"']
+SECURED = ["DEFAULT", "ops", '"g2"']
+HEADS = ["(1, READ)", "(1,WRITE)", "(0, READ)", "(0, WRITE)", "(1, NONE)", "(1, WRITE, TRAPWRITE)", "( 0 , WRITE,NOTRAPWRITE )"]
+FAULTY_ACCESS = [
+    "RULE", "ASG(ops {", "UAG(a) {me,}", 'HAG("a', "é", "}", "{", "ASG(ops) { CALC(\"A=1\") }", "INPA(x)", "METHOD(\"ca\")",
+    "ASG(x y)", "UAG() {}", "ASG(z) { RULE(2, READ) }", "ASG(z) { RULE(1, MAYBE) }", "ASG(z) { RULE(1, READ, TRAP) }",
+    "ASG(z) { RULE(1, READ) { UAG(none) } }", "ASG(z) { RULE(1, READ) { HAG(none) } }", "ASG(z) { RULE(1, READ) { ASG(ops) } }",
+    "ASG(z) { RULE(1, READ) {", "asg(ops)", '"ASG"(ops)', "HAG(x) me", "ASG(z) { UAG(a) {me} }", "UAG(\"a b\") {}", "UAG(d) {me you}",
+]
 LIMITS = [
     "sessions", "servers", "links", "searches", "share", "channels", "subscriptions", "reads",
     "writes", "searches", "share",
 ]
-FLAGS = ["makes-room", "passes-over-gone", "answers-searches"] * 3 + ["reuses-numbers", "tells-unreadable"]
+FLAGS = ["makes-room", "passes-over-gone", "answers-searches"] * 3 + ["reuses-numbers", "tells-unreadable", "checks-hosts"]
 
 
 def text(word):
@@ -84,10 +96,15 @@ class Scripts:
         for _ in range(self.pick(0, 0, 0, 1, 2, 4)):
             self.limit()
         for chance, line in [(0.2, "limit passes-over-gone 1"), (0.3, "limit answers-searches 1"),
-                             (0.9, "open s1 10.0.0.5"), (0.7, f"open s2 {self.pick(HOSTS)}"),
+                             (0.1, "limit checks-hosts 1"), (0.9, "open s1 10.0.0.5"), (0.7, f"open s2 {self.pick(HOSTS)}"),
                              (0.9, "open u1"), (0.6, "open u2")]:
             if self.chance(chance):
                 self.add(line)
+        for session in ("s1", "s2"):
+            if self.chance(0.5):
+                self.add("client", session, message(wire.CLIENT_NAME, 0, 0, 0, 0, text(self.pick(USERS))).hex())
+        if self.chance(0.3):
+            self.edit()
         if self.chance(0.7):
             self.add("server", "u1", message(wire.VERSION, 0, 13, 0, 0).hex())
         if self.chance(0.8):
@@ -256,8 +273,38 @@ class Scripts:
         groups = [self.pick(GROUPS) for _ in range(self.source.randint(0, 2))]
         if self.chance(0.05):
             groups.append("ops MAYBE")
-        self.add("edit", len(rules), len(groups))
-        self.lines += rules + groups
+        access = self.access() if self.chance(0.6) else []
+        self.add("edit", len(rules), len(groups), *([len(access)] if access or self.chance(0.1) else []))
+        self.lines += rules + groups + access
+
+    def access(self):
+        """The lines of an access security file."""
+        known = {"UAG": [], "HAG": []}
+        parts = [self.list_of(self.pick(LISTED), known) for _ in range(self.source.randint(0, 3))]
+        names = self.source.sample(SECURED, self.source.randint(0, 3))
+        parts += [self.secured(name, known) for name in names + (["ops"] if self.chance(0.05) else [])]
+        if self.chance(0.1):
+            parts.insert(self.source.randint(0, len(parts)), self.pick(FAULTY_ACCESS))
+        lines = [piece for part in parts for piece in part.split("\n")]
+        return lines + [self.pick("", "# end", "\t")] if self.chance(0.2) or not lines else lines
+
+    def list_of(self, kind, known):
+        name = self.pick(LISTS) if self.chance(0.05) else self.pick([it for it in LISTS if it not in known[kind]] or LISTS)
+        known[kind].append(name)
+        members = [self.pick(MEMBERS[kind]) for _ in range(self.source.randint(0, 3))]
+        return f"{kind}({name})" + ("" if not members and self.chance(0.5) else self.gap() + "{" + ", ".join(members) + "}")
+
+    def secured(self, name, known):
+        rules = [self.rule(known) for _ in range(self.source.randint(0, 3))]
+        return f"ASG({name}) {{{self.gap()}" + self.gap().join(rules) + self.gap() + "}"
+
+    def rule(self, known):
+        parties = [f"{kind}({self.pick(known[kind])}{self.pick('', '', ',' + self.pick(known[kind]))})"
+                   for kind in LISTED if known[kind] and self.chance(0.5)]
+        return "RULE" + self.pick(HEADS) + (" {" + self.gap().join(parties) + "}" if parties or self.chance(0.1) else "")
+
+    def gap(self):
+        return self.pick(" ", " ", "\n", " # {\n", "\t")
 
     def question(self):
         read = self.session(), self.sid(), self.type(), self.pick(COUNTS)

@@ -3,6 +3,7 @@
 import re
 import sys
 
+import access
 import rules
 import values
 import wire
@@ -102,7 +103,7 @@ class Replay:
                 ("open", 3): self.open_session, ("open", 2): self.open_server,
                 ("lost", 2): self.lost, ("client", 3): self.client, ("server", 3): self.server,
                 ("found", 3): self.found, ("search", 3): self.search, ("sweep", 1): self.sweep,
-                ("edit", 3): self.edit, ("asks", 1): self.asks, ("read", 5): self.read,
+                ("edit", 3): self.edit, ("edit", 4): self.edit, ("asks", 1): self.asks, ("read", 5): self.read,
                 ("sub", 2): self.subscription, ("props", 2): self.properties,
                 ("rights", 3): self.rights,
                 ("hold", 2): self.hold, ("flow", 2): self.flow, ("drain", 3): self.drain,
@@ -173,14 +174,14 @@ class Replay:
 
     def is_connected(self, host, searched):
         lead = rules.resolved(self.gateway.rules, host, searched)
-        link = self.gateway.link(lead[0]) if lead else None
+        link = self.gateway.link(lead.real) if lead else None
         return link is not None and link.state == "connected"
 
     def sweep(self):
         self.gateway.step("sweep")
 
-    def edit(self, rule_count, group_count):
-        sizes = number(rule_count, USIZE), number(group_count, USIZE)
+    def edit(self, rule_count, group_count, access_count="0"):
+        sizes = [number(count, USIZE) for count in (rule_count, group_count, access_count)]
         if self.place + sum(sizes) > len(self.lines):
             raise BadLine
         texts = ["".join(line + "\n" for line in self.next_lines(size)) for size in sizes]
@@ -189,10 +190,12 @@ class Replay:
             read = rules.read_rules(texts[0]) if sizes[0] else None
             refused = "refused groups line"
             groups = rules.read_groups(texts[1]) if sizes[1] else {}
+            refused = "refused access line"
+            granting = access.read_access(texts[2]) if sizes[2] else None
         except rules.Fault as fault:
             self.printed.append(f"{refused} {fault.line}: {fault.cause}")
         else:
-            self.gateway.step("edit", read, groups)
+            self.gateway.step("edit", read, groups, granting)
 
     def asks(self):
         self.printed.append(" ".join(["asks", *self.gateway.asks()]))

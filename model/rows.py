@@ -30,6 +30,7 @@ class Limits:
     passes_over_gone: bool = False
     tells_unreadable: bool = False
     answers_searches: bool = False
+    checks_hosts: bool = False
 
 
 @dataclass

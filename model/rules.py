@@ -1,7 +1,7 @@
 """PVLIST rule files and group files, and where a name leads."""
 import re
 from dataclasses import dataclass, field
-from typing import Optional
+from typing import NamedTuple, Optional
 
 from wire import is_name, is_word
 
@@ -30,7 +30,15 @@ class Row:
     verb: str
     real: Optional[str] = None
     group: Optional[str] = None
+    level: int = 1
     hosts: list = field(default_factory=list)
+
+
+class Lead(NamedTuple):
+    """Where a name leads, and by which group and level."""
+    real: str
+    group: Optional[str] = None
+    level: int = 1
 
 
 @dataclass
@@ -134,13 +142,13 @@ def listed_hosts(line):
     return hosts
 
 
-def group_of(found):
-    """The group of a row, from the words that name it."""
+def security_of(found):
+    """The group and the level of a row, from the words that name them."""
     if not found:
-        return None
+        return None, 1
     if not is_word(found[0]) or len(found) > 2 or found[1:] not in ([], ["0"], ["1"]):
         raise Refused("BadGroup")
-    return found[0]
+    return found[0], int(found[1]) if found[1:] else 1
 
 
 def is_real(text, groups):
@@ -157,13 +165,13 @@ def row_of(line, found, plain):
         hosts = listed_hosts(line)
         return Row(compiled(found[0], plain)[0], verb, hosts=hosts)
     rest = found[2:] if verb == "ALLOW" else found[3:]
-    group = group_of(rest)
+    group, level = security_of(rest)
     pattern, groups = compiled(found[0], plain)
     if verb == "ALLOW":
-        return Row(pattern, verb, group=group)
+        return Row(pattern, verb, None, group, level)
     if len(found) < 3 or not is_real(found[2], groups):
         raise Refused("BadReference")
-    return Row(pattern, verb, real=found[2], group=group)
+    return Row(pattern, verb, found[2], group, level)
 
 
 def meaningful(text):
@@ -213,9 +221,9 @@ def real_name(row, match):
 
 
 def resolved(rules, host, name):
-    """The real name and the group that a name leads to at a host, None where it is refused."""
+    """Where a name leads at a host, None where it is refused."""
     if rules is None:
-        return name, None
+        return Lead(name)
     deciding = None
     for row in rules.rows:
         match = row.pattern.match(name)
@@ -232,4 +240,4 @@ def resolved(rules, host, name):
         return None
     row, match = deciding
     real = name if row.verb == "ALLOW" else real_name(row, match)
-    return (real, row.group) if is_name(real) else None
+    return Lead(real, row.group, row.level) if is_name(real) else None

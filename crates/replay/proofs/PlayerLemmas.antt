@@ -1,17 +1,22 @@
 -- Facts on what a player knows.
-use Rattle.std.proofs.Common.{◌≡◌, ℕ, List, [], Option, Some, None, refl, sym, ap}
+use Rattle.std.proofs.Common.{◌≡◌, ℕ, List, [], Option, Some, None, inl, inr, refl, sym, ap, subst}
 use Rattle.std.specs.Prelude.{IfSome, option_map}
 use Rattle.std.specs.Io.KnownBytes.{Appends}
 use Rattle.std.specs.List.{find}
 use Rattle.std.specs.Map.{keys_of}
 use Rattle.gateway_state.specs.Asked.{must_end}
 use Rattle.gateway_state.specs.Gateway.{Gateway}
+use Rattle.gateway_state.specs.Step.{step}
 use Rattle.gateway_state.specs.declared.event.Dest.{Dest}
+use Rattle.gateway_state.specs.declared.event.Event.TheVariants.{Edit}
+use Rattle.replay.specs.Editing.{IsEdited, refusal}
+use Rattle.replay.specs.Editing.{IsPrinted as IsLinePrinted}
 use Rattle.replay.specs.Ending.{AreEnded, IsCutOff, IsFirstEnded, IsShut, without}
-use Rattle.replay.specs.Performed.{IsDone, IsFollowed, IsLine}
+use Rattle.replay.specs.Performed.{IsDone, IsEdit, IsFollowed, IsLine}
 use Rattle.replay.specs.Performing.{Becomes, Performs, Then, silent}
-use Rattle.replay.specs.Player.{Playing, playing_at}
+use Rattle.replay.specs.Player.{OnGateway, Playing, playing_at}
 use Rattle.replay.specs.Printing.{IsPrinted}
+use Rattle.replay.specs.declared.entry.EditFiles.{EditFiles}
 use Rattle.replay.specs.declared.entry.ScriptEntry.{ScriptEntry}
 use Rattle.replay.specs.declared.player.Misframed.{Misframed}
 use Rattle.replay_text.specs.Output.{end_line}
@@ -25,6 +30,31 @@ pub Performs-held : (f : List Dest → List Dest) (w : Option Gateway) (intakes 
 Performs-held f None intakes held still x is = tt
 Performs-held f (Some u) intakes held still x is =
     (record { gateway = u; intakes = intakes; held = still }, [], refl, (ap (λ (ks : List Dest). record { gateway = u; intakes = intakes; held = ks }) is, refl), Appends-nil x)
+
+-- an edit is done to the gateway, or refused with a line
+pub Performs-edited : (files : EditFiles) (old new : Option Gateway) (intakes : List (Dest × List ℕ)) (held : List Dest) (x y : Option (List ℕ))
+    → IsEdited files old new x y → Performs (OnGateway (IsEdit files)) (playing_at old intakes held) (playing_at new intakes held) x y
+Performs-edited files None new intakes held x y edited = tt
+Performs-edited files (Some w) new intakes held x y (inl accepted) =
+    let now : Playing = record { gateway = step w (Edit accepted.policy); intakes = intakes; held = held } in (
+      now,
+      [],
+      ap (λ (state : Option Gateway). playing_at state intakes held) accepted.edited,
+      (inl (record { policy = accepted.policy; said = accepted.said; edited = refl; silent = refl }), refl),
+      subst (λ (z : Option (List ℕ)). Appends x z []) (sym accepted.silent) (Appends-nil x),
+    )
+Performs-edited files (Some w) new intakes held x y (inr refused) = by (refusal refused.fault) refl refused.printed
+  where
+    by : (said : Option (List ℕ)) → refusal refused.fault ≡ said → IsLinePrinted said x y
+        → Performs (OnGateway (IsEdit files)) (playing_at (Some w) intakes held) (playing_at new intakes held) x y
+    by None is printed = absurd printed
+    by (Some line) is printed = (
+      record { gateway = w; intakes = intakes; held = held },
+      line,
+      ap (λ (state : Option Gateway). playing_at state intakes held) refused.same,
+      (inr (record { fault = refused.fault; first = refused.first; line = is; same = refl }), refl),
+      printed,
+    )
 
 -- a connection is cut off
 pub Performs-cut_off : (line : List ℕ) (dest : Dest) (p q r : Option Playing) (x y z : Option (List ℕ))

@@ -8,8 +8,9 @@ use Rattle.replay_text.specs.declared.line.Line.{Line}
 use Rattle.replay_text.specs.Lines.{line_of}
 use Rattle.replay.specs.declared.entry.ScriptEntry.{ScriptEntry}
 use Rattle.replay.specs.declared.entry.EditFiles.{EditFiles}
+use Rattle.replay.specs.declared.sizes.Sizes.{Sizes}
 use Rattle.replay.specs.Reading.{AreMissing, IsBadFrom, IsGoodFrom, IsNextBad, LeadsOn, Takes, TakesEntry, TakesLine, TakesText, lines_with}
-use Rattle.replay.specs.Script.{IsBadAt, IsGood, entry, entry_of, file_in, files, files_in, first_bad, lines_of, own_lines, own_lines_of, sizes_of, text_file, text_of, with_end}
+use Rattle.replay.specs.Script.{IsBadAt, IsGood, all_lines, entry, entry_of, file_in, files, files_in, first_bad, lines_of, own_lines, own_lines_of, sizes_of, text_file, text_of, with_end}
 use Rattle.replay.proofs.ScriptLemmas.{first_bad-pending}
 
 -- the first line after so many
@@ -84,24 +85,34 @@ Takes-file None new count text some took = tt
 Takes-file (Some lines) new count text some took =
     file-from (is_utf8 text) count lines new text (file_in-text count lines some took.0 ∙ ap text_file (sym took.1)) took.2
 
-files-from : (lines : List (List ℕ)) (new : Option (List (List ℕ))) (r g : ℕ) (rules : Option (List ℕ)) (groups : Option (Option (List ℕ)))
-    → file_in r lines ≡ Some rules → Takes (file_in g) (Some (drop r lines)) g new groups
-    → Takes (files_in (r, g)) (Some lines) (r + g) new (option_map (files rules) groups)
-files-from lines new r g rules None first second = rw (first, second) refl
-files-from lines new r g rules (Some groups) first second =
-    (rw (first, second.0) refl, second.1 ∙ ap (λ (l : List (List ℕ)). Some l) (drop-drop g r lines))
+drop-all_lines : (sizes : Sizes) (lines : List (List ℕ))
+    → drop sizes.access (drop sizes.groups (drop sizes.rules lines)) ≡ drop (all_lines sizes) lines
+drop-all_lines sizes lines =
+    drop-drop sizes.access sizes.groups (drop sizes.rules lines) ∙ drop-drop (sizes.groups + sizes.access) sizes.rules lines
 
-pub Takes-files : (old mid new : Option (List (List ℕ))) (r g : ℕ) (rules : Option (List ℕ)) (groups : Option (Option (List ℕ)))
-    → Takes (file_in r) old r mid (Some rules) → Takes (file_in g) mid g new groups
-    → Takes (files_in (r, g)) old (r + g) new (option_map (files rules) groups)
-Takes-files None mid new r g rules groups first second = tt
-Takes-files (Some lines) mid new r g rules groups first second = files-from lines new r g rules groups first.0 (rw first.1 at second)
+files-from : (lines : List (List ℕ)) (new : Option (List (List ℕ))) (sizes : Sizes) (rules groups : Option (List ℕ)) (access : Option (Option (List ℕ)))
+    → file_in sizes.rules lines ≡ Some rules → file_in sizes.groups (drop sizes.rules lines) ≡ Some groups
+    → Takes (file_in sizes.access) (Some (drop sizes.groups (drop sizes.rules lines))) sizes.access new access
+    → Takes (files_in sizes) (Some lines) (all_lines sizes) new (option_map (files rules groups) access)
+files-from lines new sizes rules groups None first second third = rw (first, second, third) refl
+files-from lines new sizes rules groups (Some access) first second third =
+    (rw (first, second, third.0) refl, third.1 ∙ ap (λ (l : List (List ℕ)). Some l) (drop-all_lines sizes lines))
+
+pub Takes-files : (old after_rules after_groups new : Option (List (List ℕ))) (sizes : Sizes) (rules groups : Option (List ℕ)) (access : Option (Option (List ℕ)))
+    → Takes (file_in sizes.rules) old sizes.rules after_rules (Some rules)
+    → Takes (file_in sizes.groups) after_rules sizes.groups after_groups (Some groups)
+    → Takes (file_in sizes.access) after_groups sizes.access new access
+    → Takes (files_in sizes) old (all_lines sizes) new (option_map (files rules groups) access)
+Takes-files None after_rules after_groups new sizes rules groups access first second third = tt
+Takes-files (Some lines) after_rules after_groups new sizes rules groups access first second third =
+    let next = rw first.1 at second in
+    files-from lines new sizes rules groups access first.0 next.0 (rw next.1 at third)
 
 -- files of such sizes
-pub Takes-sizes : (old new : Option (List (List ℕ))) (sizes own : ℕ × ℕ) (had : Option EditFiles) → sizes ≡ own
-    → Takes (files_in sizes) old (sizes.0 + sizes.1) new had → Takes (files_in own) old (own.0 + own.1) new had
+pub Takes-sizes : (old new : Option (List (List ℕ))) (sizes own : Sizes) (had : Option EditFiles) → sizes ≡ own
+    → Takes (files_in sizes) old (all_lines sizes) new had → Takes (files_in own) old (all_lines own) new had
 Takes-sizes old new sizes own had is takes =
-    let P : ℕ × ℕ → Type 0 = λ s. Takes (files_in s) old (s.0 + s.1) new had in
+    let P : Sizes → Type 0 = λ s. Takes (files_in s) old (all_lines s) new had in
     subst P is takes
 
 pub TakesEntry-good : (old mid new : Option (List (List ℕ))) (line : List ℕ) (said : Line) (had : EditFiles) → TakesLine old mid line true → line_of line ≡ Some said

@@ -20,7 +20,7 @@ use Rattle.replay_text.specs.declared.line.Line.TheVariants as lines
 use Rattle.rule_desk.specs.Edit.{IsDeskFault, IsPolicyOf}
 use Rattle.rule_desk.specs.declared.fault.DeskFault.{DeskFault}
 use Rattle.rule_desk.specs.declared.policy.Policy.{Policy}
-use Rattle.replay.specs.Editing.{refusal}
+use Rattle.replay.specs.Editing.{refusal, texts_of}
 use Rattle.replay.specs.Ending.{AreEnded, IsShut, opened, without}
 use Rattle.replay.specs.Performing.{Becomes, Performs, Rests, Then, silent}
 use Rattle.replay.specs.Player.{OnGateway, Playing, beginning, dest_cmp, is_dest, relimited, stepped}
@@ -43,17 +43,17 @@ pub record IsSearchedFor (host datagram : List ℕ) (old new : Gateway) (text : 
   pub asked : new ≡ run old (map (events.Search host) answer.asked)
   pub reply : text ≡ reply_line answer.reply
 
--- the policy of both files, whose patterns are of the escaped syntax, holds from then on, and nothing is printed
+-- the policy of all files, whose patterns are of the escaped syntax, holds from then on, and nothing is printed
 pub record IsEditOf (files : EditFiles) (old new : Gateway) (text : List ℕ) : Type 0 where
   pub policy : Policy
-  pub said : IsPolicyOf Escaped files.rules files.groups policy
+  pub said : IsPolicyOf Escaped (texts_of files) policy
   pub edited : new ≡ step old (events.Edit policy)
   pub silent : text ≡ []
 
 -- or the first fault of the files is printed
 pub record IsRefusalOf (files : EditFiles) (old new : Gateway) (text : List ℕ) : Type 0 where
   pub fault : DeskFault
-  pub first : IsDeskFault Escaped files.rules files.groups fault
+  pub first : IsDeskFault Escaped (texts_of files) fault
   pub line : refusal fault ≡ Some text
   pub same : new ≡ old
 
@@ -72,7 +72,7 @@ IsDone (lines.Lost dest) files None = Becomes (without dest) silent
 IsDone (lines.Found name number) files None = Becomes (stepped (events.Found name number)) silent
 IsDone (lines.Search host datagram) files None = OnGateway (IsSearchedFor host datagram)
 IsDone lines.Sweep files None = Becomes (stepped events.Sweep) silent
-IsDone (lines.Edit rules groups) files None = OnGateway (IsEdit files)
+IsDone (lines.Edit rules groups access) files None = OnGateway (IsEdit files)
 IsDone lines.Asks files None = IsAnswered (λ w. asks_line (asks w))
 IsDone (lines.Read session sid dtype count) files None = IsAnswered (λ w. reading_line (reading w session sid dtype count))
 IsDone (lines.Subscription name) files None =

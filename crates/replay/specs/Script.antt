@@ -3,9 +3,10 @@ use Rattle.std.specs.Prelude.{◌≡◌, ℕ, zero, suc, ◌+◌, ◌==◌, nat_
 use Rattle.std.specs.Str.{is_utf8}
 use Rattle.replay_text.specs.declared.line.Line.{Line}
 use Rattle.replay_text.specs.declared.line.Line.TheVariants as lines
-use Rattle.replay_text.specs.Lines.{both, line_of}
+use Rattle.replay_text.specs.Lines.{all_three, line_of}
 use Rattle.replay.specs.declared.entry.ScriptEntry.{ScriptEntry}
 use Rattle.replay.specs.declared.entry.EditFiles.{EditFiles}
+use Rattle.replay.specs.declared.sizes.Sizes.{Sizes}
 
 -- lines, the first of them with one more byte at its front
 abbrev pub longer : ℕ → List (List ℕ) → List (List ℕ)
@@ -36,17 +37,24 @@ file_in count after =
     else if nat_le count (length after) then text_file (text_of (take count after))
     else None
 
-abbrev pub files : Option (List ℕ) → Option (List ℕ) → EditFiles
-files rules groups = record { rules = rules; groups = groups }
+abbrev pub files : Option (List ℕ) → Option (List ℕ) → Option (List ℕ) → EditFiles
+files rules groups access = record { rules = rules; groups = groups; access = access }
 
--- how many lines the files of a line have, the rule file and the group file of an edit
-abbrev pub sizes_of : Line → ℕ × ℕ
-sizes_of (lines.Edit rules groups) = (rules, groups)
-sizes_of said = (0, 0)
+-- how many lines the files of a line have: the rule file, the group file and the access security file of an edit
+abbrev pub sizes_of : Line → Sizes
+sizes_of (lines.Edit rules groups access) = record { rules = rules; groups = groups; access = access }
+sizes_of said = record { rules = 0; groups = 0; access = 0 }
 
--- two files of such sizes, where they are to be had: the first of them is the first of the lines, the second follows it
-abbrev pub files_in : ℕ × ℕ → List (List ℕ) → Option EditFiles
-files_in sizes after = both files (file_in sizes.0 after) (file_in sizes.1 (drop sizes.0 after))
+-- files of such sizes, where they are to be had: the first of them is the first of the lines, and each follows the one
+-- before it
+abbrev pub files_in : Sizes → List (List ℕ) → Option EditFiles
+files_in sizes after =
+    all_three files (file_in sizes.rules after) (file_in sizes.groups (drop sizes.rules after))
+    (file_in sizes.access (drop sizes.groups (drop sizes.rules after)))
+
+-- how many lines such files have together
+abbrev pub all_lines : Sizes → ℕ
+all_lines sizes = sizes.rules + (sizes.groups + sizes.access)
 
 abbrev pub entry : Line → EditFiles → ScriptEntry
 entry said had = record { line = said; files = had }
@@ -57,7 +65,7 @@ entry_of line after = option_and_then (λ said. option_map (entry said) (files_i
 
 -- how many of the lines after it are a line's own, whatever is in them: those of an edit's files
 abbrev pub own_lines : Line → ℕ
-own_lines said = (sizes_of said).0 + (sizes_of said).1
+own_lines said = all_lines (sizes_of said)
 
 abbrev pub own_lines_of : Option Line → ℕ
 own_lines_of None = 0

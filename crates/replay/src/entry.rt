@@ -1,8 +1,10 @@
 //! What a script asks for next.
 ghost use Rattle.std.specs.Prelude.{◌≡◌, None, option_copied};
+ghost use Rattle.replay.specs.Editing.{texts_of};
 ghost use Rattle.replay.specs.Script.{text_file};
 
 use replay_text::Line;
+use rule_desk::PolicyTexts;
 use std::marker::Model;
 
 /// A line of a script, and the files that follow it.
@@ -12,11 +14,25 @@ pub struct ScriptEntry {
     pub files: EditFiles,
 }
 
-/// The rule file and the group file of an edit. Other lines have none of them.
+/// The rule file, the group file and the access security file of an edit. Other lines have none of them.
 #[derive(Drop)]
 pub struct EditFiles {
     pub rules: File,
     pub groups: File,
+    pub access: File,
+}
+
+impl EditFiles {
+    /// Their texts.
+    pub fn texts(&self) -> PolicyTexts<'_>
+        ensures { result ≡ texts_of self.now }
+    {
+        PolicyTexts {
+            rules: self.rules.text(),
+            groups: self.groups.text(),
+            access: self.access.text(),
+        }
+    }
 }
 
 /// A file that may be there, as text. A contract sees its bytes.

@@ -44,6 +44,7 @@ mod fault;
 pub mod laws;
 mod player;
 mod script;
+mod sizes;
 pub mod status;
 
 use fault::{PlayFault, ReplayFault};

@@ -27,7 +27,8 @@ use gateway_state::{Dest, Event};
 use pv_name::{Host, Name};
 use replay_text::{
     Line, NewLimit, write_asks, write_end, write_message, write_props, write_reading,
-    write_refused, write_refused_groups, write_reply, write_rights, write_shut, write_subscription,
+    write_refused, write_refused_access, write_refused_groups, write_reply, write_rights,
+    write_shut, write_subscription,
 };
 use rule_desk::{Desk, DeskFault};
 use std::alloc::Global;
@@ -187,7 +188,7 @@ impl<G: GatewayCalls + Drop> Player<G> {
         ensures same { (self.new.intakes ≡ self.old.intakes) × (self.new.held ≡ self.old.held) }
     {
         let mut desk = Desk::new(self.alloc);
-        match desk.edit(files.rules.text(), files.groups.text()) {
+        match desk.read(&files.texts()) {
             Ok(policy) => Ok(self.gate.step(Event::Edit(policy))?),
             Err(fault) => print_refusal(out, fault),
         }
@@ -346,6 +347,7 @@ fn print_refusal<W: Write>(out: &mut W, fault: DeskFault) -> Result<(), PlayFaul
     match fault {
         DeskFault::Rules(line, cause) => Ok(write_refused(out, line, cause)?),
         DeskFault::Groups(line, cause) => Ok(write_refused_groups(out, line, cause)?),
+        DeskFault::Access(line, cause) => Ok(write_refused_access(out, line, cause)?),
         DeskFault::OutOfMemory => Err(PlayFault::OutOfMemory),
     }
 }

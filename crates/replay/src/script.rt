@@ -6,12 +6,13 @@ ghost use Rattle.std.specs.Io.KnownBytes.{Keeps};
 ghost use Rattle.replay.specs.Reading.{bytes_left, lines_left, lines_with, AreMissing, IsNextBad, Takes, TakesBytes, TakesEntry, TakesLine, TakesText};
 ghost use Rattle.replay.specs.Replay.{IfBadLine};
 ghost use Rattle.replay.specs.declared.script.TheConstants.{MOST_READS};
-ghost use Rattle.replay.specs.Script.{file_in, files_in, sizes_of, with_end};
+ghost use Rattle.replay.specs.Script.{all_lines, file_in, files_in, with_end};
 
 use crate::counted::Counted;
 use crate::entry::{EditFiles, File, ScriptEntry};
 use crate::fault::{PlayFault, ReplayFault};
-use replay_text::{Line, LineFault, read_line};
+use crate::sizes::{Sizes, own_files};
+use replay_text::{LineFault, read_line};
 use std::alloc::Global;
 use std::io::{BufRead, BufReader, Read, Write};
 
@@ -30,13 +31,6 @@ pub struct Script<R> {
     line: Vec<u8>,
     /// How many lines were read.
     number: u64,
-}
-
-/// How many lines the files of a line have.
-#[derive(Clone, Copy)]
-struct Sizes {
-    rules: usize,
-    groups: usize,
 }
 
 impl<R: Read + Drop> Script<R> {
@@ -84,8 +78,8 @@ impl<R: Read + Drop> Script<R> {
         sizes: Sizes,
         writer: &mut W,
     ) -> Result<Option<EditFiles>, PlayFault>
-        ensures taken { IfOk result (Takes (files_in (sizes.rules, sizes.groups)) (lines_left R.remaining self.old) (sizes.rules + sizes.groups) (lines_left R.remaining self.new)) }
-        ensures counted { IfOk result (λ files. IsSome files → self.new.number ≡ self.old.number + (sizes.rules + sizes.groups)) }
+        ensures taken { IfOk result (Takes (files_in sizes) (lines_left R.remaining self.old) (all_lines sizes) (lines_left R.remaining self.new)) }
+        ensures counted { IfOk result (λ files. IsSome files → self.new.number ≡ self.old.number + all_lines sizes) }
         ensures same { OnOk result (Keeps (W.contents writer.old) (W.contents writer.new)) }
     {
         let Some(rules) = self.file(sizes.rules, writer)? else {
@@ -94,7 +88,14 @@ impl<R: Read + Drop> Script<R> {
         let Some(groups) = self.file(sizes.groups, writer)? else {
             return Ok(None);
         };
-        Ok(Some(EditFiles { rules, groups }))
+        let Some(access) = self.file(sizes.access, writer)? else {
+            return Ok(None);
+        };
+        Ok(Some(EditFiles {
+            rules,
+            groups,
+            access,
+        }))
     }
 
     /// Takes a file of so many lines, none of no lines. Nothing where lines are missing or are no text.
@@ -142,22 +143,6 @@ impl<R: Read + Drop> Script<R> {
         drop_end(&mut self.line);
         self.number = self.number.checked_add(1).ok_or(PlayFault::StreamFailed)?;
         Ok(true)
-    }
-}
-
-/// How many lines the files of a line have: those of an edit follow it.
-fn own_files(line: &Line) -> Sizes
-    ensures { (result.rules, result.groups) ≡ sizes_of line.now }
-{
-    match line {
-        Line::Edit { rules, groups } => Sizes {
-            rules: *rules,
-            groups: *groups,
-        },
-        _ => Sizes {
-            rules: 0,
-            groups: 0,
-        },
     }
 }
 

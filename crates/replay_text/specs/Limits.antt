@@ -3,7 +3,7 @@ use Rattle.std.specs.Prelude.{ℕ, Bool, if◌then◌else◌, List, codes, bytes
 use Rattle.decimal_text.specs.Numbers.{number_of}
 use Rattle.gateway_state.specs.declared.limits.Limits.{Limits}
 use Rattle.replay_text.specs.declared.limit.NewLimit.{NewLimit}
-use Rattle.replay_text.specs.declared.limit.NewLimit.TheVariants.{Sessions, Servers, Links, Searches, Share, Channels, Subscriptions, Reads, Writes, Messages, UpdateBytes, MakesRoom, ReusesNumbers, PassesOverGone, TellsUnreadable, AnswersSearches}
+use Rattle.replay_text.specs.declared.limit.NewLimit.TheVariants.{Sessions, Servers, Links, Searches, Share, Channels, Subscriptions, Reads, Writes, Messages, UpdateBytes, MakesRoom, ReusesNumbers, PassesOverGone, TellsUnreadable, AnswersSearches, ChecksHosts}
 use Rattle.replay_text.specs.Values.{flag_of}
 
 -- a limit that holds or doesn't, by its name
@@ -14,6 +14,7 @@ flag_limit name holds =
     else if bytes_eq name (codes "passes-over-gone") then Some (PassesOverGone holds)
     else if bytes_eq name (codes "tells-unreadable") then Some (TellsUnreadable holds)
     else if bytes_eq name (codes "answers-searches") then Some (AnswersSearches holds)
+    else if bytes_eq name (codes "checks-hosts") then Some (ChecksHosts holds)
     else None
 
 -- a limit of each session by its name, with what a word writes of it: a number; or one that holds or doesn't
@@ -55,3 +56,4 @@ with_limit (ReusesNumbers holds) limits = record limits { reuses_numbers = holds
 with_limit (PassesOverGone holds) limits = record limits { passes_over_gone = holds }
 with_limit (TellsUnreadable holds) limits = record limits { tells_unreadable = holds }
 with_limit (AnswersSearches holds) limits = record limits { answers_searches = holds }
+with_limit (ChecksHosts holds) limits = record limits { checks_hosts = holds }

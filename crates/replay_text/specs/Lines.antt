@@ -61,6 +61,13 @@ both f (Some a) (Some b) = Some (f a b)
 both f (Some a) None = None
 both f None b = None
 
+-- the same of three
+abbrev pub all_three : {A B C D : Type 0} → (A → B → C → D) → Option A → Option B → Option C → Option D
+all_three f (Some a) (Some b) (Some c) = Some (f a b c)
+all_three f (Some a) (Some b) None = None
+all_three f (Some a) None c = None
+all_three f None b c = None
+
 -- a connection opens: a client's needs its host
 abbrev pub opening : Dest → List (List ℕ) → Option Line
 opening (dests.Session number) words = option_map (lines.OpenSession number) (option_and_then host_of (one_word words))
@@ -100,9 +107,21 @@ sweep_line words = option_map (λ _. lines.Sweep) (no_word words)
 abbrev pub asks_line : List (List ℕ) → Option Line
 asks_line words = option_map (λ _. lines.Asks) (no_word words)
 
--- an edit of the policy: how many lines of a rule file follow, and then of a group file
+-- how many lines a file has
+abbrev pub size_in : List (List ℕ) → Option ℕ
+size_in words = option_and_then (number_of 64) (first words)
+
+abbrev pub size_or_none : Option (List ℕ) → Option ℕ
+size_or_none None = Some 0
+size_or_none (Some word) = number_of 64 word
+
+-- the same by a line's last word, which may be left out where there are none
+abbrev pub last_size_in : List (List ℕ) → Option ℕ
+last_size_in words = option_and_then (λ _. size_or_none (first words)) (no_word (after_first words))
+
+-- an edit of the policy: how many lines of a rule file follow, then of a group file, and then of an access security file
 abbrev pub edit_line : List (List ℕ) → Option Line
-edit_line words = option_and_then (λ two. both lines.Edit (number_of 64 two.0) (number_of 64 two.1)) (two_words words)
+edit_line words = all_three lines.Edit (size_in words) (size_in (after_first words)) (last_size_in (after_first (after_first words)))
 
 -- a session and its channel; a type and a count
 abbrev pub channel_of : List ℕ × List ℕ → Option (ℕ × ℕ)

@@ -2,6 +2,9 @@
 use Rattle.std.specs.Prelude.{ℕ, List, [], ◌∷◌, ◌++◌, codes, flat_map, Option, Some, None}
 use Rattle.std.specs.Fmt.{decimal}
 use Rattle.hex.specs.Hex.{encode_lower}
+use Rattle.access_file.specs.Fault as access
+use Rattle.access_file.specs.declared.fault.AccessCause.{AccessCause}
+use Rattle.access_file.specs.declared.fault.AccessFault.TheVariants.{At}
 use Rattle.pvlist.specs.Cause.{line_text}
 use Rattle.pvlist.specs.declared.fault.RuleCause.{RuleCause}
 use Rattle.ca_header.specs.declared.reading.FrameFault.{FrameFault}
@@ -44,6 +47,13 @@ refused_line line cause = codes "refused " ++ cause_line line cause
 -- the same for one of its group file
 abbrev pub refused_groups_line : ℕ → RuleCause → List ℕ
 refused_groups_line line cause = codes "refused groups " ++ cause_line line cause
+
+-- the same for one of its access security file
+abbrev pub access_cause_line : ℕ → AccessCause → List ℕ
+access_cause_line line cause = access.fault_text (At line cause) ++ 10 ∷ []
+
+abbrev pub refused_access_line : ℕ → AccessCause → List ℕ
+refused_access_line line cause = codes "refused access " ++ access_cause_line line cause
 
 -- a name in a list of names
 abbrev pub after_blank : List ℕ → List ℕ

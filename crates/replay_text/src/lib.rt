@@ -31,7 +31,8 @@ pub use limit::NewLimit;
 pub use line::{Line, read_line};
 pub use output::{
     write_asks, write_end, write_message, write_props, write_reading, write_refused,
-    write_refused_groups, write_reply, write_rights, write_shut, write_subscription,
+    write_refused_access, write_refused_groups, write_reply, write_rights, write_shut,
+    write_subscription,
 };
 pub use piece::Piece;
 pub use values::LineFault;

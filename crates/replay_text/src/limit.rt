@@ -26,49 +26,34 @@ pub enum NewLimit {
     PassesOverGone(bool),
     TellsUnreadable(bool),
     AnswersSearches(bool),
+    ChecksHosts(bool),
 }
 
 impl NewLimit {
     /// The limits that held, with this one changed.
-    pub fn in_place_of(self, limits: Limits) -> Limits
+    pub fn in_place_of(self, mut limits: Limits) -> Limits
         ensures { result ≡ with_limit self limits }
     {
         match self {
-            NewLimit::Sessions(sessions) => Limits { sessions, ..limits },
-            NewLimit::Servers(servers) => Limits { servers, ..limits },
-            NewLimit::Links(links) => Limits { links, ..limits },
-            NewLimit::Searches(searches) => Limits { searches, ..limits },
-            NewLimit::Share(share) => Limits { share, ..limits },
-            NewLimit::Channels(channels) => Limits { channels, ..limits },
-            NewLimit::Subscriptions(subs) => Limits { subs, ..limits },
-            NewLimit::Reads(reads) => Limits { reads, ..limits },
-            NewLimit::Writes(writes) => Limits { writes, ..limits },
-            NewLimit::Messages(messages) => Limits { messages, ..limits },
-            NewLimit::UpdateBytes(update_bytes) => Limits {
-                update_bytes,
-                ..limits
-            },
-            NewLimit::MakesRoom(makes_room) => Limits {
-                makes_room,
-                ..limits
-            },
-            NewLimit::ReusesNumbers(reuses_numbers) => Limits {
-                reuses_numbers,
-                ..limits
-            },
-            NewLimit::PassesOverGone(passes_over_gone) => Limits {
-                passes_over_gone,
-                ..limits
-            },
-            NewLimit::TellsUnreadable(tells_unreadable) => Limits {
-                tells_unreadable,
-                ..limits
-            },
-            NewLimit::AnswersSearches(answers_searches) => Limits {
-                answers_searches,
-                ..limits
-            },
+            NewLimit::Sessions(most) => limits.sessions = most,
+            NewLimit::Servers(most) => limits.servers = most,
+            NewLimit::Links(most) => limits.links = most,
+            NewLimit::Searches(most) => limits.searches = most,
+            NewLimit::Share(most) => limits.share = most,
+            NewLimit::Channels(most) => limits.channels = most,
+            NewLimit::Subscriptions(most) => limits.subs = most,
+            NewLimit::Reads(most) => limits.reads = most,
+            NewLimit::Writes(most) => limits.writes = most,
+            NewLimit::Messages(most) => limits.messages = most,
+            NewLimit::UpdateBytes(most) => limits.update_bytes = most,
+            NewLimit::MakesRoom(holds) => limits.makes_room = holds,
+            NewLimit::ReusesNumbers(holds) => limits.reuses_numbers = holds,
+            NewLimit::PassesOverGone(holds) => limits.passes_over_gone = holds,
+            NewLimit::TellsUnreadable(holds) => limits.tells_unreadable = holds,
+            NewLimit::AnswersSearches(holds) => limits.answers_searches = holds,
+            NewLimit::ChecksHosts(holds) => limits.checks_hosts = holds,
         }
+        limits
     }
 }
 
@@ -126,6 +111,8 @@ fn new_flag(name: &[u8], holds: bool) -> Option<NewLimit>
         Some(NewLimit::TellsUnreadable(holds))
     } else if name == b"answers-searches".as_slice() {
         Some(NewLimit::AnswersSearches(holds))
+    } else if name == b"checks-hosts".as_slice() {
+        Some(NewLimit::ChecksHosts(holds))
     } else {
         None
     }

@@ -1,8 +1,8 @@
 //! What a line of a script asks for.
 ghost use Rattle.std.specs.Prelude.{◌≡◌, true, IsTrue, ◌↔◌};
 ghost use Rattle.std.specs.List.{slice_split};
-ghost use Rattle.replay_text.specs.Lines.{IsRead, line_of, words_line, command_line, is_skipped, open_line, opening, dest_line, lost_line, hold_line, flow_line, client_line, server_line, found_line, search_line, sweep_line, edit_line, asks_line, channel_of, read_line as reading_line, sub_line, props_line, rights_line, drain_line, limit_line, age_line, probe_line, seek_line, seeking};
-ghost use Rattle.replay_text.specs.Words.{is_blank};
+ghost use Rattle.replay_text.specs.Lines.{IsRead, line_of, words_line, command_line, is_skipped, open_line, opening, dest_line, lost_line, hold_line, flow_line, client_line, server_line, found_line, search_line, sweep_line, edit_line, size_in, last_size_in, asks_line, channel_of, read_line as reading_line, sub_line, props_line, rights_line, drain_line, limit_line, age_line, probe_line, seek_line, seeking};
+ghost use Rattle.replay_text.specs.Words.{is_blank, after_first};
 
 use crate::command::Command;
 use crate::limit::{NewLimit, new_limit};
@@ -35,11 +35,12 @@ pub enum Line {
     Search(Host, Piece),
     /// All remembered searches are forgotten.
     Sweep,
-    /// The policy is edited. So many lines that follow are its rule file, and so many after those its
-    /// group file; where there are none, there is no such file.
+    /// The policy is edited. So many lines that follow are its rule file, so many after those its group
+    /// file, and so many after those its access security file; where there are none, there is no such file.
     Edit {
         rules: usize,
         groups: usize,
+        access: usize,
     },
     /// Which names are asked for?
     Asks,
@@ -220,14 +221,36 @@ fn sweep(words: Words) -> Option<Line>
     Some(Line::Sweep)
 }
 
-fn edit(words: Words) -> Option<Line>
+fn edit(mut words: Words) -> Option<Line>
     ensures { result ≡ edit_line words.entry }
 {
-    let (rules, groups) = words.two()?;
+    let rules = size(&mut words)?;
+    let groups = size(&mut words)?;
     Some(Line::Edit {
-        rules: count(rules)?,
-        groups: count(groups)?,
+        rules,
+        groups,
+        access: last_size(words)?,
     })
+}
+
+/// How many lines a file has, by the next word.
+fn size(words: &mut Words) -> Option<usize>
+    ensures size { result ≡ size_in words.old }
+    ensures rest { words.new ≡ after_first words.old }
+{
+    count(words.take_first()?)
+}
+
+/// The same by the last word, which may be left out where there are none.
+fn last_size(mut words: Words) -> Option<usize>
+    ensures { result ≡ last_size_in words.entry }
+{
+    let word = words.take_first();
+    words.none()?;
+    match word {
+        Some(word) => count(word),
+        None => Some(0),
+    }
 }
 
 fn asks(words: Words) -> Option<Line>

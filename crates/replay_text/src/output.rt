@@ -3,8 +3,9 @@ ghost use Rattle.std.specs.Prelude.{◌++◌, OnOk, flat_map};
 ghost use Rattle.std.specs.Io.KnownBytes.{Appends};
 ghost use Rattle.std.specs.Option.{option_map};
 ghost use Rattle.hex.specs.Hex.{encode_lower};
-ghost use Rattle.replay_text.specs.Output.{dest_text, message_line, shut_line, end_line, asks_line, after_blank, reading_line, value_line, bytes_text, subscription_line, subscription_text, props_line, rights_line, reply_line, cause_line, refused_line, refused_groups_line};
+ghost use Rattle.replay_text.specs.Output.{dest_text, message_line, shut_line, end_line, asks_line, after_blank, reading_line, value_line, bytes_text, subscription_line, subscription_text, props_line, rights_line, reply_line, access_cause_line, cause_line, refused_line, refused_access_line, refused_groups_line};
 
+use access_file::{AccessCause, AccessFault};
 use ca_header::FrameFault;
 use gateway_state::{Dest, Reading, Sub};
 use pv_name::Name;
@@ -68,6 +69,18 @@ pub fn write_refused_groups<W: Write>(out: &mut W, line: usize, cause: RuleCause
 {
     out.write_all(b"refused groups ")?;
     write_cause(out, line, cause)
+}
+
+/// Writes the same for a line of its access security file.
+pub fn write_refused_access<W: Write>(
+    out: &mut W,
+    line: usize,
+    cause: AccessCause,
+) -> io::Result<()>
+    ensures ok { OnOk result (Appends (W.contents out.old) (W.contents out.new) (refused_access_line line cause)) }
+{
+    out.write_all(b"refused access ")?;
+    write_access_cause(out, line, cause)
 }
 
 /// Writes the line of the names that are asked for, each after a blank.
@@ -136,6 +149,12 @@ fn write_cause<W: Write>(out: &mut W, line: usize, cause: RuleCause) -> io::Resu
     ensures ok { OnOk result (Appends (W.contents out.old) (W.contents out.new) (cause_line line cause)) }
 {
     writeln!(out, "line {line}: {cause}")
+}
+
+fn write_access_cause<W: Write>(out: &mut W, line: usize, cause: AccessCause) -> io::Result<()>
+    ensures ok { OnOk result (Appends (W.contents out.old) (W.contents out.new) (access_cause_line line cause)) }
+{
+    writeln!(out, "{}", AccessFault::At(line, cause))
 }
 
 fn write_names<W: Write>(out: &mut W, names: &[Name]) -> io::Result<()>

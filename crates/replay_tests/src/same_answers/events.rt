@@ -149,7 +149,7 @@ u? 0012|server u$d 00120000$L$K$p000000$9$9
 |lost s$9
 |client s$9 0017";
 
-/// Rule files and group files.
+/// Rule files, group files and access security files; and users and hosts that these speak of.
 pub(crate) const EDITS: &[u8] = b"|edit 0 0
 |edit 1 1$/.* ALLOW ops$/ops $G
 |edit 1 2$/.* ALLOW ops$/ops READ$/ops $G
@@ -162,6 +162,15 @@ pub(crate) const EDITS: &[u8] = b"|edit 0 0
 |edit 1 0$/T$5 GRANT
 |edit 1 2$/.* ALLOW ops$/ops $G$/ops ALL
 |edit 1 0$/(.* ALLOW
+|edit 1 0 4$/.* ALLOW ops$/UAG(us) {u1, u2} HAG(hs) {LAB1, lab2}$/ASG(DEFAULT) {RULE(1, $G)}$/ASG(ops) {$/RULE(1, $G) RULE(0, $G) {UAG(us)} RULE(1, $G) {HAG(hs)}}
+|edit 2 0 3$/.* ALLOW ops$/T$5 ALLOW eng $y$/UAG(us) {u$3}$/ASG(ops) {RULE(1, WRITE)}$/ASG(eng) {RULE(1, READ) RULE($y, $G) {UAG(us)}}
+|edit 1 1 2$/T[1-$5] ALLOW ops$/ops $G$/HAG(hs) {lab$3, Lab$3}$/ASG(ops) {RULE(1, $G) RULE(1, $G) {HAG(hs)}}
+|edit 0 1 1$/ops $G$/ASG(DEFAULT) {RULE($y, $G)}
+|edit 0 0 1$/ASG(ops) {RULE(1, WRITE)}
+|edit 0 0 2$/ASG(ops) {$/RULE(1, WRITE) {CALC(\"A=1\")}}
+|limit checks-hosts $y
+|lost s$3$/open s$3 lab$3$/client s$3 001400080000000000000000000000007531000000000000$/client s$3 0012000800000000000000$9$90000000d543$5000000000000
+|lost s$3$/open s$3 lab$3$/client s$3 0014000800000000000000000000000075$H000000000000$/client s$3 001500080000000000000000000000006c61623200000000$/client s$3 0012000800000000000000$9$90000000d543$5000000000000
 |edit 0 0";
 
 /// How a list begins.
@@ -239,7 +248,8 @@ pub(crate) fn words(letter: u8) -> &'static [u8] {
         b'H' => b"31 32 33 37",
         // Limits, those that hold or don't, and what they may be.
         b'Z' => b"sessions servers links searches share channels subscriptions reads writes",
-        b'O' => b"makes-room reuses-numbers passes-over-gone tells-unreadable answers-searches",
+        b'O' =>
+            b"makes-room reuses-numbers passes-over-gone tells-unreadable answers-searches checks-hosts",
         b'z' => b"0 1 2 3 3 4 5 6",
         b'y' => b"0 1",
         b'w' => b"0 1 24 40 100 1000",

@@ -88,9 +88,13 @@ found ~!# u4294967295
 sweep
 > Ok(Sweep)
 edit 0 0
-> Ok(Edit { rules: 0, groups: 0 })
+> Ok(Edit { rules: 0, groups: 0, access: 0 })
 edit 18446744073709551615 007
-> Ok(Edit { rules: 18446744073709551615, groups: 7 })
+> Ok(Edit { rules: 18446744073709551615, groups: 7, access: 0 })
+edit 1 2 0
+> Ok(Edit { rules: 1, groups: 2, access: 0 })
+edit 1 02 18446744073709551615
+> Ok(Edit { rules: 1, groups: 2, access: 18446744073709551615 })
 asks
 > Ok(Asks)
 read s1 2 5 3
@@ -160,7 +164,11 @@ limit passes-over-gone 0
 limit tells-unreadable 1
 > Ok(Limit(TellsUnreadable(true)))
 limit answers-searches 1
-> Ok(Limit(AnswersSearches(true)))",
+> Ok(Limit(AnswersSearches(true)))
+limit checks-hosts 1
+> Ok(Limit(ChecksHosts(true)))
+limit checks-hosts 0
+> Ok(Limit(ChecksHosts(false)))",
     );
 }
 
@@ -205,6 +213,8 @@ limit makes-room
 limit makes-room 2
 limit makes-room 01
 limit makes-room true
+limit checks-hosts
+limit checks_hosts 1
 limit tells-unreadable -
 limits sessions 1",
     );
@@ -278,7 +288,10 @@ edit
 edit 1
 edit 1\x20
 edit 1  1
-edit 1 1 1
+edit 1 1\x20
+edit 1 1  1
+edit 1 1 1\x20
+edit 1 1 1 1
 asks\x20
 asks T1
 read s1 2 5
@@ -324,6 +337,10 @@ edit 0 0\r
 edit -1 0
 edit 0 +1
 edit 0 18446744073709551616
+edit 0 0 0\r
+edit 0 0 -
+edit 0 0 +1
+edit 0 0 18446744073709551616
 asks\r
 read u1 2 5 3
 read s1 4294967296 5 3

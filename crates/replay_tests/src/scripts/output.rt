@@ -1,11 +1,12 @@
 //! The lines that a replay prints.
+use access_file::AccessCause;
 use bytes::Bytes;
 use gateway_state::{Dest, Reading, Sub};
 use pv_name::Name;
 use pvlist::RuleCause;
 use replay_text::{
     Line, read_line, write_asks, write_end, write_message, write_props, write_reading,
-    write_refused, write_refused_groups, write_rights, write_subscription,
+    write_refused, write_refused_access, write_refused_groups, write_rights, write_subscription,
 };
 use std::alloc::Global;
 use std::io;
@@ -128,8 +129,12 @@ fn a_refused_edit_is_a_line(rt: HostRuntime) {
     let mut out = Vec::new(rt.alloc());
     let rules = write_refused(&mut out, 3, RuleCause::NoVerb);
     let groups = write_refused_groups(&mut out, 18446744073709551615, RuleCause::BadGroup);
-    let is_whole = rules.is_ok() & groups.is_ok();
-    let want = b"refused line 3: NoVerb\nrefused groups line 18446744073709551615: BadGroup\n";
+    let access = write_refused_access(&mut out, 12, AccessCause::Calculated);
+    let is_whole = rules.is_ok() & groups.is_ok() & access.is_ok();
+    let want = b"refused line 3: NoVerb
+refused groups line 18446744073709551615: BadGroup
+refused access line 12: Calculated
+";
     is_written(&rt, is_whole, &out, want);
 }
 

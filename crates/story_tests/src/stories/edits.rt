@@ -325,7 +325,7 @@ fn ends_at(rt: &impl Abort, alloc: Global, number: usize, script: &[u8]) -> Resu
 // The edit's own line is bad where lines of its files are missing or are no text.
 #[test]
 fn ends_at_an_edit_whose_files_are_not_there(rt: HostRuntime) -> Result<(), Fail> {
-    let scripts: [&[u8]; 9] = [
+    let scripts: [&[u8]; 14] = [
         b"edit 1 0",
         b"edit 0 1\n",
         b"edit 2 0\n.* ALLOW\n",
@@ -335,6 +335,11 @@ fn ends_at_an_edit_whose_files_are_not_there(rt: HostRuntime) -> Result<(), Fail
         b"edit 1 0\n\xff ALLOW\n",
         b"edit 1 1\n.* ALLOW\n\xc3\nlost\n",
         b"edit 1 1\n\xc3\n\xa4 READ\n",
+        b"edit 0 0 1",
+        b"edit 1 1 1\n.* ALLOW\nops READ\n",
+        b"edit 0 1 18446744073709551615\nops READ\nASG(ops)\n",
+        b"edit 0 0 1\n# \xff\n",
+        b"edit 1 0 1\n\xc3\n\xa4\n",
     ];
     for script in scripts {
         ends_at(&rt, rt.alloc(), 1, script)?;
@@ -357,5 +362,12 @@ fn counts_the_lines_of_files(rt: HostRuntime) -> Result<(), Fail> {
         4,
         b"edit 0 0\nedit 0 1\nops READ\nops READ\n",
     )?;
+    ends_at(
+        &rt,
+        rt.alloc(),
+        6,
+        b"edit 1 1 2\nlost ALLOW\nlost READ\nASG(lost)\nASG(s1)\nlost\n",
+    )?;
+    ends_at(&rt, rt.alloc(), 3, b"edit 0 0 1\nASG(lost)\nlost s\n")?;
     ends_at(&rt, rt.alloc(), 3, b"edit 1 0\n# edit 1 0\nedit 1 0\n")
 }

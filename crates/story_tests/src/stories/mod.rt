@@ -11,6 +11,7 @@
 //! - `! uncut`: without it the script is performed on the plain gateway too, and again with the
 //!   bytes of each line cut after 1 to 47 of them.
 
+mod access;
 mod ages;
 mod beginnings;
 mod channels;

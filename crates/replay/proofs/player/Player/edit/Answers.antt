@@ -7,7 +7,7 @@ pub returns-in_ok-step-in-Ok-clause-edited : goal.returns-in_ok-step-in-Ok-claus
 returns-in_ok-step-in-Ok-clause-edited g c =
     inl (record {
       policy = c.in-Ok.policy;
-      said = rw (c.new-desk.ensures, c.text.ensures, c.text-2.ensures) at c.in-Ok.ensures.ok;
+      said = rw (c.new-desk.ensures, c.texts.ensures) at c.in-Ok.ensures.ok;
       edited = c.in_ok-step-in-Ok.ensures.ok;
       silent = refl;
     })
@@ -19,7 +19,7 @@ returns-in-Err-clause-edited g c =
     (λ (told : IsPrinted (refusal c.in-Err.fault) (held c.args.out.now) (held c.print_refusal.new.out)).
     inr (record {
       fault = c.in-Err.fault;
-      first = rw (c.new-desk.ensures, c.text.ensures, c.text-2.ensures) at c.in-Err.ensures.err;
+      first = rw (c.new-desk.ensures, c.texts.ensures) at c.in-Err.ensures.err;
       printed = told;
       same = refl;
     }))

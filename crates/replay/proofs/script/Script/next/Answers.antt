@@ -12,5 +12,5 @@ returns-in-Some-clause-taken g c =
     let here : line_of c.next_line.new.self.line.items ≡ Some c.in-Ok.line = search rules in
     TakesEntry-good (left c.args.self.now) (left c.next_line.new.self) (left c.files.new.self) c.next_line.new.self.line.items c.in-Ok.line c.in-Some.files
     (rw some at c.in_ok-next_line.ensures.taken) here
-    (Takes-sizes (left c.next_line.new.self) (left c.files.new.self) (c.own_files.result.rules, c.own_files.result.groups) (sizes_of c.in-Ok.line) (Some c.in-Some.files)
+    (Takes-sizes (left c.next_line.new.self) (left c.files.new.self) c.own_files.result (sizes_of c.in-Ok.line) (Some c.in-Some.files)
     c.own_files.ensures (rw c.in-Some.is at c.in_ok-files.ensures.taken))
