@@ -2,11 +2,13 @@
 """Runs the built server with the client library of EPICS base (libca 4.13.5, by ctypes): `clients.py [PROGRAM]`.
 
 Where Debian's packages libca4.13.5 and libcom3.17.6 aren't installed it says so and ends with 0. pyepics is run too where
-it is installed. Prints each check that failed, and a last line with the counts; the status is 1 where one failed.
+it is installed (Debian's python3-pyepics). Prints each check that failed, and a last line with the counts; the status is 1
+where one failed.
 """
-import importlib.util
+import functools
 import json
 import os
+import pwd
 import socket
 import subprocess
 import sys
@@ -21,10 +23,12 @@ sys.path.insert(0, os.path.join(ROOT, ".ci"))
 import served  # noqa: E402  (sets the path to examples/)
 import ca_wire as ca  # noqa: E402
 from served import libca  # noqa: E402
+from served.other_user import OtherUser  # noqa: E402
 from served.room import Room, variable  # noqa: E402
 from served.values import FORMS, NATIVE, PROPERTIES, WIDER  # noqa: E402
 
 MANY = 1000
+PYTHONS = (sys.executable, "/usr/bin/python3")
 
 # What pyepics tells of channels: their properties by type, and an ENUM as text.
 PYEPICS = """
@@ -35,6 +39,30 @@ for name in sys.argv[1:]:
     told[name] = {k: v for k, v in (pv.get_ctrlvars(timeout=60) or {}).items() if isinstance(v, (int, float, str, list, tuple))}
     told[name]["text"] = pv.get(as_string=True, timeout=60)
 print(json.dumps(told, default=str))
+"""
+# The user that it runs as (root may say another), and what it may do with a variable, at first and each time that it is told.
+PYEPICS_ACCESS = """
+import json, os, pwd, sys
+if sys.argv[1]:
+    os.setgroups([])
+    os.setgid(pwd.getpwnam(sys.argv[1]).pw_gid)
+    os.setuid(pwd.getpwnam(sys.argv[1]).pw_uid)
+import epics
+told = []
+pv = epics.PV(sys.argv[2], access_callback=lambda read, write, **rest: told.append([bool(read), bool(write)]))
+for line in sys.stdin:
+    if line.strip() == "connect":
+        print(json.dumps(pv.wait_for_connection(60)), flush=True)
+    elif line.strip() == "put":
+        try:
+            done = pv.put(5, wait=True, timeout=60)
+        except epics.ca.CASeverityException:
+            done = None
+        print(json.dumps(done), flush=True)
+    else:
+        epics.ca.poll(evt=0.05, iot=1)
+        print(json.dumps([told, bool(pv.read_access), bool(pv.write_access)]), flush=True)
+os._exit(0)
 """
 PYEPICS_LIMITS = ("upper_disp_limit", "lower_disp_limit", "upper_alarm_limit", "upper_warning_limit", "lower_warning_limit",
                   "lower_alarm_limit", "upper_ctrl_limit", "lower_ctrl_limit")
@@ -146,11 +174,22 @@ def describing(room, up, channels):
     up.tell_properties("ONE:DOUBLE", PROPERTIES[ca.DOUBLE])
 
 
+@functools.lru_cache(maxsize=None)
+def python_of_pyepics():
+    """The interpreter that has it: this one, or the system's."""
+    tries = (subprocess.run([it, "-c", "import epics"], capture_output=True, check=False).returncode for it in PYTHONS)
+    return next((it for it, status in zip(PYTHONS, tries) if status == 0), None)
+
+
+def searching_at(server):
+    return os.environ | {"EPICS_CA_ADDR_LIST": f"{server.address[0]}:{server.address[1]}", "EPICS_CA_AUTO_ADDR_LIST": "NO"}
+
+
 def pyepics(room, up, server):
     """get_ctrlvars of each type, as pyepics tells it, and what it gives of an ENUM as text."""
     names = [f"ONE:{ca.NAMES[base]}" for base in NATIVE]
-    here = {"EPICS_CA_ADDR_LIST": f"{server.address[0]}:{server.address[1]}", "EPICS_CA_AUTO_ADDR_LIST": "NO"}
-    done = subprocess.run([sys.executable, "-c", PYEPICS, *names], env=os.environ | here, capture_output=True, timeout=120, check=False)
+    words = [python_of_pyepics(), "-c", PYEPICS, *names]
+    done = subprocess.run(words, env=searching_at(server), capture_output=True, timeout=120, check=False)
     told = json.loads(done.stdout) if done.returncode == 0 else {}
     room.check("pyepics ran", told, done.stderr.decode()[-400:])
     for base, name in zip(NATIVE, names):
@@ -283,6 +322,82 @@ def by_name_server(room, up, repeater):
     room.equal("quit by order", server.quit(), 0)
 
 
+def access_for(user):
+    """A file by which one user may write, from this host."""
+    return (f'UAG(ops) {{"{user}"}}\nHAG(here) {{"{socket.gethostname()}"}}\n'
+            "ASG(DEFAULT) {\n    RULE(1, READ)\n    RULE(1, WRITE) {UAG(ops) HAG(here)}\n}\n")
+
+
+def by_user(room, up, repeater):
+    """Rights go by the user that the library says, and change at a reload. Root runs a second client, of another user."""
+    own, rights = pwd.getpwuid(os.getuid()).pw_name, ((True, False), (True, True))
+    server = room.server(up, options=["--access", room.file("access", access_for(own))])
+    library = libca.Library(server.address, repeater)
+    channel = library.channel("V")
+    room.eventually("a channel connects", channel.is_connected)
+    room.eventually("its user may write", lambda: channel.rights[-1:] == [rights[1]])
+    room.equal("and does", channel.put(ca.LONG, [1]), ca.NORMAL)
+    other = OtherUser("nobody", server, repeater, "V") if os.getuid() == 0 else None
+    if other:
+        room.eventually("that of another user connects", lambda: other.ask("connected"))
+        room.equal("who may read alone", other.ask("rights"), [list(rights[0])])
+        room.equal("a write of whom is refused", other.ask("put"), ca.NOWTACCESS)
+    for user, mine in (("nobody", 0), (own, 1), ("nobody", 0)):
+        room.file("access", access_for(user))
+        server.write("reload")
+        room.eventually(f"a reload for {user} is told", lambda: channel.rights[-1] == rights[mine])
+        room.equal(f"a write after it, for {user}", channel.put(ca.LONG, [2]), ca.NORMAL if mine else ca.NOWTACCESS)
+        if other:
+            room.eventually(f"the other user is told of {user}", lambda: other.ask("rights")[-1] == list(rights[1 - mine]))
+            room.equal(f"and writes, for {user}", other.ask("put"), ca.NOWTACCESS if mine else ca.NORMAL)
+    room.equal("each change is told once", channel.rights, [rights[it] for it in (1, 0, 1, 0)])
+    room.equal("nothing is complained of", library.exceptions, [])
+    if other:
+        other.end()
+    library.end()
+    room.equal("quit at last", server.quit(), 0)
+
+
+class EpicsUser:
+    """A channel of pyepics in a process of its own; one question and its answer at a time."""
+
+    def __init__(self, server, user, name):
+        words = [python_of_pyepics(), "-c", PYEPICS_ACCESS, user, name]
+        self.process = subprocess.Popen(words, env=searching_at(server), stdin=subprocess.PIPE, stdout=subprocess.PIPE, text=True)
+
+    def ask(self, word):
+        print(word, file=self.process.stdin, flush=True)
+        return json.loads(self.process.stdout.readline() or "null")
+
+    def end(self):
+        self.process.stdin.close()
+        self.process.wait(libca.PATIENCE)
+        self.process.stdout.close()
+
+
+def by_user_in_pyepics(room, up):
+    """pyepics tells rights by the user, and each change of them at a reload; a write without the right isn't done."""
+    own = pwd.getpwuid(os.getuid()).pw_name
+    server = room.server(up, options=["--access", room.file("access", access_for(own))])
+    users = [(EpicsUser(server, "", "V"), own)] + ([(EpicsUser(server, "nobody", "V"), "nobody")] if os.getuid() == 0 else [])
+    for user, name in users:
+        room.check(f"{name} connects in pyepics", user.ask("connect"))
+        room.eventually(f"rights of {name} in pyepics", lambda: user.ask("rights")[1:] == [True, name == own])
+    for writer in ("nobody", own):
+        many = len(up.writes)
+        for user, name in users:
+            room.equal(f"a write of {name} in pyepics, which {'is' if name == own else 'is not'} done", user.ask("put") == 1, name == own)
+        room.equal(f"so only writes of {own} came", len(up.writes), many + sum(name == own for _, name in users))
+        room.file("access", access_for(writer))
+        server.write("reload")
+        own = writer
+        for user, name in users:
+            room.eventually(f"{name} is told of {writer} in pyepics", lambda: user.ask("rights")[0][-1:] == [[True, name == writer]])
+    for user, _ in users:
+        user.end()
+    room.equal("quit of the gateway of users", server.quit(), 0)
+
+
 def run(room, repeater):
     up = room.upstream(*variables())
     server = room.server(up, rules=".* ALLOW everyone\nLARGE ALLOW large\n", groups="everyone WRITE\nlarge WRITE\n")
@@ -292,7 +407,7 @@ def run(room, repeater):
     putting(room, up, channels)
     states(room, up, channels)
     describing(room, up, channels)
-    if importlib.util.find_spec("epics"):
+    if python_of_pyepics():
         pyepics(room, up, server)
     monitoring(room, up, channels)
     rights(room, up, server, channels)
@@ -301,6 +416,9 @@ def run(room, repeater):
     another_gateway(room, up, server, library, channels)
     room.equal("nothing that the library complains of", library.exceptions, [])
     by_name_server(room, up, repeater)
+    by_user(room, up, repeater)
+    if python_of_pyepics():
+        by_user_in_pyepics(room, up)
 
 
 def main():

@@ -54,12 +54,14 @@ FROM_CLIENTS = {0, 1, 2, 4, 6, 8, 9, 12, 15, 18, 19, 20, 21, 23, 99}
 FROM_SERVERS = {0, 1, 18, 19, 22, 26, 27, 99}
 
 FILES = {
-    "site": None, "groups": None,
+    "site": None, "groups": None, "access": None,
     "aliases": b"EVALUATION ORDER DENY, ALLOW\n\\(.*\\):\\(SET\\|SP\\) ALIAS \\1:\\2 ops\n[A-Z]+[0-9]* ALLOW\nX.* DENY FROM lab7 lab8\n",
     "no-verb": b"A ALLOW\n# x\nB GRANT\n", "bad-groups": b"ops READ\nops MAYBE\n",
+    "calculated": b"UAG(ops) {anna}\nASG(ops) {RULE(1, WRITE) {UAG(ops) CALC(\"A=1\")}}\n",
 }
 CHECKS = ["site", "site --groups groups --name BEAM:CURRENT", "site --name S01:ILK:DOOR",
-          "aliases --name A:SET --host lab7 --groups groups", "no-verb", "aliases --groups bad-groups"]
+          "aliases --name A:SET --host lab7 --groups groups", "no-verb", "aliases --groups bad-groups",
+          "site --access access --name S01:MAG:Q1 --user anna --host desk1", "aliases --access calculated"]
 
 # Arguments, standard input, and whether a gateway runs.
 Case = namedtuple("Case", "name words script is_gateway")
@@ -106,7 +108,7 @@ def cases(folder):
 
 def write_files(folder):
     for name, text in FILES.items():
-        example = os.path.join(ROOT, "examples", {"site": "site.pvlist", "groups": "site.groups"}.get(name, name))
+        example = os.path.join(ROOT, "examples", {"site": "site.pvlist", "groups": "site.groups", "access": "site.access"}.get(name, name))
         if text is None:
             with open(example, "rb") as file:
                 text = file.read()

@@ -5,8 +5,10 @@ _pvgate() {
     case "${COMP_WORDS[1]}:$before" in
     replay:--first) : ;;
     check-rules:--groups) files=yes ;;
+    check-rules:--access) files=yes ;;
     check-rules:--name) : ;;
     check-rules:--host) : ;;
+    check-rules:--user) : ;;
     serve:--listen) : ;;
     serve:--search) : ;;
     serve:--name-server) : ;;
@@ -15,6 +17,7 @@ _pvgate() {
     serve:--idle) : ;;
     serve:--rules) files=yes ;;
     serve:--groups) files=yes ;;
+    serve:--access) files=yes ;;
     serve:--clients) : ;;
     serve:--servers) : ;;
     serve:--names) : ;;
@@ -32,8 +35,8 @@ _pvgate() {
         case "$((COMP_CWORD > 1)):${COMP_WORDS[1]}" in
         0:*) words="replay check-rules serve help -h --help -V --version" ;;
         1:replay) words="--plain --first -h --help" ;;
-        1:check-rules) words="--groups --name --host --plain-groups -h --help" files=yes ;;
-        1:serve) words="--listen --search --name-server --from --beacons --hear-beacons --idle --rules --groups --plain-groups --clients --servers --names --alive --forget --late --most-waiting --most-in-all --first --reconnect --sweep --log --status --clients-of-host --back-off --site -h --help" ;;
+        1:check-rules) words="--groups --access --name --host --user --plain-groups -h --help" files=yes ;;
+        1:serve) words="--listen --search --name-server --from --beacons --hear-beacons --idle --rules --groups --access --plain-groups --clients --servers --names --alive --forget --late --most-waiting --most-in-all --first --reconnect --sweep --log --status --check-host --clients-of-host --back-off --site -h --help" ;;
         1:help) words="replay check-rules serve" ;;
         esac
         ;;

@@ -25,7 +25,7 @@ def one_of(words):
 
 
 LIMITS = {b"sessions", b"servers", b"links", b"searches", b"share", b"channels", b"subscriptions", b"reads", b"writes", b"update-bytes"}
-FLAGS = {b"makes-room", b"reuses-numbers", b"passes-over-gone", b"tells-unreadable", b"answers-searches"}
+FLAGS = {b"makes-room", b"reuses-numbers", b"passes-over-gone", b"tells-unreadable", b"answers-searches", b"checks-hosts"}
 CLIENT, SERVER, EITHER = connection((b"s",)), connection((b"u",)), connection((b"s", b"u"))
 NAME, HOST = of_printable(255), of_printable(127)
 
@@ -33,7 +33,7 @@ NAME, HOST = of_printable(255), of_printable(127)
 FORMS = {
     b"open": [(CLIENT, HOST), (SERVER,)], b"lost": [(EITHER,)], b"client": [(CLIENT, is_hexadecimal)],
     b"server": [(SERVER, is_hexadecimal)], b"found": [(NAME, SERVER)], b"search": [(HOST, is_hexadecimal)], b"sweep": [()],
-    b"edit": [(number(SIZE), number(SIZE))], b"hold": [(EITHER,)], b"flow": [(EITHER,)], b"drain": [(EITHER, number(SIZE))],
+    b"edit": [(number(SIZE),) * 2, (number(SIZE),) * 3], b"hold": [(EITHER,)], b"flow": [(EITHER,)], b"drain": [(EITHER, number(SIZE))],
     b"asks": [()], b"read": [(CLIENT, number(NUMBER32), number(NUMBER16), number(NUMBER32))], b"sub": [(NAME,)],
     b"props": [(NAME,)], b"rights": [(CLIENT, number(NUMBER32))],
     b"limit": [(one_of(LIMITS), number(SIZE)), (one_of({b"messages"}), number(NUMBER32)), (one_of(FLAGS), one_of({b"0", b"1"}))],
@@ -76,12 +76,11 @@ def entries(lines):
                 yield place, None
                 return
             if line.startswith(b"edit "):
-                sizes = [int(word) for word in line.split(b" ")[1:]]
-                behind += sum(sizes)
-                middle = place + 1 + sizes[0]
-                if behind > len(lines) or not is_text(lines[place + 1:middle]) or not is_text(lines[middle:behind]):
-                    yield place, None
-                    return
+                for size in [int(word) for word in line.split(b" ")[1:]]:
+                    begin, behind = behind, behind + size
+                    if behind > len(lines) or not is_text(lines[begin:behind]):
+                        yield place, None
+                        return
         yield place, behind
         place = behind
 

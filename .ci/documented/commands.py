@@ -30,7 +30,7 @@ NOT_RUN = {
     "examples/ioc.py": "it runs until it is ended; .ci/serve.py runs it, in its story `examples`",
     "./pvgate serve 127.0.0.1:5064 127.0.0.1:5070 --rules examples/site.pvlist --groups examples/site.groups": SERVES,
     "examples/ca.py monitor BEAM:CURRENT": "it needs the gateway; .ci/serve.py runs it, in its story `examples`",
-    "./pvgate serve 0.0.0.0:5064 10.0.1.20:5064 10.0.1.21:5066 --rules gateway.pvlist --groups gateway.groups": SERVES,
+    "./pvgate serve 0.0.0.0:5064 --search 10.0.1.255:5064 --rules gateway.pvlist --access gateway.access --site": SERVES,
     "./pvgate serve 10.0.0.1:5064 --search 10.0.1.255:5064 --from 10.0.1.0/24 --site": SERVES,
     "mkfifo orders": INSTALLED,
     "./pvgate serve 127.0.0.1:5064 127.0.0.1:5070 <> orders 2>> pvgate.log &": INSTALLED,

@@ -9,7 +9,7 @@ Channel = namedtuple("Channel", "name cid sid base count rights")
 
 
 class Client(ca.Connection):
-    def __init__(self, address, host="desk1", source=None):
+    def __init__(self, address, host="desk1", source=None, user="someone"):
         super().__init__(address, 60, (source, 0) if source else None)
         self.address = address
         self.last = 0
@@ -17,7 +17,7 @@ class Client(ca.Connection):
         self.asker = self.datagrams()
         # What is searched for while a channel isn't there yet: nobody reads what comes back.
         self.caller = self.datagrams()
-        self.send(ca.greeting("someone", host))
+        self.send(ca.greeting(user, host))
 
     def datagrams(self):
         """A socket for searches, of the host that the client is on."""

@@ -163,8 +163,8 @@ class Room:
                     return it
         raise RuntimeError(f"the server didn't start: {it.printed} {it.logged}")
 
-    def client(self, server, host="desk1", source=None):
-        it = Client(server.address, host, source)
+    def client(self, server, host="desk1", source=None, user="someone"):
+        it = Client(server.address, host, source, user)
         self.started.append(it.close)
         return it
 

@@ -39,14 +39,16 @@ pub struct Replay<'a> {
     pub first: Option<&'a str>,
 }
 
-/// What `check-rules` is to check: the paths of the files, the name and the host that it is asked of,
+/// What `check-rules` is to check: the paths of the files, the name, the host and the user that it is asked of,
 /// and the syntax of patterns.
 #[derive(Clone, Copy, Debug)]
 pub struct CheckRules<'a> {
     pub rules: &'a str,
     pub groups: Option<&'a str>,
+    pub access: Option<&'a str>,
     pub name: Option<&'a str>,
     pub host: &'a str,
+    pub user: Option<&'a str>,
     pub syntax: Syntax,
 }
 
@@ -71,7 +73,10 @@ pub struct Serve<'a> {
     /// The paths of the rule files, and the syntax of patterns.
     pub rules: Option<&'a str>,
     pub groups: Option<&'a str>,
+    pub access: Option<&'a str>,
     pub syntax: Syntax,
+    /// A client's host is its address.
+    pub check_host: bool,
     /// How many MiB may wait for a client, and for all of them.
     pub most_waiting: &'a str,
     pub most_in_all: Option<&'a str>,
@@ -146,6 +151,15 @@ fn check_rules_command<'a>(alloc: Global) -> Result<Command<'a>, Error> {
     let groups = option(alloc, "groups", "FILE", "The group file");
     let name = option(alloc, "name", "NAME", "The name that a client asks for");
     let host = option(alloc, "host", "HOST", "The host that it asks from").default_value(LOCAL);
+    let user = option(
+        alloc,
+        "user",
+        "NAME",
+        "What its user is called, for the access security file",
+    )
+    .requires_arg("name")?
+    .requires_arg("access")?
+    .conflicts_with("groups")?;
     Ok(
         Command::new(alloc, "check-rules")
             .about(CHECK_RULES_ABOUT)
@@ -153,8 +167,10 @@ fn check_rules_command<'a>(alloc: Global) -> Result<Command<'a>, Error> {
             .after_help(CHECK_RULES_AFTER_HELP)
             .arg(file)?
             .arg(groups)?
+            .arg(access(alloc)?)?
             .arg(name)?
             .arg(host)?
+            .arg(user)?
             .arg(plain_groups(alloc))?,
     )
 }
@@ -184,6 +200,7 @@ fn serve_command<'a>(alloc: Global) -> Result<Command<'a>, Error> {
     let command = address_options(alloc, command)?
         .arg(rules)?
         .arg(groups)?
+        .arg(access(alloc)?)?
         .arg(plain_groups(alloc))?;
     operating_options(alloc, command)
 }
@@ -232,6 +249,8 @@ fn operating_options<'a>(alloc: Global, command: Command<'a>) -> Result<Command<
     let reconnect = "So often servers that aren't connected are tried again; 1 to 86400";
     let sweep = "So often it is forgotten which names clients looked for; 1 to 86400";
     let log = "What is told on standard error: error, warn, info or debug";
+    let check_host =
+        "The host of a client is the address that it connects from, whatever it says itself";
     let status = "It tells each who connects to this address of itself, in one line of JSON";
     let clients_of_host = "So many clients of one host may be connected at once; 1 to 1024";
     let back_off = "Names that no server has are asked for more and more seldom";
@@ -247,6 +266,7 @@ fn operating_options<'a>(alloc: Global, command: Command<'a>) -> Result<Command<
             .arg(option(alloc, "sweep", "SECONDS", sweep))?
             .arg(option(alloc, "log", "LEVEL", log).default_value(LOG))?
             .arg(option(alloc, "status", "ADDRESS", status))?
+            .arg(flag(alloc, "check-host", check_host))?
             .arg(option(alloc, "clients-of-host", "N", clients_of_host))?
             .arg(flag(alloc, "back-off", back_off))?
             .arg(flag(alloc, "site", site))?,
@@ -281,6 +301,11 @@ fn first<'a>(alloc: Global) -> Arg<'a> {
     option(alloc, "first", "N", help)
 }
 
+fn access<'a>(alloc: Global) -> Result<Arg<'a>, Error> {
+    let help = "The access security file, which says who may do what, in place of a group file";
+    Ok(option(alloc, "access", "FILE", help).conflicts_with("groups")?)
+}
+
 fn plain_groups<'a>(alloc: Global) -> Arg<'a> {
     let help = "Patterns write groups as ( ) |, as those for PCRE do, and not as \\( \\) \\|";
     flag(alloc, "plain-groups", help)
@@ -305,8 +330,10 @@ fn check_rules_arguments<'a>(found: &ArgMatches<'a>) -> CheckRules<'a> {
     CheckRules {
         rules: found.get_str("file").unwrap_or(""),
         groups: found.get_str("groups"),
+        access: found.get_str("access"),
         name: found.get_str("name"),
         host: found.get_str("host").unwrap_or(LOCAL),
+        user: found.get_str("user"),
         syntax: syntax(found),
     }
 }
@@ -341,7 +368,9 @@ fn serve_arguments<'a>(alloc: Global, found: &ArgMatches<'a>) -> Result<Serve<'a
         idle: found.get_str("idle"),
         rules: found.get_str("rules"),
         groups: found.get_str("groups"),
+        access: found.get_str("access"),
         syntax: syntax(found),
+        check_host: found.get_flag("check-host"),
         most_waiting: found.get_str("most-waiting").unwrap_or(MOST_WAITING),
         most_in_all: found.get_str("most-in-all"),
         first: found.get_str("first"),

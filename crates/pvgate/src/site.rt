@@ -52,11 +52,7 @@ pub fn read_site<R: Net>(
     let scale = read_scale(alloc, arguments)?;
     let servers = read_servers(rt, alloc, arguments, listen.is_ipv4(), scale.servers)?;
     let options = read_options(alloc, arguments, scale)?;
-    let files = RulePaths {
-        rules: copy(alloc, arguments.rules)?,
-        groups: copy(alloc, arguments.groups)?,
-        syntax: arguments.syntax,
-    };
+    let files = read_paths(alloc, arguments)?;
     let discovery = read_discovery(rt, alloc, arguments, listen)?;
     if let Some(discovery) = &discovery {
         check_servers(servers.as_slice(), discovery.is_ipv4(listen), discovery)?;
@@ -75,6 +71,15 @@ pub fn read_site<R: Net>(
         addresses,
         files,
         options,
+    })
+}
+
+fn read_paths(alloc: Global, arguments: &Serve<'_>) -> Result<RulePaths, AllocError> {
+    Ok(RulePaths {
+        rules: copy(alloc, arguments.rules)?,
+        groups: copy(alloc, arguments.groups)?,
+        access: copy(alloc, arguments.access)?,
+        syntax: arguments.syntax,
     })
 }
 
@@ -180,6 +185,7 @@ fn read_scale(alloc: Global, arguments: &Serve<'_>) -> Result<Scale, ProgramFaul
         servers: read_number(alloc, servers, MOST_SERVERS)?.unwrap_or(SERVERS),
         names: read_number(alloc, names, MOST_NAMES)?,
         site: arguments.site,
+        checks_hosts: arguments.check_host,
     })
 }
 

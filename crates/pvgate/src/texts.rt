@@ -24,6 +24,8 @@ Lines of a script (N is a number, D is sN, the connection of a client, or uN, th
   edit R G        the R lines that follow are the rule file from now on, and the G lines after those
                   the group file (0: no such file); a fault in them is printed, and changes nothing:
                   refused line N: CAUSE, or refused groups line N: CAUSE
+  edit R G A      the same, and the A lines after those are an access security file, whose fault is
+                  printed as refused access line N: CAUSE
   hold D          D's messages are kept back from now on
   flow D          they are no longer kept back
   drain D K       the first K messages that wait for D are printed
@@ -55,19 +57,22 @@ More are in the folder examples.";
 pub const CHECK_RULES_ABOUT: &str = "Checks a rule file, and tells what it answers a client";
 
 pub const CHECK_RULES_LONG_ABOUT: &str = "\
-Checks a rule file and a group file, and tells what they answer a client, with no network.
+Checks a rule file, and a group file or an access security file, and tells what they answer a client,
+with no network.
 
-The first faulty line is printed, that of the rule file before that of the group file. Of good files
-the number of rules and their order are printed, and with --name what the name leads to.";
+The first faulty line is printed, that of the rule file before that of another. Of good files the number
+of rules and their order are printed, and with --name what the name leads to.";
 
 pub const CHECK_RULES_AFTER_HELP: &str = "\
 What is printed:
   ok N rows ORDER              the files are good: N rules, under the order ALLOW, DENY or DENY, ALLOW
   admitted REAL GROUP RIGHTS   the name is served as REAL, with the rights of GROUP (- for none):
-                               none, read or write
+                               none, read or write; with --access with those that --user has on --host,
+                               and ` recorded` behind them where TRAPWRITE stands beside them
   refused                      the name is not served to the host
   line N: CAUSE                line N of the rule file is faulty, and nothing else is printed
   groups line N: CAUSE         line N of the group file is faulty, and nothing else is printed
+  access line N: CAUSE         line N of the access security file is, and nothing else is printed
 
 Lines of a rule file (# begins a comment):
   EVALUATION ORDER ALLOW, DENY          a DENY that names no host refuses every name that it matches
@@ -84,6 +89,16 @@ and so is the first rule whose pattern is dear, of which thousands would fill th
   note: line N: its pattern takes more than 1 MiB or 5 ms to make ready
 A group file has lines GROUP NONE, GROUP READ and GROUP WRITE.
 
+Definitions of an access security file, as EPICS has them (# outside quotes begins a comment):
+  UAG(NAME) {USER, USER ..}      a group of users, by what clients say that theirs are called
+  HAG(NAME) {HOST, HOST ..}      a group of hosts, compared without regard to case; serve --check-host alone looks them up
+  ASG(GROUP) {RULE ..}           what is granted with the variables of GROUP
+A RULE is RULE(LEVEL, RIGHT) or RULE(LEVEL, RIGHT, TRAPWRITE), and may have {WHO ..} behind it. RIGHT is NONE,
+READ or WRITE. LEVEL is 0 or 1: with 0 it speaks only of variables whose LEVEL in the rule file is 0, and those that
+have none there have 1. WHO is UAG(NAME, NAME ..) or HAG(NAME, NAME ..) of groups that are defined above: a rule speaks
+to who is in one of each kind that it names. Of the rules that speak of both the greatest RIGHT holds. In a group that
+isn't defined, and without one, the rules of the group DEFAULT hold; where there is no DEFAULT, nothing is granted.
+
 Causes, of which the first that applies is printed:
   LineTooLong    the line has more than 1024 bytes, its comment counted
   BadOrder       it begins with EVALUATION ORDER, and neither order follows
@@ -93,15 +108,31 @@ Causes, of which the first that applies is printed:
   BadGroup       a group or level is none, or words follow them; in a group file, the line is none
   BadPattern     the pattern is no expression: an escaped letter or digit, or a bracket left open
   BadReference   an alias has no real name, or one with a \\ that refers to no part of the pattern
+In an access security file:
+  BadByte        a character stands outside of quotes that stands in no word
+  Unclosed       quotes don't end in their line
+  Unexpected     another sign or word must stand here
+  Unfinished     the file ends inside a definition
+  UnknownWord    a word is no keyword, or none that may stand here; they are in capitals
+  Calculated     CALC or INPA to INPU: rules by values aren't served, and aren't passed over either
+  Unserved       METHOD, AUTHORITY or PROTOCOL, the same
+  BadName        a name isn't 1 to 127 printable ASCII characters without a blank
+  BadLevel       a level is neither 0 nor 1
+  BadRight       a right is none, or what follows it is neither TRAPWRITE nor NOTRAPWRITE
+  NoUsers        a rule names a group of users that isn't defined above it
+  NoHosts        the same of hosts
+  Twice          a group is defined again
+  TooMany        it is group number 4097 of a kind, rule number 4097, or name number 65537
 What the faulty line said is printed on standard error, bytes that aren't printable ASCII as \\xHH, and
 200 characters at most:
-  line N: says: TEXT, or groups line N: says: TEXT
+  line N: says: TEXT, or groups line N: says: TEXT, or access line N: says: TEXT
 
 Exit status: 0 for good files, 1 for a faulty line, 2 for bad arguments, 3 where a file can't be
 read or standard output can't be written, 4 where memory runs out.
 
-Example:
-  pvgate check-rules examples/site.pvlist --groups examples/site.groups --name BEAM:CURRENT";
+Examples:
+  pvgate check-rules examples/site.pvlist --groups examples/site.groups --name BEAM:CURRENT
+  pvgate check-rules examples/site.pvlist --access examples/site.access --name S01:MAG:Q1 --user anna --host desk1";
 
 pub const SERVE_ABOUT: &str = "Serves clients with the variables of servers, over TCP and UDP";
 
@@ -188,6 +219,13 @@ it. Requests on channels that are gone are passed over, and a subscription that 
 
 With --status each who connects to ADDRESS is told of the gateway in one line of JSON, and is hung up on:
 clients, upstreams, rows of each kind, edits of the rules, messages in and out, and the largest outbox.
+
+With --access a client may do what the access security file grants its user on its host; `pvgate check-rules --help` has
+what may stand there. User and host are what the client says before its first channel, so that stops mistakes and not
+malice. With --check-host a client's host is the address that its connection comes from, as 10.0.0.5, whatever it says:
+HAGs, and DENY FROM, list addresses then, or names, which are looked up at the start and at each reload: a client
+counts as each host that has its address. One that has none is told, and nobody counts as it. --site doesn't have
+that with it.
 
 With --clients-of-host one more client of a host that has N is refused at once: it is told on standard
 error, and its connection is closed.

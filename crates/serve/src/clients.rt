@@ -6,6 +6,7 @@ use crate::workers::start_workers;
 use gateway_core::{Dest, Event};
 use pv_name::Host;
 use serve_state::{Notice, RosterRefusal, is_kept_back};
+use std::alloc::Global;
 use std::fmt::Write;
 use std::net::{IpAddr, Shutdown, SocketAddr, TcpStream};
 use std::os::fd::AsRawFd;
@@ -171,11 +172,22 @@ fn count_refused<R: System>(rt: R, hub: &Hub) {
     *refused = refused.saturating_add(1);
 }
 
-/// The host that has this address.
+/// The host that has this address. Where hosts are checked, one of IPv4 that came over IPv6 is written as what it
+/// is, so that files need list it once.
 pub fn host_of(hub: &Hub, peer: &SocketAddr) -> Result<Host, ()> {
-    let mut text = String::new(hub.alloc);
-    if write!(text, "{}", peer.ip()).is_err() {
+    let ip = if hub.options.scale.checks_hosts {
+        peer.ip().to_canonical()
+    } else {
+        peer.ip()
+    };
+    host_at(hub.alloc, ip)
+}
+
+/// The host at this address, as a text.
+pub fn host_at(alloc: Global, ip: IpAddr) -> Result<Host, ()> {
+    let mut text = String::new(alloc);
+    if write!(text, "{ip}").is_err() {
         return Err(());
     }
-    Host::read(hub.alloc, text.as_bytes()).map_err(|_| ())
+    Host::read(alloc, text.as_bytes()).map_err(|_| ())
 }

@@ -33,6 +33,7 @@ mod fault;
 mod finder;
 mod finding;
 mod hearing;
+mod host_names;
 mod hub;
 mod keeper;
 mod late;

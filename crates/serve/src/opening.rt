@@ -57,7 +57,8 @@ pub fn open<
     let mut desk = Desk::with_syntax(alloc, files.syntax);
     let teller = Teller::AtStart(options.log);
     let texts = read_texts(&rt, alloc, &files, When::AtStart, teller)?;
-    let policy = read_policy(&rt, alloc, &mut desk, &texts, teller)?;
+    let checks_hosts = options.scale.checks_hosts;
+    let policy = read_policy(&rt, alloc, &mut desk, &texts, checks_hosts, teller)?;
     let site = options.scale.site;
     let sockets = open_sockets(rt, alloc, &addresses, site).map_err(ServeFault::Listen)?;
     let reports = open_reports(rt, options.status).map_err(ServeFault::Reports)?;

@@ -141,7 +141,7 @@ pub fn age<R: System, H: AsHub>(rt: R, hub: &H) {
     hub.hub().tell(&rt, Notice::Aged);
 }
 
-fn reload<R: Machine + System, H: AsHub>(
+fn reload<R: Machine + System + Net, H: AsHub>(
     rt: R,
     hub: &H,
     desk: &mut Desk,
@@ -160,7 +160,8 @@ fn reload<R: Machine + System, H: AsHub>(
         }
         Err(_) => return None,
     };
-    match read_policy(&rt, hub.hub().alloc, desk, &texts, teller) {
+    let checks_hosts = hub.hub().options.scale.checks_hosts;
+    match read_policy(&rt, hub.hub().alloc, desk, &texts, checks_hosts, teller) {
         Ok(policy) => {
             let _ = hub.gate().desk(&rt, Event::Edit(policy));
             hub.hub().seek(&rt, Vec::new(hub.hub().alloc), true);

@@ -1,13 +1,15 @@
 //! The rule files.
 use crate::fault::ServeFault;
+use crate::host_names::know_hosts;
 use crate::logging::Teller;
 use crate::machine::{Machine, System, TextFault};
 use gateway_core::Policy;
 use pvlist::Syntax;
-use rule_desk::{Desk, DeskFault, Note};
+use rule_desk::{Desk, DeskFault, Note, PolicyTexts};
 use serve_state::{FileCause, FileReading, FileText, Notice, READINGS, Steady};
 use std::alloc::Global;
 use std::fmt::Write;
+use std::net::Net;
 use std::time::Duration;
 use std::{io, thread};
 
@@ -19,6 +21,7 @@ const PAUSE: u64 = 20;
 pub struct RulePaths {
     pub rules: Option<String>,
     pub groups: Option<String>,
+    pub access: Option<String>,
     pub syntax: Syntax,
 }
 
@@ -27,6 +30,17 @@ pub struct RulePaths {
 pub struct RuleTexts {
     rules: Option<String>,
     groups: Option<String>,
+    access: Option<String>,
+}
+
+impl RuleTexts {
+    fn seen(&self) -> PolicyTexts<'_> {
+        PolicyTexts {
+            rules: self.rules.as_ref().map(|text| text.as_str()),
+            groups: self.groups.as_ref().map(|text| text.as_str()),
+            access: self.access.as_ref().map(|text| text.as_str()),
+        }
+    }
 }
 
 /// When files are read, and so how.
@@ -48,7 +62,12 @@ pub fn read_texts<R: Machine + System>(
 ) -> Result<RuleTexts, ServeFault> {
     let rules = read_text(rt, alloc, &files.rules, when, teller)?;
     let groups = read_text(rt, alloc, &files.groups, when, teller)?;
-    Ok(RuleTexts { rules, groups })
+    let access = read_text(rt, alloc, &files.access, when, teller)?;
+    Ok(RuleTexts {
+        rules,
+        groups,
+        access,
+    })
 }
 
 fn read_text<R: Machine + System>(
@@ -125,26 +144,26 @@ fn refuse_file<R: System>(
     }
 }
 
-/// The policy that the texts say. Where they are refused the line that says so is printed. What is noted
-/// of the rule file is told too.
-pub fn read_policy<R: Machine + System>(
+/// The policy that the texts say, which knows the hosts that they name where hosts are checked. Where they are refused the
+/// line that says so is printed. What is noted of the rule file is told too.
+pub fn read_policy<R: Machine + System + Net>(
     rt: &R,
     alloc: Global,
     desk: &mut Desk,
     texts: &RuleTexts,
+    checks_hosts: bool,
     teller: Teller<'_>,
 ) -> Result<Policy, ServeFault> {
-    let rules = texts.rules.as_ref().map(|text| text.as_str());
-    let groups = texts.groups.as_ref().map(|text| text.as_str());
-    if let Some(note) = rules.and_then(|text| Note::of(text, desk.syntax())) {
+    let seen = texts.seen();
+    if let Some(note) = seen.rules.and_then(|text| Note::of(text, desk.syntax())) {
         teller.note(rt, note);
     }
-    match desk.edit(rules, groups) {
-        Ok(policy) => {
-            if policy.rules.is_open() {
-                teller.tell(rt, Notice::OpenToAll);
-            } else {
-                teller.tell(rt, Notice::RulesRead(policy.rules.rows().len()));
+    match desk.read(&seen) {
+        Ok(mut policy) => {
+            tell_read(rt, &policy, teller);
+            if checks_hosts && know_hosts(rt, alloc, &mut policy, teller).is_err() {
+                teller.tell(rt, Notice::OutOfMemory);
+                return Err(ServeFault::OutOfMemory);
             }
             Ok(policy)
         }
@@ -153,6 +172,18 @@ pub fn read_policy<R: Machine + System>(
             Err(ServeFault::OutOfMemory)
         }
         Err(fault) => Err(print_refusal(rt, alloc, fault, teller)),
+    }
+}
+
+// What was read.
+fn tell_read<R: Machine + System>(rt: &R, policy: &Policy, teller: Teller<'_>) {
+    if policy.rules.is_open() {
+        teller.tell(rt, Notice::OpenToAll);
+    } else {
+        teller.tell(rt, Notice::RulesRead(policy.rules.rows().len()));
+    }
+    if policy.access.is_some() {
+        teller.tell(rt, Notice::AccessRead);
     }
 }
 
@@ -165,6 +196,7 @@ fn print_refusal<R: Machine + System>(
     match fault {
         DeskFault::Rules(line, cause) => teller.tell(rt, Notice::RulesRefused(line, cause)),
         DeskFault::Groups(line, cause) => teller.tell(rt, Notice::GroupsRefused(line, cause)),
+        DeskFault::Access(line, cause) => teller.tell(rt, Notice::AccessRefused(line, cause)),
         DeskFault::OutOfMemory => (),
     }
     let mut line = String::new(alloc);

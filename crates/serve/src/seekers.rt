@@ -59,7 +59,7 @@ fn hear<R: System, H: AsHub>(rt: R, hub: &H, searches: Vec<SearchOn>) -> Result<
             has_others = true;
         }
     }
-    keep_all(rt, hub.hub(), sought)?;
+    keep_sought(rt, hub.hub(), sought)?;
     if hub.hub().options.back_off {
         hub.hub().seek(&rt, wishes, has_others);
     } else {
@@ -69,7 +69,7 @@ fn hear<R: System, H: AsHub>(rt: R, hub: &H, searches: Vec<SearchOn>) -> Result<
 }
 
 // Keeps them where late answers are given.
-fn keep_all<R: System>(rt: R, hub: &Hub, sought: Vec<Sought>) -> Result<(), NoMemory> {
+fn keep_sought<R: System>(rt: R, hub: &Hub, sought: Vec<Sought>) -> Result<(), NoMemory> {
     let mut searches = Vec::new(hub.alloc);
     for Sought { by, search } in sought {
         searches.push(by.search(rt, search.cid, search.name))?;

@@ -2,7 +2,7 @@
 use crate::hub::{AsHub, Hub};
 use crate::line::{Watched, WatchedStream};
 use crate::machine::System;
-use gate_board::Standing;
+use gate_board::Arrears;
 use gateway_core::{Dest, Event};
 use serve_state::{
     Bound, Cut, LIMITS, Limit, LimitWatch, Notice, Patience, Rhythm, Verdict, WaitingBytes,
@@ -107,7 +107,7 @@ fn look_at_all<R: System, H: AsHub>(rt: R, hub: &H, waiting: &mut Vec<WaitingByt
 
 // Shuts a connection that must end. How many bytes wait for one that goes on; None too where the gateway failed.
 fn look_at<R: System, H: AsHub>(rt: R, hub: &H, dest: Dest) -> Option<u64> {
-    let Standing { must_end, waiting } = hub.gate().standing(&rt, dest).ok()?;
+    let Arrears { must_end, waiting } = hub.gate().arrears(&rt, dest).ok()?;
     let most = hub.hub().options.most_waiting;
     if let Some(why) = most.why_shut(dest, must_end, waiting) {
         hub.hub().cut(&rt, dest, why);

@@ -3,6 +3,7 @@ use Rattle.std.specs.Prelude.{ℕ, ◌==◌, if◌then◌else◌, List, [], ◌�
 use Rattle.std.specs.Fmt.{decimal}
 use Rattle.std.specs.Net.Text.{socket_text}
 use Rattle.std.specs.declared.net.socket_addr.SocketAddr.{SocketAddr}
+use Rattle.access_file.specs.Fault as access
 use Rattle.pvlist.specs.Cause.{cause_text}
 use Rattle.serve_state.specs.LimitText.{bound_text, said}
 use Rattle.serve_state.specs.declared.limits.Bound.{Bound}
@@ -64,6 +65,10 @@ notice_text (notice.RulesRead rows) = said (codes "rules read: " ∷ decimal row
 notice_text notice.OpenToAll = codes "no rule file: every name is served"
 notice_text (notice.RulesRefused line cause) = said (codes "rules refused: line " ∷ decimal line ∷ codes ": " ∷ cause_text cause ∷ [])
 notice_text (notice.GroupsRefused line cause) = said (codes "rules refused: groups line " ∷ decimal line ∷ codes ": " ∷ cause_text cause ∷ [])
+notice_text notice.AccessRead = codes "access file read: rights go by user and host"
+notice_text (notice.AccessRefused line cause) =
+    said (codes "rules refused: access line " ∷ decimal line ∷ codes ": " ∷ access.cause_text cause ∷ [])
+notice_text (notice.HostUnknown host) = said (codes "host " ∷ host.now ∷ codes " has no address: no client counts as it" ∷ [])
 notice_text (notice.FileUnread path) = said (codes "rules refused: " ∷ path.now ∷ codes " can't be read" ∷ [])
 notice_text (notice.FileRefused path cause) = said (codes "rules refused: " ∷ path.now ∷ codes " " ∷ file_cause_text cause ∷ [])
 notice_text notice.Reloaded = codes "reload: the new rules hold"

@@ -46,4 +46,8 @@ limits_for site = if site then site_limits else usual_limits
 
 -- what the gateway takes on
 abbrev pub limits_of : Scale → Limits
-limits_of scale = with_names scale.names (record (limits_for scale.site) { sessions = scale.clients; servers = scale.servers })
+limits_of scale = with_names scale.names (record (limits_for scale.site) {
+  sessions = scale.clients;
+  servers = scale.servers;
+  checks_hosts = scale.checks_hosts;
+})

@@ -4,6 +4,7 @@ ghost use Rattle.serve_state.specs.Levels.{cut_level, kind_of, level_of};
 ghost use Rattle.serve_state.specs.NoticeText.{file_cause_text};
 
 use crate::limits::Bound;
+use access_file::AccessCause;
 use log::Level;
 use pvlist::RuleCause;
 use std::fmt;
@@ -116,6 +117,10 @@ pub enum Notice<'a> {
     OpenToAll,
     RulesRefused(usize, RuleCause),
     GroupsRefused(usize, RuleCause),
+    AccessRead,
+    AccessRefused(usize, AccessCause),
+    /// A file names this host, and the system has no address of it.
+    HostUnknown(&'a str),
     FileUnread(&'a str),
     /// The file at this path isn't taken, for this reason.
     FileRefused(&'a str, FileCause),
@@ -181,6 +186,8 @@ impl<'a> Notice<'a> {
             Notice::OutOfMemory | Notice::Failed => Level::Error,
             Notice::RulesRefused(_, _)
             | Notice::GroupsRefused(_, _)
+            | Notice::AccessRefused(_, _)
+            | Notice::HostUnknown(_)
             | Notice::FileUnread(_)
             | Notice::FileRefused(_, _)
             | Notice::LimitMet(_, _)
@@ -202,6 +209,7 @@ impl<'a> Notice<'a> {
             Notice::FoundCut(_, _, why) => cut_level(*why),
             Notice::RulesRead(_)
             | Notice::OpenToAll
+            | Notice::AccessRead
             | Notice::Reloaded
             | Notice::ReportsAt(_)
             | Notice::ServerConnected(_, _)
@@ -277,6 +285,9 @@ impl<'a> Notice<'a> {
             Notice::NameServerUnreached(_, _) => 37,
             Notice::NameServerLost(_, _) => 38,
             Notice::NameServerCut(_, _, _) => 39,
+            Notice::AccessRead => 40,
+            Notice::AccessRefused(_, _) => 41,
+            Notice::HostUnknown(_) => 42,
         }
     }
 }
@@ -296,6 +307,14 @@ impl<'a> fmt::Display for Notice<'a> {
                 f,
                 "rules refused: groups line {line}: {cause}"
             ),
+            Notice::AccessRead => f.write_str("access file read: rights go by user and host"),
+            Notice::AccessRefused(line, cause) => write!(
+                f,
+                "rules refused: access line {line}: {cause}"
+            ),
+            Notice::HostUnknown(host) => {
+                write!(f, "host {host} has no address: no client counts as it")
+            }
             Notice::FileUnread(path) => write!(f, "rules refused: {path} can't be read"),
             Notice::FileRefused(path, cause) => write!(f, "rules refused: {path} {cause}"),
             Notice::LimitMet(limit, times) => {

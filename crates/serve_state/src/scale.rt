@@ -64,6 +64,8 @@ pub struct Scale {
     /// more reads and writes that wait, updates held back by bytes, no fault for a request on what is gone, and an answer
     /// to who searches on a connection.
     pub site: bool,
+    /// Whether a client's host is the address that its connection comes from, whatever it says.
+    pub checks_hosts: bool,
 }
 
 impl Scale {
@@ -74,6 +76,7 @@ impl Scale {
         let mut limits = limits_for(self.site);
         limits.sessions = self.clients as usize;
         limits.servers = self.servers as usize;
+        limits.checks_hosts = self.checks_hosts;
         if let Some(names) = self.names {
             limits.searches = names as usize;
             limits.share = share_of(names as usize);
