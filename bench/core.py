@@ -17,6 +17,7 @@ import functools
 import math
 import os
 import re
+import resource
 import subprocess
 import sys
 import tempfile
@@ -263,6 +264,72 @@ def created(rules):
     return seconds(base, [f"client s1000 " + create(it, f"W{it:06}") for it in range(turns)]) / turns * 1e3
 
 
+GROUPS, NAMED = 64, 1_024  # of an access security file with four rules for each group, and so many users and hosts
+
+
+def granting():
+    """An access security file that gives 64 groups 256 rules, for 1,024 users on 1,024 hosts that are all in one list each."""
+    yield "UAG(all) {" + ", ".join(f"user{it}" for it in range(NAMED)) + "}"
+    yield "HAG(all) {" + ", ".join(f"10.0.{it // 256}.{it % 256}" for it in reversed(range(NAMED))) + "}"
+    for it in range(GROUPS):
+        yield f"ASG(G{it}) {{ RULE(1, READ) " + "RULE(1, WRITE) {UAG(all) HAG(all)} " * 3 + "}"
+
+
+def grouped():
+    """Rows that put each name in a group by its last digit but one and last."""
+    return [".* ALLOW G0", *(f".*{it:02} ALLOW G{it % GROUPS}" for it in range(1, GROUPS))]
+
+
+def by_user(access):
+    """An edit with these rows and this access security file, and the users that clients say."""
+    return [f"edit {GROUPS} 0 {len(access)}", *grouped(), *access]
+
+
+def cleared(channels):
+    """Seconds that the step of such an edit takes beside so many channels, without those of reading its files."""
+    user = "client s1000 " + message(20, (f"user{NAMED - 1}".encode() + b"\0").hex())
+    base = [*gateway.beside(0)[:-1], "open s1000 10.0.0.6", user, *gateway.variables(channels)]
+    return seconds(base, by_user([*granting()])) - seconds(gateway.beside(0), by_user([*granting()]))
+
+
+def created_by_user():
+    """How many times the instructions of a CREATE_CHAN and its CLEAR_CHANNEL are with such a file those without."""
+    user = "client s1001 " + message(20, (f"user{NAMED - 1}".encode() + b"\0").hex())
+    turns = 1_000
+    asked = ["client s1001 " + create(it, gateway.name_of(1)) + message(12, p1=it + 2, p2=it) for it in range(turns)]
+    bases = ([*gateway.beside(1), *by_user(access), "open s1001 10.0.0.7", user] for access in ([], [*granting()]))
+    without, by_it = (of_more(base, asked, 3 * turns).step / turns for base in bases)
+    return by_it / without, f"{by_it:,.0f} instructions, {without:,.0f} without"
+
+
+def access_file(groups, names, rules):
+    """An access security file of so many groups of each kind, a name or a rule in a line, two more lines for each list."""
+    for it in range(groups):
+        yield from (f"{kind}(G{it}) {{\n" + ",\n".join(f"    {kind.lower()}{it}-{name}" for name in range(names)) + "\n}" for kind in ("UAG", "HAG"))
+        yield f"ASG(G{it}) {{\n" + "\n".join([f"    RULE(1, WRITE, TRAPWRITE) {{UAG(G{it}) HAG(G{it})}}  # one of many"] * rules) + "\n}"
+
+
+def checked(access):
+    """Milliseconds of a processor that `check-rules` takes with this access security file, the fastest of ten times."""
+    with tempfile.TemporaryDirectory() as folder:
+        paths = [os.path.join(folder, it) for it in ("rules", "access")]
+        for path, text in zip(paths, ("", access)):
+            with open(path, "w") as file:
+                file.write(text)
+        took = []
+        for _ in range(10):
+            before = resource.getrusage(resource.RUSAGE_CHILDREN)
+            subprocess.run([gateway.PROGRAM, "check-rules", paths[0], "--access", paths[1]], stdout=subprocess.DEVNULL, check=True)
+            now = resource.getrusage(resource.RUSAGE_CHILDREN)
+            took.append(now.ru_utime + now.ru_stime - before.ru_utime - before.ru_stime)
+    return min(took) * 1e3
+
+
+def access_row():
+    text = "\n".join(access_file(50, 40, 14)) + "\n"
+    return checked(text) - checked(""), f"{len(text):,} bytes"
+
+
 def lost_row(_):
     return min(seconds(list(sessions_of("u1", 1_000)), ["lost u1"]) for _ in range(3)), ""
 
@@ -306,6 +373,9 @@ def table(args):
     yield f"{CROWD} clients with {full} lose their server", 0.25, "seconds", lambda: crowd_row("lost u1")
     yield "an edit with 400 rules, 10,000 channels", 0.5, "seconds", lambda: edit_row(args)
     yield "CREATE_CHAN of a new name under 4,096 rules", 2, "milliseconds", lambda: (created(4_096), "")
+    yield "an access security file of 5,000 lines", 50, "milliseconds", access_row
+    yield "an edit by user and host, 64 groups, 10,000 channels", 0.2, "seconds", lambda: (cleared(10_000), "")
+    yield "CREATE_CHAN by user and host, to one without", 1.3, "times", created_by_user
     for many in (10_000, 60_000):
         yield f"memory of a variable, of {many:,}", 2_048, "bytes", lambda many=many: (held(many), "")
     yield "a drain of an empty outbox", None, "instructions", lambda: drained(args)
