@@ -1,5 +1,5 @@
 -- Lists under names, as a map holds them.
-use Rattle.std.proofs.Common.{◌≡◌, ◌≤◌, ◌+◌, ◌*◌, max, nat_eq, ℕ, List, [], ◌∷◌, Bool, true, false, cond, Option, Some, None, refl, sym, ap, ◌∙◌, ◌++◌, ◌==◌, true≢false, bytes_eq, length, arith}
+use Rattle.std.proofs.Common.{◌≡◌, ◌≤◌, ◌+◌, ◌*◌, max, ℕ, List, [], ◌∷◌, Bool, true, false, cond, Option, Some, None, refl, sym, ap, ◌∙◌, ◌++◌, ◌==◌, true≢false, bytes_eq, length, arith}
 use Rattle.std.specs.Cmp.Lexicographic.{bytes_decides}
 use Rattle.std.specs.Map.{lookup}
 use Rattle.std.specs.Option.{unwrap_or}
@@ -89,9 +89,9 @@ pub same_bytes : (a b : List ℕ) → bytes_eq a b ≡ true → a ≡ b
 same_bytes a b e = (bytes_decides a b).0 e
 
 -- with as many lists there may be as many spots for hints
-pub kept_as_long : (old new : List (ℕ × List ℕ)) (spots : ℕ) → IsKept old spots → HasNoEmptyList nat_eq new → length new ≡ length old → IsKept new spots
-kept_as_long old new spots kept filled same = let spare = kept.spare in record { filled = filled; spare = omega (arith, same, spare) }
+pub kept_as_long : {K X : Type 0} (eq : K → K → Bool) (old new : List (K × List X)) (spots : ℕ) → IsKept eq old spots → HasNoEmptyList eq new → length new ≡ length old → IsKept eq new spots
+kept_as_long eq old new spots kept filled same = let spare = kept.spare in record { filled = filled; spare = omega (arith, same, spare) }
 
 -- and with more lists more
-pub kept_longer : (old new : List (ℕ × List ℕ)) (spots more more_spots : ℕ) → IsKept old spots → HasNoEmptyList nat_eq new → length new ≡ length old + more → more_spots ≤ max spots (4 * length new + 16) → IsKept new more_spots
-kept_longer old new spots more more_spots kept filled longer room = let spare = kept.spare in record { filled = filled; spare = omega (arith, longer, room, spare) }
+pub kept_longer : {K X : Type 0} (eq : K → K → Bool) (old new : List (K × List X)) (spots more more_spots : ℕ) → IsKept eq old spots → HasNoEmptyList eq new → length new ≡ length old + more → more_spots ≤ max spots (4 * length new + 16) → IsKept eq new more_spots
+kept_longer eq old new spots more more_spots kept filled longer room = let spare = kept.spare in record { filled = filled; spare = omega (arith, longer, room, spare) }

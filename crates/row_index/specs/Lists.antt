@@ -19,9 +19,9 @@ module _ {K X : Type 0} (eq : K → K → Bool) where
   abbrev pub HasNoEmptyList : List (K × List X) → Type 0
   HasNoEmptyList lists = (n : K) → listed lists n ≡ [] → lookup (eq n) lists ≡ None
 
--- no owner has an empty list, and so many spots for hints are at most four for each list, and 16
-pub record IsKept (lists : List (ℕ × List ℕ)) (spots : ℕ) : Type 0 where
-  pub filled : HasNoEmptyList nat_eq lists
+-- no name has an empty list, and so many spots for hints are at most four for each list, and 16
+pub record IsKept {K X : Type 0} (eq : K → K → Bool) (lists : List (K × List X)) (spots : ℕ) : Type 0 where
+  pub filled : HasNoEmptyList eq lists
   pub spare : spots ≤ 4 * length lists + 16
 
 -- the list with one more, as its last

@@ -1,7 +1,7 @@
 //! Lists of keys by names, any of which goes at little cost.
-ghost use Rattle.std.specs.Prelude.{◌≡◌, ◌++◌, ℕ, List, [], None, OnOk, OnErr, bytes_eq, length, slice_get, if◌then◌else◌};
+ghost use Rattle.std.specs.Prelude.{◌≡◌, ◌≤◌, ◌+◌, ◌*◌, ◌++◌, ℕ, List, [], None, OnOk, OnErr, bytes_eq, length, slice_get, if◌then◌else◌};
 ghost use Rattle.std.specs.List.{filter};
-ghost use Rattle.indexmap.specs.IndexMap.{get};
+ghost use Rattle.indexmap.specs.IndexMap.{get, index_map_len};
 ghost use Rattle.row_index.specs.Lists.{is_key, of, AddsTo, RemovesFrom, SameLists};
 ghost use Rattle.row_index.specs.Pieces.{joined};
 
@@ -29,13 +29,13 @@ impl Model for NameKeys {
     ghost use Rattle.std.specs.Prelude.{ℕ, List};
     ghost use Rattle.std.specs.Prelude.{bytes_eq};
     ghost use Rattle.row_index.specs.declared.key.Key.{Key as RowKey};
-    ghost use Rattle.row_index.specs.Lists.{HasNoEmptyList};
+    ghost use Rattle.row_index.specs.Lists.{IsKept};
 
     ghost Value = { List (List ℕ × List RowKey) };
 
     ghost view = { λ l. l.lists.entries };
 
-    ghost invariant = { λ l. HasNoEmptyList bytes_eq l.lists.entries };
+    ghost invariant = { λ l. IsKept bytes_eq l.lists.entries l.hints };
 }
 
 impl NameKeys {
@@ -131,7 +131,8 @@ impl NameKeys {
 
 // Takes out a list, with its name. The last one stands in its place then.
 fn forget(lists: &mut IndexMap<Name, ApartKeys>, hints: &mut NameHints, name: &Name)
-    ensures { (n : List ℕ) → get bytes_eq lists.new n ≡ (if bytes_eq name.now n then None else get bytes_eq lists.old n) }
+    ensures lists { (n : List ℕ) → get bytes_eq lists.new n ≡ (if bytes_eq name.now n then None else get bytes_eq lists.old n) }
+    ensures hints { hints.old ≤ 4 * index_map_len lists.old + 16 → hints.new ≤ 4 * index_map_len lists.new + 16 }
 {
     if let Some((place, _, _)) = lists.swap_remove_full(name) {
         hints.note(lists, place);

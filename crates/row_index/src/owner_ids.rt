@@ -28,7 +28,7 @@ impl Model for OwnerIds {
 
     ghost view = { λ l. l.lists.entries };
 
-    ghost invariant = { λ l. IsKept l.lists.entries l.hints };
+    ghost invariant = { λ l. IsKept nat_eq l.lists.entries l.hints };
 }
 
 impl OwnerIds {

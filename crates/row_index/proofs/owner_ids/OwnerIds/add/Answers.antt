@@ -35,7 +35,7 @@ invariant_of-self-in-Some c =
     let new = (c.get_mut.follows.lender c.push.new.self).entries in
     let filled = no_empty_updated nat_eq eqb-true c.args.owner old new (Some c.push.new.self) (written.3 (sym (ap is_some c.in-Some.ensures.value))).0
     (last_there c.args.id c.in-Some.ids.now c.push.new.self c.in_ok-push-in-Some.ensures.ok) c.self.invariant.filled in
-    kept_as_long old new c.self.inside.hints c.self.invariant filled written.2
+    kept_as_long nat_eq old new c.self.inside.hints c.self.invariant filled written.2
 
 -- or the list is as it was
 pub invariant_of-self : goal.invariant_of-self
@@ -47,4 +47,4 @@ invariant_of-self c =
     let new = (c.get_mut.follows.lender c.push.new.self).entries in
     let filled = no_empty_updated nat_eq eqb-true c.args.owner old new (Some c.push.new.self) (written.3 (sym (ap is_some c.in-Some.ensures.value))).0
     (λ none. ap Some kept ∙ some (sym kept ∙ none)) c.self.invariant.filled in
-    kept_as_long old new c.self.inside.hints c.self.invariant filled written.2
+    kept_as_long nat_eq old new c.self.inside.hints c.self.invariant filled written.2

@@ -18,4 +18,4 @@ invariant_of-self c =
     let updates : (n : ℕ) → lookup (nat_eq n) c.insert.new.self.entries ≡ cond (nat_eq c.args.owner n) (Some c.push.new.self) (lookup (nat_eq n) c.self.inside.lists.entries) = c.in-Ok.ensures.updates.0 in
     let filled = no_empty_updated nat_eq eqb-true c.args.owner c.self.inside.lists.entries c.insert.new.self.entries (Some c.push.new.self) updates
     (last_there c.args.id c.new-ids.result c.push.new.self c.in_ok-push.ensures.ok) c.self.invariant.filled in
-    kept_longer c.self.inside.lists.entries c.insert.new.self.entries c.self.inside.hints _ c.note_last.new.hints c.self.invariant filled c.in-Ok.ensures.len c.note_last.ensures
+    kept_longer nat_eq c.self.inside.lists.entries c.insert.new.self.entries c.self.inside.hints _ c.note_last.new.hints c.self.invariant filled c.in-Ok.ensures.len c.note_last.ensures

@@ -58,4 +58,4 @@ invariant_of-self-else-is_empty c =
     let new = (c.get_mut.follows.lender c.remove.new.self).entries in
     let filled = no_empty_updated nat_eq eqb-true c.args.owner old new (Some c.remove.new.self) (written.3 (sym (ap is_some c.in-Some.ensures.value))).0
     (some_items c.remove.new.self (sym c.if-is_empty.ensures)) c.self.invariant.filled in
-    kept_as_long old new c.self.inside.hints c.self.invariant filled written.2
+    kept_as_long nat_eq old new c.self.inside.hints c.self.invariant filled written.2
