@@ -14,7 +14,7 @@ use rtrb::{Consumer, PopError, Producer, PushError};
 #[derive(Drop)]
 pub(crate) struct CountedProducer<T> {
     pub(crate) end: Producer<T>,
-    pub(crate) looks: LookCount,
+    looks: LookCount,
 }
 
 impl<T> CountedProducer<T> {
@@ -64,7 +64,7 @@ impl<T> CountedProducer<T> {
 #[derive(Drop)]
 pub(crate) struct CountedConsumer<T> {
     pub(crate) end: Consumer<T>,
-    pub(crate) looks: LookCount,
+    looks: LookCount,
 }
 
 impl<T> CountedConsumer<T> {
