@@ -16,7 +16,7 @@ import threading
 import traceback
 
 ROOT = os.path.dirname(os.path.dirname(os.path.abspath(__file__)))
-LONGEST = 280
+LONGEST = 400
 
 sys.dont_write_bytecode = True
 sys.path.insert(0, os.path.join(ROOT, ".ci"))
@@ -24,7 +24,8 @@ import served  # noqa: E402  (sets the path to examples/)
 import ca_wire as ca  # noqa: E402
 from served import libca  # noqa: E402
 from served.other_user import OtherUser  # noqa: E402
-from served.room import Room, variable  # noqa: E402
+from served.repeaters import by_repeater  # noqa: E402
+from served.room import Room, Server, free_port, text_of, variable  # noqa: E402
 from served.values import FORMS, NATIVE, PROPERTIES, WIDER  # noqa: E402
 
 MANY = 1000
@@ -291,7 +292,6 @@ def many_names(room, library):
 
 def another_gateway(room, up, server, library, channels):
     """The gateway itself goes, and one at the same address comes."""
-    from served.room import Server, text_of
     room.equal("quit", server.quit(), 0)
     room.eventually("all disconnect", lambda: not any(it.is_connected() for it in channels.values()))
     again = Server(room.words(text_of(server.address), [text_of(up.address)], ".* ALLOW everyone\n", "everyone WRITE\n"))
@@ -320,6 +320,25 @@ def by_name_server(room, up, repeater):
     room.equal("nothing that it complains of", library.exceptions, [])
     library.end()
     room.equal("quit by order", server.quit(), 0)
+
+
+def by_search(room, up, repeater):
+    """The library on one net, and on another a server of which no word of the command line says where it is."""
+    address = ("127.1.0.1", free_port())
+    server = Server(room.words(text_of(address), [], options=["--search", text_of(up.address), "--from", "127.0.0.0/16", "--site"]))
+    room.started.append(server.kill)
+    room.eventually("it listens on one net", lambda: server.printed == [f"listening {text_of(address)}"])
+    library = libca.Library(address, repeater)
+    channel = library.channel("V")
+    room.eventually("a channel connects to what was found", channel.is_connected)
+    room.equal("by the gateway's address", channel.host(), text_of(address))
+    room.equal("put to what was found", channel.put(ca.LONG, [21]), ca.NORMAL)
+    room.equal("get what was put", ca.values_in(ca.LONG, 1, channel.get(ca.LONG, 1)[2]), [21])
+    many = [library.channel(f"N{it:04}") for it in range(MANY)]
+    room.eventually(f"{MANY} names are found", lambda: all(it.is_connected() for it in many))
+    room.equal("no complaint of what was found", library.exceptions, [])
+    library.end()
+    room.equal("quit of the gateway that searches", server.quit(), 0)
 
 
 def access_for(user):
@@ -416,6 +435,8 @@ def run(room, repeater):
     another_gateway(room, up, server, library, channels)
     room.equal("nothing that the library complains of", library.exceptions, [])
     by_name_server(room, up, repeater)
+    by_search(room, up, repeater)
+    by_repeater(room)
     by_user(room, up, repeater)
     if python_of_pyepics():
         by_user_in_pyepics(room, up)
