@@ -2,8 +2,8 @@
 """Compares the program with this model on generated scripts and rule files.
 
 Run by hand, from anywhere: model/compare.py [SCRIPTS] [FILES] [SEED]. So many scripts are replayed
-by both (1,000 if not given) and so many rule files checked (1,000), in either syntax, from one seed
-(1). What is printed and the status must be equal. Each difference is printed, and its script is left in a file;
+by both (1,000 if not given) and so many rule files checked (1,000), in either syntax, half of them with an access
+security file, from one seed (1). What is printed and the status must be equal. Each difference is printed, and its script is left in a file;
 after five the run ends. The model was written from the protocol's tables and the rules of the
 gateway, by an author who knew the definitions of the crates.
 """
@@ -13,8 +13,9 @@ import subprocess
 import sys
 import tempfile
 
+import access
 import rules
-from generated import ASKED, RuleFiles, Scripts
+from generated import ASKED, RULES, USERS, RuleFiles, Scripts
 from replay import Replay
 from rows import FIRST, LAST
 
@@ -61,45 +62,54 @@ def compare_scripts(count, seed):
     print(f"{count} scripts, {differences} differences")
 
 
-def checked(rule_text, group_text, name, host, plain):
-    """What `check-rules` prints, and its status."""
+def checked(files, name, host, user, plain):
+    """What `check-rules` prints of a rule file with a group file or an access security file, and its status."""
     try:
-        read = rules.read_rules(rule_text, plain)
+        read = rules.read_rules(files["rules"], plain)
     except rules.Fault as fault:
         return f"line {fault.line}: {fault.cause}\n", 1
+    other = "access" if "access" in files else "groups"
     try:
-        groups = rules.read_groups(group_text or "")
+        other_read = (access.read_access if other == "access" else rules.read_groups)(files.get(other, ""))
     except rules.Fault as fault:
-        return f"groups line {fault.line}: {fault.cause}\n", 1
+        return f"{other} line {fault.line}: {fault.cause}\n", 1
     lead = rules.resolved(read, host, name)
     answer = "refused"
     if lead:
-        rights = 3 if lead.group is None else groups.get(lead.group, 3)
-        answer = f"admitted {lead.real} {lead.group or '-'} {RIGHTS[rights]}"
+        grant = access.Grant(3 if lead.group is None else other_read.get(lead.group, 3)) if other == "groups" else \
+            other_read.granted(user, host, lead.group or access.DEFAULT, lead.level)
+        answer = f"admitted {lead.real} {lead.group or '-'} {RIGHTS[grant.right]}{' recorded' * grant.recorded}"
     return f"ok {len(read.rows)} rows {read.order}\n{answer}\n", 0
+
+
+def drawn(source):
+    """The texts of files by what they are, and a name, a host, perhaps a user, and whether groups are plain."""
+    files = RuleFiles(source)
+    texts = {"rules": files.rules(), "groups": files.groups()}
+    name, host = files.pick(ASKED), files.pick("lab7", "LAB7", "desk1", "10.0.0.5", "lab9")
+    plain, user = files.chance(0.5), None
+    if files.chance(0.5):
+        # Few names are refused, so that most files say what is granted.
+        rows = [".* ALLOW" + files.pick("", " ops", " g2", " ops 0", " g2 0"), *(files.pick(RULES) for _ in range(files.pick(0, 1, 2)))]
+        texts = {"rules": "\n".join(rows), "access": "\n".join(Scripts(source).access())}
+        plain, user = False, files.pick(*USERS, None)
+    return {what: text for what, text in texts.items() if text is not None}, name, host, user, plain
 
 
 def compare_rules(count, seed):
     differences = 0
     with tempfile.TemporaryDirectory() as room:
         for number in range(count):
-            source = random.Random(f"{seed} rules {number}")
-            files = RuleFiles(source)
-            texts = files.rules(), files.groups()
-            name, host = files.pick(ASKED), files.pick("lab7", "LAB7", "desk1", "10.0.0.5", "lab9")
+            files, name, host, user, plain = drawn(random.Random(f"{seed} rules {number}"))
             arguments = ["check-rules", f"{room}/rules", "--name", name, "--host", host]
-            for place, text in zip(("rules", "groups"), texts):
-                if text is not None:
-                    with open(f"{room}/{place}", "w", newline="") as file:
-                        file.write(text)
-            if texts[1] is not None:
-                arguments += ["--groups", f"{room}/groups"]
-            plain = files.chance(0.5)
-            if plain:
-                arguments.append("--plain-groups")
-            want, got = checked(*texts, name, host, plain), program(*arguments)
+            for what, text in files.items():
+                with open(f"{room}/{what}", "w", newline="") as file:
+                    file.write(text)
+                arguments += [f"--{what}", f"{room}/{what}"] * (what != "rules")
+            arguments += ["--user", user] * (user is not None) + ["--plain-groups"] * plain
+            want, got = checked(files, name, host, user, plain), program(*arguments)
             if got != want:
-                difference(repr(texts), got, want)
+                difference(repr((files, *arguments[2:])), got, want)
                 differences += 1
             if differences == MOST_DIFFERENCES:
                 break
