@@ -38,6 +38,7 @@ UNREACHED = 1 / 500  # of all tries: 7 of 32,583 were seen once, where more ran 
 
 SCRIPTS = [
     "examples.first", "examples.read", "examples.subscribe", "examples.edit", "hostile.three_searches",
+    "access.grants_by_user_and_host", "access.refuses_faulty_access_files",
     "channels.refuses_messages_that_servers_send", "channels.takes_no_host_name_after_a_channel_was_asked_for",
     "clients.ends_clients_of_an_old_version", "edits.leads_names_by_the_rules_of_an_edit", "edits.refuses_faulty_files",
     "links.ignores_what_servers_say_of_unknown_things",
