@@ -359,8 +359,8 @@ def by_user(room, up, repeater):
     other = OtherUser("nobody", server, repeater, "V") if os.getuid() == 0 else None
     if other:
         room.eventually("that of another user connects", lambda: other.ask("connected"))
-        room.equal("who may read alone", other.ask("rights"), [list(rights[0])])
-        room.equal("a write of whom is refused", other.ask("put"), ca.NOWTACCESS)
+        room.equal("the other user may only read", other.ask("rights"), [list(rights[0])])
+        room.equal("its write is refused", other.ask("put"), ca.NOWTACCESS)
     for user, mine in (("nobody", 0), (own, 1), ("nobody", 0)):
         room.file("access", access_for(user))
         server.write("reload")

@@ -114,7 +114,7 @@ check desk1 S01:ILK:DOOR
 | UAG(vacuum) {vera}
 | HAG(control_room) {desk1, desk2}
 |
-| # What holds for variables without a group, and for groups that have no rules below: everyone.
+| # What holds for variables without a group, and for groups that are not defined below: everyone.
 | ASG(DEFAULT) {
 |     RULE(1, READ)
 | }
