@@ -85,12 +85,12 @@ In a pattern \\( and \\) enclose a part of the name, and \\| stands between two 
 themselves. With --plain-groups it is the other way round. The first rule that seems to be meant so is
 noted on standard error:
   note: line N: ( ) | stand for themselves here; --plain-groups reads them as groups
-and so is the first rule whose pattern is dear, of which thousands would fill the memory:
+and so is the first rule whose pattern is costly: thousands of such would fill the memory:
   note: line N: its pattern takes more than 1 MiB or 5 ms to make ready
 A group file has lines GROUP NONE, GROUP READ and GROUP WRITE.
 
 Definitions of an access security file, as EPICS has them (# outside quotes begins a comment):
-  UAG(NAME) {USER, USER ..}      a group of users, by what clients say that theirs are called
+  UAG(NAME) {USER, USER ..}      a group of users, by the names that clients say
   HAG(NAME) {HOST, HOST ..}      a group of hosts, compared without regard to case; serve --check-host alone looks them up
   ASG(GROUP) {RULE ..}           what is granted with the variables of GROUP
 A RULE is RULE(LEVEL, RIGHT) or RULE(LEVEL, RIGHT, TRAPWRITE), and may have {WHO ..} behind it. RIGHT is NONE,
@@ -105,20 +105,20 @@ Causes, of which the first that applies is printed:
   NoVerb         its second word is none of ALLOW, ALIAS and DENY; a pattern has no blanks
   TooManyLines   it is rule number 4097, or line number 4097 of the groups
   BadFrom        behind FROM there is no host, or one that is too long or isn't printable ASCII
-  BadGroup       a group or level is none, or words follow them; in a group file, the line is none
+  BadGroup       a group or level isn't valid, or words follow them; in a group file, the line isn't valid
   BadPattern     the pattern is no expression: an escaped letter or digit, or a bracket left open
   BadReference   an alias has no real name, or one with a \\ that refers to no part of the pattern
 In an access security file:
-  BadByte        a character stands outside of quotes that stands in no word
+  BadByte        a character outside quotes isn't one that words have
   Unclosed       quotes don't end in their line
   Unexpected     another sign or word must stand here
   Unfinished     the file ends inside a definition
   UnknownWord    a word is no keyword, or none that may stand here; they are in capitals
   Calculated     CALC or INPA to INPU: rules by values aren't served, and aren't passed over either
-  Unserved       METHOD, AUTHORITY or PROTOCOL, the same
+  Unserved       METHOD, AUTHORITY or PROTOCOL: the same
   BadName        a name isn't 1 to 127 printable ASCII characters without a blank
   BadLevel       a level is neither 0 nor 1
-  BadRight       a right is none, or what follows it is neither TRAPWRITE nor NOTRAPWRITE
+  BadRight       a right isn't NONE, READ or WRITE, or what follows it isn't TRAPWRITE or NOTRAPWRITE
   NoUsers        a rule names a group of users that isn't defined above it
   NoHosts        the same of hosts
   Twice          a group is defined again
@@ -174,11 +174,11 @@ search has all names asked for that no server has, at most ten times a second.
 
 With --search servers are found too that answer searches sent to ADDR, beside UPSTREAMs or in their place, and
 connected to once one has a name that is missing: 1024 at most where --servers doesn't say another number.
-With --from only answers from these nets count, and servers in them. --search has --back-off with it, and
---alive 15 where that isn't said.
+With --from only answers from these nets count, and servers in them. --search turns on --back-off, and --alive 15
+unless --alive says otherwise.
 
 With --name-server the name server at ADDR is asked too, over TCP, and what it answers is taken as what answers a
-search: so it finds servers without --search, and has with it what that has. Its host may be named, and is looked up
+search: so it finds servers without --search, and turns on what that turns on. Its host may be named, and is looked up
 each time that it is connected to. One that isn't connected is tried again after 1 s, 2, 4 and so on up to 32; one that
 says nothing for so many seconds as --alive says is asked whether it is there, and lost where it says nothing for as long
 again. Each outage is told once.
@@ -220,12 +220,12 @@ it. Requests on channels that are gone are passed over, and a subscription that 
 With --status each who connects to ADDRESS is told of the gateway in one line of JSON, and is hung up on:
 clients, upstreams, rows of each kind, edits of the rules, messages in and out, and the largest outbox.
 
-With --access a client may do what the access security file grants its user on its host; `pvgate check-rules --help` has
-what may stand there. User and host are what the client says before its first channel, so that stops mistakes and not
-malice. With --check-host a client's host is the address that its connection comes from, as 10.0.0.5, whatever it says:
-HAGs, and DENY FROM, list addresses then, or names, which are looked up at the start and at each reload: a client
-counts as each host that has its address. One that has none is told, and nobody counts as it. --site doesn't have
-that with it.
+With --access a client may do what the access security file grants its user on its host; `pvgate check-rules --help`
+says what may stand there. User and host are what the client says before its first channel, so that stops mistakes and
+not malice. With --check-host a client's host is the address that its connection comes from, as 10.0.0.5, whatever it
+says. HAGs, and DENY FROM, then list addresses, or names, which are looked up at the start and at each reload: a client
+counts as each host that has its address. A name that isn't found is logged, and keeps the addresses that it had; at the
+start it has none, and nobody counts as it. --site doesn't turn this on.
 
 With --clients-of-host one more client of a host that has N is refused at once: it is told on standard
 error, and its connection is closed.
