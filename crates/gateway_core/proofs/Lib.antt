@@ -5,3 +5,4 @@ pub mod Looked
 pub mod Named
 pub mod ReadyStates
 pub mod Running
+pub mod Ungranted

@@ -1,13 +1,18 @@
 //! Laws of whole runs. Each is a call that does nothing, and its contract is the law.
-ghost use Rattle.std.specs.Prelude.{◌≡◌, List, [], ◌∷◌, ◌++◌, false, if◌then◌else◌};
+ghost use Rattle.std.specs.Prelude.{◌≡◌, ℕ, List, [], ◌∷◌, ◌++◌, false, if◌then◌else◌, Some, None, IfSome};
 ghost use Rattle.std.specs.List.{All};
 ghost use Rattle.gateway_state.specs.declared.config.Config.{Config};
 ghost use Rattle.link_table.specs.declared.links.Subject.TheVariants.{Properties};
+ghost use Rattle.channel_table.specs.declared.sessions.Session.{Session};
+ghost use Rattle.pv_alias.specs.declared.lead.Lead.{Lead};
+ghost use Rattle.pv_alias.specs.Rights.{group_rights};
 ghost use Rattle.rule_desk.specs.declared.policy.Policy.{Policy};
 ghost use Rattle.gateway_state.specs.declared.event.Dest.{Dest};
 ghost use Rattle.gateway_state.specs.declared.event.Event.{Event};
 ghost use Rattle.gateway_state.specs.Delivered.{IsWireForm, given_by, is_loss_of};
 ghost use Rattle.gateway_state.specs.Gateway.{Gateway, initial};
+ghost use Rattle.gateway_state.specs.Resolution.{lead_of, rights_left};
+ghost use Rattle.gateway_state.specs.Rights.{lead_for};
 ghost use Rattle.gateway_state.specs.Settled.{AreNumbersApart, HasHostsFixed, HasLinksApart, HasLinksOnServers, HasServersOfLinks, HasSessionsConnected, HasSubsApart, HasSubsOnChannels, HasWritesOnLinks, IsInUse, IsKeptPosted, IsSettled, IsSubscribedExactly, IsSubscribedTo, IsUpToDate, IsWaiting};
 ghost use Rattle.gateway_state.specs.Step.{consequences, delivered, makes, run};
 
@@ -136,4 +141,15 @@ pub fn delivered_grows_by_what_is_given()
 /// header. A value is one that is laid out in the type and count that are told with it.
 pub fn what_is_given_is_in_wire_form()
     ensures { (w : Gateway) (event : Event) (dest : Dest) → All (IsWireForm event dest) (given_by w event dest) }
+{}
+
+/// Without an access security file users count for nothing: a session is led as anybody on its host is, where nothing is
+/// granted, and may do what the group file leaves to the variable's group.
+pub fn users_count_for_nothing_without_access()
+    ensures leads { (policy : Policy) (name : List ℕ) (row : Session) → policy.access ≡ None
+        → lead_for policy name (Some row) ≡ lead_of policy row.host name }
+    ensures ungranted { (policy : Policy) (host name : List ℕ)
+        → IfSome (lead_of policy host name) (λ (lead : Lead). lead.grant ≡ None) }
+    ensures rights { (policy : Policy) (lead : Lead) → lead.grant ≡ None
+        → rights_left policy (Some lead) ≡ group_rights policy.groups lead.group }
 {}
