@@ -90,10 +90,10 @@ def sending(room, up, address, hearer, searcher):
     room.equal("quit of the gateway that sends", server.quit(), 0)
 
 
-def by_repeater(room):
+def by_repeater(room, port=REPEATER):
     """Both ways, side by side: gaps take half a minute to grow."""
     if is_taken():
-        print(f"clients: nothing is tried of libca's repeater, since port {REPEATER} is taken")
+        print(f"clients: nothing is tried of libca's repeater, since port {port} is taken")
         return
     up, near, far = room.upstream(variable("LATE", values=[1])), Hearer(room), Hearer(room)
     address = ("127.0.0.1", free_port())
