@@ -19,6 +19,7 @@ use Rattle.board_moves.specs.Answers.{IsDesk, IsPump, IsSendOut, IsWaiting}
 use Rattle.board_moves.specs.Held.{is_held, is_over_half}
 use Rattle.board_moves.specs.declared.rounds.RoundCall.{RoundCall}
 use Rattle.board_moves.specs.declared.rounds.RoundCall.TheVariants.{Pump, PumpFree, SendOut, Weigh}
+use Rattle.board_moves.specs.Noted.{bare, begun, NotedBoard}
 use Rattle.board_moves.specs.Rounds.{dests_of, free_calls, round_calls, AreRounds, IsBatch, IsFreeRound, IsFreeRoundOn, IsRound, IsRoundOn, Performs, PerformsAll, PerformsUpTo, PumpsFree}
 use Rattle.board_moves.specs.declared.fault.BoardFault.{BoardFault}
 use Rattle.board_moves.specs.declared.fault.BoardFault.TheVariants.{OutOfMemory, Attached, NotHere, Step}
@@ -62,48 +63,52 @@ pub waiting_keeps : (dest : Dest) (old : BoardState) (result : Result ℕ Failed
 waiting_keeps dest old (Ok bytes) new p h = looked_has_history dest p.0 old new h p.1.1.0 p.1.1.1
 waiting_keeps dest old (Err failed) new p h = subst HasHistory (sym p.1) h
 
-free_keeps : (dest : Dest) (held : Bool) (old : BoardState) (answer : Result ℕ BoardFault) (new : BoardState) → PumpsFree held dest old answer new → HasHistory old → HasHistory new
-free_keeps dest true old answer new p h = subst HasHistory (sym p.1) h
-free_keeps dest false old answer new p h = pump_keeps dest old p.0 new p.1.0 h
+-- a board that is as before
+history_stays : (old new : NotedBoard) → new ≡ old → HasHistory (bare old) → HasHistory (bare new)
+history_stays old new same h = subst (λ (board : NotedBoard). HasHistory (bare board)) (sym same) h
 
-performs_keeps : (call : RoundCall) (old : BoardState) (answer : Result ℕ BoardFault) (new : BoardState) → Performs call old answer new → HasHistory old → HasHistory new
-performs_keeps (Pump dest) old answer new p h = pump_keeps dest old p.0 new p.1.0 h
-performs_keeps (PumpFree dest) old answer new p h = free_keeps dest (is_held dest old) old answer new p h
-performs_keeps (SendOut dest) old answer new p h = send_out_keeps dest old answer new p h
-performs_keeps (Weigh (Session number)) old answer new p h = subst HasHistory (sym p.1) h
+free_keeps : (dest : Dest) (held : Bool) (old : NotedBoard) (answer : Result ℕ BoardFault) (new : NotedBoard) → PumpsFree held dest old answer new → HasHistory (bare old) → HasHistory (bare new)
+free_keeps dest true old answer new p h = history_stays old new p.1 h
+free_keeps dest false old answer new p h = pump_keeps dest (bare old) p.0 (bare new) p.1.0.0 h
+
+performs_keeps : (call : RoundCall) (old : NotedBoard) (answer : Result ℕ BoardFault) (new : NotedBoard) → Performs call old answer new → HasHistory (bare old) → HasHistory (bare new)
+performs_keeps (Pump dest) old answer new p h = pump_keeps dest (bare old) p.0 (bare new) p.1.0.0 h
+performs_keeps (PumpFree dest) old answer new p h = free_keeps dest (is_held dest (bare old)) old answer new p h
+performs_keeps (SendOut dest) old answer new p h = send_out_keeps dest (bare old) answer (bare new) p.0 h
+performs_keeps (Weigh (Session number)) old answer new p h = subst HasHistory (sym p.1.0) h
 performs_keeps (Weigh (Upstream number)) old answer new p h =
-    beside_has_history (with_full (is_over_half (Upstream number) old.rows)) (λ _. refl) (λ _. refl) (Upstream number) old new h p.1.0 p.1.1
+    beside_has_history (with_full (is_over_half (Upstream number) old.rows)) (λ _. refl) (λ _. refl) (Upstream number) (bare old) (bare new) h p.1.0.0 p.1.0.1
 
-all_keep : (calls : List RoundCall) (old : BoardState) (answer : Result ℕ BoardFault) (new : BoardState) → PerformsAll calls old answer new → HasHistory old → HasHistory new
-all_keep [] old answer new p h = subst HasHistory (sym p.1) h
+all_keep : (calls : List RoundCall) (old : NotedBoard) (answer : Result ℕ BoardFault) (new : NotedBoard) → PerformsAll calls old answer new → HasHistory (bare old) → HasHistory (bare new)
+all_keep [] old answer new p h = history_stays old new p.1 h
 all_keep (call ∷ calls) old answer new (Ok count, (between, (one, rest))) h =
     all_keep calls between rest.0 new rest.1.0 (performs_keeps call old (Ok count) between one h)
 all_keep (call ∷ calls) old answer new (Err fault, (between, (one, rest))) h =
-    subst HasHistory (sym rest.1) (performs_keeps call old (Err fault) between one h)
+    history_stays between new rest.1 (performs_keeps call old (Err fault) between one h)
 
-up_to_keeps : (calls : List RoundCall) (old : BoardState) (answer : Result ℕ BoardFault) (new : BoardState) → PerformsUpTo calls old answer new → HasHistory old → HasHistory new
+up_to_keeps : (calls : List RoundCall) (old : NotedBoard) (answer : Result ℕ BoardFault) (new : NotedBoard) → PerformsUpTo calls old answer new → HasHistory (bare old) → HasHistory (bare new)
 up_to_keeps calls old answer new p h = all_keep calls old p.0 new p.1.0 h
 
-round_on_keeps : (rows : Option Gateway) (old : BoardState) (answer : Result ℕ BoardFault) (new : BoardState) → IsRoundOn rows old answer new → HasHistory old → HasHistory new
-round_on_keeps None old answer new p h = subst HasHistory (sym p.1) h
-round_on_keeps (Some w) old answer new p h = up_to_keeps (round_calls old.attachments) old answer new p h
+round_on_keeps : (rows : Option Gateway) (old : NotedBoard) (answer : Result ℕ BoardFault) (new : NotedBoard) → IsRoundOn rows old answer new → HasHistory (bare old) → HasHistory (bare new)
+round_on_keeps None old answer new p h = history_stays old new p.1 h
+round_on_keeps (Some w) old answer new p h = up_to_keeps (round_calls old.attachments) (begun old) answer new p h
 
-pub round_keeps : (old : BoardState) (answer : Result ℕ BoardFault) (new : BoardState) → IsRound old answer new → HasHistory old → HasHistory new
+pub round_keeps : (old : NotedBoard) (answer : Result ℕ BoardFault) (new : NotedBoard) → IsRound old answer new → HasHistory (bare old) → HasHistory (bare new)
 round_keeps old answer new p h = round_on_keeps old.rows old answer new p h
 
-free_on_keeps : (rows : Option Gateway) (old : BoardState) (answer : Result ℕ BoardFault) (new : BoardState) → IsFreeRoundOn rows old answer new → HasHistory old → HasHistory new
-free_on_keeps None old answer new p h = subst HasHistory (sym p.1) h
-free_on_keeps (Some w) old answer new p h = up_to_keeps (free_calls old.attachments) old answer new p h
+free_on_keeps : (rows : Option Gateway) (old : NotedBoard) (answer : Result ℕ BoardFault) (new : NotedBoard) → IsFreeRoundOn rows old answer new → HasHistory (bare old) → HasHistory (bare new)
+free_on_keeps None old answer new p h = history_stays old new p.1 h
+free_on_keeps (Some w) old answer new p h = up_to_keeps (free_calls old.attachments) (begun old) answer new p h
 
-free_round_keeps : (old : BoardState) (answer : Result ℕ BoardFault) (new : BoardState) → IsFreeRound old answer new → HasHistory old → HasHistory new
+free_round_keeps : (old : NotedBoard) (answer : Result ℕ BoardFault) (new : NotedBoard) → IsFreeRound old answer new → HasHistory (bare old) → HasHistory (bare new)
 free_round_keeps old answer new p h = free_on_keeps old.rows old answer new p h
 
-rounds_keep : (earlier : ℕ) (old : BoardState) (answer : Result ℕ BoardFault) (new : BoardState) → AreRounds earlier old answer new → HasHistory old → HasHistory new
+rounds_keep : (earlier : ℕ) (old : NotedBoard) (answer : Result ℕ BoardFault) (new : NotedBoard) → AreRounds earlier old answer new → HasHistory (bare old) → HasHistory (bare new)
 rounds_keep zero old answer new p h = free_round_keeps old answer new p h
 rounds_keep (suc earlier) old answer new (count, (last, (between, (before, (one, told))))) h =
     free_round_keeps between last new one (rounds_keep earlier old (Ok count) between before h)
 
-pub batch_keeps : (old : BoardState) (answer : Result ℕ BoardFault) (new : BoardState) → IsBatch old answer new → HasHistory old → HasHistory new
+pub batch_keeps : (old : NotedBoard) (answer : Result ℕ BoardFault) (new : NotedBoard) → IsBatch old answer new → HasHistory (bare old) → HasHistory (bare new)
 batch_keeps old answer new (between, (weighed, (earlier, all))) h =
     rounds_keep earlier between answer new all (up_to_keeps (map Weigh (dests_of old.attachments)) old (Ok 0) between weighed h)
 

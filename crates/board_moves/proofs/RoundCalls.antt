@@ -8,16 +8,16 @@ use Rattle.std.proofs.Math.Numerals.{suc-eq-add-one}
 use Rattle.gateway_state.specs.Gateway.{Gateway}
 use Rattle.gateway_state.specs.declared.event.Dest.{Dest}
 use Rattle.board_rings.specs.Rings.{AttachmentState}
-use Rattle.board_rings.specs.Board.{BoardState}
 use Rattle.board_moves.proofs.Performed.{ended_then, one_done, one_refused, performed_then}
-use Rattle.board_moves.specs.Answers.{board_of}
+use Rattle.board_moves.specs.Noted.{begun, noted_of, NotedBoard}
 use Rattle.board_moves.specs.Rounds.{dests_of, free_calls, round_calls, told_count, IsFreeRound, IsFreeRoundOn, IsRound, IsRoundOn, Performs, PerformsAll, PerformsUpTo}
 use Rattle.board_moves.specs.declared.fault.BoardFault.{BoardFault}
+use Rattle.board_moves.specs.declared.news.News.{News}
 use Rattle.board_moves.specs.declared.rounds.RoundCall.{RoundCall}
 use Rattle.board_moves.specs.declared.rounds.RoundCall.TheVariants.{SendOut}
 
 -- the first n calls were performed, and so many items moved, as far as can be told
-pub record IsPerformed (calls : List RoundCall) (n : ℕ) (start now : BoardState) (moved : ℕ) : Type 0 where
+pub record IsPerformed (calls : List RoundCall) (n : ℕ) (start now : NotedBoard) (moved : ℕ) : Type 0 where
   pub exact : ℕ
   pub done : PerformsAll (take n calls) start (Ok exact) now
   pub told : moved ≡ min exact (2 ^ 64 - 1)
@@ -40,7 +40,7 @@ call_at make attachments start n dest same there =
     ∙ ap (λ (ds : List Dest). option_map make (slice_get ds n)) (sym same)
     ∙ ap (option_map make) (slice_get-map (λ (attachment : AttachmentState). attachment.dest) attachments n ∙ there)
 
-pub next_performed : (make : Dest → RoundCall) (attachments start_attachments : List AttachmentState) (n : ℕ) (dest : Dest) (start now next : BoardState) (moved count moved_now : ℕ)
+pub next_performed : (make : Dest → RoundCall) (attachments start_attachments : List AttachmentState) (n : ℕ) (dest : Dest) (start now next : NotedBoard) (moved count moved_now : ℕ)
     → dests_of attachments ≡ dests_of start_attachments → option_map (λ (attachment : AttachmentState). attachment.dest) (slice_get attachments n) ≡ Some dest
     → IsPerformed (map make (dests_of start_attachments)) n start now moved → Performs (make dest) now (Ok count) next → moved_now ≡ min (moved + count) (2 ^ 64 - 1)
     → IsPerformed (map make (dests_of start_attachments)) (n + 1) start next moved_now
@@ -54,7 +54,7 @@ next_performed make attachments start_attachments n dest start now next moved co
       told = omega (arith, told, so_far.told);
     }
 
-pub next_refused : (make : Dest → RoundCall) (attachments start_attachments : List AttachmentState) (n : ℕ) (dest : Dest) (start now next : BoardState) (moved : ℕ) (fault : BoardFault)
+pub next_refused : (make : Dest → RoundCall) (attachments start_attachments : List AttachmentState) (n : ℕ) (dest : Dest) (start now next : NotedBoard) (moved : ℕ) (fault : BoardFault)
     → dests_of attachments ≡ dests_of start_attachments → option_map (λ (attachment : AttachmentState). attachment.dest) (slice_get attachments n) ≡ Some dest
     → IsPerformed (map make (dests_of start_attachments)) n start now moved → Performs (make dest) now (Err fault) next
     → PerformsUpTo (map make (dests_of start_attachments)) start (Err fault) next
@@ -70,7 +70,7 @@ past_end f [] n none = omega arith
 past_end f (x ∷ xs) zero none = absurd cc
 past_end f (x ∷ xs) (suc n) none = omega (arith, past_end f xs n none)
 
-pub all_performed : (make : Dest → RoundCall) (attachments start_attachments : List AttachmentState) (n : ℕ) (start now : BoardState) (moved : ℕ) → dests_of attachments ≡ dests_of start_attachments → length attachments ≤ n
+pub all_performed : (make : Dest → RoundCall) (attachments start_attachments : List AttachmentState) (n : ℕ) (start now : NotedBoard) (moved : ℕ) → dests_of attachments ≡ dests_of start_attachments → length attachments ≤ n
     → IsPerformed (map make (dests_of start_attachments)) n start now moved → PerformsUpTo (map make (dests_of start_attachments)) start (Ok moved) now
 all_performed make attachments start_attachments n start now moved same enough so_far =
     let calls = map make (dests_of start_attachments) in
@@ -83,7 +83,7 @@ all_performed make attachments start_attachments n start now moved same enough s
       ),
     )
 
-pub all_performed_there : (make : Dest → RoundCall) (attachments start_attachments : List AttachmentState) (n : ℕ) (start now : BoardState) (moved : ℕ) → dests_of attachments ≡ dests_of start_attachments
+pub all_performed_there : (make : Dest → RoundCall) (attachments start_attachments : List AttachmentState) (n : ℕ) (start now : NotedBoard) (moved : ℕ) → dests_of attachments ≡ dests_of start_attachments
     → option_map (λ (attachment : AttachmentState). attachment.dest) (slice_get attachments n) ≡ None
     → IsPerformed (map make (dests_of start_attachments)) n start now moved → PerformsUpTo (map make (dests_of start_attachments)) start (Ok moved) now
 all_performed_there make attachments start_attachments n start now moved same none so_far =
@@ -100,14 +100,14 @@ told_sum count (Ok sum) e = (sum, (refl, cc))
 told_sum count (Err fault) e = absurd cc
 
 -- a fault ends all calls
-fault_ends : (calls others : List RoundCall) (old new : BoardState) (fault : BoardFault) → PerformsUpTo calls old (Err fault) new → PerformsUpTo (calls ++ others) old (Err fault) new
+fault_ends : (calls others : List RoundCall) (old new : NotedBoard) (fault : BoardFault) → PerformsUpTo calls old (Err fault) new → PerformsUpTo (calls ++ others) old (Err fault) new
 fault_ends calls others old new fault (exact, (all, told)) = (
   Err fault,
   (ended_then Performs calls others old new fault (subst (λ (r : Result ℕ BoardFault). PerformsAll calls old r new) (told_fault fault exact told) all), refl),
 )
 
 -- others that end at a fault
-fault_follows : (calls others : List RoundCall) (old between new : BoardState) (count : ℕ) (fault : BoardFault) → PerformsUpTo calls old (Ok count) between → PerformsUpTo others between (Err fault) new
+fault_follows : (calls others : List RoundCall) (old between new : NotedBoard) (count : ℕ) (fault : BoardFault) → PerformsUpTo calls old (Ok count) between → PerformsUpTo others between (Err fault) new
     → PerformsUpTo (calls ++ others) old (Err fault) new
 fault_follows calls others old between new count fault (exact, (all, told)) (rest, (others_all, others_told)) =
     let sum = told_sum count exact told in (
@@ -119,7 +119,7 @@ fault_follows calls others old between new count fault (exact, (all, told)) (res
       ),
     )
 
-all_follow : (calls others : List RoundCall) (old between new : BoardState) (count more total : ℕ) → PerformsUpTo calls old (Ok count) between → PerformsUpTo others between (Ok more) new
+all_follow : (calls others : List RoundCall) (old between new : NotedBoard) (count more total : ℕ) → PerformsUpTo calls old (Ok count) between → PerformsUpTo others between (Ok more) new
     → total ≡ min (count + more) (2 ^ 64 - 1) → PerformsUpTo (calls ++ others) old (Ok total) new
 all_follow calls others old between new count more total (exact, (all, told)) (rest, (others_all, others_told)) is =
     let sum = told_sum count exact told in
@@ -132,56 +132,60 @@ all_follow calls others old between new count more total (exact, (all, told)) (r
       ),
     )
 
-round_on : (rows : Option Gateway) (old : BoardState) (answer : Result ℕ BoardFault) (new : BoardState) → IsSome rows → PerformsUpTo (round_calls old.attachments) old answer new → IsRoundOn rows old answer new
+round_on : (rows : Option Gateway) (old : NotedBoard) (answer : Result ℕ BoardFault) (new : NotedBoard) → IsSome rows → PerformsUpTo (round_calls old.attachments) (begun old) answer new → IsRoundOn rows old answer new
 round_on None old answer new some all = absurd cc
 round_on (Some w) old answer new some all = all
 
 -- the round begins where the engine was asked whether it failed
-pub round_of : (engine asked after : Option Gateway) (attachments left : List AttachmentState) (answer : Result ℕ BoardFault) → IsSome engine → asked ≡ engine
-    → PerformsUpTo (round_calls attachments) (board_of asked attachments) answer (board_of after left) → IsRound (board_of engine attachments) answer (board_of after left)
-round_of engine asked after attachments left answer some same all =
-    round_on engine (board_of engine attachments) answer (board_of after left) some
-    (subst (λ (rows : Option Gateway). PerformsUpTo (round_calls attachments) (record { rows = rows; attachments = attachments }) answer (board_of after left)) same all)
+pub round_of : (engine asked after : Option Gateway) (attachments left : List AttachmentState) (before news : News) (answer : Result ℕ BoardFault) → IsSome engine → asked ≡ engine
+    → PerformsUpTo (round_calls attachments) (begun (noted_of asked attachments before)) answer (noted_of after left news) → IsRound (noted_of engine attachments before) answer (noted_of after left news)
+round_of engine asked after attachments left before news answer some same all =
+    round_on engine (noted_of engine attachments before) answer (noted_of after left news) some
+    (subst (λ (rows : Option Gateway). PerformsUpTo (round_calls attachments) (begun (noted_of rows attachments before)) answer (noted_of after left news)) same all)
 
-free_on : (rows : Option Gateway) (old : BoardState) (answer : Result ℕ BoardFault) (new : BoardState) → IsSome rows → PerformsUpTo (free_calls old.attachments) old answer new → IsFreeRoundOn rows old answer new
+free_on : (rows : Option Gateway) (old : NotedBoard) (answer : Result ℕ BoardFault) (new : NotedBoard) → IsSome rows → PerformsUpTo (free_calls old.attachments) (begun old) answer new → IsFreeRoundOn rows old answer new
 free_on None old answer new some all = absurd cc
 free_on (Some w) old answer new some all = all
 
 -- the same of a round in which those that are held aren't pumped
-pub free_round_of : (engine asked after : Option Gateway) (attachments left : List AttachmentState) (answer : Result ℕ BoardFault) → IsSome engine → asked ≡ engine
-    → PerformsUpTo (free_calls attachments) (board_of asked attachments) answer (board_of after left) → IsFreeRound (board_of engine attachments) answer (board_of after left)
-free_round_of engine asked after attachments left answer some same all =
-    free_on engine (board_of engine attachments) answer (board_of after left) some
-    (subst (λ (rows : Option Gateway). PerformsUpTo (free_calls attachments) (record { rows = rows; attachments = attachments }) answer (board_of after left)) same all)
+pub free_round_of : (engine asked after : Option Gateway) (attachments left : List AttachmentState) (before news : News) (answer : Result ℕ BoardFault) → IsSome engine → asked ≡ engine
+    → PerformsUpTo (free_calls attachments) (begun (noted_of asked attachments before)) answer (noted_of after left news) → IsFreeRound (noted_of engine attachments before) answer (noted_of after left news)
+free_round_of engine asked after attachments left before news answer some same all =
+    free_on engine (noted_of engine attachments before) answer (noted_of after left news) some
+    (subst (λ (rows : Option Gateway). PerformsUpTo (free_calls attachments) (begun (noted_of rows attachments before)) answer (noted_of after left news)) same all)
 
 -- a round of either kind: its first calls, and what makes it of all its calls
-module _ (first : Dest → RoundCall) (IsWhole : BoardState → Result ℕ BoardFault → BoardState → Type 0)
-    (whole : (engine asked after : Option Gateway) (attachments left : List AttachmentState) (answer : Result ℕ BoardFault) → IsSome engine → asked ≡ engine
-    → PerformsUpTo (map first (dests_of attachments) ++ map SendOut (dests_of attachments)) (board_of asked attachments) answer (board_of after left)
-    → IsWhole (board_of engine attachments) answer (board_of after left)) where
-  pub pumps_end : (engine asked after : Option Gateway) (attachments left : List AttachmentState) (fault : BoardFault) → IsSome engine → asked ≡ engine
-      → PerformsUpTo (map first (dests_of attachments)) (board_of asked attachments) (Err fault) (board_of after left) → IsWhole (board_of engine attachments) (Err fault) (board_of after left)
-  pumps_end engine asked after attachments left fault some same all =
-      whole engine asked after attachments left (Err fault) some same
-      (fault_ends (map first (dests_of attachments)) (map SendOut (dests_of attachments)) (board_of asked attachments) (board_of after left) fault all)
+module _ (first : Dest → RoundCall) (IsWhole : NotedBoard → Result ℕ BoardFault → NotedBoard → Type 0)
+    (whole : (engine asked after : Option Gateway) (attachments left : List AttachmentState) (before news : News) (answer : Result ℕ BoardFault) → IsSome engine → asked ≡ engine
+    → PerformsUpTo (map first (dests_of attachments) ++ map SendOut (dests_of attachments)) (begun (noted_of asked attachments before)) answer (noted_of after left news)
+    → IsWhole (noted_of engine attachments before) answer (noted_of after left news)) where
+  pub pumps_end : (engine asked after : Option Gateway) (attachments left : List AttachmentState) (before news : News) (fault : BoardFault) → IsSome engine → asked ≡ engine
+      → PerformsUpTo (map first (dests_of attachments)) (begun (noted_of asked attachments before)) (Err fault) (noted_of after left news)
+      → IsWhole (noted_of engine attachments before) (Err fault) (noted_of after left news)
+  pumps_end engine asked after attachments left before news fault some same all =
+      whole engine asked after attachments left before news (Err fault) some same
+      (fault_ends (map first (dests_of attachments)) (map SendOut (dests_of attachments)) (begun (noted_of asked attachments before)) (noted_of after left news) fault all)
 
-  pub sends_end : (engine asked pumped after : Option Gateway) (attachments between left : List AttachmentState) (received : ℕ) (fault : BoardFault) → IsSome engine → asked ≡ engine → dests_of between ≡ dests_of attachments
-      → PerformsUpTo (map first (dests_of attachments)) (board_of asked attachments) (Ok received) (board_of pumped between)
-      → PerformsUpTo (map SendOut (dests_of between)) (board_of pumped between) (Err fault) (board_of after left) → IsWhole (board_of engine attachments) (Err fault) (board_of after left)
-  sends_end engine asked pumped after attachments between left received fault some same dests all others =
-      whole engine asked after attachments left (Err fault) some same
+  pub sends_end : (engine asked pumped after : Option Gateway) (attachments between left : List AttachmentState) (before told news : News) (received : ℕ) (fault : BoardFault) → IsSome engine → asked ≡ engine
+      → dests_of between ≡ dests_of attachments
+      → PerformsUpTo (map first (dests_of attachments)) (begun (noted_of asked attachments before)) (Ok received) (noted_of pumped between told)
+      → PerformsUpTo (map SendOut (dests_of between)) (noted_of pumped between told) (Err fault) (noted_of after left news)
+      → IsWhole (noted_of engine attachments before) (Err fault) (noted_of after left news)
+  sends_end engine asked pumped after attachments between left before told news received fault some same dests all others =
+      whole engine asked after attachments left before news (Err fault) some same
       (
-      fault_follows (map first (dests_of attachments)) (map SendOut (dests_of attachments)) (board_of asked attachments) (board_of pumped between) (board_of after left) received fault all
-      (subst (λ (ds : List Dest). PerformsUpTo (map SendOut ds) (board_of pumped between) (Err fault) (board_of after left)) dests others)
+      fault_follows (map first (dests_of attachments)) (map SendOut (dests_of attachments)) (begun (noted_of asked attachments before)) (noted_of pumped between told) (noted_of after left news) received fault all
+      (subst (λ (ds : List Dest). PerformsUpTo (map SendOut ds) (noted_of pumped between told) (Err fault) (noted_of after left news)) dests others)
       )
 
-  pub round_ends : (engine asked pumped after : Option Gateway) (attachments between left : List AttachmentState) (received sent total : ℕ) → IsSome engine → asked ≡ engine → dests_of between ≡ dests_of attachments
-      → PerformsUpTo (map first (dests_of attachments)) (board_of asked attachments) (Ok received) (board_of pumped between)
-      → PerformsUpTo (map SendOut (dests_of between)) (board_of pumped between) (Ok sent) (board_of after left) → total ≡ min (received + sent) (2 ^ 64 - 1)
-      → IsWhole (board_of engine attachments) (Ok total) (board_of after left)
-  round_ends engine asked pumped after attachments between left received sent total some same dests all others is =
-      whole engine asked after attachments left (Ok total) some same
+  pub round_ends : (engine asked pumped after : Option Gateway) (attachments between left : List AttachmentState) (before told news : News) (received sent total : ℕ) → IsSome engine → asked ≡ engine
+      → dests_of between ≡ dests_of attachments
+      → PerformsUpTo (map first (dests_of attachments)) (begun (noted_of asked attachments before)) (Ok received) (noted_of pumped between told)
+      → PerformsUpTo (map SendOut (dests_of between)) (noted_of pumped between told) (Ok sent) (noted_of after left news) → total ≡ min (received + sent) (2 ^ 64 - 1)
+      → IsWhole (noted_of engine attachments before) (Ok total) (noted_of after left news)
+  round_ends engine asked pumped after attachments between left before told news received sent total some same dests all others is =
+      whole engine asked after attachments left before news (Ok total) some same
       (
-      all_follow (map first (dests_of attachments)) (map SendOut (dests_of attachments)) (board_of asked attachments) (board_of pumped between) (board_of after left) received sent total all
-      (subst (λ (ds : List Dest). PerformsUpTo (map SendOut ds) (board_of pumped between) (Ok sent) (board_of after left)) dests others) is
+      all_follow (map first (dests_of attachments)) (map SendOut (dests_of attachments)) (begun (noted_of asked attachments before)) (noted_of pumped between told) (noted_of after left news) received sent total all
+      (subst (λ (ds : List Dest). PerformsUpTo (map SendOut ds) (noted_of pumped between told) (Ok sent) (noted_of after left news)) dests others) is
       )

@@ -1,7 +1,7 @@
 -- What a round or a batch comes to.
 use Rattle.std.proofs.Common.{◌≡◌, ℕ, zero, suc, ◌<◌, false, Option, None, Some, Result, Ok, Err, sym, ap, subst, arith}
 use Rattle.board_moves.specs.Keeping.{one_more, ComesTo, IsBatchTurn, IsNotedBatch, IsNotedRound, IsTurn, IsTurnBy, KeptState, SameBeside}
-use Rattle.board_moves.specs.Noted.{bare, NotedBoard, StayNoted}
+use Rattle.board_moves.specs.Noted.{NotedBoard, StayNoted}
 use Rattle.board_moves.specs.Rounds.{IsBatch, IsRound}
 use Rattle.board_moves.specs.declared.fault.BoardFault.{BoardFault}
 use Rattle.board_moves.specs.declared.turn.Turn.{Turn}
@@ -19,8 +19,8 @@ module _ (moves : NotedBoard → Result ℕ BoardFault → NotedBoard → Type 0
       subst (λ (t : Option Turn). IsTurnBy moves old t new) (sym is)
       (subst (λ (k : KeptState). IsTurnBy moves old (Some Failed) k) (sym now) (stays_open, (fault, (moved, (same.0, ap one_more same.1)))))
 
-pub round_turn : (old mid new : KeptState) (turn : Option Turn) (answer : Result ℕ BoardFault) → old.closed ≡ false → IsRound (bare old.board) answer (bare mid.board) → StayNoted old.board.news mid.board.news → SameBeside old mid → ComesTo answer mid turn new → IsTurn old turn new
+pub round_turn : (old mid new : KeptState) (turn : Option Turn) (answer : Result ℕ BoardFault) → old.closed ≡ false → IsRound old.board answer mid.board → StayNoted old.board.news mid.board.news → SameBeside old mid → ComesTo answer mid turn new → IsTurn old turn new
 round_turn old mid new turn answer stays_open moved kept same comes = turn_by IsNotedRound old mid new turn answer stays_open (moved, kept) same comes
 
-pub batch_turn : (old mid new : KeptState) (turn : Option Turn) (answer : Result ℕ BoardFault) → old.closed ≡ false → IsBatch (bare old.board) answer (bare mid.board) → StayNoted old.board.news mid.board.news → SameBeside old mid → ComesTo answer mid turn new → IsBatchTurn old turn new
+pub batch_turn : (old mid new : KeptState) (turn : Option Turn) (answer : Result ℕ BoardFault) → old.closed ≡ false → IsBatch old.board answer mid.board → StayNoted old.board.news mid.board.news → SameBeside old mid → ComesTo answer mid turn new → IsBatchTurn old turn new
 batch_turn old mid new turn answer stays_open moved kept same comes = turn_by IsNotedBatch old mid new turn answer stays_open (moved, kept) same comes

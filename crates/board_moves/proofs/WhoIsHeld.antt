@@ -12,10 +12,10 @@ use Rattle.gateway_state.specs.declared.event.Dest.{Dest}
 use Rattle.gateway_state.specs.declared.event.Dest.TheVariants.{Session, Upstream}
 use Rattle.board_rings.specs.Attachments.{attachment_of, full_or_not, have_full, is_attachment_of, is_full, last_sid_of}
 use Rattle.board_rings.specs.Rings.{AttachmentState}
-use Rattle.board_rings.specs.Board.{BoardState}
-use Rattle.board_moves.specs.Answers.{board_of, IsPump}
+use Rattle.board_moves.specs.Answers.{board_of}
 use Rattle.board_moves.specs.Held.{is_full_server, is_held, is_over_half, server_for}
-use Rattle.board_moves.specs.Rounds.{pumped_count, PumpsFree}
+use Rattle.board_moves.specs.Noted.{bare, NotedBoard}
+use Rattle.board_moves.specs.Rounds.{PumpsFree, PumpsOne}
 use Rattle.board_moves.specs.declared.fault.BoardFault.{BoardFault}
 use Rattle.board_moves.specs.declared.share.TheConstants.{HELD_BYTES, HELD_MESSAGES}
 
@@ -50,8 +50,8 @@ none_over (Upstream number) (Some w) none =
     ap (λ (n : ℕ). nat_lt HELD_MESSAGES n || nat_lt HELD_BYTES (waiting_bytes box)) empty
     ∙ ap (λ (n : ℕ). nat_lt HELD_MESSAGES 0 || nat_lt HELD_BYTES n) (none_is_short box.messages box.marked empty)
 
-pub held_stays : (dest : Dest) (old new : BoardState) → is_held dest old ≡ true → new ≡ old → PumpsFree (is_held dest old) dest old (Ok 0) new
+pub held_stays : (dest : Dest) (old new : NotedBoard) → is_held dest (bare old) ≡ true → new ≡ old → PumpsFree (is_held dest (bare old)) dest old (Ok 0) new
 held_stays dest old new is same = subst (λ (b : Bool). PumpsFree b dest old (Ok 0) new) (sym is) (refl, same)
 
-pub free_pumped : (dest : Dest) (old new : BoardState) (answer : Result ℕ BoardFault) → is_held dest old ≡ false → (pumped : Result Bool BoardFault) × (IsPump dest old pumped new × (answer ≡ pumped_count pumped)) → PumpsFree (is_held dest old) dest old answer new
+pub free_pumped : (dest : Dest) (old new : NotedBoard) (answer : Result ℕ BoardFault) → is_held dest (bare old) ≡ false → PumpsOne dest old answer new → PumpsFree (is_held dest (bare old)) dest old answer new
 free_pumped dest old new answer is pump = subst (λ (b : Bool). PumpsFree b dest old answer new) (sym is) pump

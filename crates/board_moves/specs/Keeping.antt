@@ -3,7 +3,7 @@ use Rattle.std.specs.Prelude.{◌≡◌, ℕ, zero, suc, ◌+◌, ◌%◌, ◌^�
 use Rattle.gateway_state.specs.Asked.{is_open, must_end, queued}
 use Rattle.gateway_state.specs.Gateway.{Gateway}
 use Rattle.gateway_state.specs.declared.event.Dest.{Dest}
-use Rattle.board_moves.specs.Noted.{bare, NotedBoard, StayNoted}
+use Rattle.board_moves.specs.Noted.{NotedBoard, StayNoted}
 use Rattle.board_moves.specs.Rounds.{IsBatch, IsRound}
 use Rattle.board_moves.specs.declared.fault.BoardFault.{BoardFault}
 use Rattle.board_moves.specs.declared.turn.Turn.{Turn}
@@ -55,14 +55,14 @@ IsTurnBy moves old (Some Closed) new = (old.closed ≡ true) × (new ≡ woken o
 
 -- one round. Whoever was to be told still is
 abbrev pub IsNotedRound : NotedBoard → Result ℕ BoardFault → NotedBoard → Type 0
-IsNotedRound old answer new = IsRound (bare old) answer (bare new) × StayNoted old.news new.news
+IsNotedRound old answer new = IsRound old answer new × StayNoted old.news new.news
 
 abbrev pub IsTurn : KeptState → Option Turn → KeptState → Type 0
 IsTurn old turn new = IsTurnBy IsNotedRound old turn new
 
 -- one batch
 abbrev pub IsNotedBatch : NotedBoard → Result ℕ BoardFault → NotedBoard → Type 0
-IsNotedBatch old answer new = IsBatch (bare old) answer (bare new) × StayNoted old.news new.news
+IsNotedBatch old answer new = IsBatch old answer new × StayNoted old.news new.news
 
 abbrev pub IsBatchTurn : KeptState → Option Turn → KeptState → Type 0
 IsBatchTurn old turn new = IsTurnBy IsNotedBatch old turn new

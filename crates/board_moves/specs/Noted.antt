@@ -1,5 +1,5 @@
 -- Who is noted in news, and what is counted in them.
-use Rattle.std.specs.Prelude.{◌≡◌, ◌≢◌, ℕ, zero, suc, ◌+◌, ◌-◌, ◌/◌, ◌%◌, ◌^◌, ◌<◌, ◌⊎◌, List, min, Bool, true, false, if◌then◌else◌, Option, Some, None, slice_index}
+use Rattle.std.specs.Prelude.{◌≡◌, ◌≢◌, ℕ, zero, suc, ◌+◌, ◌-◌, ◌/◌, ◌%◌, ◌^◌, ◌<◌, ◌⊎◌, List, min, Bool, true, false, if◌then◌else◌, Option, Some, None, Result, Ok, Err, IfOk, slice_index, ⊤}
 use Rattle.std.specs.Int.{bit_at}
 use Rattle.std.specs.Option.{option_map}
 use Rattle.rows.specs.Rows.{change_first}
@@ -14,6 +14,7 @@ use Rattle.board_rings.specs.Rings.{AttachmentState}
 use Rattle.board_rings.specs.declared.inbound.Inbound.{Inbound}
 use Rattle.board_rings.specs.declared.inbound.Inbound.TheVariants.{Message, Gone}
 use Rattle.board_rings.specs.Board.{BoardState}
+use Rattle.board_moves.specs.declared.fault.BoardFault.{BoardFault}
 use Rattle.board_moves.specs.declared.news.News.{News}
 
 -- the seat of a connection: one of 1,024 for clients, or one of as many behind these for servers
@@ -67,11 +68,22 @@ pub record TellsPump (dest : Dest) (attachments left : List AttachmentState) (ro
   pub received : new.traffic.received ≡ counted_if (is_message item) old.traffic.received
   pub sent : new.traffic.sent ≡ old.traffic.sent
 
+-- the same where a pump received one; where it received none nothing is noted or counted. Of a fault all are told, whoever is
+-- noted
+abbrev pub PumpTells : Dest → Result Bool BoardFault → List AttachmentState → List AttachmentState → Option Gateway → News → News → Type 0
+PumpTells dest (Ok true) attachments left rows old new = TellsPump dest attachments left rows old new
+PumpTells dest (Ok false) attachments left rows old new = new ≡ old
+PumpTells dest (Err fault) attachments left rows old new = ⊤
+
 -- so many messages were pushed: their connection is noted where there were some
 pub record TellsSent (dest : Dest) (count : ℕ) (old new : News) : Type 0 where
   pub some : 0 < count → IsNoted dest new
   pub sent : new.traffic.sent ≡ counted_on old.traffic.sent count
   pub received : new.traffic.received ≡ old.traffic.received
+
+-- the same of a send-out that met no fault
+abbrev pub SendTells : Dest → Result ℕ BoardFault → News → News → Type 0
+SendTells dest answer old new = IfOk answer (λ count. TellsSent dest count old new)
 
 -- the connection that is lost by an event
 abbrev pub lost_by : Event → Option Dest
@@ -85,6 +97,14 @@ pub record NotedBoard : Type 0 where
   pub attachments : List AttachmentState
   pub news : News
 
+-- a gateway's rows, attachments and news together
+abbrev pub noted_of : Option Gateway → List AttachmentState → News → NotedBoard
+noted_of rows attachments news = record { rows = rows; attachments = attachments; news = news }
+
 -- the board without its news
 abbrev pub bare : NotedBoard → BoardState
 bare board = record { rows = board.rows; attachments = board.attachments }
+
+-- the pumps of a round begin: they saw no items yet that they leave
+abbrev pub begun : NotedBoard → NotedBoard
+begun board = record board { news = record board.news { left = false } }

@@ -1,4 +1,4 @@
--- A round of calls.
+-- A round of calls, and who is told of each.
 use Rattle.std.specs.Prelude.{◌≡◌, ℕ, zero, suc, ◌+◌, ◌-◌, ◌^◌, List, [], ◌∷◌, ◌++◌, map, min, true, false, Bool, Option, Some, None, Result, Ok, Err}
 use Rattle.rows.specs.Rows.{change_first}
 use Rattle.gateway_calls.specs.declared.fault.StepFault.TheVariants as steps
@@ -10,6 +10,7 @@ use Rattle.board_rings.specs.Rings.{AttachmentState}
 use Rattle.board_rings.specs.Board.{BoardState}
 use Rattle.board_moves.specs.Answers.{IsPump, IsSendOut}
 use Rattle.board_moves.specs.Held.{is_held, is_over_half}
+use Rattle.board_moves.specs.Noted.{bare, begun, NotedBoard, PumpTells, SendTells, StayNoted}
 use Rattle.board_moves.specs.declared.rounds.RoundCall.{RoundCall}
 use Rattle.board_moves.specs.declared.rounds.RoundCall.TheVariants.{Pump, PumpFree, SendOut, Weigh}
 use Rattle.board_moves.specs.declared.fault.BoardFault.{BoardFault}
@@ -27,17 +28,31 @@ Weighs (Session number) old new = new ≡ old
 Weighs (Upstream number) old new =
     (new.rows ≡ old.rows) × (new.attachments ≡ change_first (is_attachment_of (Upstream number)) (with_full (is_over_half (Upstream number) old.rows)) old.attachments)
 
+-- a pump, and who is told of it. Whoever was to be told before still is
+abbrev pub IsNotedPump : Dest → NotedBoard → Result Bool BoardFault → NotedBoard → Type 0
+IsNotedPump dest old answer new =
+    IsPump dest (bare old) answer (bare new) × (PumpTells dest answer old.attachments new.attachments new.rows old.news new.news × StayNoted old.news new.news)
+
+-- a send-out, and who is told of it
+abbrev pub IsNotedSendOut : Dest → NotedBoard → Result ℕ BoardFault → NotedBoard → Type 0
+IsNotedSendOut dest old answer new =
+    IsSendOut dest (bare old) answer (bare new) × (SendTells dest answer old.news new.news × StayNoted old.news new.news)
+
+-- a pump, by how many items it moved
+abbrev pub PumpsOne : Dest → NotedBoard → Result ℕ BoardFault → NotedBoard → Type 0
+PumpsOne dest old answer new = (pumped : Result Bool BoardFault) × (IsNotedPump dest old pumped new × (answer ≡ pumped_count pumped))
+
 -- a connection that is held isn't pumped, and each other is
-abbrev pub PumpsFree : Bool → Dest → BoardState → Result ℕ BoardFault → BoardState → Type 0
+abbrev pub PumpsFree : Bool → Dest → NotedBoard → Result ℕ BoardFault → NotedBoard → Type 0
 PumpsFree true dest old answer new = (answer ≡ Ok 0) × (new ≡ old)
-PumpsFree false dest old answer new = (pumped : Result Bool BoardFault) × (IsPump dest old pumped new × (answer ≡ pumped_count pumped))
+PumpsFree false dest old answer new = PumpsOne dest old answer new
 
 -- what the call does, and how many items it moves
-abbrev pub Performs : RoundCall → BoardState → Result ℕ BoardFault → BoardState → Type 0
-Performs (Pump dest) old answer new = (pumped : Result Bool BoardFault) × (IsPump dest old pumped new × (answer ≡ pumped_count pumped))
-Performs (PumpFree dest) old answer new = PumpsFree (is_held dest old) dest old answer new
-Performs (SendOut dest) old answer new = IsSendOut dest old answer new
-Performs (Weigh dest) old answer new = (answer ≡ Ok 0) × Weighs dest old new
+abbrev pub Performs : RoundCall → NotedBoard → Result ℕ BoardFault → NotedBoard → Type 0
+Performs (Pump dest) old answer new = PumpsOne dest old answer new
+Performs (PumpFree dest) old answer new = PumpsFree (is_held dest (bare old)) dest old answer new
+Performs (SendOut dest) old answer new = IsNotedSendOut dest old answer new
+Performs (Weigh dest) old answer new = (answer ≡ Ok 0) × (Weighs dest (bare old) (bare new) × (new.news ≡ old.news))
 
 abbrev pub with_more : {F : Type 0} → ℕ → Result ℕ F → Result ℕ F
 with_more count (Ok more) = Ok (count + more)
@@ -54,7 +69,7 @@ InOrder does [] old answer new = (answer ≡ Ok 0) × (new ≡ old)
 InOrder {B = B} {F = F} does (call ∷ calls) old answer new =
     (one : Result ℕ F) × ((between : B) × (does call old one between × Then (λ more. InOrder does calls between more new) (new ≡ between) one answer))
 
-abbrev pub PerformsAll : List RoundCall → BoardState → Result ℕ BoardFault → BoardState → Type 0
+abbrev pub PerformsAll : List RoundCall → NotedBoard → Result ℕ BoardFault → NotedBoard → Type 0
 PerformsAll calls old answer new = InOrder Performs calls old answer new
 
 -- a pump for each attached connection, and then a send-out for each, clients first, by rising number
@@ -70,15 +85,15 @@ told_count (Ok count) = Ok (min count (2 ^ 64 - 1))
 told_count (Err fault) = Err fault
 
 -- the same, where the count is told
-abbrev pub PerformsUpTo : List RoundCall → BoardState → Result ℕ BoardFault → BoardState → Type 0
+abbrev pub PerformsUpTo : List RoundCall → NotedBoard → Result ℕ BoardFault → NotedBoard → Type 0
 PerformsUpTo calls old answer new = (exact : Result ℕ BoardFault) × (PerformsAll calls old exact new × (answer ≡ told_count exact))
 
-abbrev pub IsRoundOn : Option Gateway → BoardState → Result ℕ BoardFault → BoardState → Type 0
+abbrev pub IsRoundOn : Option Gateway → NotedBoard → Result ℕ BoardFault → NotedBoard → Type 0
 IsRoundOn None old answer new = (answer ≡ Err (Step steps.Failed)) × (new ≡ old)
-IsRoundOn (Some w) old answer new = PerformsUpTo (round_calls old.attachments) old answer new
+IsRoundOn (Some w) old answer new = PerformsUpTo (round_calls old.attachments) (begun old) answer new
 
 -- a round of all calls; on a board that has failed there is none
-abbrev pub IsRound : BoardState → Result ℕ BoardFault → BoardState → Type 0
+abbrev pub IsRound : NotedBoard → Result ℕ BoardFault → NotedBoard → Type 0
 IsRound old answer new = IsRoundOn old.rows old answer new
 
 -- rounds one after another: so many that were Ok, and then a last one. How many items were moved together is told up to
@@ -91,19 +106,19 @@ told_together count (Err fault) = Err fault
 abbrev pub free_calls : List AttachmentState → List RoundCall
 free_calls attachments = map PumpFree (dests_of attachments) ++ map SendOut (dests_of attachments)
 
-abbrev pub IsFreeRoundOn : Option Gateway → BoardState → Result ℕ BoardFault → BoardState → Type 0
+abbrev pub IsFreeRoundOn : Option Gateway → NotedBoard → Result ℕ BoardFault → NotedBoard → Type 0
 IsFreeRoundOn None old answer new = (answer ≡ Err (Step steps.Failed)) × (new ≡ old)
-IsFreeRoundOn (Some w) old answer new = PerformsUpTo (free_calls old.attachments) old answer new
+IsFreeRoundOn (Some w) old answer new = PerformsUpTo (free_calls old.attachments) (begun old) answer new
 
-abbrev pub IsFreeRound : BoardState → Result ℕ BoardFault → BoardState → Type 0
+abbrev pub IsFreeRound : NotedBoard → Result ℕ BoardFault → NotedBoard → Type 0
 IsFreeRound old answer new = IsFreeRoundOn old.rows old answer new
 
-abbrev pub AreRounds : ℕ → BoardState → Result ℕ BoardFault → BoardState → Type 0
+abbrev pub AreRounds : ℕ → NotedBoard → Result ℕ BoardFault → NotedBoard → Type 0
 AreRounds zero old answer new = IsFreeRound old answer new
 AreRounds (suc earlier) old answer new =
-    (count : ℕ) × ((last : Result ℕ BoardFault) × ((between : BoardState) × (AreRounds earlier old (Ok count) between × (IsFreeRound between last new × (answer ≡ told_together count last)))))
+    (count : ℕ) × ((last : Result ℕ BoardFault) × ((between : NotedBoard) × (AreRounds earlier old (Ok count) between × (IsFreeRound between last new × (answer ≡ told_together count last)))))
 
 -- each connection is weighed; then there is one round or more, up to the first fault
-abbrev pub IsBatch : BoardState → Result ℕ BoardFault → BoardState → Type 0
+abbrev pub IsBatch : NotedBoard → Result ℕ BoardFault → NotedBoard → Type 0
 IsBatch old answer new =
-    (between : BoardState) × (PerformsUpTo (map Weigh (dests_of old.attachments)) old (Ok 0) between × ((earlier : ℕ) × AreRounds earlier between answer new))
+    (between : NotedBoard) × (PerformsUpTo (map Weigh (dests_of old.attachments)) old (Ok 0) between × ((earlier : ℕ) × AreRounds earlier between answer new))

@@ -1,6 +1,6 @@
 //! A batch: rounds one after another.
-ghost use Rattle.board_moves.specs.Answers.{board_of, KeepsRings};
-ghost use Rattle.board_moves.specs.Noted.{StayNoted};
+ghost use Rattle.board_moves.specs.Answers.{KeepsRings};
+ghost use Rattle.board_moves.specs.Noted.{noted_of, StayNoted};
 ghost use Rattle.board_moves.specs.Rounds.{IsBatch};
 
 use crate::fault::BoardFault;
@@ -25,7 +25,7 @@ pub(crate) fn batch<G: GatewayCalls>(
     attachments: &mut Attachments,
     news: &mut News,
 ) -> Result<usize, BoardFault>
-    ensures batch { IsBatch (board_of (G.state gate.old) attachments.old) result (board_of (G.state gate.new) attachments.new) }
+    ensures batch { IsBatch (noted_of (G.state gate.old) attachments.old news.old) result (noted_of (G.state gate.new) attachments.new news.new) }
     ensures rings { KeepsRings attachments.old attachments.new }
     ensures kept { StayNoted news.old news.new }
 {

@@ -1,5 +1,5 @@
 //! The board.
-ghost use Rattle.std.specs.Prelude.{◌≡◌, ℕ, ◌↔◌, ◌⊎◌, [], Some, Ok, IsSome, IsNone, IsOk, OnOk, OnErr, IfOk, IfSome, IsErrOf, filter, true, false};
+ghost use Rattle.std.specs.Prelude.{◌≡◌, ℕ, ◌↔◌, ◌⊎◌, [], Some, IsSome, IsNone, IsOk, OnOk, OnErr, IfOk, IfSome, IsErrOf, filter, true};
 ghost use Rattle.std.specs.Option.{option_map};
 ghost use Rattle.gateway_calls.specs.Counting.{link_count_of};
 ghost use Rattle.gateway_calls.specs.Searching.{IsSearched};
@@ -12,7 +12,7 @@ ghost use Rattle.board_rings.specs.declared.attachment.TheConstants.{RING_SIZE};
 ghost use Rattle.board_rings.specs.Calls.{Attaches};
 ghost use Rattle.board_rings.specs.History.{HasHistory};
 ghost use Rattle.board_moves.specs.Answers.{ends_of, IsDesk, IsNew, IsPump, IsSendOut, IsWaiting, KeepsRings};
-ghost use Rattle.board_moves.specs.Noted.{bare, lost_by, seat_bit, IsNoted, StayNoted, TellsPump, TellsSent};
+ghost use Rattle.board_moves.specs.Noted.{bare, lost_by, seat_bit, IsNoted, PumpTells, SendTells, StayNoted};
 ghost use Rattle.board_moves.specs.Rounds.{IsBatch, IsRound};
 
 use crate::fault::BoardFault;
@@ -103,7 +103,7 @@ impl<G: GatewayCalls + Drop> BoardOver<G> {
     #[tactic(auto, using(crate::proofs::Keeps::pump_keeps))]
     pub fn pump(&mut self, dest: Dest) -> Result<bool, BoardFault>
         ensures pump { IsPump dest (bare self.old) result (bare self.new) }
-        ensures told { result ≡ Ok true → TellsPump dest self.old.attachments self.new.attachments self.new.rows self.old.news self.new.news }
+        ensures told { PumpTells dest result self.old.attachments self.new.attachments self.new.rows self.old.news self.new.news }
         ensures kept { StayNoted self.old.news self.new.news }
         ensures rings { KeepsRings self.old.attachments self.new.attachments }
     {
@@ -129,7 +129,7 @@ impl<G: GatewayCalls + Drop> BoardOver<G> {
     #[tactic(auto, using(crate::proofs::Keeps::send_out_keeps))]
     pub fn send_out(&mut self, dest: Dest) -> Result<usize, BoardFault>
         ensures sent { IsSendOut dest (bare self.old) result (bare self.new) }
-        ensures told { IfOk result (λ count. TellsSent dest count self.old.news self.new.news) }
+        ensures told { SendTells dest result self.old.news self.new.news }
         ensures kept { StayNoted self.old.news self.new.news }
         ensures rings { KeepsRings self.old.attachments self.new.attachments }
     {
@@ -146,7 +146,7 @@ impl<G: GatewayCalls + Drop> BoardOver<G> {
     /// first fault. It answers how many items were moved.
     #[tactic(auto, using(crate::proofs::Keeps::round_keeps))]
     pub fn round(&mut self) -> Result<usize, BoardFault>
-        ensures round { IsRound (bare self.old) result (bare self.new) }
+        ensures round { IsRound self.old result self.new }
         ensures kept { StayNoted self.old.news self.new.news }
         ensures rings { KeepsRings self.old.attachments self.new.attachments }
     {
@@ -158,7 +158,7 @@ impl<G: GatewayCalls + Drop> BoardOver<G> {
     /// many items were moved. A client is held whose last request is a write, which went to a server for which more than
     /// half of what is allowed waited, unless its end comes.
     pub fn batch(&mut self) -> Result<usize, BoardFault>
-        ensures batch { IsBatch (bare self.old) result (bare self.new) }
+        ensures batch { IsBatch self.old result self.new }
         ensures kept { StayNoted self.old.news self.new.news }
         ensures rings { KeepsRings self.old.attachments self.new.attachments }
     {

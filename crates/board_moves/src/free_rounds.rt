@@ -2,8 +2,9 @@
 ghost use Rattle.std.specs.Prelude.{◌≡◌, map, IsSome, Ok, OnOk};
 ghost use Rattle.board_rings.specs.Attachments.{have_full};
 ghost use Rattle.board_moves.specs.Answers.{board_of, KeepsRings};
-ghost use Rattle.board_moves.specs.Noted.{StayNoted};
+ghost use Rattle.board_moves.specs.Noted.{begun, noted_of, StayNoted};
 ghost use Rattle.board_moves.specs.Rounds.{dests_of, IsFreeRound, Performs, PerformsUpTo, Weighs};
+ghost use Rattle.board_moves.specs.declared.news.News.{News};
 
 use crate::fault::BoardFault;
 use crate::held::{is_held, is_over_half};
@@ -26,9 +27,9 @@ fn weigh<G: GatewayCalls>(gate: &mut G, attachments: &mut Attachments, dest: Des
     }
 }
 
-/// Weighs each attached connection, in order.
+/// Weighs each attached connection, in order. Nobody is told of it.
 pub(crate) fn weigh_all<G: GatewayCalls>(gate: &mut G, attachments: &mut Attachments)
-    ensures calls { PerformsUpTo (map RoundCall.Weigh (dests_of attachments.old)) (board_of (G.state gate.old) attachments.old) (Ok 0) (board_of (G.state gate.new) attachments.new) }
+    ensures calls { (news : News) → PerformsUpTo (map RoundCall.Weigh (dests_of attachments.old)) (noted_of (G.state gate.old) attachments.old news) (Ok 0) (noted_of (G.state gate.new) attachments.new news) }
     ensures rings { KeepsRings attachments.old attachments.new }
 {
     for n in 0..attachments.len() {
@@ -51,7 +52,7 @@ fn pump_unless_held<G: GatewayCalls>(
 ) -> Result<usize, BoardFault>
     requires stands { IsSome (G.state gate.old) }
     requires full { some_full ≡ have_full attachments.old }
-    ensures performed { Performs (RoundCall.PumpFree dest) (board_of (G.state gate.old) attachments.old) result (board_of (G.state gate.new) attachments.new) }
+    ensures performed { Performs (RoundCall.PumpFree dest) (noted_of (G.state gate.old) attachments.old news.old) result (noted_of (G.state gate.new) attachments.new news.new) }
     ensures stands { OnOk result (IsSome (G.state gate.new)) }
     ensures dests { dests_of attachments.new ≡ dests_of attachments.old }
     ensures full { have_full attachments.new ≡ have_full attachments.old }
@@ -72,7 +73,7 @@ fn pump_free<G: GatewayCalls>(
     news: &mut News,
 ) -> Result<usize, BoardFault>
     requires stands { IsSome (G.state gate.old) }
-    ensures calls { PerformsUpTo (map RoundCall.PumpFree (dests_of attachments.old)) (board_of (G.state gate.old) attachments.old) result (board_of (G.state gate.new) attachments.new) }
+    ensures calls { PerformsUpTo (map RoundCall.PumpFree (dests_of attachments.old)) (begun (noted_of (G.state gate.old) attachments.old news.old)) result (noted_of (G.state gate.new) attachments.new news.new) }
     ensures stands { OnOk result (IsSome (G.state gate.new)) }
     ensures dests { dests_of attachments.new ≡ dests_of attachments.old }
     ensures rings { KeepsRings attachments.old attachments.new }
@@ -100,7 +101,7 @@ pub(crate) fn free_round<G: GatewayCalls>(
     attachments: &mut Attachments,
     news: &mut News,
 ) -> Result<usize, BoardFault>
-    ensures round { IsFreeRound (board_of (G.state gate.old) attachments.old) result (board_of (G.state gate.new) attachments.new) }
+    ensures round { IsFreeRound (noted_of (G.state gate.old) attachments.old news.old) result (noted_of (G.state gate.new) attachments.new news.new) }
     ensures rings { KeepsRings attachments.old attachments.new }
     ensures kept { StayNoted news.old news.new }
 {

@@ -1,5 +1,5 @@
 //! The board's calls on its parts: the gateway and the attachments.
-ghost use Rattle.std.specs.Prelude.{◌≡◌, ◌+◌, ◌-◌, ◌^◌, ◌<◌, min, ◌↔◌, ◌⊎◌, Ok, IfOk, IfSome, IsTrue, IsNone, IsSome, IsErrOf, OnOk, OnErr, Some, None, true, false};
+ghost use Rattle.std.specs.Prelude.{◌≡◌, ◌+◌, ◌-◌, ◌^◌, ◌<◌, min, ◌↔◌, IfSome, IsTrue, IsNone, IsSome, IsErrOf, OnOk, OnErr, Some, None, true, false};
 ghost use Rattle.std.specs.Option.{option_map};
 ghost use Rattle.gateway_state.specs.Asked.{queued, queued_bytes};
 ghost use Rattle.gateway_state.specs.Step.{step};
@@ -7,7 +7,7 @@ ghost use Rattle.board_rings.specs.Attachments.{have_full};
 ghost use Rattle.board_rings.specs.Calls.{uses_up};
 ghost use Rattle.board_rings.specs.History.{is_for_desk, item_event};
 ghost use Rattle.board_moves.specs.Answers.{board_of, IsDesk, IsPump, IsSendOut, IsWaiting, KeepsRings};
-ghost use Rattle.board_moves.specs.Noted.{is_message, lost_by, IsEnding, IsNoted, StayNoted, TellsPump, TellsSent};
+ghost use Rattle.board_moves.specs.Noted.{is_message, lost_by, IsEnding, IsNoted, PumpTells, SendTells, StayNoted};
 ghost use Rattle.board_moves.specs.Rounds.{dests_of};
 ghost use Rattle.board_moves.specs.Share.{sent_at_once};
 
@@ -116,7 +116,7 @@ pub(crate) fn pump_standing<G: GatewayCalls>(
     ensures dests { dests_of attachments.new ≡ dests_of attachments.old }
     ensures full { have_full attachments.new ≡ have_full attachments.old }
     ensures rings { KeepsRings attachments.old attachments.new }
-    ensures told { result ≡ Ok true → TellsPump dest attachments.old attachments.new (G.state gate.new) news.old news.new }
+    ensures told { PumpTells dest result attachments.old attachments.new (G.state gate.new) news.old news.new }
     ensures kept { StayNoted news.old news.new }
 {
     let Some((item, left)) = attachments.receive(dest, guess) else {
@@ -138,7 +138,7 @@ pub(crate) fn pump<G: GatewayCalls>(
 ) -> Result<bool, BoardFault>
     ensures pump { IsPump dest (board_of (G.state gate.old) attachments.old) result (board_of (G.state gate.new) attachments.new) }
     ensures rings { KeepsRings attachments.old attachments.new }
-    ensures told { result ≡ Ok true → TellsPump dest attachments.old attachments.new (G.state gate.new) news.old news.new }
+    ensures told { PumpTells dest result attachments.old attachments.new (G.state gate.new) news.old news.new }
     ensures kept { StayNoted news.old news.new }
 {
     if !attachments.is_attached(dest) {
@@ -235,7 +235,7 @@ fn send_standing<G: GatewayCalls>(
     ensures sent { IsSendOut dest (board_of (G.state gate.old) attachments.old) result (board_of (G.state gate.new) attachments.new) }
     ensures dests { dests_of attachments.new ≡ dests_of attachments.old }
     ensures rings { KeepsRings attachments.old attachments.new }
-    ensures told { IfOk result (λ count. TellsSent dest count news.old news.new) }
+    ensures told { SendTells dest result news.old news.new }
     ensures kept { StayNoted news.old news.new }
 {
     let found = attachments.room(dest, guess);
@@ -271,7 +271,7 @@ pub(crate) fn send_out<G: GatewayCalls>(
     ensures sent { IsSendOut dest (board_of (G.state gate.old) attachments.old) result (board_of (G.state gate.new) attachments.new) }
     ensures dests { dests_of attachments.new ≡ dests_of attachments.old }
     ensures rings { KeepsRings attachments.old attachments.new }
-    ensures told { IfOk result (λ count. TellsSent dest count news.old news.new) }
+    ensures told { SendTells dest result news.old news.new }
     ensures kept { StayNoted news.old news.new }
 {
     match gate.queued(dest) {

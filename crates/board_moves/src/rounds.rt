@@ -1,8 +1,8 @@
 //! A round: a pump for each connection, and then a send-out for each.
 ghost use Rattle.std.specs.Prelude.{◌≡◌, map, IsSome, OnOk};
 ghost use Rattle.board_rings.specs.Attachments.{have_full};
-ghost use Rattle.board_moves.specs.Answers.{board_of, KeepsRings};
-ghost use Rattle.board_moves.specs.Noted.{StayNoted};
+ghost use Rattle.board_moves.specs.Answers.{KeepsRings};
+ghost use Rattle.board_moves.specs.Noted.{begun, noted_of, StayNoted};
 ghost use Rattle.board_moves.specs.Rounds.{dests_of, IsRound, Performs, PerformsUpTo};
 
 use crate::fault::BoardFault;
@@ -32,7 +32,7 @@ pub(crate) fn pump_one<G: GatewayCalls>(
     guess: usize,
 ) -> Result<usize, BoardFault>
     requires stands { IsSome (G.state gate.old) }
-    ensures performed { Performs (RoundCall.Pump dest) (board_of (G.state gate.old) attachments.old) result (board_of (G.state gate.new) attachments.new) }
+    ensures performed { Performs (RoundCall.Pump dest) (noted_of (G.state gate.old) attachments.old news.old) result (noted_of (G.state gate.new) attachments.new news.new) }
     ensures stands { OnOk result (IsSome (G.state gate.new)) }
     ensures dests { dests_of attachments.new ≡ dests_of attachments.old }
     ensures full { have_full attachments.new ≡ have_full attachments.old }
@@ -54,7 +54,7 @@ fn pump_all<G: GatewayCalls>(
     news: &mut News,
 ) -> Result<usize, BoardFault>
     requires stands { IsSome (G.state gate.old) }
-    ensures calls { PerformsUpTo (map RoundCall.Pump (dests_of attachments.old)) (board_of (G.state gate.old) attachments.old) result (board_of (G.state gate.new) attachments.new) }
+    ensures calls { PerformsUpTo (map RoundCall.Pump (dests_of attachments.old)) (begun (noted_of (G.state gate.old) attachments.old news.old)) result (noted_of (G.state gate.new) attachments.new news.new) }
     ensures stands { OnOk result (IsSome (G.state gate.new)) }
     ensures dests { dests_of attachments.new ≡ dests_of attachments.old }
     ensures rings { KeepsRings attachments.old attachments.new }
@@ -81,7 +81,7 @@ pub(crate) fn send_all<G: GatewayCalls>(
     attachments: &mut Attachments,
     news: &mut News,
 ) -> Result<usize, BoardFault>
-    ensures calls { PerformsUpTo (map RoundCall.SendOut (dests_of attachments.old)) (board_of (G.state gate.old) attachments.old) result (board_of (G.state gate.new) attachments.new) }
+    ensures calls { PerformsUpTo (map RoundCall.SendOut (dests_of attachments.old)) (noted_of (G.state gate.old) attachments.old news.old) result (noted_of (G.state gate.new) attachments.new news.new) }
     ensures dests { dests_of attachments.new ≡ dests_of attachments.old }
     ensures rings { KeepsRings attachments.old attachments.new }
     ensures kept { StayNoted news.old news.new }
@@ -106,7 +106,7 @@ pub(crate) fn round<G: GatewayCalls>(
     attachments: &mut Attachments,
     news: &mut News,
 ) -> Result<usize, BoardFault>
-    ensures round { IsRound (board_of (G.state gate.old) attachments.old) result (board_of (G.state gate.new) attachments.new) }
+    ensures round { IsRound (noted_of (G.state gate.old) attachments.old news.old) result (noted_of (G.state gate.new) attachments.new news.new) }
     ensures rings { KeepsRings attachments.old attachments.new }
     ensures kept { StayNoted news.old news.new }
 {

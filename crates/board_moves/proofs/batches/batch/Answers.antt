@@ -2,13 +2,13 @@ use Rattle.std.proofs.Common.{◌≡◌, ◌+◌, ◌-◌, min, Ok, Err, suc, ap
 use Rattle.std.specs.Prelude.{◌^◌}
 use Rattle.board_moves.proofs.Changed.{rings_stay}
 use Rattle.board_moves.proofs.Told.{noted_through}
-use Rattle.board_moves.specs.Answers.{board_of}
+use Rattle.board_moves.specs.Noted.{noted_of}
 use Rattle.board_moves.proofs.batches.batch.Goals as goal
 
 -- the first round met a fault
 pub returns-in-Err : goal.returns-in-Err
 returns-in-Err g c = record {
-  batch = (board_of (g.G.GatewayCalls.state c.weigh_all.new.gate) c.weigh_all.new.attachments, (c.weigh_all.ensures.calls, (0, c.in-Err.ensures.round)));
+  batch = (noted_of (g.G.GatewayCalls.state c.weigh_all.new.gate) c.weigh_all.new.attachments c.args.news.now, (c.weigh_all.ensures.calls c.args.news.now, (0, c.in-Err.ensures.round)));
   rings = rings_stay c.args.attachments.now c.weigh_all.new.attachments c.free_round.new.attachments c.weigh_all.ensures.rings c.free_round.ensures.rings;
   kept = c.free_round.ensures.kept;
 }
@@ -16,7 +16,7 @@ returns-in-Err g c = record {
 -- the first round was performed
 pub loop-init : goal.loop-init
 loop-init g c = (
-  (board_of (g.G.GatewayCalls.state c.weigh_all.new.gate) c.weigh_all.new.attachments, (c.weigh_all.ensures.calls, (0, c.in-Ok.ensures.round))),
+  (noted_of (g.G.GatewayCalls.state c.weigh_all.new.gate) c.weigh_all.new.attachments c.args.news.now, (c.weigh_all.ensures.calls c.args.news.now, (0, c.in-Ok.ensures.round))),
   (rings_stay c.args.attachments.now c.weigh_all.new.attachments c.free_round.new.attachments c.weigh_all.ensures.rings c.free_round.ensures.rings, c.free_round.ensures.kept),
 )
 
@@ -24,14 +24,14 @@ loop-init g c = (
 pub returns-in-Err-free_round-clause-batch : goal.returns-in-Err-free_round-clause-batch
 returns-in-Err-free_round-clause-batch g c =
     let so_far = c.loop.invariant.0 in
-    (so_far.0, (so_far.1.0, (suc so_far.1.1.0, (c.loop.moved, (Err c.in-Err-free_round.fault, (board_of (g.G.GatewayCalls.state c.loop.gate) c.loop.attachments, (so_far.1.1.1, (c.in-Err-free_round.ensures.round, refl))))))))
+    (so_far.0, (so_far.1.0, (suc so_far.1.1.0, (c.loop.moved, (Err c.in-Err-free_round.fault, (noted_of (g.G.GatewayCalls.state c.loop.gate) c.loop.attachments c.loop.news, (so_far.1.1.1, (c.in-Err-free_round.ensures.round, refl))))))))
 
 -- one round more was performed
 pub loop-preserved : goal.loop-preserved
 loop-preserved g c =
     let so_far = c.loop.invariant.0 in
     let told : c.saturating_add-moved.result ≡ min (c.loop.moved + c.in-Ok-free_round.count) (2 ^ 64 - 1) = omega (arith, c.saturating_add-moved.ensures) in (
-      (so_far.0, (so_far.1.0, (suc so_far.1.1.0, (c.loop.moved, (Ok c.in-Ok-free_round.count, (board_of (g.G.GatewayCalls.state c.loop.gate) c.loop.attachments, (so_far.1.1.1, (c.in-Ok-free_round.ensures.round, ap Ok told)))))))),
+      (so_far.0, (so_far.1.0, (suc so_far.1.1.0, (c.loop.moved, (Ok c.in-Ok-free_round.count, (noted_of (g.G.GatewayCalls.state c.loop.gate) c.loop.attachments c.loop.news, (so_far.1.1.1, (c.in-Ok-free_round.ensures.round, ap Ok told)))))))),
       (
         rings_stay c.args.attachments.now c.loop.attachments c.free_round-in-loop.new.attachments c.loop.invariant.1.0 c.free_round-in-loop.ensures.rings,
         noted_through c.args.news.now c.loop.news c.free_round-in-loop.new.news c.loop.invariant.1.1 c.free_round-in-loop.ensures.kept,

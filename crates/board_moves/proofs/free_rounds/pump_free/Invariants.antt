@@ -2,8 +2,8 @@ use Rattle.std.proofs.Common.{◌≡◌, map}
 use Rattle.std.specs.Prelude.{IsSome}
 use Rattle.board_rings.specs.Attachments.{have_full}
 use Rattle.board_moves.proofs.RoundCalls.{IsPerformed}
-use Rattle.board_moves.specs.Answers.{board_of, KeepsRings}
-use Rattle.board_moves.specs.Noted.{StayNoted}
+use Rattle.board_moves.specs.Answers.{KeepsRings}
+use Rattle.board_moves.specs.Noted.{begun, noted_of, StayNoted}
 use Rattle.board_moves.specs.Rounds.{dests_of}
 use Rattle.board_moves.specs.declared.rounds.RoundCall.TheVariants.{PumpFree}
 use Rattle.board_moves.proofs.free_rounds.pump_free.Given as goal
@@ -11,4 +11,4 @@ use Rattle.board_moves.proofs.free_rounds.pump_free.Given as goal
 -- the calls for the first n connections were performed
 abbrev pub invariant-loop-n : goal.invariant-loop-n
 invariant-loop-n g l =
-    IsPerformed (map PumpFree (dests_of l.fn.attachments)) l.n (board_of (g.G.GatewayCalls.state l.fn.gate) l.fn.attachments) (board_of (g.G.GatewayCalls.state l.gate) l.attachments) l.moved × ((dests_of l.attachments ≡ dests_of l.fn.attachments) × (KeepsRings l.fn.attachments l.attachments × (IsSome (g.G.GatewayCalls.state l.gate) × ((l.some_full ≡ have_full l.attachments) × StayNoted l.fn.news l.news))))
+    IsPerformed (map PumpFree (dests_of l.fn.attachments)) l.n (begun (noted_of (g.G.GatewayCalls.state l.fn.gate) l.fn.attachments l.fn.news)) (noted_of (g.G.GatewayCalls.state l.gate) l.attachments l.news) l.moved × ((dests_of l.attachments ≡ dests_of l.fn.attachments) × (KeepsRings l.fn.attachments l.attachments × (IsSome (g.G.GatewayCalls.state l.gate) × ((l.some_full ≡ have_full l.attachments) × StayNoted l.fn.news l.news))))

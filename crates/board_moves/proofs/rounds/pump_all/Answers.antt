@@ -2,21 +2,21 @@ use Rattle.std.proofs.Common.{sym, ◌∙◌, arith}
 use Rattle.board_moves.proofs.Changed.{rings_stay}
 use Rattle.board_moves.proofs.RoundCalls.{all_performed_there, next_performed, next_refused}
 use Rattle.board_moves.proofs.Told.{noted_through}
-use Rattle.board_moves.specs.Answers.{board_of}
+use Rattle.board_moves.specs.Noted.{begun, noted_of}
 use Rattle.board_moves.specs.declared.rounds.RoundCall.TheVariants.{Pump}
 use Rattle.board_moves.proofs.rounds.pump_all.Goals as goal
 
 -- the call was refused
 pub returns-in-Err-clause-calls : goal.returns-in-Err-clause-calls
 returns-in-Err-clause-calls g c =
-    next_refused Pump c.loop-n.attachments c.args.attachments.now c.loop-n.n c.in-Some.dest (board_of (g.G.GatewayCalls.state c.args.gate.now) c.args.attachments.now) (board_of (g.G.GatewayCalls.state c.loop-n.gate) c.loop-n.attachments)
-    (board_of (g.G.GatewayCalls.state c.pump_one.new.gate) c.pump_one.new.attachments) c.loop-n.moved c.in-Err.fault c.loop-n.invariant.1.0 (sym c.in-Some.ensures) c.loop-n.invariant.0 c.in-Err.ensures.performed
+    next_refused Pump c.loop-n.attachments c.args.attachments.now c.loop-n.n c.in-Some.dest (begun (noted_of (g.G.GatewayCalls.state c.args.gate.now) c.args.attachments.now c.args.news.now)) (noted_of (g.G.GatewayCalls.state c.loop-n.gate) c.loop-n.attachments c.loop-n.news)
+    (noted_of (g.G.GatewayCalls.state c.pump_one.new.gate) c.pump_one.new.attachments c.pump_one.new.news) c.loop-n.moved c.in-Err.fault c.loop-n.invariant.1.0 (sym c.in-Some.ensures) c.loop-n.invariant.0 c.in-Err.ensures.performed
 
 -- one call more was performed
 pub loop-n-preserved : goal.loop-n-preserved
 loop-n-preserved g c = (
-  next_performed Pump c.loop-n.attachments c.args.attachments.now c.loop-n.n c.in-Some.dest (board_of (g.G.GatewayCalls.state c.args.gate.now) c.args.attachments.now) (board_of (g.G.GatewayCalls.state c.loop-n.gate) c.loop-n.attachments)
-      (board_of (g.G.GatewayCalls.state c.pump_one.new.gate) c.pump_one.new.attachments) c.loop-n.moved c.in-Ok.count c.saturating_add-moved.result c.loop-n.invariant.1.0 (sym c.in-Some.ensures) c.loop-n.invariant.0
+  next_performed Pump c.loop-n.attachments c.args.attachments.now c.loop-n.n c.in-Some.dest (begun (noted_of (g.G.GatewayCalls.state c.args.gate.now) c.args.attachments.now c.args.news.now)) (noted_of (g.G.GatewayCalls.state c.loop-n.gate) c.loop-n.attachments c.loop-n.news)
+      (noted_of (g.G.GatewayCalls.state c.pump_one.new.gate) c.pump_one.new.attachments c.pump_one.new.news) c.loop-n.moved c.in-Ok.count c.saturating_add-moved.result c.loop-n.invariant.1.0 (sym c.in-Some.ensures) c.loop-n.invariant.0
       c.in-Ok.ensures.performed (omega (arith, c.saturating_add-moved.ensures)),
   (
     c.pump_one.ensures.dests ∙ c.loop-n.invariant.1.0,
@@ -33,7 +33,7 @@ loop-n-preserved g c = (
 -- no connection is left
 pub returns-in_default-clause-calls : goal.returns-in_default-clause-calls
 returns-in_default-clause-calls g c =
-    all_performed_there Pump c.loop-n.attachments c.args.attachments.now c.loop-n.n (board_of (g.G.GatewayCalls.state c.args.gate.now) c.args.attachments.now) (board_of (g.G.GatewayCalls.state c.loop-n.gate) c.loop-n.attachments) c.loop-n.moved
+    all_performed_there Pump c.loop-n.attachments c.args.attachments.now c.loop-n.n (begun (noted_of (g.G.GatewayCalls.state c.args.gate.now) c.args.attachments.now c.args.news.now)) (noted_of (g.G.GatewayCalls.state c.loop-n.gate) c.loop-n.attachments c.loop-n.news) c.loop-n.moved
     c.loop-n.invariant.1.0 (sym c.dest.ensures ∙ c.in_default.is) c.loop-n.invariant.0
 
 pub returns-in-Err-clause-rings : goal.returns-in-Err-clause-rings

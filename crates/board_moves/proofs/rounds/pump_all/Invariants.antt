@@ -1,8 +1,8 @@
 use Rattle.std.proofs.Common.{◌≡◌, map}
 use Rattle.std.specs.Prelude.{IsSome}
 use Rattle.board_moves.proofs.RoundCalls.{IsPerformed}
-use Rattle.board_moves.specs.Answers.{board_of, KeepsRings}
-use Rattle.board_moves.specs.Noted.{StayNoted}
+use Rattle.board_moves.specs.Answers.{KeepsRings}
+use Rattle.board_moves.specs.Noted.{begun, noted_of, StayNoted}
 use Rattle.board_moves.specs.Rounds.{dests_of}
 use Rattle.board_moves.specs.declared.rounds.RoundCall.TheVariants.{Pump}
 use Rattle.board_moves.proofs.rounds.pump_all.Given as goal
@@ -10,4 +10,4 @@ use Rattle.board_moves.proofs.rounds.pump_all.Given as goal
 -- the calls for the first n connections were performed
 abbrev pub invariant-loop-n : goal.invariant-loop-n
 invariant-loop-n g l =
-    IsPerformed (map Pump (dests_of l.fn.attachments)) l.n (board_of (g.G.GatewayCalls.state l.fn.gate) l.fn.attachments) (board_of (g.G.GatewayCalls.state l.gate) l.attachments) l.moved × ((dests_of l.attachments ≡ dests_of l.fn.attachments) × (KeepsRings l.fn.attachments l.attachments × (IsSome (g.G.GatewayCalls.state l.gate) × StayNoted l.fn.news l.news)))
+    IsPerformed (map Pump (dests_of l.fn.attachments)) l.n (begun (noted_of (g.G.GatewayCalls.state l.fn.gate) l.fn.attachments l.fn.news)) (noted_of (g.G.GatewayCalls.state l.gate) l.attachments l.news) l.moved × ((dests_of l.attachments ≡ dests_of l.fn.attachments) × (KeepsRings l.fn.attachments l.attachments × (IsSome (g.G.GatewayCalls.state l.gate) × StayNoted l.fn.news l.news)))
