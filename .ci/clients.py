@@ -23,6 +23,7 @@ sys.path.insert(0, os.path.join(ROOT, ".ci"))
 import served  # noqa: E402  (sets the path to examples/)
 import ca_wire as ca  # noqa: E402
 from served import libca  # noqa: E402
+from served.beacons import REPEATER  # noqa: E402
 from served.other_user import OtherUser  # noqa: E402
 from served.repeaters import by_repeater  # noqa: E402
 from served.room import Room, Server, free_port, text_of, variable  # noqa: E402
@@ -436,7 +437,7 @@ def run(room, repeater):
     room.equal("nothing that the library complains of", library.exceptions, [])
     by_name_server(room, up, repeater)
     by_search(room, up, repeater)
-    by_repeater(room)
+    by_repeater(room, REPEATER)
     by_user(room, up, repeater)
     if python_of_pyepics():
         by_user_in_pyepics(room, up)

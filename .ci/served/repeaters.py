@@ -90,7 +90,7 @@ def sending(room, up, address, hearer, searcher):
     room.equal("quit of the gateway that sends", server.quit(), 0)
 
 
-def by_repeater(room, port=REPEATER):
+def by_repeater(room, port):
     """Both ways, side by side: gaps take half a minute to grow."""
     if is_taken():
         print(f"clients: nothing is tried of libca's repeater, since port {port} is taken")
