@@ -12,7 +12,7 @@ use Rattle.gateway_calls.specs.declared.fault.Failed.{Failed}
 use Rattle.gateway_state.specs.Gateway.{Gateway}
 use Rattle.gateway_state.specs.declared.event.Dest.{Dest}
 use Rattle.gateway_state.specs.declared.event.Event.{Event}
-use Rattle.board_rings.specs.Attachments.{attachment_of, is_not_attachment_of}
+use Rattle.board_rings.specs.Attachments.{attachment_of, is_attached, is_not_attachment_of}
 use Rattle.board_rings.specs.Rings.{EndsState, InletState, OutletState}
 use Rattle.board_rings.specs.declared.attachment.TheConstants.{RING_SIZE}
 use Rattle.board_rings.specs.Calls.{Attaches}
@@ -20,16 +20,18 @@ use Rattle.board_moves.specs.Answers.{ends_of, IsDesk, IsWaiting}
 use Rattle.board_moves.specs.Noted.{bare}
 use Rattle.board_moves.specs.Keeping.{IsBatchTurn, IsTurn, KeptState, SameBeside, WakesBeside}
 use Rattle.board_moves.specs.declared.fault.BoardFault.{BoardFault}
+use Rattle.board_moves.specs.declared.fault.BoardFault.TheVariants as faults
+use Rattle.board_moves.specs.declared.news.Traffic.{Traffic}
 use Rattle.board_moves.specs.declared.turn.Turn.{Turn}
 use Rattle.gate_board.specs.declared.gate.Arrears.{Arrears}
-use Rattle.gate_board.specs.Locked.{AreAsks, HasStopped, IsAnswered, IsAttached, IsBatched, IsDesked, IsRetired, IsSearchedIn, AreArrears, IsTurned, IsWeighed, IsWoken}
+use Rattle.gate_board.specs.Locked.{AreAsks, HasStopped, IsAnswered, IsAttached, IsBatched, IsDesked, IsRetired, IsSearchedIn, IsTraffic, AreArrears, IsTurned, IsWeighed, IsWoken}
 
 pub desked : (event : Event) (answer : Result ⊤ BoardFault) (old new : KeptState) → IsDesk event (bare old.board) answer (bare new.board) → WakesBeside old new → IsDesked event answer
 desked event answer old new desk wakes = (old, (new, (desk, wakes)))
 
 pub attached : (dest : Dest) (answer : Result (InletState × OutletState) BoardFault) (old new : KeptState) → IfOk answer (λ r. Attaches dest r.0.ring r.1.ring RING_SIZE (bare old.board) (bare new.board))
-    → OnErr answer (new.board ≡ old.board) → WakesBeside old new → IsAttached dest answer
-attached dest answer old new ok err wakes = (old, (new, (ok, (err, wakes))))
+    → OnErr answer (new.board ≡ old.board) → (IsErrOf answer faults.Attached ↔ (is_attached dest old.board.attachments ≡ true)) → WakesBeside old new → IsAttached dest answer
+attached dest answer old new ok err there wakes = (old, (new, (ok, (err, (there, wakes)))))
 
 pub retired : (dest : Dest) (answer : Option EndsState) (old new : KeptState) → answer ≡ option_map ends_of (attachment_of dest old.board.attachments)
     → new.board.rows ≡ old.board.rows → new.board.attachments ≡ filter (is_not_attachment_of dest) old.board.attachments → IsRetired dest answer
@@ -53,6 +55,9 @@ arrears_so dest arrears old new waits beside ends = (old, (new, (waits, (ends, b
 
 pub failed_so : (dest : Dest) (failed : Failed) (old new : KeptState) → IsWaiting dest (bare old.board) (Err failed) (bare new.board) → SameBeside old new → AreArrears dest (Err failed)
 failed_so dest failed old new waits beside = (old, (new, (waits, (tt, beside))))
+
+pub told : (answer : Traffic) (kept : KeptState) → answer ≡ kept.board.news.traffic → IsTraffic answer
+told answer kept is = (kept, is)
 
 pub turned : (answer : Turn) (old new : KeptState) (turn : Option Turn) → turn ≡ Some answer → IsTurn old turn new → IsTurned answer
 turned answer old new turn is turns = (old, (new, subst (λ (t : Option Turn). IsTurn old t new) is turns))

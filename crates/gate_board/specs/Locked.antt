@@ -12,7 +12,7 @@ use Rattle.gateway_calls.specs.declared.fault.Failed.{Failed}
 use Rattle.gateway_state.specs.Gateway.{Gateway}
 use Rattle.gateway_state.specs.declared.event.Dest.{Dest}
 use Rattle.gateway_state.specs.declared.event.Event.{Event}
-use Rattle.board_rings.specs.Attachments.{attachment_of, is_not_attachment_of}
+use Rattle.board_rings.specs.Attachments.{attachment_of, is_attached, is_not_attachment_of}
 use Rattle.board_rings.specs.Rings.{EndsState, InletState, OutletState}
 use Rattle.board_rings.specs.declared.attachment.TheConstants.{RING_SIZE}
 use Rattle.board_rings.specs.Calls.{Attaches}
@@ -20,6 +20,8 @@ use Rattle.board_moves.specs.Answers.{ends_of, IsDesk, IsWaiting}
 use Rattle.board_moves.specs.Noted.{bare}
 use Rattle.board_moves.specs.Keeping.{IsBatchTurn, IsTurn, KeptState, SameBeside, WakesBeside}
 use Rattle.board_moves.specs.declared.fault.BoardFault.{BoardFault}
+use Rattle.board_moves.specs.declared.fault.BoardFault.TheVariants as faults
+use Rattle.board_moves.specs.declared.news.Traffic.{Traffic}
 use Rattle.board_moves.specs.declared.turn.Turn.{Turn}
 use Rattle.gate_board.specs.declared.gate.Arrears.{Arrears}
 
@@ -27,12 +29,13 @@ use Rattle.gate_board.specs.declared.gate.Arrears.{Arrears}
 abbrev pub IsDesked : Event → Result ⊤ BoardFault → Type 0
 IsDesked event answer = (old : KeptState) × ((new : KeptState) × (IsDesk event (bare old.board) answer (bare new.board) × WakesBeside old new))
 
--- a connection got two rings, or none
+-- a connection got two rings, or none; the fault that it has some already comes exactly where that is so
 abbrev pub IsAttached : Dest → Result (InletState × OutletState) BoardFault → Type 0
 IsAttached dest answer =
     (old : KeptState)
     × ((new : KeptState)
-    × (IfOk answer (λ r. Attaches dest r.0.ring r.1.ring RING_SIZE (bare old.board) (bare new.board)) × (OnErr answer (new.board ≡ old.board) × WakesBeside old new)))
+    × (IfOk answer (λ r. Attaches dest r.0.ring r.1.ring RING_SIZE (bare old.board) (bare new.board)) × (OnErr answer (new.board ≡ old.board)
+    × ((IsErrOf answer faults.Attached ↔ (is_attached dest old.board.attachments ≡ true)) × WakesBeside old new))))
 
 -- a connection's rings were taken off
 abbrev pub IsRetired : Dest → Option EndsState → Type 0
@@ -62,6 +65,10 @@ AreArrears dest answer =
     × ((new : KeptState)
     × (IsWaiting dest (bare old.board) (waiting_of answer) (bare new.board)
     × (IfOk answer (λ arrears. Some arrears.must_end ≡ option_map (λ w. must_end w dest) new.board.rows) × SameBeside old new)))
+
+-- how many messages went through was told
+abbrev pub IsTraffic : Traffic → Type 0
+IsTraffic answer = (kept : KeptState) × (answer ≡ kept.board.news.traffic)
 
 -- a round, or a batch
 abbrev pub IsTurned : Turn → Type 0

@@ -2,7 +2,7 @@
 ghost use Rattle.gateway_state.specs.Asked.{must_end, is_open};
 ghost use Rattle.gateway_state.specs.RowCounts.{row_counts};
 ghost use Rattle.gateway_state.specs.Variables.{is_missing};
-ghost use Rattle.gate_board.specs.Locked.{AreAsks, IsAnswered, IsSearchedIn, AreArrears, IsWeighed};
+ghost use Rattle.gate_board.specs.Locked.{AreAsks, IsAnswered, IsSearchedIn, IsTraffic, AreArrears, IsWeighed};
 ghost use Rattle.gateway_calls.specs.Counting.{link_count_of};
 ghost use Rattle.gateway_calls.specs.Searching.{IsSearched};
 
@@ -126,7 +126,10 @@ impl<G: GatewayCalls + Drop> GateOver<G> {
     }
 
     /// How many messages went through so far.
-    pub fn traffic<R: Wait>(&self, rt: &R) -> Traffic {
+    #[tactic(auto, using(crate::proofs::Under::told))]
+    pub fn traffic<R: Wait>(&self, rt: &R) -> Traffic
+        ensures { IsTraffic result }
+    {
         self.kept.lock(rt).traffic()
     }
 }
