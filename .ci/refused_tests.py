@@ -4,7 +4,7 @@
     .ci/refused_tests.py [--binary CRATE=PATH ..] [--jobs N] [--most N] [--list] [WORD ..]
     .ci/refused_tests.py [--binary CRATE=PATH ..] --only CRATE:TEST:AT
 
-A test of `wire_tests`, `row_tests` or `rule_tests` is a story. Where one of its calls answers that memory was refused, all that the
+A test of `wire_tests`, `row_tests`, `rule_tests` or `serve_tests` is a story. Where one of its calls answers that memory was refused, all that the
 story's values hold is listed, as it was before the call, and the call is made once more: so the story comes out as without the
 refusal, but for a line `refused CALL as before`. A run is as it must be if its test passes, having done without the memory; if it tells
 such lines, and else what it tells without; or if the memory was the test's own, for its lines and lists. Calls on large values, as those
@@ -33,7 +33,8 @@ HERE = os.path.dirname(os.path.abspath(__file__))
 ROOT = os.path.dirname(HERE)
 SECONDS = 120
 # The tests of each crate that are meant.
-CRATES = {"wire_tests": "", "row_tests": "", "rule_tests": "", "board_tests": ("boards::refused::", "workers::refused::")}
+CRATES = {"wire_tests": "", "row_tests": "", "rule_tests": "", "serve_tests": "",
+          "board_tests": ("boards::refused::", "workers::refused::")}
 
 # How a test ends that answers an error, and one that asserts what isn't so.
 ENDS = (101, -signal.SIGABRT)
