@@ -1,5 +1,6 @@
 //! A script that a person types.
 use replay::replay;
+use std::alloc::Global;
 use std::cell::Cell;
 use std::io;
 use std::io::{Read, Write};
@@ -74,4 +75,23 @@ fn prints_before_it_waits(rt: HostRuntime) {
     };
     assert_eq!(rt; replay(rt.alloc(), typist, &mut printer), 0);
     assert_eq!(rt; out.get(), 8);
+}
+
+/// The status of a script that is there at once, and how many lines are out at its end.
+fn printed(alloc: Global, script: &[u8]) -> (u8, usize) {
+    let out = Cell::new(0);
+    let mut printer = Printer {
+        written: 0,
+        out: &out,
+    };
+    let status = replay(alloc, script, &mut printer);
+    (status, out.get())
+}
+
+// Behind a bad line nothing is read, so what it prints is out only where that is done at the end.
+#[test]
+fn all_is_out_at_the_end(rt: HostRuntime) {
+    assert_eq!(rt; printed(rt.alloc(), b"asks\nasks\n"), (0, 2));
+    assert_eq!(rt; printed(rt.alloc(), b"asks\nlost\n"), (2, 2));
+    assert_eq!(rt; printed(rt.alloc(), b"lost"), (2, 1));
 }
