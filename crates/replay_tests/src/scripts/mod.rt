@@ -1,12 +1,14 @@
 //! Tests of scripts: which lines there are, what is printed, and how a replay ends where a stream fails.
 //!
 //! Lines are told as tables of lines (`lines`), streams as tables of streams (`streams`), and used up
-//! numbers, and those that come again, as stories of gateways that have few (`used_up`, `again`). How often rows are
-//! looked at is told of an engine (`learning`). Worked runs are in `story_tests`.
+//! numbers, and those that come again, as stories of gateways that have few (`used_up`, `again`); so are limits that
+//! hold from the start (`limited`). How often rows are looked at is told of an engine (`learning`). Worked runs are in
+//! `story_tests`.
 
 mod again;
 mod engine;
 mod learning;
+mod limited;
 mod lines;
 mod output;
 mod streams;

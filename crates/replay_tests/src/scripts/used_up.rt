@@ -121,7 +121,7 @@ client s1 000f000000050001ffffffff00000021
 ";
 
 /// Parts a story into its script and what is printed.
-fn part(text: &str, script: &mut Vec<u8>, printed: &mut Vec<u8>) -> bool {
+pub(crate) fn part(text: &str, script: &mut Vec<u8>, printed: &mut Vec<u8>) -> bool {
     let mut is_whole = true;
     for line in text.lines() {
         is_whole &= match line.strip_prefix("> ") {
