@@ -5,5 +5,6 @@ mod InAllLemmas
 mod LimitLemmas
 mod LogQueueLemmas
 mod RhythmLemmas
+mod RosterLemmas
 mod VersionLemmas
 mod VigilLemmas

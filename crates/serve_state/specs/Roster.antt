@@ -1,5 +1,5 @@
 -- The rows of connections.
-use Rattle.std.specs.Prelude.{◌≡◌, ℕ, ◌-◌, ◌==◌, ◌≤◌, ◌<◌, List, [], ◌∷◌, ◌++◌, length, filter, Bool, true, false, Option, Some, None}
+use Rattle.std.specs.Prelude.{◌≡◌, ℕ, ◌+◌, ◌-◌, ◌==◌, ◌≤◌, ◌<◌, min, List, [], ◌∷◌, ◌++◌, length, filter, replicate, slice_set, Bool, true, false, Option, Some, None}
 use Rattle.std.specs.List.{find, list_any}
 use Rattle.std.specs.Option.{option_or}
 use Rattle.rows.specs.Rows.{change_first, remove_first}
@@ -76,6 +76,24 @@ pub record IsLeastFree (most : ℕ) (n : ℕ) (rows : List RowState) : Type 0 wh
 
 abbrev pub IsFull : ℕ → List RowState → Type 0
 IsFull most rows = (m : ℕ) → 1 ≤ m → m ≤ most → holds (Session m) rows ≡ true
+
+-- up to which number it is enough to seek a free one: of one more than there are rows one is free
+abbrev pub enough : ℕ → ℕ → ℕ
+enough rows most = min (rows + 1) most
+
+-- which numbers up to this one are taken while no row holds any: 0 is, since no client gets it
+abbrev pub none_taken : ℕ → List Bool
+none_taken most = true ∷ replicate most false
+
+-- the number of a client's connection is taken too
+abbrev pub with_taken : Dest → List Bool → List Bool
+with_taken (Session n) taken = slice_set taken n true
+with_taken (Upstream n) taken = taken
+
+-- the numbers that rows hold are taken
+abbrev pub taken_by : List RowState → List Bool → List Bool
+taken_by [] taken = taken
+taken_by (row ∷ rows) taken = taken_by rows (with_taken row.dest taken)
 
 -- the first status stands
 abbrev pub closed_with : ℕ → RosterState → RosterState

@@ -40,6 +40,7 @@ mod limits;
 mod log_queue;
 mod most;
 mod notice;
+mod numbers;
 mod order;
 mod order_lines;
 mod outages;

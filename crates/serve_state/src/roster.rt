@@ -6,6 +6,7 @@ ghost use Rattle.gateway_state.specs.declared.event.Dest.TheVariants.{Session, U
 ghost use Rattle.serve_state.specs.Roster.{RowState, RosterState, is_row, holds, with_row, with_row_of, row_of, is_of_host, clients_of, IsLeastFree, IsFull, closed_with, with_cut, with_left, with_reached, with_served, changed, with_new, without, is_reached, has_ended, is_last};
 
 use crate::notice::Cut;
+use crate::numbers::least_free;
 use gateway_state::Dest;
 use std::alloc::{AllocError, Global};
 use std::marker::Model;
@@ -159,6 +160,8 @@ impl<L: Drop, P: Drop> RosterRow<L, P> {
 pub struct Roster<L, P> {
     // The highest number that a client's connection gets.
     clients: u32,
+    // Where it is noted which numbers are taken, while one is looked for.
+    taken: Vec<bool>,
     rows: Vec<RosterRow<L, P>>,
     closing: Option<u8>,
 }
@@ -182,6 +185,7 @@ impl<L: Drop, P: Drop> Roster<L, P> {
     {
         Roster {
             clients,
+            taken: Vec::new(alloc),
             rows: Vec::new(alloc),
             closing: None,
         }
@@ -224,9 +228,7 @@ impl<L: Drop, P: Drop> Roster<L, P> {
         ensures closing { IsErrOf result RosterRefusal.Closing → IsSome self.old.closing }
         ensures held { IsErrOf result RosterRefusal.Held → ⊥ }
     {
-        let Some(number) = least_free(&self.rows, self.clients) else {
-            return Err(RosterRefusal::Full);
-        };
+        let number = least_free(&mut self.taken, &self.rows, self.clients)?;
         self.add(RosterRow::new(Dest::Session(number), Some(link), peer, None))?;
         Ok(number)
     }
@@ -252,9 +254,7 @@ impl<L: Drop, P: Drop> Roster<L, P> {
         if clients_of(&self.rows, host) >= most {
             return Err(RosterRefusal::HostFull);
         }
-        let Some(number) = least_free(&self.rows, self.clients) else {
-            return Err(RosterRefusal::Full);
-        };
+        let number = least_free(&mut self.taken, &self.rows, self.clients)?;
         self.add(RosterRow::new(Dest::Session(number), Some(link), peer, Some(host)))?;
         Ok(number)
     }
@@ -366,18 +366,6 @@ fn clients_of<L: Drop, P: Drop>(rows: &[RosterRow<L, P>], host: u128) -> usize
     ensures { result ≡ clients_of host rows.now }
 {
     rows.iter().filter(|row| row.is_of_host(host)).count()
-}
-
-fn least_free<L: Drop, P: Drop>(rows: &[RosterRow<L, P>], clients: u32) -> Option<u32>
-    ensures some { IfSome result (λ n. IsLeastFree clients n rows.now) }
-    ensures none { IfNone result (IsFull clients rows.now) }
-{
-    for number in 1..=clients {
-        if !holds(rows, Dest::Session(number)) {
-            return Some(number);
-        }
-    }
-    None
 }
 
 fn place_of<L: Drop, P: Drop>(rows: &[RosterRow<L, P>], dest: Dest) -> Option<usize>
