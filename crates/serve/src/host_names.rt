@@ -1,130 +1,95 @@
 //! Names of hosts in rule files, where a client's host is its address: whoever connects from an address of a named host
 //! counts as that host.
-use crate::clients::host_at;
+mod known;
+mod listed;
+mod look_ups;
+
+use crate::host_names::known::Outcome;
+use crate::host_names::listed::ListedHosts;
+use crate::host_names::look_ups::look_up_all;
 use crate::logging::Teller;
 use crate::machine::System;
-use crate::upstreams::names_host;
-use access_file::{Access, HostNames};
+use access_file::{HostName, HostNames};
 use gateway_core::Policy;
+pub use known::KnownHosts;
 use pv_name::{Host, NoMemory};
-use pvlist::{Rules, Verb};
 use serve_state::Notice;
-use std::alloc::{AllocError, Global};
-use std::collections::HashSet;
-use std::fmt::Write;
-use std::net::{IpAddr, Net, ToSocketAddrs};
+use std::alloc::Global;
+use std::cmp::Ordering;
+use std::mem::replace;
+use std::net::{Net, TcpListener, TcpStream};
+use std::thread::Threads;
 
 /// Has the policy know who the hosts are that its files name: the system is asked for the addresses of each name. One
-/// that it doesn't know is told, and nobody counts as it.
-pub fn know_hosts<R: System + Net>(
-    rt: &R,
+/// that it doesn't answer for has those that it had the last time, so that what is denied stays so; where it had none
+/// nobody counts as it. Both are told. At an error what was known the last time stays.
+pub fn know_hosts<R: System + Threads + Net<Listener = TcpListener, Stream = TcpStream> + 'static>(
+    rt: R,
     alloc: Global,
     policy: &mut Policy,
+    last: &mut KnownHosts,
     teller: Teller<'_>,
 ) -> Result<(), NoMemory> {
-    let mut names = HostNames::new(alloc);
-    for name in &named_hosts(alloc, policy)? {
-        if !look_up_all(rt, alloc, name, &mut names)? {
-            teller.tell(rt, Notice::HostUnknown(name.text()));
-        }
+    let mut listed = ListedHosts::of(alloc, policy)?;
+    let mut found = look_up_all(rt, alloc, &listed.names)?;
+    let late = keep_last(rt, &listed.names, &mut found, last, teller)?;
+    let mut rows = replace(&mut listed.written, Vec::new(alloc));
+    for name in &listed.names {
+        found.push_rows(name, &mut rows)?;
     }
-    policy.names = names;
+    policy.names = host_names(alloc, &mut rows)?;
+    *last = found;
+    if late > 0 {
+        teller.tell(&rt, Notice::HostsUnanswered(late));
+    }
     Ok(())
 }
 
-// The hosts that are listed and are no addresses, each once, those of the access file first.
-fn named_hosts(alloc: Global, policy: &Policy) -> Result<Vec<Host>, NoMemory> {
-    let mut named = NamedHosts::new(alloc);
-    if let Some(access) = &policy.access {
-        named.add_groups(access.file())?;
+// Gives the names that weren't found what was known of them. How many of them weren't answered in time; the others are told.
+fn keep_last<R: System>(
+    rt: R,
+    names: &[Host],
+    found: &mut KnownHosts,
+    last: &KnownHosts,
+    teller: Teller<'_>,
+) -> Result<usize, NoMemory> {
+    let mut late = 0usize;
+    for name in names {
+        match found.keep(name, last)? {
+            Outcome::Found => (),
+            Outcome::Late => late = late.saturating_add(1),
+            Outcome::Kept => teller.tell(&rt, Notice::HostKept(name.text())),
+            Outcome::Unknown => teller.tell(&rt, Notice::HostUnknown(name.text())),
+        }
     }
-    named.add_rules(&policy.rules)?;
-    Ok(named.hosts)
+    Ok(late)
 }
 
-/// Hosts, in the order of their first mention.
-#[derive(Drop)]
-struct NamedHosts {
-    alloc: Global,
-    hosts: Vec<Host>,
-    // The same in lower case: hosts are compared without regard to case.
-    known: HashSet<String>,
+// The rows as the policy has them, each once. Those of an address stand behind one another: `HostNames::of` gives all from the
+// first to the last of them, and these are walked for each rule that speaks of hosts.
+fn host_names(alloc: Global, rows: &mut Vec<HostName>) -> Result<HostNames, NoMemory> {
+    rows.sort_unstable_by(|a, b| by_address(a, b));
+    let mut names = HostNames::new(alloc);
+    let mut before: Option<&HostName> = None;
+    for row in rows.as_slice() {
+        if !is_row(before, row) {
+            names.add(row.address.copy()?, row.name.copy()?)?;
+        }
+        before = Some(row);
+    }
+    Ok(names)
 }
 
-impl NamedHosts {
-    fn new(alloc: Global) -> NamedHosts {
-        NamedHosts {
-            alloc,
-            hosts: Vec::new(alloc),
-            known: HashSet::new(alloc),
-        }
-    }
-
-    // Those that the groups of hosts of an access file list.
-    fn add_groups(&mut self, access: &Access) -> Result<(), NoMemory> {
-        for number in 0..usize::MAX {
-            let Some(listed) = access.listed_hosts(number) else {
-                break;
-            };
-            for host in listed {
-                self.add(host.text())?;
-            }
-        }
-        Ok(())
-    }
-
-    // Those to which rules deny names.
-    fn add_rules(&mut self, rules: &Rules) -> Result<(), NoMemory> {
-        for row in rules.rows() {
-            if let Verb::Deny(hosts) = &row.verb {
-                for host in hosts.as_slice() {
-                    self.add(host.text())?;
-                }
-            }
-        }
-        Ok(())
-    }
-
-    fn add(&mut self, text: &str) -> Result<(), NoMemory> {
-        if text.parse::<IpAddr>().is_ok() {
-            return Ok(());
-        }
-        let lower = text.to_ascii_lowercase(self.alloc)?;
-        if self.known.contains(&lower) {
-            return Ok(());
-        }
-        let Ok(_) = self.known.insert(lower) else {
-            return Err(AllocError);
-        };
-        let host = Host::read(self.alloc, text.as_bytes()).map_err(|_| AllocError)?;
-        self.hosts.push(host)?;
-        Ok(())
+fn is_row(before: Option<&HostName>, row: &HostName) -> bool {
+    match before {
+        Some(before) => by_address(before, row) == Ordering::Equal,
+        None => false,
     }
 }
 
-// Adds a row for each address that the system has for the name. False where it has none.
-fn look_up_all<R: Net>(
-    rt: &R,
-    alloc: Global,
-    name: &Host,
-    names: &mut HostNames,
-) -> Result<bool, NoMemory> {
-    let mut word = String::new(alloc);
-    let text = name.text();
-    if write!(word, "{text}:1").is_err() {
-        return Err(AllocError);
+fn by_address(a: &HostName, b: &HostName) -> Ordering {
+    match a.address.text().as_bytes().cmp(b.address.text().as_bytes()) {
+        Ordering::Equal => a.name.text().as_bytes().cmp(b.name.text().as_bytes()),
+        other => other,
     }
-    if !names_host(word.as_str()) {
-        return Ok(false);
-    }
-    let Ok(addresses) = word.as_str().to_socket_addrs(rt) else {
-        return Ok(false);
-    };
-    let mut is_found = false;
-    for address in addresses {
-        let address = host_at(alloc, address.ip().to_canonical()).map_err(|_| AllocError)?;
-        names.add(address, name.copy()?)?;
-        is_found = true;
-    }
-    Ok(is_found)
 }

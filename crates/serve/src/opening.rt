@@ -17,7 +17,7 @@ use crate::name_servers::{NameServers, keep_name_server};
 use crate::orders::{Orders, read_orders};
 use crate::repeating::{repeat_orders, repeats};
 use crate::reports::tell_reports;
-use crate::rules::{RulePaths, When, read_policy, read_texts};
+use crate::rules::{PolicyDesk, RulePaths, When, read_policy, read_texts};
 use crate::searches::hear_searches;
 use crate::seekers::hear_seekers;
 use crate::servers::connect;
@@ -29,7 +29,6 @@ use crate::workers::{RULES_STACK_SIZE, STACK_SIZE};
 use gate_board::{Board, Gate};
 use gateway_core::{Config, Engine, Event, Policy};
 use pv_name::Name;
-use rule_desk::Desk;
 use serve_state::{FirstNumber, Notice, Try};
 use session_worker::{CoreEnd, serve_core};
 use std::alloc::Global;
@@ -54,7 +53,7 @@ pub fn open<
     files: RulePaths,
     options: Options,
 ) -> Result<u8, ServeFault> {
-    let mut desk = Desk::with_syntax(alloc, files.syntax);
+    let mut desk = PolicyDesk::new(alloc, files.syntax);
     let teller = Teller::AtStart(options.log);
     let texts = read_texts(&rt, alloc, &files, When::AtStart, teller)?;
     let checks_hosts = options.scale.checks_hosts;

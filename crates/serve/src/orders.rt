@@ -3,11 +3,10 @@ use crate::fault::ServeFault;
 use crate::hub::{AsHub, Hub};
 use crate::logging::{LogBook, Teller};
 use crate::machine::{Machine, System};
-use crate::rules::{RulePaths, When, read_policy, read_texts};
+use crate::rules::{PolicyDesk, RulePaths, When, read_policy, read_texts};
 use crate::servers::connect;
 use crate::status;
 use gateway_core::Event;
-use rule_desk::Desk;
 use serve_state::{Notice, OperatorOrder, OrderLine, OrderLines, Try};
 use std::alloc::Global;
 use std::io::ErrorKind;
@@ -21,7 +20,7 @@ const PIECE_SIZE: usize = 256;
 /// What orders work on: the desk that reads rule files, and their paths.
 #[derive(Drop)]
 pub struct Orders {
-    pub desk: Desk,
+    pub desk: PolicyDesk,
     pub files: RulePaths,
 }
 
@@ -39,7 +38,7 @@ pub fn read_orders<
 fn perform_lines<
     R: Machine + System + Threads + Net<Listener = TcpListener, Stream = TcpStream> + 'static,
     H: AsHub + Send + Sync + Drop + 'static,
->(rt: R, hub: &Arc<H, Global>, desk: &mut Desk, files: &RulePaths) -> u8 {
+>(rt: R, hub: &Arc<H, Global>, desk: &mut PolicyDesk, files: &RulePaths) -> u8 {
     let mut lines = OrderLines::new(hub.hub().alloc);
     let mut piece = [0u8; PIECE_SIZE];
     for _ in rt.forever() {
@@ -68,7 +67,7 @@ fn perform_piece<
 >(
     rt: R,
     hub: &Arc<H, Global>,
-    desk: &mut Desk,
+    desk: &mut PolicyDesk,
     files: &RulePaths,
     lines: &mut OrderLines,
     piece: &[u8],
@@ -91,7 +90,7 @@ fn perform_line<
 >(
     rt: R,
     hub: &Arc<H, Global>,
-    desk: &mut Desk,
+    desk: &mut PolicyDesk,
     files: &RulePaths,
     line: Option<OrderLine>,
 ) -> Option<u8> {
@@ -112,7 +111,7 @@ fn perform<
 >(
     rt: R,
     hub: &Arc<H, Global>,
-    desk: &mut Desk,
+    desk: &mut PolicyDesk,
     files: &RulePaths,
     order: OperatorOrder,
 ) -> Option<u8> {
@@ -141,12 +140,10 @@ pub fn age<R: System, H: AsHub>(rt: R, hub: &H) {
     hub.hub().tell(&rt, Notice::Aged);
 }
 
-fn reload<R: Machine + System + Net, H: AsHub>(
-    rt: R,
-    hub: &H,
-    desk: &mut Desk,
-    files: &RulePaths,
-) -> Option<u8> {
+fn reload<
+    R: Machine + System + Threads + Net<Listener = TcpListener, Stream = TcpStream> + 'static,
+    H: AsHub,
+>(rt: R, hub: &H, desk: &mut PolicyDesk, files: &RulePaths) -> Option<u8> {
     let book: &LogBook = &hub.hub().book;
     let teller = Teller::WhileServing(book);
     let when = When::AtReload {

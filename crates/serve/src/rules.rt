@@ -1,6 +1,6 @@
 //! The rule files.
 use crate::fault::ServeFault;
-use crate::host_names::know_hosts;
+use crate::host_names::{KnownHosts, know_hosts};
 use crate::logging::Teller;
 use crate::machine::{Machine, System, TextFault};
 use gateway_core::Policy;
@@ -9,7 +9,8 @@ use rule_desk::{Desk, DeskFault, Note, PolicyTexts};
 use serve_state::{FileCause, FileReading, FileText, Notice, READINGS, Steady};
 use std::alloc::Global;
 use std::fmt::Write;
-use std::net::Net;
+use std::net::{Net, TcpListener, TcpStream};
+use std::thread::Threads;
 use std::time::Duration;
 use std::{io, thread};
 
@@ -39,6 +40,22 @@ impl RuleTexts {
             rules: self.rules.as_ref().map(|text| text.as_str()),
             groups: self.groups.as_ref().map(|text| text.as_str()),
             access: self.access.as_ref().map(|text| text.as_str()),
+        }
+    }
+}
+
+/// The desk that reads the texts, and what was last known of the hosts that they name.
+#[derive(Drop)]
+pub struct PolicyDesk {
+    desk: Desk,
+    hosts: KnownHosts,
+}
+
+impl PolicyDesk {
+    pub fn new(alloc: Global, syntax: Syntax) -> PolicyDesk {
+        PolicyDesk {
+            desk: Desk::with_syntax(alloc, syntax),
+            hosts: KnownHosts::new(alloc),
         }
     }
 }
@@ -146,25 +163,32 @@ fn refuse_file<R: System>(
 
 /// The policy that the texts say, which knows the hosts that they name where hosts are checked. Where they are refused the
 /// line that says so is printed. What is noted of the rule file is told too.
-pub fn read_policy<R: Machine + System + Net>(
+pub fn read_policy<
+    R: Machine + System + Threads + Net<Listener = TcpListener, Stream = TcpStream> + 'static,
+>(
     rt: &R,
     alloc: Global,
-    desk: &mut Desk,
+    desk: &mut PolicyDesk,
     texts: &RuleTexts,
     checks_hosts: bool,
     teller: Teller<'_>,
 ) -> Result<Policy, ServeFault> {
     let seen = texts.seen();
-    if let Some(note) = seen.rules.and_then(|text| Note::of(text, desk.syntax())) {
+    if let Some(note) = seen
+        .rules
+        .and_then(|text| Note::of(text, desk.desk.syntax()))
+    {
         teller.note(rt, note);
     }
-    match desk.read(&seen) {
+    match desk.desk.read(&seen) {
         Ok(mut policy) => {
-            tell_read(rt, &policy, teller);
-            if checks_hosts && know_hosts(rt, alloc, &mut policy, teller).is_err() {
+            if checks_hosts
+                && know_hosts(*rt, alloc, &mut policy, &mut desk.hosts, teller).is_err()
+            {
                 teller.tell(rt, Notice::OutOfMemory);
                 return Err(ServeFault::OutOfMemory);
             }
+            tell_read(rt, &policy, teller);
             Ok(policy)
         }
         Err(DeskFault::OutOfMemory) => {

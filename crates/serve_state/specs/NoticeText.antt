@@ -69,6 +69,9 @@ notice_text notice.AccessRead = codes "access file read: rights go by user and h
 notice_text (notice.AccessRefused line cause) =
     said (codes "rules refused: access line " ∷ decimal line ∷ codes ": " ∷ access.cause_text cause ∷ [])
 notice_text (notice.HostUnknown host) = said (codes "host " ∷ host.now ∷ codes " has no address: no client counts as it" ∷ [])
+notice_text (notice.HostKept host) = said (codes "host " ∷ host.now ∷ codes " has no address now: it keeps those that it had" ∷ [])
+notice_text (notice.HostsUnanswered hosts) =
+    said (decimal hosts ∷ codes " of the hosts got no answer in time: each keeps the addresses that it had" ∷ [])
 notice_text (notice.FileUnread path) = said (codes "rules refused: " ∷ path.now ∷ codes " can't be read" ∷ [])
 notice_text (notice.FileRefused path cause) = said (codes "rules refused: " ∷ path.now ∷ codes " " ∷ file_cause_text cause ∷ [])
 notice_text notice.Reloaded = codes "reload: the new rules hold"

@@ -121,6 +121,10 @@ pub enum Notice<'a> {
     AccessRefused(usize, AccessCause),
     /// A file names this host, and the system has no address of it.
     HostUnknown(&'a str),
+    /// The same, where it had one before.
+    HostKept(&'a str),
+    /// For so many hosts that files name the system gave no answer in time.
+    HostsUnanswered(usize),
     FileUnread(&'a str),
     /// The file at this path isn't taken, for this reason.
     FileRefused(&'a str, FileCause),
@@ -188,6 +192,8 @@ impl<'a> Notice<'a> {
             | Notice::GroupsRefused(_, _)
             | Notice::AccessRefused(_, _)
             | Notice::HostUnknown(_)
+            | Notice::HostKept(_)
+            | Notice::HostsUnanswered(_)
             | Notice::FileUnread(_)
             | Notice::FileRefused(_, _)
             | Notice::LimitMet(_, _)
@@ -288,6 +294,8 @@ impl<'a> Notice<'a> {
             Notice::AccessRead => 40,
             Notice::AccessRefused(_, _) => 41,
             Notice::HostUnknown(_) => 42,
+            Notice::HostKept(_) => 43,
+            Notice::HostsUnanswered(_) => 44,
         }
     }
 }
@@ -315,6 +323,14 @@ impl<'a> fmt::Display for Notice<'a> {
             Notice::HostUnknown(host) => {
                 write!(f, "host {host} has no address: no client counts as it")
             }
+            Notice::HostKept(host) => write!(
+                f,
+                "host {host} has no address now: it keeps those that it had"
+            ),
+            Notice::HostsUnanswered(hosts) => write!(
+                f,
+                "{hosts} of the hosts got no answer in time: each keeps the addresses that it had"
+            ),
             Notice::FileUnread(path) => write!(f, "rules refused: {path} can't be read"),
             Notice::FileRefused(path, cause) => write!(f, "rules refused: {path} {cause}"),
             Notice::LimitMet(limit, times) => {
