@@ -22,7 +22,7 @@ AGAIN = 3  # stories that are told again; where more failed it wasn't the machin
 sys.dont_write_bytecode = True
 sys.path.insert(0, os.path.join(ROOT, ".ci"))
 import served  # noqa: E402  (sets the path to examples/)
-from served import (access, alive, asking, beacons, chain, crowds, damage, found, holding, idlers, keeping, lines, listening, name_servers, naming, packaged, repeating, reports, rules, samples, seeking, servers,  # noqa: E402
+from served import (access, alive, asking, beacons, chain, crowds, damage, found, holding, idlers, keeping, lines, listening, name_servers, naming, packaged, repeating, reports, resolving, rules, samples, seeking, servers,  # noqa: E402
                     standing, values, waiting)
 from served.room import Room  # noqa: E402
 
@@ -31,7 +31,7 @@ STORIES = [crowds.thousand, crowds.never_reading, crowds.quitting, idlers.announ
            damage.damaged, repeating.reconnecting, repeating.sweeping, samples.examples, crowds.descriptors,
            beacons.beaconing, beacons.hearing, name_servers.name_serving_lost, name_servers.name_serving_rubbish, name_servers.name_serving_mute, name_servers.name_serving,
            name_servers.name_serving_beside, name_servers.name_serving_outside, name_servers.name_serving_nowhere, name_servers.name_serving_gateway, listening.listening, naming.naming, naming.naming_searched, seeking.seeking, seeking.seeking_lost, seeking.seeking_in_vain, servers.losing, servers.several, servers.unanswered, values.creating, values.reading, values.watching,
-           values.writing, rules.rights, rules.hosts, access.granting, access.refusing, access.checking_hosts, access.checking_mapped_hosts, access.looking_up_hosts, lines.ordering, lines.starting, lines.remembering,
+           values.writing, rules.rights, rules.hosts, access.granting, access.refusing, access.checking_hosts, access.checking_mapped_hosts, access.checking_written_hosts, access.looking_up_hosts, resolving.waiting_for_hosts, resolving.keeping_hosts, resolving.finding_hosts, lines.ordering, lines.starting, lines.remembering,
            chain.chained, packaged.packaged, repeating.unrepeated, repeating.levels, reports.reporting,
            reports.reporting_nowhere, waiting.waiting_too_much, waiting.waiting_little, waiting.waiting_in_all, standing.unread, standing.unwritable, standing.deep,
            standing.files, standing.endless, standing.seats, standing.kept, standing.limited, standing.numbered, standing.again, standing.roomy, asking.backing_off, asking.asking,

@@ -146,17 +146,46 @@ def checking_hosts(room):
         room.equal(f"{options}: quit", server.quit(), 0)
 
 
+def at_ipv6(room, access, *options):
+    """A gateway whose LISTEN is all interfaces of IPv6, at an address of IPv4."""
+    up = room.upstream(variable("M", values=[1]))
+    names = NameServer(room, lambda cid, name: reply(cid, up.address[1], SENDER))
+    port, files = free_port(), ["--access", room.file("access", access), "--name-server", text_of(names.address)]
+    server = Server(room.words(f"[::]:{port}", [], RULES, options=[*files, *options]))
+    room.started.append(server.kill)
+    room.eventually(f"{options}: it listens", lambda: server.printed)
+    server.address = ("127.0.0.1", port)
+    return server
+
+
 def checking_mapped_hosts(room):
     """A client of IPv4 at a LISTEN of IPv6 has the address that it has at one of IPv4, where hosts are checked."""
-    up, access = room.upstream(variable("M", values=[1])), ACCESS.replace("desk1, DESK3", "127.0.0.1")
-    names = NameServer(room, lambda cid, name: reply(cid, up.address[1], SENDER))
-    for options, wanted in ((["--check-host"], 3), ([], 1)):
-        port, files = free_port(), ["--access", room.file("access", access), "--name-server", text_of(names.address)]
-        server = Server(room.words(f"[::]:{port}", [], RULES, options=[*files, *options]))
-        room.started.append(server.kill)
-        room.eventually(f"{options}: it listens", lambda: server.printed)
-        server.address = ("127.0.0.1", port)
+    access = ACCESS.replace("desk1, DESK3", "127.0.0.1")
+    for options, wanted in ((("--check-host",), 3), ((), 1)):
+        server = at_ipv6(room, access, *options)
         room.equal(f"{options}: rights", rights(room.client(server, "desk9", user="anna"), "M"), [wanted])
+        room.equal(f"{options}: quit", server.quit(), 0)
+
+
+def checking_written_hosts(room):
+    """With --check-host an address is found however it is written; else hosts are texts."""
+    access, elsewhere = (ACCESS.replace("desk1, DESK3", it) for it in ("::FFFF:127.0.0.1, 0:0:0:0:0:0:0:1", "10.0.0.8"))
+    for options, wanted in ((("--check-host",), 3), ((), 1)):
+        server = at_ipv6(room, access, *options)
+        four = room.client(server, "desk9", user="anna")
+        room.equal(f"{options}: rights by IPv4", rights(four, "M"), [wanted])
+        server.address = ("::1", server.address[1])
+        six = room.client(server, "desk9", user="anna")
+        room.equal(f"{options}: rights by IPv6", six.try_open("M").rights, wanted)
+        room.file("access", elsewhere)
+        room.file("rules", RULES + "M DENY FROM ::ffff:7f00:1, 0::1\n")
+        server.write("reload")
+        if options:
+            room.check("both are refused", all(it.take(lambda it: it.command == ca.SERVER_DISCONN) and it.try_open("M") is None for it in (four, six)))
+        else:
+            room.eventually("the reload is logged", lambda: server.has_logged("reload"))
+            room.check("nobody is refused", all(it.try_open("M") is not None for it in (four, six)))
+        room.check(f"{options}: no name is looked for", not server.has_logged("has no address"))
         room.equal(f"{options}: quit", server.quit(), 0)
 
 
