@@ -1,3 +1,4 @@
+-- Which numbers of clients are taken, and which of them is the least that is free.
 use Rattle.std.proofs.Common.{◌≡◌, ℕ, zero, suc, ◌+◌, ◌<◌, ◌≤◌, List, [], ◌∷◌, Bool, true, false, cond, eqb, ltb, not, ◌||◌, Some, None, length, get_or, set, replicate, refl, sym, ap, ◌∙◌, add-one, get_or-set_other, arith, ltb-false, eqb-true, ne_eqb}
 use Rattle.std.specs.List.{list_any, position, position_or_len}
 use Rattle.std.proofs.lemmas.List.{length-set, length-replicate, get_or-replicate}
