@@ -127,6 +127,9 @@ fn next_back<R: System>(rt: R, beacons: &Beacons, pause: u64) -> Option<bool> {
 // One for each address on which clients are served, which it comes from: so they know its host.
 fn send_beacon(hub: &Hub, beacons: &Beacons, id: u32) {
     for place in 0..hub.sockets.count() {
+        if hub.sockets.speaker(place) != place {
+            continue;
+        }
         let entrance = hub.sockets.entrance(place);
         let text = beacon_text(entrance.address.port(), id);
         for target in &beacons.targets {
