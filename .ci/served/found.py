@@ -217,3 +217,20 @@ def facing(room):
     room.equal("nothing is found", [it for server in servers for it in server.logged if "upstream" in it and "watched" not in it], [])
     for server in servers:
         room.equal("quit", server.quit(), 0)
+
+
+def hiding(room):
+    """A server that can't be reached, and always answers first, doesn't hide one that has the name too."""
+    up, nowhere = room.upstream(variable("A", values=[1])), free_port()
+    quick = Answerer(room, lambda cid, name: [reply(cid, nowhere)])
+
+    def slowly(cid, name):
+        time.sleep(0.1)
+        return [reply(cid, up.address[1])]
+    slow = Answerer(room, slowly)
+    server = room.server(options=searching_at(quick, slow))
+    client = room.client(server)
+    channel = client.open("A", 20)
+    room.equal("it is found at the other", channel and client.values(channel), [1])
+    room.check("the one that answers first is told of", server.has_logged("WARN", f"127.0.0.1:{nowhere}", "can't be reached"), server.logged)
+    room.equal("quit", server.quit(), 0)

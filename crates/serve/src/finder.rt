@@ -52,7 +52,7 @@ struct Finder {
     waiting: VecDeque<u32>,
     // So many connections to servers that were found are being made.
     made: u32,
-    // Who answered an ask first.
+    // Who answered an ask first, of those that the book took.
     firsts: HashMap<u32, Address>,
     clashes: Clashes,
     // The hour in which it was told that there are as many servers as may be.
@@ -103,21 +103,19 @@ impl Finder {
     }
 
     // The other server that answered this ask before.
-    fn other_first(&mut self, cid: u32, address: Address) -> Result<Option<Address>, NoMemory> {
-        if let Some(first) = self.firsts.get(&cid) {
-            return Ok(if *first == address {
-                None
-            } else {
-                Some(*first)
-            });
+    fn other_first(&self, cid: u32, address: Address) -> Option<Address> {
+        match self.firsts.get(&cid) {
+            Some(first) if *first != address => Some(*first),
+            _ => None,
         }
+    }
+
+    // The book took an answer to this ask. Where memory is refused, it isn't noted.
+    fn note_first(&mut self, cid: u32, address: Address) {
         if self.firsts.len() >= FIRST_LIMIT {
             self.firsts.clear();
         }
-        match self.firsts.insert(cid, address) {
-            Ok(_) => Ok(None),
-            Err(_) => Err(AllocError),
-        }
+        let _ = self.firsts.insert(cid, address);
     }
 
     // A connection is being made.
@@ -263,21 +261,26 @@ fn hand_in<R: System, H: AsHub>(rt: R, hub: &H, name: Name, number: u32) {
     }
 }
 
-// The first that answers an ask has the name, where that is missing still.
+// The first that answers an ask has the name, where that is missing still; but one that is held off, or for which no name more
+// waits, hides no other.
 fn hear<R: System, H: AsHub>(
     rt: R,
     hub: &H,
     finder: &mut Finder,
     told: Told,
 ) -> Result<(), NoMemory> {
-    if let Some(first) = finder.other_first(told.cid, told.address)? {
+    if let Some(first) = finder.other_first(told.cid, told.address) {
         tell_of_two(rt, hub.hub(), finder, &told, first);
         return Ok(());
     }
     if !matches!(hub.gate().is_missing(&rt, &told.name), Ok(true)) {
         return Ok(());
     }
-    match hear_of(rt, hub.hub(), finder, &told)? {
+    let heard = hear_of(rt, hub.hub(), finder, &told)?;
+    if is_taken(heard) {
+        finder.note_first(told.cid, told.address);
+    }
+    match heard {
         Heard::Find(number) => hand_in(rt, hub, told.name, number),
         Heard::Connect(number) => {
             if finder.waiting.push_back(number).is_err() {
@@ -290,6 +293,14 @@ fn hear<R: System, H: AsHub>(
         Heard::Waits(_) | Heard::HeldOff | Heard::Dropped => (),
     }
     Ok(())
+}
+
+// Whether the name is found, or waits.
+fn is_taken(heard: Heard) -> bool {
+    match heard {
+        Heard::Find(_) | Heard::Connect(_) | Heard::Waits(_) => true,
+        Heard::Full | Heard::HeldOff | Heard::Dropped => false,
+    }
 }
 
 // Where there is no number, servers that can't be reached make room, once a look.
