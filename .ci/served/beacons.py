@@ -6,7 +6,8 @@ import time
 
 import ca_wire as ca
 from served.asking import Hearer
-from served.room import text_of, variable
+from served.found import Answerer, reply
+from served.room import free_port, text_of, variable
 
 BEACON = 13
 CONFIRM = 17
@@ -85,6 +86,30 @@ def beaconing(room):
     time.sleep(1)
     room.check("they aren't small twice in a minute", not near.has_small(count - 1), near.gaps())
     room.equal("IDs go on", [struct.unpack(">I", it[8:12])[0] for _, it, _ in near.heard], list(range(len(near.heard))))
+    room.equal("quit", server.quit(), 0)
+
+
+def beaconing_found(room):
+    """A server that was left, as nobody needed it, doesn't come back when it is found again; one that is found elsewhere does."""
+    ups, ear = [room.upstream(variable(name, values=[value])) for name, value in (("A", 1), ("B", 2))], Ear(room)
+    place = Answerer(room, lambda cid, name: [reply(cid, up.address[1]) for up in ups if name in up.variables])
+    server = room.server(options=("--search", text_of(place.address), "--idle", "2", "--forget", "1", "--beacons", text_of(ear.address)))
+    client, other = room.client(server), room.client(server)
+    for it, name, value in ((client, "A", 1), (other, "B", 2)):
+        room.equal(name, it.values(it.open(name)), [value])
+    other.close()
+    room.eventually("one is left", lambda: server.has_logged("INFO", "nobody wanted a variable of it for 2 s"))
+    room.eventually("gaps are long", lambda: ear.gaps()[-1:] and ear.gaps()[-1] > 1000)
+    count = len(ear.heard)
+    room.equal("it is found again", client.values(client.open("B")), [2])
+    time.sleep(1)
+    room.check("that changes nothing", not ear.has_small(count - 1), ear.gaps())
+    ups[0].stop()
+    room.eventually("the other is lost", lambda: server.has_logged("WARN", "found by search, lost"))
+    ups[0].address = ("127.0.0.1", free_port())
+    ups[0].start()
+    room.equal("it is found at another port", client.values(client.open("A")), [1])
+    room.eventually("gaps are small again", lambda: ear.has_small(count - 1))
     room.equal("quit", server.quit(), 0)
 
 

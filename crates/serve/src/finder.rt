@@ -386,6 +386,7 @@ fn leave_idle<R: System, H: AsHub>(rt: R, hub: &H, finder: &mut Finder) {
         };
         if finder.book.look(number, links) {
             let dest = Dest::Upstream(number);
+            hub.hub().leave_server(&rt, number);
             hub.hub().cut(&rt, dest, Cut::Idle(finder.idle));
             shut(rt, hub.hub(), dest);
         }

@@ -286,7 +286,7 @@ impl Hub {
             return;
         }
         if let Some(beacons) = &self.beacons {
-            beacons.note_names(rt, number);
+            beacons.note_names(rt, names.as_slice(), number);
         }
         if self.options.back_off {
             self.wanted.lock(rt).note_found(names);
@@ -376,6 +376,20 @@ impl Hub {
             beacons.note_connected(rt, number);
         }
         self.note_server(rt, number, Came::Connected);
+    }
+
+    /// The server of this number is lost, and its names are looked for.
+    pub fn note_lost<R: Wait>(&self, rt: &R, number: u32) {
+        if let Some(beacons) = &self.beacons {
+            beacons.note_lost(rt, number);
+        }
+    }
+
+    /// The server of this number is left, as nobody wants its names.
+    pub fn leave_server<R: Wait>(&self, rt: &R, number: u32) {
+        if let Some(beacons) = &self.beacons {
+            beacons.leave(rt, number);
+        }
     }
 
     /// The server of this number is forgotten.
