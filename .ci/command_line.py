@@ -187,6 +187,7 @@ SERVE_REFUSALS = [
     ("0.0.0.0:5998 --search 127.0.0.1:5998", b"", 2),
     ("127.0.0.1:5998 --name-server 127.0.0.1:5998", b"", 2),
     ("0.0.0.0:5998 --name-server 127.0.0.1:5998", b"", 2),
+    *((f"127.0.0.1:0 127.0.0.1:1 --ignore{value}", b"", 2) for value in ("", " 10.0.0.1", " 10.0.0.0/33", " 10.0.0.1/8", " ten/8", " 10.0.0.0/8 --ignore 10/8")),
     ("192.0.2.1:0 127.0.0.1:1 --rules no-verb", b"line 3: NoVerb\n", 1),
     ("192.0.2.1:0 127.0.0.1:1 --rules rules", b"", 3),
 ]
@@ -221,6 +222,7 @@ SERVE_OPTIONS = [
     "--search 127.0.0.1:2", "--search 127.255.255.255:2 --search 127.0.0.1:2 --from 10.0.0.0/8 --from 127.0.0.1/32 --servers 2 --idle 86400",
     "localhost:1", "nowhere.invalid:1", "--search localhost:2", "localhost:3 --search 127.0.0.1:2", "--search 127.0.0.1:2 --hear-beacons", "--beacons 127.0.0.1:2", "--beacons 127.255.255.255:2 --beacons 127.0.0.1:3 --site",
     "--name-server 127.0.0.1:2", "--name-server nowhere.invalid:1 --from 10.0.0.0/8 --idle 1 --hear-beacons", "--name-server [::1]:2 --search localhost:3", "--site" + " --name-server localhost:2" * 16,
+    "--ignore 10.0.0.1/32 --ignore 2001:db8::/32", "--ignore 0.0.0.0/0 --search 127.0.0.1:2",
     "--servers 17" + " 127.0.0.1:1" * 16, "--site" + " 127.0.0.1:1" * 40,
 ]
 

@@ -35,7 +35,7 @@ STORIES = [crowds.thousand, crowds.never_reading, crowds.quitting, idlers.announ
            chain.chained, packaged.packaged, repeating.unrepeated, repeating.levels, reports.reporting,
            reports.reporting_nowhere, waiting.waiting_too_much, waiting.waiting_little, waiting.waiting_in_all, standing.unread, standing.unwritable, standing.deep,
            standing.files, standing.endless, standing.seats, standing.kept, standing.limited, standing.numbered, standing.again, standing.roomy, asking.backing_off, asking.asking,
-           asking.leading, asking.answering, asking.clashing, asking.own_port, found.searching, found.beside, found.idle, found.broadcasting, found.disbelieved, found.mute, found.overfull, found.hiding, found.facing, holding.holding, holding.leaving_held, keeping.padded, keeping.counted, keeping.shared, alive.stopped, alive.replacing, alive.vanishing,
+           asking.leading, asking.answering, asking.clashing, asking.own_port, found.searching, found.beside, found.idle, found.broadcasting, found.disbelieved, found.mute, found.overfull, found.hiding, found.facing, found.ignoring, holding.holding, holding.leaving_held, keeping.padded, keeping.counted, keeping.shared, alive.stopped, alive.replacing, alive.vanishing,
            alive.unwatched, alive.aging, alive.late, alive.punctual, alive.many_hosts, alive.scaled, alive.promised]
 
 

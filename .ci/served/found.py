@@ -234,3 +234,23 @@ def hiding(room):
     room.equal("it is found at the other", channel and client.values(channel), [1])
     room.check("the one that answers first is told of", server.has_logged("WARN", f"127.0.0.1:{nowhere}", "can't be reached"), server.logged)
     room.equal("quit", server.quit(), 0)
+
+
+def ignoring(room):
+    """Two gateways that hear each other's broadcasts remember for good what the other asks for; one that is ignored isn't heard."""
+    for options, remembered in (((), (2, 1)), (("--ignore", "10.0.0.0/8", "--ignore", "127.0.0.1/32", "--forget", "1"), (1, 0))):
+        ports, reports = [free_port(), free_port()], [("127.0.0.1", free_port()) for _ in range(2)]
+        places = [word for it in ports for word in ("--search", f"127.255.255.255:{it}")]
+        servers = [gateway(room, f"0.0.0.0:{port}", "--site", *places, *options, "--status", text_of(at)) for port, at in zip(ports, reports)]
+        servers[0].address = ("127.0.0.1", ports[0])
+        client = room.client(servers[0], source="127.0.0.2")
+
+        def counts():
+            return tuple(status(server, at)["names_remembered"] for server, at in zip(servers, reports))
+        seen = []
+        room.eventually(f"what is remembered with {options}", lambda: client.search("DEAD") or seen.append(counts()) or seen[-1] == remembered)
+        if options:
+            room.eventually("nothing is once nobody looks for it", lambda: seen.append(counts()) or seen[-1] == (0, 0))
+            room.check("the other one never remembered anything", not any(other for _, other in seen), seen)
+        for server in servers:
+            room.equal("quit", server.quit(), 0)

@@ -124,7 +124,7 @@ pub fn read_discovery<R: Net>(
             .push(address)
             .map_err(|_| ProgramFault::OutOfMemory)?;
     }
-    let nets = read_nets(alloc, arguments)?;
+    let nets = read_nets(alloc, arguments.nets.as_slice())?;
     let idle = read_idle(alloc, arguments.idle)?;
     if !finds_servers(arguments) {
         return Ok(None);
@@ -228,9 +228,10 @@ fn is_listen(address: SocketAddr, listen: SocketAddr) -> bool {
     is_own && address.port() == listen.port()
 }
 
-fn read_nets(alloc: Global, arguments: &Serve<'_>) -> Result<Vec<HostNet>, ProgramFault> {
+/// The nets that these texts write.
+pub fn read_nets(alloc: Global, texts: &[&str]) -> Result<Vec<HostNet>, ProgramFault> {
     let mut nets = Vec::new(alloc);
-    for text in arguments.nets.as_slice() {
+    for text in texts {
         match HostNet::read(text.as_bytes()) {
             Ok(net) => nets.push(net).map_err(|_| ProgramFault::OutOfMemory)?,
             Err(fault) => return Err(ProgramFault::BadNet(String::from_str(alloc, *text)?, fault)),

@@ -1,7 +1,7 @@
 //! The program `serve`: what its command line says.
 use crate::addresses::{
     check_servers, finds_servers, read_address, read_beacons, read_discovery, read_more,
-    read_name_servers, read_servers,
+    read_name_servers, read_nets, read_servers,
 };
 use crate::arguments::Serve;
 use crate::fault::ProgramFault;
@@ -62,6 +62,7 @@ pub fn read_site<R: Net>(
     let addresses = Addresses {
         listen,
         more,
+        ignored: read_nets(alloc, arguments.ignored.as_slice())?,
         servers,
         discovery,
         name_servers: read_name_servers(alloc, arguments, listen)?,

@@ -165,6 +165,9 @@ With --listen clients find it on ADDR too: they connect there, and searches are 
 port. A socket on one address hears no broadcasts; so where LISTEN is one, --listen says the broadcast address of
 its net, with the same port. For each it prints: listening ADDR
 
+With --ignore searches by UDP from these nets aren't heard. Two gateways that hear each other's searches would otherwise
+ask each other for ever for a name that somebody looked for once and nobody has.
+
 An UPSTREAM's host may be named, as ioc1.lab:5064. It is looked up each time that it is connected to; with --search
 or --name-server that is done at the start alone, as for --search, since a server that moved is found.
 

@@ -65,6 +65,7 @@ pub fn receive<R: System, H: AsHub>(rt: R, hub: &H, place: usize, buffer: Vec<u8
                 }
                 match hub.hub().servers.number_of(&rt, &from) {
                     Some(server) => hear_server(rt, hub, &mut clashes, datagram, server),
+                    None if hub.hub().is_ignored(&from) => (),
                     None => {
                         let from = Sender {
                             address: from,

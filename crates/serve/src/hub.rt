@@ -1,5 +1,6 @@
 //! What all threads share.
 use crate::beacons::Beacons;
+use crate::clients::host_number;
 use crate::finding::{Came, Finding, address_of};
 use crate::late::LateInbox;
 use crate::line::WatchedStream;
@@ -18,7 +19,7 @@ use serve_state::{
     Cut, FirstNumber, HostSeats, MostInAll, MostWaiting, Notice, Outages, Patience, Roster, Scale,
     Seconds, SentAsks,
 };
-use server_book::Address;
+use server_book::{Address, Net as HostNet};
 use std::alloc::Global;
 use std::collections::VecDeque;
 use std::mem::replace;
@@ -159,6 +160,8 @@ pub struct Hub {
     pub sockets: Sockets,
     /// LISTEN, on which clients are served, where it isn't the only such address too.
     pub listen: SocketAddr,
+    /// Searches by datagrams from these nets aren't heard.
+    pub ignored: Vec<HostNet>,
     pub servers: Upstreams,
     /// How other servers are found, where they are searched for.
     pub finding: Option<Finding>,
@@ -197,6 +200,7 @@ impl Hub {
     pub fn new(
         alloc: Global,
         sockets: Sockets,
+        ignored: Vec<HostNet>,
         servers: Upstreams,
         finding: Option<Finding>,
         name_servers: NameServers,
@@ -213,6 +217,7 @@ impl Hub {
             alloc,
             listen: sockets.first.address,
             sockets,
+            ignored,
             servers,
             finding,
             name_servers,
@@ -339,6 +344,12 @@ impl Hub {
             }
         }
         false
+    }
+
+    /// Whether searches from there aren't heard.
+    pub fn is_ignored(&self, from: &SocketAddr) -> bool {
+        let host = host_number(from);
+        self.ignored.iter().any(|net| net.has(host))
     }
 
     /// The number of a server that was found by search.

@@ -84,6 +84,7 @@ fn rest<R: Machine + System>(
     let Addresses {
         listen: _,
         more: _,
+        ignored,
         servers,
         discovery,
         name_servers,
@@ -101,6 +102,7 @@ fn rest<R: Machine + System>(
     Ok(Hub::new(
         alloc,
         sockets,
+        ignored,
         Upstreams::new(alloc, servers)?,
         finding,
         NameServers::new(alloc, name_servers)?,
