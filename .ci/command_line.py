@@ -192,6 +192,18 @@ SERVE_REFUSALS = [
     ("192.0.2.1:0 127.0.0.1:1 --rules rules", b"", 3),
 ]
 
+# Arguments of `serve` that are refused, and what is said of them.
+REFUSED = [
+    ("127.0.0.1:5998 127.0.0.1:1 127.0.0.1:5998", "the UPSTREAM is the gateway itself: 127.0.0.1:5998"),
+    ("0.0.0.0:5998 127.0.0.1:5998", "the UPSTREAM is the gateway itself: 127.0.0.1:5998"),
+    ("127.0.0.1:5998 127.0.0.1:5999 --listen 127.0.0.1:5999", "the UPSTREAM is the gateway itself: 127.0.0.1:5999"),
+    ("127.0.0.1:5998 localhost:5998 --search 127.0.0.1:1", "the UPSTREAM is the gateway itself: localhost:5998"),
+    ("127.0.0.1:5998 --search 127.0.0.1:5998", "the address of --search is the gateway's own: 127.0.0.1:5998"),
+    ("127.0.0.1:5998 --listen 127.0.0.2:5998 --search 127.0.0.2:5998", "the address of --search is the gateway's own: 127.0.0.2:5998"),
+    ("127.0.0.1:5998 --listen 127.0.0.2:5998 --name-server 127.0.0.2:5998", "the address of --name-server is the gateway's own: 127.0.0.2:5998"),
+    ("127.0.0.1:5998 127.0.0.1:1 --ignore 10.0.0.1/8", "the net is bad, as 10.0.0.0/8 is good: 10.0.0.1/8: bits are set behind those of the net"),
+]
+
 # Arguments that have a rule file read, orders, and the lines of which a note is written to standard error. It changes
 # nothing else of what is printed, as the runs above show.
 NOTES = [
@@ -365,6 +377,16 @@ def said():
         yield ran.stderr == wanted
 
 
+def refused():
+    """What is said of arguments that are refused."""
+    for line, why in REFUSED:
+        ran = run(["serve", *line.split()], stdout=subprocess.PIPE)
+        wanted = f"pvgate: {why}\n".encode()
+        if ran.stderr != wanted:
+            print(f"serve {line}: told {ran.stderr!r}, not {wanted!r}")
+        yield told(f"serve {line}", ran, b"", 2) and ran.stderr == wanted
+
+
 def helps():
     """Help goes to standard output, and names what it helps with."""
     for words, word in ((["--help"], b"check-rules"), (["replay", "--help"], b"--plain"), (["check-rules", "--help"], b"--groups"), (["serve", "--help"], b"UPSTREAM")):
@@ -441,7 +463,7 @@ def main():
                 file.write(text)
         cases = [*checks(), *replays(), *serve_refusals(), *others()]
         done = [told(label, run(words, stdout=subprocess.PIPE, **streams), printed, status) for label, words, streams, printed, status in cases]
-        done += [*full_streams(), *serving(), *options(), *said(), *helps(), *notes(), *example_rules(root), *examples(root), *numbers()]
+        done += [*full_streams(), *serving(), *options(), *said(), *refused(), *helps(), *notes(), *example_rules(root), *examples(root), *numbers()]
         os.chdir(root)
     print(f"command lines: {sum(done)} passed, {len(done) - sum(done)} failed")
     return 0 if all(done) else 1

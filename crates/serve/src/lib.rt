@@ -64,6 +64,7 @@ pub use log::Level;
 pub use machine::{Machine, System};
 pub use opening::open;
 pub use rules::RulePaths;
+pub use sockets::is_broadcast;
 pub use serve_state::{
     CLIENTS, FirstNumber, HostSeats, MOST_CLIENTS, MOST_NAMES, MOST_SERVERS, MostInAll,
     MostWaiting, Patience, SERVERS, Scale, Seconds, read_level, read_up_to,
