@@ -117,7 +117,7 @@ class Repeater:
     """Stands in for the repeater of this host; where there is one already, beacons are given to that."""
 
     def __init__(self, room):
-        self.clients = []
+        self.clients, self.asked = [], 0
         self.socket = socket.socket(socket.AF_INET, socket.SOCK_DGRAM)
         try:
             self.socket.bind(("127.0.0.1", REPEATER))
@@ -126,14 +126,24 @@ class Repeater:
             self.clients.append(("127.0.0.1", REPEATER))
         room.started.append(self.socket.close)
 
+    def stop(self):
+        try:
+            self.socket.shutdown(socket.SHUT_RDWR)  # which wakes whoever receives there
+        except OSError:
+            pass
+        self.socket.close()
+
     def confirm(self):
         while True:
             try:
                 datagram, sender = self.socket.recvfrom(1 << 16)
             except OSError:
                 return
+            if not sender or not sender[1]:
+                return
             if not datagram:
-                self.clients.append(sender)
+                self.asked += 1
+                self.clients += [sender] * (sender not in self.clients)
                 self.socket.sendto(struct.pack(">HHHHII", CONFIRM, 0, 0, 0, 0, 0x7F000001), sender)
 
     def tell(self, port, number, host=0x0A000007):
@@ -166,5 +176,28 @@ def hearing(room):
         lost = len(hearer.times("A"))
         repeater.tell(5064, number, host)
         room.equal(f"beacon {number}", room.wait(lambda: len(hearer.times("A")) > lost, 2), news)
-    room.equal("the repeater is asked once", len(repeater.clients), 1)
+    if repeater.asked:
+        leaving_repeater(room, repeater, hearer)
     room.equal("quit", server.quit(), 0)
+
+
+def is_free(port):
+    with socket.socket(socket.AF_INET, socket.SOCK_DGRAM) as own:
+        try:
+            own.bind(("127.0.0.1", port))
+            return True
+        except OSError:
+            return False
+
+
+def leaving_repeater(room, repeater, hearer):
+    """The repeater is asked again each minute: when it has gone beacons are heard in its place, which is let go after another one."""
+    room.equal("it has one client", len(repeater.clients), 1)
+    repeater.stop()
+    room.eventually("its port is taken within a minute", lambda: not is_free(REPEATER), 90)
+    room.wait(lambda: time.monotonic() - hearer.times("A")[-1] > 1)
+    lost = len(hearer.times("A"))
+    with socket.socket(socket.AF_INET, socket.SOCK_DGRAM) as own:
+        own.sendto(struct.pack(">HHHHII", BEACON, 0, ca.MINOR, 5064, 0, 0x0A000007), ("127.0.0.1", REPEATER))
+    room.eventually("a beacon is heard there", lambda: len(hearer.times("A")) > lost, 4)
+    room.eventually("it is let go", lambda: is_free(REPEATER), 90)
