@@ -27,7 +27,7 @@ from served import (access, alive, asking, beacons, chain, crowds, damage, found
 from served.room import Room  # noqa: E402
 
 # The long ones first.
-STORIES = [beacons.hearing, crowds.thousand, crowds.never_reading, crowds.quitting, idlers.announcing, idlers.idling, idlers.coming,
+STORIES = [beacons.hearing, naming.naming_moved, crowds.thousand, crowds.never_reading, crowds.quitting, idlers.announcing, idlers.idling, idlers.coming,
            damage.damaged, repeating.reconnecting, repeating.sweeping, samples.examples, crowds.descriptors,
            beacons.beaconing, beacons.beaconing_found, name_servers.name_serving_lost, name_servers.name_serving_rubbish, name_servers.name_serving_mute, name_servers.name_serving,
            name_servers.name_serving_beside, name_servers.name_serving_outside, name_servers.name_serving_nowhere, name_servers.name_serving_gateway, listening.listening, listening.listening_broadcast, naming.naming, naming.naming_searched, seeking.seeking, seeking.seeking_lost, seeking.seeking_left, seeking.seeking_in_vain, servers.losing, servers.several, servers.unanswered, values.creating, values.reading, values.watching,

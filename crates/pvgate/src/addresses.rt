@@ -86,6 +86,15 @@ fn read_upstream<R: Net>(
     })
 }
 
+// The text, where it names a host.
+fn word_of(alloc: Global, text: &str) -> Result<Option<String>, ProgramFault> {
+    if names_host(text) {
+        Ok(Some(String::from_str(alloc, text)?))
+    } else {
+        Ok(None)
+    }
+}
+
 // An address, or that of a host of this family that is named.
 fn read_host<R: Net>(
     rt: &R,
@@ -288,9 +297,10 @@ pub fn check_servers(
     is_old: bool,
     discovery: &Discovery,
 ) -> Result<(), ProgramFault> {
-    let is_other = |target: &SocketAddr| target.is_ipv4() != is_old;
-    if discovery.targets.iter().any(is_other) {
-        return Err(ProgramFault::TwoFamilies);
+    for target in &discovery.targets {
+        if matches!(target.address, Some(address) if address.is_ipv4() != is_old) {
+            return Err(ProgramFault::TwoFamilies);
+        }
     }
     for place in 0..servers.len() {
         let Some(server) = servers[place].address else {

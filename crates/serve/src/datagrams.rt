@@ -151,7 +151,7 @@ fn is_heard<R: System>(
     address: Address,
 ) -> bool {
     let own = address_of(hub.listen.ip(), hub.listen.port());
-    let nets = finding.discovery.nets.as_slice();
+    let nets = finding.nets.as_slice();
     if is_believed(source, address, nets, own) && !hub.is_own(address) {
         return true;
     }

@@ -13,7 +13,7 @@ use serve_state::{Clashes, Cut, Notice};
 use server_book::{Address, Heard, LAST_LOOK, LOOKS_OF_SECOND, ServerBook, Standing};
 use std::alloc::{AllocError, Global};
 use std::collections::{HashMap, VecDeque};
-use std::net::{Net, TcpListener, TcpStream};
+use std::net::{Net, SocketAddr, TcpListener, TcpStream};
 use std::sync::{Arc, CondvarTimeouts};
 use std::thread::Threads;
 use std::time::Duration;
@@ -68,15 +68,15 @@ struct Finder {
 }
 
 impl Finder {
-    fn new<R: System>(rt: R, hub: &Hub) -> Result<Finder, NoMemory> {
+    fn new(hub: &Hub) -> Result<Finder, NoMemory> {
         let most = hub.options.scale.servers;
         let idle = match &hub.finding {
-            Some(finding) => finding.discovery.idle,
+            Some(finding) => finding.idle,
             None => u32::MAX,
         };
         let mut book = ServerBook::new(hub.alloc, most, idle)?;
         for number in 1..=hub.server_count() {
-            if let Some(address) = hub.servers.at(&rt, number) {
+            if let Some(address) = hub.servers.first_at(number) {
                 book.fix(address_of(address.ip(), address.port()))?;
             }
         }
@@ -178,7 +178,7 @@ pub fn find_servers<
     R: System + Threads + Net<Listener = TcpListener, Stream = TcpStream> + 'static,
     H: AsHub + Send + Sync + Drop + 'static,
 >(rt: R, hub: Arc<H, Global>) {
-    let Ok(mut finder) = Finder::new(rt, hub.hub()) else {
+    let Ok(mut finder) = Finder::new(hub.hub()) else {
         hub.hub().tell(&rt, Notice::OutOfMemory);
         hub.end(&rt, status::FAILED);
         return;
@@ -311,13 +311,16 @@ fn hear_of<R: System>(
     told: &Told,
 ) -> Result<Heard, NoMemory> {
     let look = finder.look();
-    let heard = finder.book.heard(told.address, &told.name, look)?;
+    let Some(address) = known_as(rt, hub, finder, told.address) else {
+        return Ok(Heard::Dropped);
+    };
+    let heard = finder.book.heard(address, &told.name, look)?;
     if heard != Heard::Full || finder.emptied == look {
         return Ok(heard);
     }
     finder.emptied = look;
     forget(rt, hub, finder, 0);
-    finder.book.heard(told.address, &told.name, look)
+    finder.book.heard(address, &told.name, look)
 }
 
 // Two servers have a name: that is told once.
@@ -354,12 +357,33 @@ fn connect_some<
         let Some(number) = finder.waiting.pop_front() else {
             return;
         };
-        let peer = match finder.book.server(number) {
-            Some(server) => socket_address(server.address),
-            None => continue,
+        let Some(peer) = peer_of(rt, hub.hub(), finder, number) else {
+            continue;
         };
         finder.begin_one(number);
         connect_found(rt, hub, number, peer);
+    }
+}
+
+// Where the server is: one of the command line may have moved since the book knows it.
+fn peer_of<R: System>(rt: R, hub: &Hub, finder: &Finder, number: u32) -> Option<SocketAddr> {
+    if number <= finder.fixed {
+        return hub.servers.told(&rt, number);
+    }
+    let server = finder.book.server(number)?;
+    Some(socket_address(server.address))
+}
+
+// The address under which the book has the server that is here. One of the command line that moved stays there under its first
+// one: a server that is at that now isn't known.
+fn known_as<R: System>(rt: R, hub: &Hub, finder: &Finder, address: Address) -> Option<Address> {
+    if let Some(number) = hub.servers.number_of(&rt, &socket_address(address)) {
+        let server = finder.book.server(number)?;
+        return Some(server.address);
+    }
+    match finder.book.number_of(address) {
+        Some(number) if number <= finder.fixed => None,
+        _ => Some(address),
     }
 }
 

@@ -242,7 +242,7 @@ fn hear_beacon<R: System>(
     };
     let address = address_of(ip, port);
     let own = address_of(hub.listen.ip(), hub.listen.port());
-    let nets = finding.discovery.nets.as_slice();
+    let nets = finding.nets.as_slice();
     let is_server = is_believed(address.host, address, nets, own) && !hub.is_own(address);
     if is_server && ear.is_news(address, head.p1)? {
         hub.seek_sooner(&rt);

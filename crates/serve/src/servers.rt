@@ -140,7 +140,7 @@ pub fn connect_found<
     }
     let started = match Arc::try_clone(hub) {
         Ok(hub) => Builder::new()
-            .stack_size(STACK_SIZE)
+            .stack_size(stack_size(hub.hub(), number))
             .spawn(&rt, move || reach_found(rt, hub.hub(), number, peer))
             .is_ok(),
         Err(_) => false,
@@ -156,6 +156,10 @@ fn reach_found<R: System + Net<Listener = TcpListener, Stream = TcpStream>>(
     number: u32,
     peer: SocketAddr,
 ) {
+    let Some(peer) = looked_up(rt, hub, number, peer) else {
+        fail(rt, hub, number, peer, Try::Repeated);
+        return;
+    };
     let patience = Duration::from_secs(FOUND_PATIENCE);
     match TcpStream::connect_timeout(&rt, &peer, patience) {
         Ok(stream) if !is_own_door(hub, peer, &stream) => {
@@ -195,7 +199,7 @@ fn reach<R: System + Net<Listener = TcpListener, Stream = TcpStream>>(
 }
 
 // Where the server is, which is looked up anew where the command line names its host; the row has the address then. None where
-// it isn't known. Where servers are searched for, they are known by their first addresses, and found at others by search.
+// it isn't known.
 fn looked_up<R: System + Net<Listener = TcpListener, Stream = TcpStream>>(
     rt: R,
     hub: &Hub,
@@ -203,8 +207,8 @@ fn looked_up<R: System + Net<Listener = TcpListener, Stream = TcpStream>>(
     peer: SocketAddr,
 ) -> Option<SocketAddr> {
     let word = match hub.servers.word(number) {
-        Some(word) if hub.finding.is_none() => word,
-        _ => return Some(peer),
+        Some(word) => word,
+        None => return Some(peer),
     };
     let Some(found) = look_up(&rt, word, hub.listen.is_ipv4()) else {
         return hub.servers.at(&rt, number);
