@@ -4,6 +4,7 @@ use crate::finding::{Came, Told, address_of, socket_address};
 use crate::hub::{AsHub, Hub};
 use crate::late::note_found;
 use crate::machine::System;
+use crate::pace::Pace;
 use crate::servers::connect_found;
 use crate::status;
 use crate::watcher::shut;
@@ -190,11 +191,7 @@ pub fn find_servers<
         finder.now = milliseconds(rt, finder.now);
         let shared: &H = &hub;
         note_all(rt, shared, &mut finder);
-        for told in told {
-            if hear(rt, shared, &mut finder, told).is_err() {
-                hub.hub().tell(&rt, Notice::OutOfMemory);
-            }
-        }
+        hear_all(rt, shared, &mut finder, told);
         connect_some(rt, &hub, &mut finder);
         look_around(rt, shared, &mut finder);
     }
@@ -215,13 +212,14 @@ fn next_told<R: System>(rt: R, hub: &Hub, finder: &mut Finder) -> Option<Vec<Tol
     Some(inbox.take_told(hub.alloc))
 }
 
-// Takes in what came of connections.
+// Takes in what came of connections. The names that waited for one are handed to the gate one after the other.
 fn note_all<R: System, H: AsHub>(rt: R, hub: &H, finder: &mut Finder) {
+    let mut pace = Pace::begin(rt);
     for _ in rt.forever() {
         let Some((number, came)) = next_came(rt, hub.hub()) else {
             return;
         };
-        note(rt, hub, finder, number, came);
+        note(rt, hub, finder, &mut pace, number, came);
     }
 }
 
@@ -230,13 +228,21 @@ fn next_came<R: System>(rt: R, hub: &Hub) -> Option<(u32, Came)> {
     finding.inbox.lock(&rt).take_came()
 }
 
-fn note<R: System, H: AsHub>(rt: R, hub: &H, finder: &mut Finder, number: u32, came: Came) {
+fn note<R: System, H: AsHub>(
+    rt: R,
+    hub: &H,
+    finder: &mut Finder,
+    pace: &mut Pace,
+    number: u32,
+    came: Came,
+) {
     let look = finder.look();
     match came {
         Came::Connected => {
             finder.end_one(number);
             for name in finder.connected(number) {
                 hand_in(rt, hub, name, number);
+                pace.rest(rt);
             }
         }
         Came::Failed => {
@@ -244,6 +250,16 @@ fn note<R: System, H: AsHub>(rt: R, hub: &H, finder: &mut Finder, number: u32, c
             finder.book.failed(number, look);
         }
         Came::Lost => finder.book.lost(number, look),
+    }
+}
+
+fn hear_all<R: System, H: AsHub>(rt: R, hub: &H, finder: &mut Finder, told: Vec<Told>) {
+    let mut pace = Pace::begin(rt);
+    for told in told {
+        if hear(rt, hub, finder, told).is_err() {
+            hub.hub().tell(&rt, Notice::OutOfMemory);
+        }
+        pace.rest(rt);
     }
 }
 
