@@ -20,8 +20,9 @@
 //! - where servers' beacons are heard, one hears them, and where hosts at which servers are searched for are named, one looks
 //!   them up anew: nobody waits for these;
 //! - one reads the orders of standard input, one performs those that are to be repeated, where any is, one tells of
-//!   the gateway, where it is to, one writes the log, and one for each connection to a server that is being made: these
-//!   stand outside, and nobody waits for them, but for some moments at the end for the log's last lines.
+//!   the gateway, where it is to, one writes the log, one has all servers of the command line connected to at the start, and one
+//!   for each connection to a server that is being made: these stand outside, and nobody waits for them, but for some moments at
+//!   the end for the log's last lines.
 #![tactic(auto)]
 
 mod addresses;

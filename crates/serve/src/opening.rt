@@ -17,9 +17,8 @@ use crate::repeating::{repeat_orders, repeats};
 use crate::reports::tell_reports;
 use crate::rules::{RulePaths, When, read_policy, read_texts};
 use crate::searches::hear_searches;
-use crate::searching::start_searching;
+use crate::searching::{start_connecting, start_searching};
 use crate::seekers::hear_seekers;
-use crate::servers::connect;
 use crate::sockets::{Sockets, open_sockets};
 use crate::status;
 use crate::upstreams::Upstreams;
@@ -29,7 +28,7 @@ use gate_board::{Board, Gate};
 use gateway_core::{Config, Engine, Event, Policy};
 use pv_name::Name;
 use rule_desk::Desk;
-use serve_state::{FirstNumber, Notice, Try};
+use serve_state::{FirstNumber, Notice};
 use session_worker::{CoreEnd, serve_core};
 use std::alloc::Global;
 use std::fmt::Write;
@@ -176,9 +175,7 @@ fn serve<
     };
     let _ = hub.gate().desk(&rt, Event::Limit(hub.hub().limits()));
     tell_watching(rt, hub.hub());
-    for number in 1..=hub.hub().server_count() {
-        connect(rt, &hub, number, Try::Ordered);
-    }
+    start_connecting(rt, &hub)?;
     start_orders(rt, &hub, orders)?;
     start_reports(rt, &hub, reports)?;
     start_searching(rt, &hub)?;

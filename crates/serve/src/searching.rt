@@ -1,4 +1,4 @@
-//! The threads by which servers are found outside those that the gateway waits for.
+//! The threads by which servers are found and connected to, outside those that the gateway waits for.
 use crate::fault::ServeFault;
 use crate::finder::find_servers;
 use crate::hearing::hear_beacons;
@@ -6,13 +6,33 @@ use crate::hub::AsHub;
 use crate::lookups::look_up_targets;
 use crate::machine::System;
 use crate::name_servers::keep_name_server;
+use crate::servers::connect_all;
 use crate::workers::{RULES_STACK_SIZE, STACK_SIZE};
+use serve_state::Try;
 use std::alloc::Global;
 use std::net::{Net, TcpListener, TcpStream};
 use std::sync::Arc;
 use std::thread::{Builder, Threads};
 
-/// Those that find servers, where these are searched for. Nobody waits for them.
+/// The thread that connects to the servers of the command line, where there are any. Nobody waits for it.
+pub fn start_connecting<
+    R: System + Threads + Net<Listener = TcpListener, Stream = TcpStream> + 'static,
+    H: AsHub + Send + Sync + Drop + 'static,
+>(rt: R, hub: &Arc<H, Global>) -> Result<(), ServeFault> {
+    if hub.hub().server_count() == 0 {
+        return Ok(());
+    }
+    let again = Arc::try_clone(hub)?;
+    let connecting = Builder::new()
+        .stack_size(STACK_SIZE)
+        .spawn(&rt, move || connect_all(rt, &again, Try::Ordered));
+    match connecting {
+        Ok(_) => Ok(()),
+        Err(_) => Err(ServeFault::OutOfMemory),
+    }
+}
+
+/// Those that find others, where these are searched for. Nobody waits for them.
 pub fn start_searching<
     R: System + Threads + Net<Listener = TcpListener, Stream = TcpStream> + 'static,
     H: AsHub + Send + Sync + Drop + 'static,
