@@ -29,7 +29,7 @@ from served.room import Room  # noqa: E402
 # The long ones first.
 STORIES = [beacons.hearing, naming.naming_moved, crowds.thousand, crowds.never_reading, crowds.quitting, idlers.announcing, idlers.idling, idlers.coming,
            damage.damaged, repeating.reconnecting, repeating.sweeping, samples.examples, crowds.descriptors,
-           beacons.beaconing, beacons.beaconing_found, name_servers.name_serving_lost, name_servers.name_serving_rubbish, name_servers.name_serving_mute, name_servers.name_serving,
+           beacons.beaconing, beacons.beaconing_found, name_servers.name_serving_lost, name_servers.name_serving_rubbish, name_servers.name_serving_mute, name_servers.name_serving_unread, name_servers.name_serving,
            name_servers.name_serving_beside, name_servers.name_serving_outside, name_servers.name_serving_nowhere, name_servers.name_serving_gateway, listening.listening, listening.listening_broadcast, naming.naming, naming.naming_searched, seeking.seeking, seeking.seeking_lost, seeking.seeking_left, seeking.seeking_in_vain, servers.losing, servers.connecting, servers.several, servers.unanswered, values.creating, values.reading, values.watching,
            values.writing, rules.rights, rules.hosts, access.granting, access.refusing, access.checking_hosts, access.checking_mapped_hosts, access.looking_up_hosts, lines.ordering, lines.starting, lines.remembering,
            chain.chained, packaged.packaged, repeating.unrepeated, repeating.levels, reports.reporting,
