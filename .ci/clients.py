@@ -24,6 +24,7 @@ import served  # noqa: E402  (sets the path to examples/)
 import ca_wire as ca  # noqa: E402
 from served import libca  # noqa: E402
 from served.beacons import REPEATER  # noqa: E402
+from served.found import gateway  # noqa: E402
 from served.other_user import OtherUser  # noqa: E402
 from served.repeaters import by_repeater  # noqa: E402
 from served.room import Room, Server, free_port, text_of, variable  # noqa: E402
@@ -342,6 +343,20 @@ def by_search(room, up, repeater):
     room.equal("quit of the gateway that searches", server.quit(), 0)
 
 
+def by_other_port(room, up, repeater):
+    """Where the library searches on its connection to a LISTEN of another port, it stays on that connection."""
+    first, other = (("127.0.0.1", free_port()) for _ in range(2))
+    server = gateway(room, text_of(first), text_of(up.address), "--site", "--listen", text_of(other))
+    library = libca.Library(other, repeater, by_datagram=False)
+    channel = library.channel("V")
+    room.eventually("a channel connects by the other port", channel.is_connected)
+    room.check("and there", channel.host().endswith(f":{other[1]}"), channel.host())
+    room.equal("get by the other port", channel.get(ca.LONG, 1)[0], ca.NORMAL)
+    room.equal("nothing is complained of there", library.exceptions, [])
+    library.end()
+    room.equal("quit of the one with two ports", server.quit(), 0)
+
+
 def access_for(user):
     """A file by which one user may write, from this host."""
     return (f'UAG(ops) {{"{user}"}}\nHAG(here) {{"{socket.gethostname()}"}}\n'
@@ -436,6 +451,7 @@ def run(room, repeater):
     another_gateway(room, up, server, library, channels)
     room.equal("nothing that the library complains of", library.exceptions, [])
     by_name_server(room, up, repeater)
+    by_other_port(room, up, repeater)
     by_search(room, up, repeater)
     by_repeater(room, REPEATER)
     by_user(room, up, repeater)

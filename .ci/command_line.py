@@ -187,8 +187,21 @@ SERVE_REFUSALS = [
     ("0.0.0.0:5998 --search 127.0.0.1:5998", b"", 2),
     ("127.0.0.1:5998 --name-server 127.0.0.1:5998", b"", 2),
     ("0.0.0.0:5998 --name-server 127.0.0.1:5998", b"", 2),
+    *((f"127.0.0.1:0 127.0.0.1:1 --ignore{value}", b"", 2) for value in ("", " 10.0.0.1", " 10.0.0.0/33", " 10.0.0.1/8", " ten/8", " 10.0.0.0/8 --ignore 10/8")),
     ("192.0.2.1:0 127.0.0.1:1 --rules no-verb", b"line 3: NoVerb\n", 1),
     ("192.0.2.1:0 127.0.0.1:1 --rules rules", b"", 3),
+]
+
+# Arguments of `serve` that are refused, and what is said of them.
+REFUSED = [
+    ("127.0.0.1:5998 127.0.0.1:1 127.0.0.1:5998", "the UPSTREAM is the gateway itself: 127.0.0.1:5998"),
+    ("0.0.0.0:5998 127.0.0.1:5998", "the UPSTREAM is the gateway itself: 127.0.0.1:5998"),
+    ("127.0.0.1:5998 127.0.0.1:5999 --listen 127.0.0.1:5999", "the UPSTREAM is the gateway itself: 127.0.0.1:5999"),
+    ("127.0.0.1:5998 localhost:5998 --search 127.0.0.1:1", "the UPSTREAM is the gateway itself: localhost:5998"),
+    ("127.0.0.1:5998 --search 127.0.0.1:5998", "the address of --search is the gateway's own: 127.0.0.1:5998"),
+    ("127.0.0.1:5998 --listen 127.0.0.2:5998 --search 127.0.0.2:5998", "the address of --search is the gateway's own: 127.0.0.2:5998"),
+    ("127.0.0.1:5998 --listen 127.0.0.2:5998 --name-server 127.0.0.2:5998", "the address of --name-server is the gateway's own: 127.0.0.2:5998"),
+    ("127.0.0.1:5998 127.0.0.1:1 --ignore 10.0.0.1/8", "the net is bad, as 10.0.0.0/8 is good: 10.0.0.1/8: bits are set behind those of the net"),
 ]
 
 # Arguments that have a rule file read, orders, and the lines of which a note is written to standard error. It changes
@@ -221,6 +234,7 @@ SERVE_OPTIONS = [
     "--search 127.0.0.1:2", "--search 127.255.255.255:2 --search 127.0.0.1:2 --from 10.0.0.0/8 --from 127.0.0.1/32 --servers 2 --idle 86400",
     "localhost:1", "nowhere.invalid:1", "--search localhost:2", "localhost:3 --search 127.0.0.1:2", "--search 127.0.0.1:2 --hear-beacons", "--beacons 127.0.0.1:2", "--beacons 127.255.255.255:2 --beacons 127.0.0.1:3 --site",
     "--name-server 127.0.0.1:2", "--name-server nowhere.invalid:1 --from 10.0.0.0/8 --idle 1 --hear-beacons", "--name-server [::1]:2 --search localhost:3", "--site" + " --name-server localhost:2" * 16,
+    "--ignore 10.0.0.1/32 --ignore 2001:db8::/32", "--ignore 0.0.0.0/0 --search 127.0.0.1:2",
     "--servers 17" + " 127.0.0.1:1" * 16, "--site" + " 127.0.0.1:1" * 40,
 ]
 
@@ -363,6 +377,16 @@ def said():
         yield ran.stderr == wanted
 
 
+def refused():
+    """What is said of arguments that are refused."""
+    for line, why in REFUSED:
+        ran = run(["serve", *line.split()], stdout=subprocess.PIPE)
+        wanted = f"pvgate: {why}\n".encode()
+        if ran.stderr != wanted:
+            print(f"serve {line}: told {ran.stderr!r}, not {wanted!r}")
+        yield told(f"serve {line}", ran, b"", 2) and ran.stderr == wanted
+
+
 def helps():
     """Help goes to standard output, and names what it helps with."""
     for words, word in ((["--help"], b"check-rules"), (["replay", "--help"], b"--plain"), (["check-rules", "--help"], b"--groups"), (["serve", "--help"], b"UPSTREAM")):
@@ -439,7 +463,7 @@ def main():
                 file.write(text)
         cases = [*checks(), *replays(), *serve_refusals(), *others()]
         done = [told(label, run(words, stdout=subprocess.PIPE, **streams), printed, status) for label, words, streams, printed, status in cases]
-        done += [*full_streams(), *serving(), *options(), *said(), *helps(), *notes(), *example_rules(root), *examples(root), *numbers()]
+        done += [*full_streams(), *serving(), *options(), *said(), *refused(), *helps(), *notes(), *example_rules(root), *examples(root), *numbers()]
         os.chdir(root)
     print(f"command lines: {sum(done)} passed, {len(done) - sum(done)} failed")
     return 0 if all(done) else 1

@@ -27,15 +27,15 @@ from served import (access, alive, asking, beacons, chain, crowds, damage, found
 from served.room import Room  # noqa: E402
 
 # The long ones first.
-STORIES = [crowds.thousand, crowds.never_reading, crowds.quitting, idlers.announcing, idlers.idling, idlers.coming,
+STORIES = [beacons.hearing, naming.naming_moved, crowds.thousand, crowds.never_reading, crowds.quitting, idlers.announcing, idlers.idling, idlers.coming,
            damage.damaged, repeating.reconnecting, repeating.sweeping, samples.examples, crowds.descriptors,
-           beacons.beaconing, beacons.hearing, name_servers.name_serving_lost, name_servers.name_serving_rubbish, name_servers.name_serving_mute, name_servers.name_serving,
-           name_servers.name_serving_beside, name_servers.name_serving_outside, name_servers.name_serving_nowhere, name_servers.name_serving_gateway, listening.listening, naming.naming, naming.naming_searched, seeking.seeking, seeking.seeking_lost, seeking.seeking_in_vain, servers.losing, servers.several, servers.unanswered, values.creating, values.reading, values.watching,
+           beacons.beaconing, beacons.beaconing_found, name_servers.name_serving_lost, name_servers.name_serving_rubbish, name_servers.name_serving_mute, name_servers.name_serving_unread, name_servers.name_serving,
+           name_servers.name_serving_beside, name_servers.name_serving_outside, name_servers.name_serving_nowhere, name_servers.name_serving_gateway, listening.listening, listening.listening_broadcast, naming.naming, naming.naming_searched, seeking.seeking, seeking.seeking_lost, seeking.seeking_left, seeking.seeking_in_vain, servers.losing, servers.connecting, servers.several, servers.unanswered, values.creating, values.reading, values.watching,
            values.writing, rules.rights, rules.hosts, access.granting, access.refusing, access.checking_hosts, access.checking_mapped_hosts, access.checking_written_hosts, access.looking_up_hosts, resolving.waiting_for_hosts, resolving.keeping_hosts, resolving.finding_hosts, lines.ordering, lines.starting, lines.remembering,
            chain.chained, packaged.packaged, repeating.unrepeated, repeating.levels, reports.reporting,
            reports.reporting_nowhere, waiting.waiting_too_much, waiting.waiting_little, waiting.waiting_in_all, standing.unread, standing.unwritable, standing.deep,
            standing.files, standing.endless, standing.seats, standing.kept, standing.limited, standing.numbered, standing.again, standing.roomy, asking.backing_off, asking.asking,
-           asking.leading, asking.answering, asking.clashing, asking.own_port, found.searching, found.beside, found.idle, found.broadcasting, found.disbelieved, found.mute, found.overfull, found.facing, holding.holding, holding.leaving_held, keeping.padded, keeping.counted, keeping.shared, alive.stopped, alive.replacing, alive.vanishing,
+           asking.leading, asking.answering, asking.clashing, asking.own_port, found.searching, found.beside, found.idle, found.broadcasting, found.disbelieved, found.mute, found.overfull, found.hiding, found.facing, found.ignoring, holding.holding, holding.leaving_held, keeping.padded, keeping.counted, keeping.shared, alive.stopped, alive.replacing, alive.vanishing,
            alive.unwatched, alive.aging, alive.late, alive.punctual, alive.many_hosts, alive.scaled, alive.promised]
 
 

@@ -10,6 +10,7 @@ _pvgate() {
     check-rules:--host) : ;;
     check-rules:--user) : ;;
     serve:--listen) : ;;
+    serve:--ignore) : ;;
     serve:--search) : ;;
     serve:--name-server) : ;;
     serve:--from) : ;;
@@ -36,7 +37,7 @@ _pvgate() {
         0:*) words="replay check-rules serve help -h --help -V --version" ;;
         1:replay) words="--plain --first -h --help" ;;
         1:check-rules) words="--groups --access --name --host --user --plain-groups -h --help" files=yes ;;
-        1:serve) words="--listen --search --name-server --from --beacons --hear-beacons --idle --rules --groups --access --plain-groups --clients --servers --names --alive --forget --late --most-waiting --most-in-all --first --reconnect --sweep --log --status --check-host --clients-of-host --back-off --site -h --help" ;;
+        1:serve) words="--listen --ignore --search --name-server --from --beacons --hear-beacons --idle --rules --groups --access --plain-groups --clients --servers --names --alive --forget --late --most-waiting --most-in-all --first --reconnect --sweep --log --status --check-host --clients-of-host --back-off --site -h --help" ;;
         1:help) words="replay check-rules serve" ;;
         esac
         ;;

@@ -6,7 +6,8 @@ import time
 
 import ca_wire as ca
 from served.asking import Hearer
-from served.room import text_of, variable
+from served.found import Answerer, reply
+from served.room import free_port, text_of, variable
 
 BEACON = 13
 CONFIRM = 17
@@ -88,11 +89,35 @@ def beaconing(room):
     room.equal("quit", server.quit(), 0)
 
 
+def beaconing_found(room):
+    """A server that was left, as nobody needed it, doesn't come back when it is found again; one that is found elsewhere does."""
+    ups, ear = [room.upstream(variable(name, values=[value])) for name, value in (("A", 1), ("B", 2))], Ear(room)
+    place = Answerer(room, lambda cid, name: [reply(cid, up.address[1]) for up in ups if name in up.variables])
+    server = room.server(options=("--search", text_of(place.address), "--idle", "2", "--forget", "1", "--beacons", text_of(ear.address)))
+    client, other = room.client(server), room.client(server)
+    for it, name, value in ((client, "A", 1), (other, "B", 2)):
+        room.equal(name, it.values(it.open(name)), [value])
+    other.close()
+    room.eventually("one is left", lambda: server.has_logged("INFO", "nobody wanted a variable of it for 2 s"))
+    room.eventually("gaps are long", lambda: ear.gaps()[-1:] and ear.gaps()[-1] > 1000)
+    count = len(ear.heard)
+    room.equal("it is found again", client.values(client.open("B")), [2])
+    time.sleep(1)
+    room.check("that changes nothing", not ear.has_small(count - 1), ear.gaps())
+    ups[0].stop()
+    room.eventually("the other is lost", lambda: server.has_logged("WARN", "found by search, lost"))
+    ups[0].address = ("127.0.0.1", free_port())
+    ups[0].start()
+    room.equal("it is found at another port", client.values(client.open("A")), [1])
+    room.eventually("gaps are small again", lambda: ear.has_small(count - 1))
+    room.equal("quit", server.quit(), 0)
+
+
 class Repeater:
     """Stands in for the repeater of this host; where there is one already, beacons are given to that."""
 
     def __init__(self, room):
-        self.clients = []
+        self.clients, self.asked = [], 0
         self.socket = socket.socket(socket.AF_INET, socket.SOCK_DGRAM)
         try:
             self.socket.bind(("127.0.0.1", REPEATER))
@@ -101,14 +126,24 @@ class Repeater:
             self.clients.append(("127.0.0.1", REPEATER))
         room.started.append(self.socket.close)
 
+    def stop(self):
+        try:
+            self.socket.shutdown(socket.SHUT_RDWR)  # which wakes whoever receives there
+        except OSError:
+            pass
+        self.socket.close()
+
     def confirm(self):
         while True:
             try:
                 datagram, sender = self.socket.recvfrom(1 << 16)
             except OSError:
                 return
+            if not sender or not sender[1]:
+                return
             if not datagram:
-                self.clients.append(sender)
+                self.asked += 1
+                self.clients += [sender] * (sender not in self.clients)
                 self.socket.sendto(struct.pack(">HHHHII", CONFIRM, 0, 0, 0, 0, 0x7F000001), sender)
 
     def tell(self, port, number, host=0x0A000007):
@@ -141,5 +176,28 @@ def hearing(room):
         lost = len(hearer.times("A"))
         repeater.tell(5064, number, host)
         room.equal(f"beacon {number}", room.wait(lambda: len(hearer.times("A")) > lost, 2), news)
-    room.equal("the repeater is asked once", len(repeater.clients), 1)
+    if repeater.asked:
+        leaving_repeater(room, repeater, hearer)
     room.equal("quit", server.quit(), 0)
+
+
+def is_free(port):
+    with socket.socket(socket.AF_INET, socket.SOCK_DGRAM) as own:
+        try:
+            own.bind(("127.0.0.1", port))
+            return True
+        except OSError:
+            return False
+
+
+def leaving_repeater(room, repeater, hearer):
+    """The repeater is asked again each minute: when it has gone beacons are heard in its place, which is let go after another one."""
+    room.equal("it has one client", len(repeater.clients), 1)
+    repeater.stop()
+    room.eventually("its port is taken within a minute", lambda: not is_free(REPEATER), 90)
+    room.wait(lambda: time.monotonic() - hearer.times("A")[-1] > 1)
+    lost = len(hearer.times("A"))
+    with socket.socket(socket.AF_INET, socket.SOCK_DGRAM) as own:
+        own.sendto(struct.pack(">HHHHII", BEACON, 0, ca.MINOR, 5064, 0, 0x0A000007), ("127.0.0.1", REPEATER))
+    room.eventually("a beacon is heard there", lambda: len(hearer.times("A")) > lost, 4)
+    room.eventually("it is let go", lambda: is_free(REPEATER), 90)

@@ -217,3 +217,40 @@ def facing(room):
     room.equal("nothing is found", [it for server in servers for it in server.logged if "upstream" in it and "watched" not in it], [])
     for server in servers:
         room.equal("quit", server.quit(), 0)
+
+
+def hiding(room):
+    """A server that can't be reached, and always answers first, doesn't hide one that has the name too."""
+    up, nowhere = room.upstream(variable("A", values=[1])), free_port()
+    quick = Answerer(room, lambda cid, name: [reply(cid, nowhere)])
+
+    def slowly(cid, name):
+        time.sleep(0.1)
+        return [reply(cid, up.address[1])]
+    slow = Answerer(room, slowly)
+    server = room.server(options=searching_at(quick, slow))
+    client = room.client(server)
+    channel = client.open("A", 20)
+    room.equal("it is found at the other", channel and client.values(channel), [1])
+    room.check("the one that answers first is told of", server.has_logged("WARN", f"127.0.0.1:{nowhere}", "can't be reached"), server.logged)
+    room.equal("quit", server.quit(), 0)
+
+
+def ignoring(room):
+    """Two gateways that hear each other's broadcasts remember for good what the other asks for; one that is ignored isn't heard."""
+    for options, remembered in (((), (2, 1)), (("--ignore", "10.0.0.0/8", "--ignore", "127.0.0.1/32", "--forget", "1"), (1, 0))):
+        ports, reports = [free_port(), free_port()], [("127.0.0.1", free_port()) for _ in range(2)]
+        places = [word for it in ports for word in ("--search", f"127.255.255.255:{it}")]
+        servers = [gateway(room, f"0.0.0.0:{port}", "--site", *places, *options, "--status", text_of(at)) for port, at in zip(ports, reports)]
+        servers[0].address = ("127.0.0.1", ports[0])
+        client = room.client(servers[0], source="127.0.0.2")
+
+        def counts():
+            return tuple(status(server, at)["names_remembered"] for server, at in zip(servers, reports))
+        seen = []
+        room.eventually(f"what is remembered with {options}", lambda: client.search("DEAD") or seen.append(counts()) or seen[-1] == remembered)
+        if options:
+            room.eventually("nothing is once nobody looks for it", lambda: seen.append(counts()) or seen[-1] == (0, 0))
+            room.check("the other one never remembered anything", not any(other for _, other in seen), seen)
+        for server in servers:
+            room.equal("quit", server.quit(), 0)

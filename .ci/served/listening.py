@@ -48,3 +48,22 @@ def listening(room):
     room.equal("late, from there too", (until, sender, [(it.dtype, it.p2) for it in ca.Frames().feed(datagram) if it.command == ca.SEARCH]), (True, two, [(two[1], 9)]))
     room.eventually("beacons of each port", lambda: {one[1], two[1]} <= {struct.unpack(">H", it[6:8])[0] for _, it, _ in list(ear.heard)})
     room.equal("quit", server.quit(), 0)
+
+
+def listening_broadcast(room):
+    """Addresses that aren't the first of their interface, beside its broadcasts: what is said for these comes from there. Servers may be
+    searched for by the same broadcasts."""
+    up, ear = room.upstream(variable("A", values=[1])), Ear(room)
+    places = [("127.0.0.2", free_port()), ("127.0.0.3", free_port())]
+    nets = [("127.255.255.255", port) for _, port in places]
+    listens = [word for it in (nets[0], *places[1:], nets[1]) for word in ("--listen", text_of(it))]
+    server = gateway(room, text_of(places[0]), text_of(up.address), *listens, "--beacons", text_of(ear.address), "--search", text_of(nets[0]))
+    server.address = places[0]
+    client = room.client(server)
+    room.check("a channel", client.open("A"))
+    for place, net in zip(places, nets):
+        room.equal(f"a search that is broadcast to {net[1]}", reply_to("A", net), (place, [(place[1], 7)]))
+        room.equal(f"one at {place[0]}", reply_to("A", place), (place, [(place[1], 7)]))
+    room.eventually("beacons come from each", lambda: {sender for _, _, sender in list(ear.heard)} >= set(places))
+    room.equal("and from nowhere else", {sender for _, _, sender in list(ear.heard)}, set(places))
+    room.equal("quit", server.quit(), 0)

@@ -232,6 +232,32 @@ def name_serving_mute(room):
     room.equal("quit", server.quit(), 0)
 
 
+class Unreading(NameServer):
+    """Says something again and again, and reads nothing."""
+
+    def converse(self, link, heard):
+        try:
+            while True:
+                link.sendall(VERSION)
+                time.sleep(0.3)
+        except OSError:
+            pass
+
+
+def name_serving_unread(room):
+    """One that doesn't read is left once what is written to it isn't taken, and tried again."""
+    place = Unreading(room)
+    server = room.server(options=(*through(place), "--alive", "2"))
+    client = room.client(server)
+    names = [f"{it:04}:".ljust(255, "X") for it in range(4000)]
+    for at in range(0, len(names), 100):
+        client.search(*names[at:at + 100])
+        time.sleep(0.01)
+    room.eventually("it is left", lambda: server.has_logged("WARN", "name server 1", "lost: its connection ended; it is tried again"))
+    room.eventually("it is connected to again", lambda: len(place.heard) > 1)
+    room.equal("quit", server.quit(), 0)
+
+
 def name_serving_outside(room):
     """Replies count where a datagram's would: in the nets, for what was asked, and not for the gateway itself."""
     up, hearer = room.upstream(variable("A", values=[1])), Hearer(room)

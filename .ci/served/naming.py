@@ -1,11 +1,16 @@
 """Servers whose hosts are named, and looked up."""
 import json
+import os
 import socket
 import subprocess
 
 from served.beacons import come_back
-from served.found import gateway
-from served.room import free_port, text_of, variable
+from served.found import Answerer, gateway, reply
+from served.room import Server, free_port, text_of, variable
+from served.upstream import Upstream
+
+# Hides the system's hosts from a program behind a file of the story's own.
+HIDING = 'mount --bind "$0" /etc/hosts && exec "$@"'
 
 
 def named(place):
@@ -42,3 +47,53 @@ def naming_searched(room):
     for words in (["--search", "nowhere.invalid:5064"], ["nowhere.invalid:5064", "--search", text_of(up.address)]):
         it = subprocess.run([room.program, "serve", "127.0.0.1:0", *words], stdin=subprocess.DEVNULL, capture_output=True, timeout=60)
         room.equal("its status and what is told", (it.returncode, it.stderr), (3, b"pvgate: the host isn't known: nowhere.invalid:5064\n"))
+
+
+class At(Upstream):
+    """A server at an address of the story's choice."""
+
+    def __init__(self, room, address, variables):
+        self.first = address
+        super().__init__(variables)
+        room.started.append(self.stop)
+
+    def start(self):
+        self.address = self.address or self.first
+        super().start()
+
+
+def may_hide():
+    """Whether hosts can be hidden: root may, mostly."""
+    return os.getuid() == 0 and subprocess.run(["unshare", "-m", "true"], capture_output=True, check=False).returncode == 0
+
+
+def naming_moved(room):
+    """Hosts that lead elsewhere after a while: of a server, and of the place where others are searched for."""
+    if not may_hide():
+        return
+    up, other, own = At(room, ("127.0.0.2", 0), [variable("A", values=[1])]), room.upstream(variable("S", values=[3])), free_port()
+
+    def make(cid, name):
+        return [reply(cid, other.address[1], 0x7F000001)] if name == "S" else []
+    place = Answerer(room, make, ("127.0.0.2", 0))
+    hosts = room.file("hosts", "127.0.0.1 localhost\n127.0.0.2 ioc.test place.test\n")
+    options = ("--search", f"place.test:{place.address[1]}", "--reconnect", "1")
+    words = room.words(f"127.0.0.1:{own}", [f"ioc.test:{up.address[1]}"], options=options)
+    server = Server(["unshare", "-m", "sh", "-c", HIDING, hosts, *words])
+    room.started.append(server.kill)
+    room.eventually("it listens", lambda: server.printed)
+    server.address = ("127.0.0.1", own)
+    client = room.client(server)
+    for name, value in (("A", 1), ("S", 3)):
+        channel = client.open(name)
+        room.equal(name, channel and client.values(channel), [value])
+    up.stop()
+    room.eventually("it is lost", lambda: server.has_logged("WARN", "upstream 1", "lost"))
+    moved, elsewhere = At(room, ("127.0.0.3", up.address[1]), [variable("A", values=[2])]), Answerer(room, make, ("127.0.0.3", place.address[1]))
+    room.file("hosts", "127.0.0.1 localhost\n127.0.0.3 ioc.test place.test\n")
+    channel = client.open("A")
+    room.equal("it is found where it moved to", channel and client.values(channel), [2])
+    room.check("under its number", server.has_logged("INFO", f"upstream 1 ({text_of(moved.address)}) connected"), server.logged)
+    room.equal("with one connection", moved.count_clients(), 1)
+    room.eventually("others are searched for there within a minute", lambda: client.search("T") or "T" in elsewhere.asked, 90)
+    room.equal("quit", server.quit(), 0)

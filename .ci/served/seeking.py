@@ -86,6 +86,29 @@ def seeking_lost(room):
     room.equal("quit", server.quit(), 0)
 
 
+def seeking_left(room):
+    """Who comes when a client has gone, and has its number, gets no answer to what that one sought."""
+    up = room.upstream(variable("A", values=[1]), variable("B", values=[2]))
+    server = room.server(up, options=["--site"])
+    room.check("it is served", room.client(server).open("B"))
+    up.stop()
+    room.eventually("the server is lost", lambda: server.has_logged("upstream 1", "lost"))
+    first = room.client(server)
+    seek(first, ("A", 41), ("B", 42))
+    room.check("nothing comes", first.echo())
+    first.close()
+    room.eventually("it is gone", lambda: server.has_logged("client 2 ", "gone"))
+    second = room.client(server)
+    room.check("another one has its number", second.echo() and sum("client 2 " in it and it.endswith(" connected") for it in server.logged) == 2)
+    up.start()
+    server.write("connect 1")
+    room.eventually("the server comes", lambda: sum("upstream 1 " in it and it.endswith(" connected") for it in server.logged) == 2)
+    other = room.client(server)
+    room.equal("its names are served", [bool(other.open(name)) for name in "AB"], [True, True])
+    room.check("nothing comes to the other one", quiet(second))
+    room.equal("quit", server.quit(), 0)
+
+
 def seeking_in_vain(room):
     """Without --site a search on a connection isn't understood, and nobody is asked for the name."""
     up = room.upstream(variable("A", values=[1]))

@@ -3,7 +3,10 @@ import socket
 import time
 
 import ca_wire as ca
-from served.room import variable
+from served.room import text_of, variable
+
+SYN_SENT = "02"
+AT_ONCE = 32
 
 
 def losing(room):
@@ -99,3 +102,31 @@ def several(room):
     room.equal("the others stay", [client.values(b), client.values(channel)], [[2], [3]])
     again = client.open("BOTH")
     room.equal("a name of both is found at the other", again and client.values(again), [1])
+
+
+def being_made(port):
+    """How many connections to this port are being made."""
+    with open("/proc/net/tcp") as file:
+        rows = [line.split()[2:4] for line in file.readlines()[1:]]
+    return sum(state == SYN_SENT and peer.endswith(f":{port:04X}") for peer, state in rows)
+
+
+def connecting(room):
+    """Of servers that say nothing at all few are connected to at once, and none for long, so others come soon."""
+    up = room.upstream(variable("A", values=[1]))
+    with socket.create_server(("127.0.0.1", 0), backlog=0) as mute, socket.create_connection(mute.getsockname()):
+        server = room.server(*[At(mute.getsockname())] * 2 * AT_ONCE, up, options=("--servers", "100", "--reconnect", "1"))
+        seen, began = [], time.monotonic()
+        room.eventually("the last one is connected to", lambda: seen.append(being_made(mute.getsockname()[1])) or server.has_logged("INFO", f"upstream {2 * AT_ONCE + 1} ({text_of(up.address)}) connected"))
+        room.check("after two times five seconds", time.monotonic() - began < 30, time.monotonic() - began)
+        room.equal("so many were connected to at once", max(seen), AT_ONCE)
+        client = room.client(server)
+        room.check("a channel", client.open("A"))
+        room.equal("quit", server.quit(), 0)
+
+
+class At:
+    """A server that is there no further."""
+
+    def __init__(self, address):
+        self.address = address

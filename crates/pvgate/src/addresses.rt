@@ -1,7 +1,7 @@
 //! The addresses of the command line of `serve`, and how servers are found.
 use crate::arguments::Serve;
 use crate::fault::ProgramFault;
-use serve::{Discovery, Upstream, look_up, names_host, read_up_to};
+use serve::{Discovery, Upstream, is_broadcast, look_up, names_host, read_up_to};
 use server_book::Net as HostNet;
 use std::alloc::Global;
 use std::net::{IpAddr, Ipv4Addr, Net, SocketAddr};
@@ -14,12 +14,33 @@ const IDLE: u32 = 300;
 
 const MOST_IDLE: u32 = 86_400;
 
+/// Where the gateway itself is.
+#[derive(Clone, Copy)]
+pub struct Own<'a> {
+    pub listen: SocketAddr,
+    pub more: &'a [SocketAddr],
+}
+
+impl Own<'_> {
+    fn is_ipv4(&self) -> bool {
+        self.listen.is_ipv4()
+    }
+
+    fn has(&self, address: SocketAddr) -> bool {
+        is_listen(address, self.listen) || self.has_more(address)
+    }
+
+    fn has_more(&self, address: SocketAddr) -> bool {
+        self.more.iter().any(|listen| is_listen(address, *listen))
+    }
+}
+
 /// Where servers are, of which there are at most so many.
 pub fn read_servers<R: Net>(
     rt: &R,
     alloc: Global,
     arguments: &Serve<'_>,
-    is_ipv4: bool,
+    own: Own<'_>,
     most: u32,
 ) -> Result<Vec<Upstream>, ProgramFault> {
     if arguments.upstreams.len() > most as usize {
@@ -27,28 +48,51 @@ pub fn read_servers<R: Net>(
     }
     let mut servers = Vec::new(alloc);
     for text in arguments.upstreams.as_slice() {
-        let upstream = if !names_host(*text) {
-            Upstream {
-                address: Some(read_address(alloc, *text)?),
-                word: None,
+        let upstream = read_upstream(rt, alloc, *text, own.is_ipv4(), finds_servers(arguments))?;
+        if let Some(address) = upstream.address {
+            if own.has(address) {
+                return Err(ProgramFault::UpstreamOfListen(String::from_str(alloc, *text)?));
             }
-        } else if !finds_servers(arguments) {
-            // It is looked up when it is connected to.
-            Upstream {
-                address: None,
-                word: Some(String::from_str(alloc, *text)?),
-            }
-        } else {
-            Upstream {
-                address: Some(read_host(rt, alloc, *text, is_ipv4)?),
-                word: Some(String::from_str(alloc, *text)?),
-            }
-        };
+        }
         servers
             .push(upstream)
             .map_err(|_| ProgramFault::OutOfMemory)?;
     }
     Ok(servers)
+}
+
+fn read_upstream<R: Net>(
+    rt: &R,
+    alloc: Global,
+    text: &str,
+    is_ipv4: bool,
+    finds_servers: bool,
+) -> Result<Upstream, ProgramFault> {
+    if !names_host(text) {
+        return Ok(Upstream {
+            address: Some(read_address(alloc, text)?),
+            word: None,
+        });
+    }
+    // With nothing to find others by it is looked up when it is connected to.
+    let address = if finds_servers {
+        Some(read_host(rt, alloc, text, is_ipv4)?)
+    } else {
+        None
+    };
+    Ok(Upstream {
+        address,
+        word: Some(String::from_str(alloc, text)?),
+    })
+}
+
+// The text, where it names a host.
+fn word_of(alloc: Global, text: &str) -> Result<Option<String>, ProgramFault> {
+    if names_host(text) {
+        Ok(Some(String::from_str(alloc, text)?))
+    } else {
+        Ok(None)
+    }
 }
 
 // An address, or that of a host of this family that is named.
@@ -112,19 +156,20 @@ pub fn read_discovery<R: Net>(
     rt: &R,
     alloc: Global,
     arguments: &Serve<'_>,
-    listen: SocketAddr,
+    own: Own<'_>,
 ) -> Result<Option<Discovery>, ProgramFault> {
     if !finds_servers(arguments) {
         check_alone(arguments)?;
     }
     let mut targets = Vec::new(alloc);
     for text in arguments.searches.as_slice() {
-        let address = read_target(rt, alloc, *text, listen)?;
-        targets
-            .push(address)
-            .map_err(|_| ProgramFault::OutOfMemory)?;
+        let target = Upstream {
+            address: Some(read_target(rt, alloc, *text, own)?),
+            word: word_of(alloc, *text)?,
+        };
+        targets.push(target).map_err(|_| ProgramFault::OutOfMemory)?;
     }
-    let nets = read_nets(alloc, arguments)?;
+    let nets = read_nets(alloc, arguments.nets.as_slice())?;
     let idle = read_idle(alloc, arguments.idle)?;
     if !finds_servers(arguments) {
         return Ok(None);
@@ -160,7 +205,7 @@ fn check_alone(arguments: &Serve<'_>) -> Result<(), ProgramFault> {
 pub fn read_name_servers(
     alloc: Global,
     arguments: &Serve<'_>,
-    listen: SocketAddr,
+    own: Own<'_>,
 ) -> Result<Vec<Upstream>, ProgramFault> {
     if arguments.name_servers.len() > NAME_SERVERS as usize {
         return Err(ProgramFault::TooManyNameServers(NAME_SERVERS));
@@ -174,7 +219,7 @@ pub fn read_name_servers(
             }
         } else {
             Upstream {
-                address: Some(read_name_server(alloc, *text, listen)?),
+                address: Some(read_name_server(alloc, *text, own)?),
                 word: None,
             }
         };
@@ -183,33 +228,29 @@ pub fn read_name_servers(
     Ok(servers)
 }
 
-fn read_name_server(
-    alloc: Global,
-    text: &str,
-    listen: SocketAddr,
-) -> Result<SocketAddr, ProgramFault> {
+fn read_name_server(alloc: Global, text: &str, own: Own<'_>) -> Result<SocketAddr, ProgramFault> {
     let address = read_address(alloc, text)?;
     if is_nowhere(address) {
         return Err(ProgramFault::BadAddress(String::from_str(alloc, text)?));
     }
-    if is_listen(address, listen) {
+    if own.has(address) {
         return Err(ProgramFault::NameServerOfListen(String::from_str(alloc, text)?));
     }
     Ok(address)
 }
 
-// An address at which somebody else may hear searches.
+// An address at which somebody else may hear searches, as at one of broadcasts at which the gateway hears clients too.
 fn read_target<R: Net>(
     rt: &R,
     alloc: Global,
     text: &str,
-    listen: SocketAddr,
+    own: Own<'_>,
 ) -> Result<SocketAddr, ProgramFault> {
-    let address = read_host(rt, alloc, text, listen.is_ipv4())?;
+    let address = read_host(rt, alloc, text, own.is_ipv4())?;
     if is_nowhere(address) {
         return Err(ProgramFault::BadAddress(String::from_str(alloc, text)?));
     }
-    if is_listen(address, listen) {
+    if is_listen(address, own.listen) || own.has_more(address) && !is_broadcast(rt, address) {
         return Err(ProgramFault::SearchOfListen(String::from_str(alloc, text)?));
     }
     Ok(address)
@@ -220,7 +261,7 @@ fn is_nowhere(address: SocketAddr) -> bool {
     address.port() == 0 || address.ip().is_unspecified()
 }
 
-// Whether the gateway itself is there.
+// Whether the gateway itself is there, where it listens on this address.
 fn is_listen(address: SocketAddr, listen: SocketAddr) -> bool {
     let localhost = IpAddr::V4(Ipv4Addr::LOCALHOST);
     let is_own = address.ip() == listen.ip()
@@ -228,9 +269,10 @@ fn is_listen(address: SocketAddr, listen: SocketAddr) -> bool {
     is_own && address.port() == listen.port()
 }
 
-fn read_nets(alloc: Global, arguments: &Serve<'_>) -> Result<Vec<HostNet>, ProgramFault> {
+/// The nets that these texts write.
+pub fn read_nets(alloc: Global, texts: &[&str]) -> Result<Vec<HostNet>, ProgramFault> {
     let mut nets = Vec::new(alloc);
-    for text in arguments.nets.as_slice() {
+    for text in texts {
         match HostNet::read(text.as_bytes()) {
             Ok(net) => nets.push(net).map_err(|_| ProgramFault::OutOfMemory)?,
             Err(fault) => return Err(ProgramFault::BadNet(String::from_str(alloc, *text)?, fault)),
@@ -255,9 +297,10 @@ pub fn check_servers(
     is_old: bool,
     discovery: &Discovery,
 ) -> Result<(), ProgramFault> {
-    let is_other = |target: &SocketAddr| target.is_ipv4() != is_old;
-    if discovery.targets.iter().any(is_other) {
-        return Err(ProgramFault::TwoFamilies);
+    for target in &discovery.targets {
+        if matches!(target.address, Some(address) if address.is_ipv4() != is_old) {
+            return Err(ProgramFault::TwoFamilies);
+        }
     }
     for place in 0..servers.len() {
         let Some(server) = servers[place].address else {

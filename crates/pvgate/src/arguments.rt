@@ -64,6 +64,8 @@ pub struct Serve<'a> {
     pub searches: Vec<&'a str>,
     pub name_servers: Vec<&'a str>,
     pub nets: Vec<&'a str>,
+    /// The nets whose searches aren't heard.
+    pub ignored: Vec<&'a str>,
     /// Where beacons are sent.
     pub beacons: Vec<&'a str>,
     /// Beacons of servers are heard.
@@ -218,6 +220,9 @@ fn address_options<'a>(alloc: Global, command: Command<'a>) -> Result<Command<'a
     let from = option(alloc, "from", "NET", from).action(ArgAction::Append);
     let more =
         "Clients find it on this address too, or by searches broadcast to it; again for more";
+    let ignore =
+        "Searches by UDP from this net aren't heard, as those of another gateway at 10.0.1.9/32; again for more";
+    let ignore = option(alloc, "ignore", "NET", ignore).action(ArgAction::Append);
     let more = Arg::new(alloc, "more")
         .long("listen")
         .value_name("ADDR")
@@ -233,6 +238,7 @@ fn address_options<'a>(alloc: Global, command: Command<'a>) -> Result<Command<'a
     Ok(
         command
             .arg(more)?
+            .arg(ignore)?
             .arg(search)?
             .arg(name_server)?
             .arg(from)?
@@ -363,6 +369,7 @@ fn serve_arguments<'a>(alloc: Global, found: &ArgMatches<'a>) -> Result<Serve<'a
         searches: words(alloc, found, "search")?,
         name_servers: words(alloc, found, "name-server")?,
         nets: words(alloc, found, "from")?,
+        ignored: words(alloc, found, "ignore")?,
         beacons: words(alloc, found, "beacons")?,
         hear_beacons: found.get_flag("hear-beacons"),
         idle: found.get_str("idle"),

@@ -32,10 +32,12 @@ pub enum ProgramFault {
     HearingAlone,
     #[error("--idle says when found servers are left, and is nothing without --search or --name-server")]
     IdleAlone,
-    /// Nobody else hears what is sent to LISTEN.
-    #[error("the address of --search is LISTEN itself: {0}")]
+    /// Nobody else is at LISTEN, or at an address of --listen.
+    #[error("the UPSTREAM is the gateway itself: {0}")]
+    UpstreamOfListen(String),
+    #[error("the address of --search is the gateway's own: {0}")]
     SearchOfListen(String),
-    #[error("the address of --name-server is LISTEN itself: {0}")]
+    #[error("the address of --name-server is the gateway's own: {0}")]
     NameServerOfListen(String),
     /// Clients take them for the gateway's where they come from its host.
     #[error("beacons go from an IPv4 LISTEN to IPv4 addresses: {0}")]
@@ -88,6 +90,7 @@ impl ProgramFault {
             | ProgramFault::NetsAlone
             | ProgramFault::HearingAlone
             | ProgramFault::IdleAlone
+            | ProgramFault::UpstreamOfListen(_)
             | ProgramFault::SearchOfListen(_)
             | ProgramFault::NameServerOfListen(_)
             | ProgramFault::BeaconsByIpv4(_)

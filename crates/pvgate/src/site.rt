@@ -1,7 +1,7 @@
 //! The program `serve`: what its command line says.
 use crate::addresses::{
-    check_servers, finds_servers, read_address, read_beacons, read_discovery, read_more,
-    read_name_servers, read_servers,
+    Own, check_servers, finds_servers, read_address, read_beacons, read_discovery, read_more,
+    read_name_servers, read_nets, read_servers,
 };
 use crate::arguments::Serve;
 use crate::fault::ProgramFault;
@@ -49,22 +49,28 @@ pub fn read_site<R: Net>(
     arguments: &Serve<'_>,
 ) -> Result<Site, ProgramFault> {
     let listen = read_address(alloc, arguments.listen)?;
+    let more = read_more(alloc, arguments)?;
+    let own = Own {
+        listen,
+        more: more.as_slice(),
+    };
     let scale = read_scale(alloc, arguments)?;
-    let servers = read_servers(rt, alloc, arguments, listen.is_ipv4(), scale.servers)?;
+    let servers = read_servers(rt, alloc, arguments, own, scale.servers)?;
     let options = read_options(alloc, arguments, scale)?;
     let files = read_paths(alloc, arguments)?;
-    let discovery = read_discovery(rt, alloc, arguments, listen)?;
+    let discovery = read_discovery(rt, alloc, arguments, own)?;
     if let Some(discovery) = &discovery {
         check_servers(servers.as_slice(), discovery.is_ipv4(listen), discovery)?;
     }
-    let more = read_more(alloc, arguments)?;
+    let name_servers = read_name_servers(alloc, arguments, own)?;
     let is_ipv4 = listen.is_ipv4() && more.iter().all(|address| address.is_ipv4());
     let addresses = Addresses {
         listen,
         more,
+        ignored: read_nets(alloc, arguments.ignored.as_slice())?,
         servers,
         discovery,
-        name_servers: read_name_servers(alloc, arguments, listen)?,
+        name_servers,
         beacons: read_beacons(alloc, arguments, is_ipv4)?,
     };
     Ok(Site {

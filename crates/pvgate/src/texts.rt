@@ -165,8 +165,11 @@ With --listen clients find it on ADDR too: they connect there, and searches are 
 port. A socket on one address hears no broadcasts; so where LISTEN is one, --listen says the broadcast address of
 its net, with the same port. For each it prints: listening ADDR
 
-An UPSTREAM's host may be named, as ioc1.lab:5064. It is looked up each time that it is connected to; with --search
-or --name-server that is done at the start alone, as for --search, since a server that moved is found.
+With --ignore searches by UDP from these nets aren't heard. Two gateways that hear each other's searches would otherwise
+ask each other for ever for a name that somebody looked for once and nobody has.
+
+An UPSTREAM's host may be named, as ioc1.lab:5064. It is looked up each time that it is connected to, and that of
+--search once a minute; with --search or --name-server both have to be known at the start.
 
 With --back-off a name that no server has is asked for when it is first looked for, and then after gaps
 that double up to 4.4 minutes, and each UPSTREAM gets at most 4 datagrams in 32 ms. Without it each

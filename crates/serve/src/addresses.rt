@@ -1,6 +1,7 @@
 //! What a command line says of addresses.
 use crate::finding::Discovery;
 use crate::upstreams::Upstream;
+use server_book::Net as HostNet;
 use std::net::SocketAddr;
 
 /// The addresses of a gateway, and of those that it speaks with.
@@ -10,6 +11,8 @@ pub struct Addresses {
     pub listen: SocketAddr,
     /// And on these; at a broadcast one searches alone are heard.
     pub more: Vec<SocketAddr>,
+    /// Searches by datagrams from these nets aren't heard.
+    pub ignored: Vec<HostNet>,
     /// Where servers are that are known for good.
     pub servers: Vec<Upstream>,
     /// How other servers are found, where they are searched for.

@@ -1,10 +1,10 @@
 //! Datagrams that ask servers for names.
 use crate::hub::Hub;
 use crate::machine::System;
+use crate::upstreams::Upstreams;
 use pv_name::{Name, NoMemory};
 use pv_search::{NameAsk, ask_datagram};
 use std::alloc::Global;
-use std::net::SocketAddr;
 use std::thread;
 use std::time::Duration;
 
@@ -63,10 +63,10 @@ impl Asks {
     /// Answers how many these are. They are asked for then.
     pub fn send<R: System>(&mut self, rt: R, hub: &Hub) -> Result<usize, NoMemory> {
         let datagram = ask_datagram(hub.alloc, self.waiting.as_slice())?;
-        send_to_servers(rt, hub, datagram.text.as_slice());
+        send_to_all(rt, hub, &hub.servers, datagram.text.as_slice());
         if let Some(finding) = &hub.finding {
             let marked = finding.own.mark(hub.alloc, datagram.text.as_slice())?;
-            send_to_all(hub, finding.discovery.targets.as_slice(), marked.as_slice());
+            send_to_all(rt, hub, &finding.targets, marked.as_slice());
             hub.name_servers.ask(&rt, datagram.text.as_slice());
         }
         let asked = datagram.asked.min(self.waiting.len());
@@ -75,17 +75,11 @@ impl Asks {
     }
 }
 
-fn send_to_servers<R: System>(rt: R, hub: &Hub, text: &[u8]) {
-    for number in 1..=hub.server_count() {
-        if let Some(address) = hub.servers.at(&rt, number) {
+fn send_to_all<R: System>(rt: R, hub: &Hub, places: &Upstreams, text: &[u8]) {
+    for number in 1..=places.count() {
+        if let Some(address) = places.at(&rt, number) {
             let _ = hub.sockets.asks().send_to(text, address);
         }
-    }
-}
-
-fn send_to_all(hub: &Hub, addresses: &[SocketAddr], text: &[u8]) {
-    for address in addresses {
-        let _ = hub.sockets.asks().send_to(text, *address);
     }
 }
 

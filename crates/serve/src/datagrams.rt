@@ -65,6 +65,7 @@ pub fn receive<R: System, H: AsHub>(rt: R, hub: &H, place: usize, buffer: Vec<u8
                 }
                 match hub.hub().servers.number_of(&rt, &from) {
                     Some(server) => hear_server(rt, hub, &mut clashes, datagram, server),
+                    None if hub.hub().is_ignored(&from) => (),
                     None => {
                         let from = Sender {
                             address: from,
@@ -150,7 +151,7 @@ fn is_heard<R: System>(
     address: Address,
 ) -> bool {
     let own = address_of(hub.listen.ip(), hub.listen.port());
-    let nets = finding.discovery.nets.as_slice();
+    let nets = finding.nets.as_slice();
     if is_believed(source, address, nets, own) && !hub.is_own(address) {
         return true;
     }

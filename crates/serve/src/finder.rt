@@ -4,6 +4,7 @@ use crate::finding::{Came, Told, address_of, socket_address};
 use crate::hub::{AsHub, Hub};
 use crate::late::note_found;
 use crate::machine::System;
+use crate::pace::Pace;
 use crate::servers::connect_found;
 use crate::status;
 use crate::watcher::shut;
@@ -13,7 +14,7 @@ use serve_state::{Clashes, Cut, Notice};
 use server_book::{Address, Heard, LAST_LOOK, LOOKS_OF_SECOND, ServerBook, Standing};
 use std::alloc::{AllocError, Global};
 use std::collections::{HashMap, VecDeque};
-use std::net::{Net, TcpListener, TcpStream};
+use std::net::{Net, SocketAddr, TcpListener, TcpStream};
 use std::sync::{Arc, CondvarTimeouts};
 use std::thread::Threads;
 use std::time::Duration;
@@ -52,7 +53,7 @@ struct Finder {
     waiting: VecDeque<u32>,
     // So many connections to servers that were found are being made.
     made: u32,
-    // Who answered an ask first.
+    // Who answered an ask first, of those that the book took.
     firsts: HashMap<u32, Address>,
     clashes: Clashes,
     // The hour in which it was told that there are as many servers as may be.
@@ -68,15 +69,15 @@ struct Finder {
 }
 
 impl Finder {
-    fn new<R: System>(rt: R, hub: &Hub) -> Result<Finder, NoMemory> {
+    fn new(hub: &Hub) -> Result<Finder, NoMemory> {
         let most = hub.options.scale.servers;
         let idle = match &hub.finding {
-            Some(finding) => finding.discovery.idle,
+            Some(finding) => finding.idle,
             None => u32::MAX,
         };
         let mut book = ServerBook::new(hub.alloc, most, idle)?;
         for number in 1..=hub.server_count() {
-            if let Some(address) = hub.servers.at(&rt, number) {
+            if let Some(address) = hub.servers.first_at(number) {
                 book.fix(address_of(address.ip(), address.port()))?;
             }
         }
@@ -103,21 +104,19 @@ impl Finder {
     }
 
     // The other server that answered this ask before.
-    fn other_first(&mut self, cid: u32, address: Address) -> Result<Option<Address>, NoMemory> {
-        if let Some(first) = self.firsts.get(&cid) {
-            return Ok(if *first == address {
-                None
-            } else {
-                Some(*first)
-            });
+    fn other_first(&self, cid: u32, address: Address) -> Option<Address> {
+        match self.firsts.get(&cid) {
+            Some(first) if *first != address => Some(*first),
+            _ => None,
         }
+    }
+
+    // The book took an answer to this ask. Where memory is refused, it isn't noted.
+    fn note_first(&mut self, cid: u32, address: Address) {
         if self.firsts.len() >= FIRST_LIMIT {
             self.firsts.clear();
         }
-        match self.firsts.insert(cid, address) {
-            Ok(_) => Ok(None),
-            Err(_) => Err(AllocError),
-        }
+        let _ = self.firsts.insert(cid, address);
     }
 
     // A connection is being made.
@@ -180,7 +179,7 @@ pub fn find_servers<
     R: System + Threads + Net<Listener = TcpListener, Stream = TcpStream> + 'static,
     H: AsHub + Send + Sync + Drop + 'static,
 >(rt: R, hub: Arc<H, Global>) {
-    let Ok(mut finder) = Finder::new(rt, hub.hub()) else {
+    let Ok(mut finder) = Finder::new(hub.hub()) else {
         hub.hub().tell(&rt, Notice::OutOfMemory);
         hub.end(&rt, status::FAILED);
         return;
@@ -192,11 +191,7 @@ pub fn find_servers<
         finder.now = milliseconds(rt, finder.now);
         let shared: &H = &hub;
         note_all(rt, shared, &mut finder);
-        for told in told {
-            if hear(rt, shared, &mut finder, told).is_err() {
-                hub.hub().tell(&rt, Notice::OutOfMemory);
-            }
-        }
+        hear_all(rt, shared, &mut finder, told);
         connect_some(rt, &hub, &mut finder);
         look_around(rt, shared, &mut finder);
     }
@@ -217,13 +212,14 @@ fn next_told<R: System>(rt: R, hub: &Hub, finder: &mut Finder) -> Option<Vec<Tol
     Some(inbox.take_told(hub.alloc))
 }
 
-// Takes in what came of connections.
+// Takes in what came of connections. The names that waited for one are handed to the gate one after the other.
 fn note_all<R: System, H: AsHub>(rt: R, hub: &H, finder: &mut Finder) {
+    let mut pace = Pace::begin(rt);
     for _ in rt.forever() {
         let Some((number, came)) = next_came(rt, hub.hub()) else {
             return;
         };
-        note(rt, hub, finder, number, came);
+        note(rt, hub, finder, &mut pace, number, came);
     }
 }
 
@@ -232,13 +228,21 @@ fn next_came<R: System>(rt: R, hub: &Hub) -> Option<(u32, Came)> {
     finding.inbox.lock(&rt).take_came()
 }
 
-fn note<R: System, H: AsHub>(rt: R, hub: &H, finder: &mut Finder, number: u32, came: Came) {
+fn note<R: System, H: AsHub>(
+    rt: R,
+    hub: &H,
+    finder: &mut Finder,
+    pace: &mut Pace,
+    number: u32,
+    came: Came,
+) {
     let look = finder.look();
     match came {
         Came::Connected => {
             finder.end_one(number);
             for name in finder.connected(number) {
                 hand_in(rt, hub, name, number);
+                pace.rest(rt);
             }
         }
         Came::Failed => {
@@ -246,6 +250,16 @@ fn note<R: System, H: AsHub>(rt: R, hub: &H, finder: &mut Finder, number: u32, c
             finder.book.failed(number, look);
         }
         Came::Lost => finder.book.lost(number, look),
+    }
+}
+
+fn hear_all<R: System, H: AsHub>(rt: R, hub: &H, finder: &mut Finder, told: Vec<Told>) {
+    let mut pace = Pace::begin(rt);
+    for told in told {
+        if hear(rt, hub, finder, told).is_err() {
+            hub.hub().tell(&rt, Notice::OutOfMemory);
+        }
+        pace.rest(rt);
     }
 }
 
@@ -263,21 +277,26 @@ fn hand_in<R: System, H: AsHub>(rt: R, hub: &H, name: Name, number: u32) {
     }
 }
 
-// The first that answers an ask has the name, where that is missing still.
+// The first that answers an ask has the name, where that is missing still; but one that is held off, or for which no name more
+// waits, hides no other.
 fn hear<R: System, H: AsHub>(
     rt: R,
     hub: &H,
     finder: &mut Finder,
     told: Told,
 ) -> Result<(), NoMemory> {
-    if let Some(first) = finder.other_first(told.cid, told.address)? {
+    if let Some(first) = finder.other_first(told.cid, told.address) {
         tell_of_two(rt, hub.hub(), finder, &told, first);
         return Ok(());
     }
     if !matches!(hub.gate().is_missing(&rt, &told.name), Ok(true)) {
         return Ok(());
     }
-    match hear_of(rt, hub.hub(), finder, &told)? {
+    let heard = hear_of(rt, hub.hub(), finder, &told)?;
+    if is_taken(heard) {
+        finder.note_first(told.cid, told.address);
+    }
+    match heard {
         Heard::Find(number) => hand_in(rt, hub, told.name, number),
         Heard::Connect(number) => {
             if finder.waiting.push_back(number).is_err() {
@@ -292,6 +311,14 @@ fn hear<R: System, H: AsHub>(
     Ok(())
 }
 
+// Whether the name is found, or waits.
+fn is_taken(heard: Heard) -> bool {
+    match heard {
+        Heard::Find(_) | Heard::Connect(_) | Heard::Waits(_) => true,
+        Heard::Full | Heard::HeldOff | Heard::Dropped => false,
+    }
+}
+
 // Where there is no number, servers that can't be reached make room, once a look.
 fn hear_of<R: System>(
     rt: R,
@@ -300,13 +327,16 @@ fn hear_of<R: System>(
     told: &Told,
 ) -> Result<Heard, NoMemory> {
     let look = finder.look();
-    let heard = finder.book.heard(told.address, &told.name, look)?;
+    let Some(address) = known_as(rt, hub, finder, told.address) else {
+        return Ok(Heard::Dropped);
+    };
+    let heard = finder.book.heard(address, &told.name, look)?;
     if heard != Heard::Full || finder.emptied == look {
         return Ok(heard);
     }
     finder.emptied = look;
     forget(rt, hub, finder, 0);
-    finder.book.heard(told.address, &told.name, look)
+    finder.book.heard(address, &told.name, look)
 }
 
 // Two servers have a name: that is told once.
@@ -343,12 +373,33 @@ fn connect_some<
         let Some(number) = finder.waiting.pop_front() else {
             return;
         };
-        let peer = match finder.book.server(number) {
-            Some(server) => socket_address(server.address),
-            None => continue,
+        let Some(peer) = peer_of(rt, hub.hub(), finder, number) else {
+            continue;
         };
         finder.begin_one(number);
         connect_found(rt, hub, number, peer);
+    }
+}
+
+// Where the server is: one of the command line may have moved since the book knows it.
+fn peer_of<R: System>(rt: R, hub: &Hub, finder: &Finder, number: u32) -> Option<SocketAddr> {
+    if number <= finder.fixed {
+        return hub.servers.told(&rt, number);
+    }
+    let server = finder.book.server(number)?;
+    Some(socket_address(server.address))
+}
+
+// The address under which the book has the server that is here. One of the command line that moved stays there under its first
+// one: a server that is at that now isn't known.
+fn known_as<R: System>(rt: R, hub: &Hub, finder: &Finder, address: Address) -> Option<Address> {
+    if let Some(number) = hub.servers.number_of(&rt, &socket_address(address)) {
+        let server = finder.book.server(number)?;
+        return Some(server.address);
+    }
+    match finder.book.number_of(address) {
+        Some(number) if number <= finder.fixed => None,
+        _ => Some(address),
     }
 }
 
@@ -375,6 +426,7 @@ fn leave_idle<R: System, H: AsHub>(rt: R, hub: &H, finder: &mut Finder) {
         };
         if finder.book.look(number, links) {
             let dest = Dest::Upstream(number);
+            hub.hub().leave_server(&rt, number);
             hub.hub().cut(&rt, dest, Cut::Idle(finder.idle));
             shut(rt, hub.hub(), dest);
         }

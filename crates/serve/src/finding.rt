@@ -1,4 +1,5 @@
 //! How servers are found by search: where, by which asks, and what comes for whoever finds them.
+use crate::upstreams::{Upstream, Upstreams};
 use pv_name::{Name, NoMemory};
 use server_book::{Address, Net as HostNet, host_number};
 use std::alloc::{AllocError, Global};
@@ -20,8 +21,8 @@ const CAME_OF_SERVER: usize = 4;
 /// Where servers are searched for, and where they may be.
 #[derive(Drop)]
 pub struct Discovery {
-    /// Searches are sent to these, besides to the servers of the command line.
-    pub targets: Vec<SocketAddr>,
+    /// Searches are sent to these, besides to the servers of the command line: where they are is known.
+    pub targets: Vec<Upstream>,
     /// Servers may be in these nets, or anywhere if there is none.
     pub nets: Vec<HostNet>,
     /// Beacons of servers are heard, too.
@@ -33,10 +34,12 @@ pub struct Discovery {
 impl Discovery {
     /// Whether all servers are asked by IPv4: as searches are sent, or where none is, as clients are served.
     pub fn is_ipv4(&self, listen: SocketAddr) -> bool {
-        match self.targets.first() {
-            Some(target) => target.is_ipv4(),
-            None => listen.is_ipv4(),
+        for target in &self.targets {
+            if let Some(address) = target.address {
+                return address.is_ipv4();
+            }
         }
+        listen.is_ipv4()
     }
 }
 
@@ -150,7 +153,12 @@ impl FinderInbox {
 /// What threads share by which servers are found.
 #[derive(Drop)]
 pub struct Finding {
-    pub discovery: Discovery,
+    /// Searches are sent to these.
+    pub targets: Upstreams,
+    /// Servers may be in these nets, or anywhere if there is none.
+    pub nets: Vec<HostNet>,
+    pub hears_beacons: bool,
+    pub idle: u32,
     pub own: OwnAsks,
     pub inbox: Mutex<FinderInbox>,
     /// Something came.
@@ -165,8 +173,17 @@ impl Finding {
         own: OwnAsks,
         servers: u32,
     ) -> Result<Finding, NoMemory> {
+        let Discovery {
+            targets,
+            nets,
+            hears_beacons,
+            idle,
+        } = discovery;
         Ok(Finding {
-            discovery,
+            targets: Upstreams::new(alloc, targets)?,
+            nets,
+            hears_beacons,
+            idle,
             own,
             inbox: Mutex::new(FinderInbox::new(alloc, servers)?),
             came: Condvar::new(),

@@ -25,7 +25,7 @@ const REPEATER_PORT: u16 = 5065;
 /// The port of a server that names none.
 const SERVER_PORT: u16 = 5064;
 
-/// How many milliseconds pass between two requests to the repeater.
+/// How many milliseconds pass before the repeater is asked again, whatever was the case.
 const REQUEST_GAP: u64 = 60_000;
 
 /// After so many without an answer nobody is there.
@@ -47,10 +47,11 @@ enum Source {
     Asked(Option<u64>),
     /// It was asked at this time, and nobody is there, but its port is taken.
     Silent(u64),
-    /// It answered.
-    Repeater,
-    /// Nobody: they are heard at its port.
-    OwnPort,
+    /// It was asked at this time, and answered.
+    Repeater(u64),
+    /// Nobody: they are heard at its port since this time. Other programs of the host take it for a repeater's, and wait in vain for
+    /// what one sends on, so the port is let go now and then.
+    OwnPort(u64),
 }
 
 /// Where beacons are heard, and the ID of the last one of each server.
@@ -85,7 +86,7 @@ pub fn hear_beacons<R: System + Net<Listener = TcpListener, Stream = TcpStream>,
     hub: Arc<H, Global>,
 ) {
     let shared: &H = &hub;
-    let Ok(socket) = open_ear(rt, SocketAddr::new(IpAddr::V4(Ipv4Addr::LOCALHOST), 0)) else {
+    let Ok(socket) = open_own_ear(rt) else {
         return;
     };
     let mut ear = Ear {
@@ -114,6 +115,13 @@ pub fn hear_beacons<R: System + Net<Listener = TcpListener, Stream = TcpStream>,
     }
 }
 
+// One to which the repeater sends on.
+fn open_own_ear<R: System + Net<Listener = TcpListener, Stream = TcpStream>>(
+    rt: R,
+) -> io::Result<UdpSocket> {
+    open_ear(rt, SocketAddr::new(IpAddr::V4(Ipv4Addr::LOCALHOST), 0))
+}
+
 fn open_ear<R: System + Net<Listener = TcpListener, Stream = TcpStream>>(
     rt: R,
     address: SocketAddr,
@@ -135,10 +143,12 @@ fn find_source<R: System + Net<Listener = TcpListener, Stream = TcpStream>>(
         Source::Asked(Some(asked)) if now.saturating_sub(asked) >= PATIENCE => {
             take_port(rt, ear, asked)
         }
-        Source::Silent(asked) if now.saturating_sub(asked) >= REQUEST_GAP => {
-            ask_repeater(ear, now)
+        Source::Silent(asked) | Source::Repeater(asked)
+            if now.saturating_sub(asked) >= REQUEST_GAP => { ask_repeater(ear, now) }
+        Source::OwnPort(taken) if now.saturating_sub(taken) >= REQUEST_GAP => {
+            leave_port(rt, ear, now)
         }
-        Source::Asked(Some(_)) | Source::Silent(_) | Source::Repeater | Source::OwnPort => (),
+        Source::Asked(Some(_)) | Source::Silent(_) | Source::Repeater(_) | Source::OwnPort(_) => (),
     }
 }
 
@@ -158,9 +168,24 @@ fn take_port<R: System + Net<Listener = TcpListener, Stream = TcpStream>>(
     match open_ear(rt, any) {
         Ok(socket) => {
             ear.socket = socket;
-            ear.source = Source::OwnPort;
+            ear.source = Source::OwnPort(asked);
         }
         Err(_) => ear.source = Source::Silent(asked),
+    }
+}
+
+// Until the repeater had time to answer, the port is anybody's. Where no other can be opened, it stays.
+fn leave_port<R: System + Net<Listener = TcpListener, Stream = TcpStream>>(
+    rt: R,
+    ear: &mut Ear,
+    now: u64,
+) {
+    match open_own_ear(rt) {
+        Ok(socket) => {
+            ear.socket = socket;
+            ask_repeater(ear, now);
+        }
+        Err(_) => ear.source = Source::OwnPort(now),
     }
 }
 
@@ -180,12 +205,21 @@ fn hear<R: System>(
             break;
         };
         match head.command {
-            REPEATER_CONFIRM if ear.source != Source::OwnPort => ear.source = Source::Repeater,
+            REPEATER_CONFIRM => note_repeater(ear),
             RSRV_IS_UP => hear_beacon(rt, hub, finding, ear, &head, from)?,
             _ => (),
         }
     }
     Ok(())
+}
+
+// The repeater answered what it was asked.
+fn note_repeater(ear: &mut Ear) {
+    let source = ear.source;
+    match source {
+        Source::Asked(Some(asked)) | Source::Silent(asked) => ear.source = Source::Repeater(asked),
+        Source::Asked(None) | Source::Repeater(_) | Source::OwnPort(_) => (),
+    }
 }
 
 // The server is where the beacon says, or where it came from.
@@ -208,7 +242,7 @@ fn hear_beacon<R: System>(
     };
     let address = address_of(ip, port);
     let own = address_of(hub.listen.ip(), hub.listen.port());
-    let nets = finding.discovery.nets.as_slice();
+    let nets = finding.nets.as_slice();
     let is_server = is_believed(address.host, address, nets, own) && !hub.is_own(address);
     if is_server && ear.is_news(address, head.p1)? {
         hub.seek_sooner(&rt);

@@ -1,5 +1,6 @@
 //! What all threads share.
 use crate::beacons::Beacons;
+use crate::clients::host_number;
 use crate::finding::{Came, Finding, address_of};
 use crate::late::LateInbox;
 use crate::line::WatchedStream;
@@ -18,7 +19,7 @@ use serve_state::{
     Cut, FirstNumber, HostSeats, MostInAll, MostWaiting, Notice, Outages, Patience, Roster, Scale,
     Seconds, SentAsks,
 };
-use server_book::Address;
+use server_book::{Address, Net as HostNet};
 use std::alloc::Global;
 use std::collections::VecDeque;
 use std::mem::replace;
@@ -159,6 +160,8 @@ pub struct Hub {
     pub sockets: Sockets,
     /// LISTEN, on which clients are served, where it isn't the only such address too.
     pub listen: SocketAddr,
+    /// Searches by datagrams from these nets aren't heard.
+    pub ignored: Vec<HostNet>,
     pub servers: Upstreams,
     /// How other servers are found, where they are searched for.
     pub finding: Option<Finding>,
@@ -197,6 +200,7 @@ impl Hub {
     pub fn new(
         alloc: Global,
         sockets: Sockets,
+        ignored: Vec<HostNet>,
         servers: Upstreams,
         finding: Option<Finding>,
         name_servers: NameServers,
@@ -213,6 +217,7 @@ impl Hub {
             alloc,
             listen: sockets.first.address,
             sockets,
+            ignored,
             servers,
             finding,
             name_servers,
@@ -286,7 +291,7 @@ impl Hub {
             return;
         }
         if let Some(beacons) = &self.beacons {
-            beacons.note_names(rt, number);
+            beacons.note_names(rt, names.as_slice(), number);
         }
         if self.options.back_off {
             self.wanted.lock(rt).note_found(names);
@@ -341,6 +346,12 @@ impl Hub {
         false
     }
 
+    /// Whether searches from there aren't heard.
+    pub fn is_ignored(&self, from: &SocketAddr) -> bool {
+        let host = host_number(from);
+        self.ignored.iter().any(|net| net.has(host))
+    }
+
     /// The number of a server that was found by search.
     pub fn is_found(&self, number: u32) -> bool {
         self.finding.is_some() && number > self.server_count()
@@ -376,6 +387,20 @@ impl Hub {
             beacons.note_connected(rt, number);
         }
         self.note_server(rt, number, Came::Connected);
+    }
+
+    /// The server of this number is lost, and its names are looked for.
+    pub fn note_lost<R: Wait>(&self, rt: &R, number: u32) {
+        if let Some(beacons) = &self.beacons {
+            beacons.note_lost(rt, number);
+        }
+    }
+
+    /// The server of this number is left, as nobody wants its names.
+    pub fn leave_server<R: Wait>(&self, rt: &R, number: u32) {
+        if let Some(beacons) = &self.beacons {
+            beacons.leave(rt, number);
+        }
     }
 
     /// The server of this number is forgotten.

@@ -121,6 +121,7 @@ fn ended_at<R: System>(rt: R, hub: &Hub, place: &mut usize) -> Option<Dest> {
 fn retire<R: System, H: AsHub>(rt: R, hub: &H, dest: Dest) {
     drop(hub.gate().retire(&rt, dest));
     if let Dest::Upstream(number) = dest {
+        hub.hub().note_lost(&rt, number);
         seek_lost(rt, hub.hub(), number);
     }
     let removed = hub.hub().roster.lock(&rt).remove(dest);

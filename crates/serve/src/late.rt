@@ -4,6 +4,7 @@ use crate::clients::{host_number, host_of};
 use crate::hub::{AsHub, Hub};
 use crate::machine::System;
 use crate::pace::Pace;
+use crate::seekers::peer_of;
 use crate::sockets::Sender;
 use ca_header::{Frame, Frames};
 use ca_message::NameText;
@@ -458,7 +459,12 @@ fn answer_run<R: System, H: AsHub>(
         let found = read_found(alloc, reply)?;
         match run.from {
             Seeker::Datagram(sender) => hub.hub().sockets.reply(alloc, sender, reply)?,
-            Seeker::Connection(session, _) => seek_again(rt, hub, session, run, &found)?,
+            Seeker::Connection(session, peer) => {
+                // Another client may have the number meanwhile.
+                if peer_of(rt, hub.hub(), session) == Some(peer) {
+                    seek_again(rt, hub, session, run, &found)?;
+                }
+            }
         }
         late.answered(host_number(&address), address.port(), found.as_slice());
     }

@@ -17,10 +17,12 @@
 //!   and one sends beacons, where they are to;
 //! - two for each connection, which read and write;
 //! - for each name server one that connects and hears it, and while it is connected one that writes to it: nobody waits for them;
-//! - where servers' beacons are heard, one hears them: nobody waits for it;
+//! - where servers' beacons are heard, one hears them, and where hosts at which servers are searched for are named, one looks
+//!   them up anew: nobody waits for these;
 //! - one reads the orders of standard input, one performs those that are to be repeated, where any is, one tells of
-//!   the gateway, where it is to, one writes the log, and one for each connection to a server that is being made: these
-//!   stand outside, and nobody waits for them, but for some moments at the end for the log's last lines.
+//!   the gateway, where it is to, one writes the log, one has all servers of the command line connected to at the start, and one
+//!   for each connection to a server that is being made: these stand outside, and nobody waits for them, but for some moments at
+//!   the end for the log's last lines.
 #![tactic(auto)]
 
 mod addresses;
@@ -40,6 +42,7 @@ mod late;
 mod line;
 mod link;
 mod logging;
+mod lookups;
 mod machine;
 mod name_servers;
 mod opening;
@@ -49,6 +52,7 @@ mod repeating;
 mod reports;
 mod rules;
 mod searches;
+mod searching;
 mod seekers;
 mod servers;
 mod sockets;
@@ -68,6 +72,7 @@ pub use serve_state::{
     CLIENTS, FirstNumber, HostSeats, MOST_CLIENTS, MOST_NAMES, MOST_SERVERS, MostInAll,
     MostWaiting, Patience, SERVERS, Scale, Seconds, read_level, read_up_to,
 };
+pub use sockets::is_broadcast;
 pub use upstreams::{Upstream, look_up, names_host};
 
 /// What the exit statuses of the program mean.

@@ -19,7 +19,7 @@ use std::thread;
 use std::thread::{Builder, Threads};
 use std::time::Duration;
 
-/// In so many seconds a connection is made, or can't be.
+/// In so many seconds a connection is made, or can't be, and something is taken that is written.
 const PATIENCE: u64 = 5;
 
 /// One that says nothing for so many seconds is asked whether it is there, where nothing else is said of servers.
@@ -304,6 +304,7 @@ fn converse<
     let server = shared.hub().name_servers.at(keeper.number)?;
     let alloc = shared.hub().alloc;
     let _ = stream.set_nodelay(true);
+    let _ = stream.set_write_timeout(Some(Duration::from_secs(PATIENCE)));
     let (Ok(text), Ok(stream)) = (first_text(alloc), Arc::new(alloc, stream)) else {
         return Some(Cut::OutOfMemory);
     };
@@ -348,7 +349,7 @@ fn start_writer<
     }
 }
 
-// Writes what waits, as long as the connection stands.
+// Writes what waits, as long as the connection stands. One that doesn't read is left.
 fn write_until_end<R: System>(rt: R, hub: &Hub, number: u32, connection: u64, stream: &TcpStream) {
     let Some(server) = hub.name_servers.at(number) else {
         return;

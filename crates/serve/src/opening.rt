@@ -5,22 +5,20 @@ use crate::beacons::{Beacons, send_beacons};
 use crate::clients::{accept_clients, greet_clients};
 use crate::datagrams::{DATAGRAM_SIZE, receive, receive_replies};
 use crate::fault::ServeFault;
-use crate::finder::find_servers;
 use crate::finding::{Discovery, Finding, OwnAsks};
-use crate::hearing::hear_beacons;
 use crate::hub::{AsGate, AsHub, AsRest, HOST, Hub, Options, Served, USER};
 use crate::keeper::keep_rows;
 use crate::late::answer_late;
 use crate::logging::{LogBook, Teller, write_lines};
 use crate::machine::{Machine, System};
-use crate::name_servers::{NameServers, keep_name_server};
+use crate::name_servers::NameServers;
 use crate::orders::{Orders, read_orders};
 use crate::repeating::{repeat_orders, repeats};
 use crate::reports::tell_reports;
 use crate::rules::{PolicyDesk, RulePaths, When, read_policy, read_texts};
 use crate::searches::hear_searches;
+use crate::searching::{start_connecting, start_searching};
 use crate::seekers::hear_seekers;
-use crate::servers::connect;
 use crate::sockets::{Sockets, open_sockets};
 use crate::status;
 use crate::upstreams::Upstreams;
@@ -29,7 +27,7 @@ use crate::workers::{RULES_STACK_SIZE, STACK_SIZE};
 use gate_board::{Board, Gate};
 use gateway_core::{Config, Engine, Event, Policy};
 use pv_name::Name;
-use serve_state::{FirstNumber, Notice, Try};
+use serve_state::{FirstNumber, Notice};
 use session_worker::{CoreEnd, serve_core};
 use std::alloc::Global;
 use std::fmt::Write;
@@ -83,6 +81,7 @@ fn rest<R: Machine + System>(
     let Addresses {
         listen: _,
         more: _,
+        ignored,
         servers,
         discovery,
         name_servers,
@@ -100,6 +99,7 @@ fn rest<R: Machine + System>(
     Ok(Hub::new(
         alloc,
         sockets,
+        ignored,
         Upstreams::new(alloc, servers)?,
         finding,
         NameServers::new(alloc, name_servers)?,
@@ -174,14 +174,10 @@ fn serve<
     };
     let _ = hub.gate().desk(&rt, Event::Limit(hub.hub().limits()));
     tell_watching(rt, hub.hub());
-    for number in 1..=hub.hub().server_count() {
-        connect(rt, &hub, number, Try::Ordered);
-    }
+    start_connecting(rt, &hub)?;
     start_orders(rt, &hub, orders)?;
     start_reports(rt, &hub, reports)?;
-    start_finder(rt, &hub)?;
-    start_name_servers(rt, &hub)?;
-    start_hearing(rt, &hub)?;
+    start_searching(rt, &hub)?;
     let mut buffer = Vec::new(alloc);
     buffer.resize(DATAGRAM_SIZE, 0u8)?;
     let shared: &Served<G, P> = &hub;
@@ -235,61 +231,6 @@ fn start_orders<
         .stack_size(RULES_STACK_SIZE)
         .spawn(&rt, move || repeat_orders(rt, again));
     match repeating {
-        Ok(_) => Ok(()),
-        Err(_) => Err(ServeFault::OutOfMemory),
-    }
-}
-
-// The thread that finds servers, where it is to. Nobody waits for it.
-fn start_finder<
-    R: Machine + System + Threads + Net<Listener = TcpListener, Stream = TcpStream> + 'static,
-    H: AsHub + Send + Sync + Drop + 'static,
->(rt: R, hub: &Arc<H, Global>) -> Result<(), ServeFault> {
-    if hub.hub().finding.is_none() {
-        return Ok(());
-    }
-    let again = Arc::try_clone(hub)?;
-    let finding = Builder::new()
-        .stack_size(RULES_STACK_SIZE)
-        .spawn(&rt, move || find_servers(rt, again));
-    match finding {
-        Ok(_) => Ok(()),
-        Err(_) => Err(ServeFault::OutOfMemory),
-    }
-}
-
-// A thread for each name server, which starts another one for each connection. Nobody waits for them. The system needs more than
-// others to look a host up.
-fn start_name_servers<
-    R: System + Threads + Net<Listener = TcpListener, Stream = TcpStream> + 'static,
-    H: AsHub + Send + Sync + Drop + 'static,
->(rt: R, hub: &Arc<H, Global>) -> Result<(), ServeFault> {
-    for number in 1..=hub.hub().name_servers.count() {
-        let again = Arc::try_clone(hub)?;
-        let keeping = Builder::new()
-            .stack_size(RULES_STACK_SIZE)
-            .spawn(&rt, move || keep_name_server(rt, again, number));
-        if keeping.is_err() {
-            return Err(ServeFault::OutOfMemory);
-        }
-    }
-    Ok(())
-}
-
-// The thread that hears servers' beacons, where it is to. Nobody waits for it.
-fn start_hearing<
-    R: System + Threads + Net<Listener = TcpListener, Stream = TcpStream> + 'static,
-    H: AsHub + Send + Sync + Drop + 'static,
->(rt: R, hub: &Arc<H, Global>) -> Result<(), ServeFault> {
-    match &hub.hub().finding {
-        Some(finding) if finding.discovery.hears_beacons => (),
-        _ => return Ok(()),
-    }
-    let again = Arc::try_clone(hub)?;
-    let hearing = Builder::new()
-        .stack_size(STACK_SIZE)
-        .spawn(&rt, move || hear_beacons(rt, again));
-    match hearing {
         Ok(_) => Ok(()),
         Err(_) => Err(ServeFault::OutOfMemory),
     }

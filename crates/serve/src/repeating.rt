@@ -2,7 +2,7 @@
 use crate::hub::{AsHub, Hub};
 use crate::machine::System;
 use crate::orders::{age, sweep};
-use crate::servers::connect;
+use crate::servers::connect_all;
 use crate::watcher::rests;
 use serve_state::{Rhythm, Try};
 use std::alloc::Global;
@@ -47,7 +47,7 @@ fn perform_due<
             return;
         }
         if is_due(&mut rhythms.reconnect) {
-            connect_all(rt, hub);
+            connect_all(rt, hub, Try::Repeated);
         }
         if is_due(&mut rhythms.sweep) {
             sweep(rt, shared);
@@ -62,14 +62,5 @@ fn is_due(rhythm: &mut Option<Rhythm>) -> bool {
     match rhythm {
         Some(rhythm) => rhythm.look(),
         None => false,
-    }
-}
-
-fn connect_all<
-    R: System + Threads + Net<Listener = TcpListener, Stream = TcpStream> + 'static,
-    H: AsHub + Send + Sync + Drop + 'static,
->(rt: R, hub: &Arc<H, Global>) {
-    for number in 1..=hub.hub().server_count() {
-        connect(rt, hub, number, Try::Repeated);
     }
 }

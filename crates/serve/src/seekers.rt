@@ -100,8 +100,8 @@ fn with_seekers<R: System>(
     Ok(sought)
 }
 
-// Where a client is connected from.
-fn peer_of<R: System>(rt: R, hub: &Hub, session: u32) -> Option<SocketAddr> {
+/// Where the client of this number is connected from.
+pub fn peer_of<R: System>(rt: R, hub: &Hub, session: u32) -> Option<SocketAddr> {
     let roster = hub.roster.lock(&rt);
     for row in roster.rows() {
         if row.dest() == Dest::Session(session) {

@@ -1,5 +1,5 @@
 //! Connections to servers.
-use crate::finding::Came;
+use crate::finding::{Came, address_of};
 use crate::hub::{AsHub, Hub};
 use crate::line::{Watched, WatchedStream};
 use crate::machine::System;
@@ -14,14 +14,57 @@ use std::thread;
 use std::thread::{Builder, Threads};
 use std::time::Duration;
 
-/// So many seconds a server that was found by search has for its connection: what names it may be forged.
-const FOUND_PATIENCE: u64 = 5;
+/// So many seconds a server has for its connection. What names one that is found by search may be forged.
+const PATIENCE: u64 = 5;
+
+/// So many connections to servers of the command line are made at once, where all of them are to be connected to.
+const MOST_MADE: usize = 32;
 
 /// So many times it is looked whether a connection that was ended is gone.
 const LOOKS: u32 = 2_000;
 
-/// How many milliseconds pass between two of these looks.
+/// How many milliseconds pass between two of these looks, and between two whether another connection may be made.
 const PAUSE: u64 = 5;
+
+/// Connects to all servers of the command line, one after the other where many can't be reached.
+pub fn connect_all<
+    R: System + Threads + Net<Listener = TcpListener, Stream = TcpStream> + 'static,
+    H: AsHub + Send + Sync + Drop + 'static,
+>(rt: R, hub: &Arc<H, Global>, tried: Try) {
+    for number in 1..=hub.hub().server_count() {
+        if !has_room(rt, hub.hub()) {
+            return;
+        }
+        connect(rt, hub, number, tried);
+    }
+}
+
+// Waits until another connection may be made. False where the gateway closes.
+fn has_room<R: System>(rt: R, hub: &Hub) -> bool {
+    for _ in rt.forever() {
+        if hub.is_closing(&rt) {
+            return false;
+        }
+        if made(rt, hub) < MOST_MADE {
+            return true;
+        }
+        thread::sleep(&rt, Duration::from_millis(PAUSE));
+    }
+    false
+}
+
+// How many connections to servers of the command line are being made.
+fn made<R: System>(rt: R, hub: &Hub) -> usize {
+    let mut count = 0usize;
+    for row in hub.roster.lock(&rt).rows() {
+        if let Dest::Upstream(number) = row.dest() {
+            if row.link().is_none() && number <= hub.server_count() {
+                count = count.saturating_add(1);
+            }
+        }
+    }
+    count
+}
 
 /// Connects to the server of this number, in a thread of its own that nobody waits for. It does nothing where
 /// there is no such server, or its connection stands or is being made; but one that was asked whether it is there and
@@ -140,8 +183,11 @@ pub fn connect_found<
     }
     let started = match Arc::try_clone(hub) {
         Ok(hub) => Builder::new()
-            .stack_size(STACK_SIZE)
-            .spawn(&rt, move || reach_found(rt, hub.hub(), number, peer))
+            .stack_size(stack_size(hub.hub(), number))
+            .spawn(
+                &rt,
+                move || reach(rt, hub.hub(), number, peer, Try::Repeated),
+            )
             .is_ok(),
         Err(_) => false,
     };
@@ -150,24 +196,12 @@ pub fn connect_found<
     }
 }
 
-fn reach_found<R: System + Net<Listener = TcpListener, Stream = TcpStream>>(
-    rt: R,
-    hub: &Hub,
-    number: u32,
-    peer: SocketAddr,
-) {
-    let patience = Duration::from_secs(FOUND_PATIENCE);
-    match TcpStream::connect_timeout(&rt, &peer, patience) {
-        Ok(stream) if !is_own_door(hub, peer, &stream) => {
-            take(rt, hub, number, peer, Try::Repeated, stream)
-        }
-        _ => fail(rt, hub, number, peer, Try::Repeated),
-    }
-}
-
-/// Whether the connection leads to an address on which clients are served, where that is each one of the machine: no reply tells
-/// which these are.
+/// Whether the connection leads to an address on which clients are served, where that is each one of the machine too: no reply
+/// tells which these are.
 pub fn is_own_door(hub: &Hub, peer: SocketAddr, stream: &TcpStream) -> bool {
+    if hub.is_own(address_of(peer.ip(), peer.port())) {
+        return true;
+    }
     if !is_served(hub, peer.port()) {
         return false;
     }
@@ -188,14 +222,17 @@ fn reach<R: System + Net<Listener = TcpListener, Stream = TcpStream>>(
         fail(rt, hub, number, peer, tried);
         return;
     };
-    match TcpStream::connect(&rt, peer) {
-        Ok(stream) => take(rt, hub, number, peer, tried, stream),
-        Err(_) => fail(rt, hub, number, peer, tried),
+    let patience = Duration::from_secs(PATIENCE);
+    match TcpStream::connect_timeout(&rt, &peer, patience) {
+        Ok(stream) if !is_own_door(hub, peer, &stream) => {
+            take(rt, hub, number, peer, tried, stream)
+        }
+        _ => fail(rt, hub, number, peer, tried),
     }
 }
 
 // Where the server is, which is looked up anew where the command line names its host; the row has the address then. None where
-// it isn't known. Where servers are searched for, they are known by their first addresses, and found at others by search.
+// it isn't known.
 fn looked_up<R: System + Net<Listener = TcpListener, Stream = TcpStream>>(
     rt: R,
     hub: &Hub,
@@ -203,8 +240,8 @@ fn looked_up<R: System + Net<Listener = TcpListener, Stream = TcpStream>>(
     peer: SocketAddr,
 ) -> Option<SocketAddr> {
     let word = match hub.servers.word(number) {
-        Some(word) if hub.finding.is_none() => word,
-        _ => return Some(peer),
+        Some(word) => word,
+        None => return Some(peer),
     };
     let Some(found) = look_up(&rt, word, hub.listen.is_ipv4()) else {
         return hub.servers.at(&rt, number);

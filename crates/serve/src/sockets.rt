@@ -7,6 +7,7 @@ use ca_message::commands::CA_PROTO_SEARCH;
 use pv_name::NoMemory;
 use std::alloc::Global;
 use std::io;
+use std::io::ErrorKind;
 use std::net::{
     IpAddr, Ipv4Addr, Ipv6Addr, Net, Shutdown, SocketAddr, TcpListener, TcpStream, UdpSocket,
 };
@@ -36,6 +37,9 @@ pub struct Entrance {
     /// By this handle it is shut.
     pub listener_door: TcpStream,
     pub datagrams: Datagrams,
+    /// It is at a broadcast address. What is sent from there leaves from the first address of an interface, at which maybe
+    /// nobody listens.
+    is_broadcast: bool,
 }
 
 impl Entrance {
@@ -84,9 +88,28 @@ impl Sockets {
         }
     }
 
+    /// The place of the entrance from which is sent what is said at this one. For a broadcast address that is the one with the
+    /// same port that is nearest to it, where there is one: clients connect to where a reply comes from.
+    pub fn speaker(&self, place: usize) -> usize {
+        let heard = self.entrance(place);
+        if !heard.is_broadcast {
+            return place;
+        }
+        let mut nearest = (place, 0u32);
+        for at in 0..self.count() {
+            let other = self.entrance(at);
+            let is_one = !other.is_broadcast && other.address.port() == heard.address.port();
+            let bits = alike(heard.address.ip(), other.address.ip()).saturating_add(1);
+            if is_one && bits > nearest.1 {
+                nearest = (at, bits);
+            }
+        }
+        nearest.0
+    }
+
     /// Sends a client replies to searches, from where these came to and with the port of that.
     pub fn reply(&self, alloc: Global, to: Sender, text: &[u8]) -> Result<(), NoMemory> {
-        let entrance = self.entrance(to.entrance);
+        let entrance = self.entrance(self.speaker(to.entrance));
         let socket = &entrance.datagrams.socket;
         let port = entrance.address.port();
         if port == self.first.address.port() {
@@ -106,6 +129,14 @@ impl Sockets {
         if let Some(own) = &self.own_asks {
             own.shut();
         }
+    }
+}
+
+// With how many bits that are alike two addresses of IPv4 begin.
+fn alike(one: IpAddr, other: IpAddr) -> u32 {
+    match (one, other) {
+        (IpAddr::V4(one), IpAddr::V4(other)) => (one.to_bits() ^ other.to_bits()).leading_zeros(),
+        _ => 0,
     }
 }
 
@@ -191,7 +222,20 @@ fn open_entrance<R: System + Net<Listener = TcpListener, Stream = TcpStream>>(
         listener,
         listener_door,
         datagrams,
+        is_broadcast: is_broadcast(&rt, address),
     })
+}
+
+/// Whether it is the address of an interface's broadcasts: the system refuses one as a peer, unless it was asked for.
+pub fn is_broadcast<R: Net>(rt: &R, address: SocketAddr) -> bool {
+    let any = SocketAddr::new(IpAddr::V4(Ipv4Addr::UNSPECIFIED), 0);
+    let Ok(socket) = UdpSocket::bind(rt, any) else {
+        return false;
+    };
+    match socket.connect(address) {
+        Ok(()) => false,
+        Err(fault) => fault.kind() == ErrorKind::PermissionDenied,
+    }
 }
 
 // All addresses that are searched at are of one family, or where there is none UPSTREAMs are of LISTEN's.

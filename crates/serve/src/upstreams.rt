@@ -23,6 +23,8 @@ pub struct Upstream {
 #[derive(Drop)]
 pub struct Upstreams {
     words: Vec<Option<String>>,
+    // Where they were first.
+    firsts: Vec<Option<SocketAddr>>,
     addresses: Mutex<Vec<Option<SocketAddr>>>,
 }
 
@@ -30,13 +32,16 @@ impl Upstreams {
     /// Of these, the first of which has number 1.
     pub fn new(alloc: Global, upstreams: Vec<Upstream>) -> Result<Upstreams, NoMemory> {
         let mut words = Vec::new(alloc);
+        let mut firsts = Vec::new(alloc);
         let mut addresses = Vec::new(alloc);
         for upstream in upstreams {
             words.push(upstream.word)?;
+            firsts.push(upstream.address)?;
             addresses.push(upstream.address)?;
         }
         Ok(Upstreams {
             words,
+            firsts,
             addresses: Mutex::new(addresses),
         })
     }
@@ -53,6 +58,17 @@ impl Upstreams {
             Some(word) => Some(word.as_str()),
             None => None,
         }
+    }
+
+    /// Whether any of them is named so.
+    pub fn has_words(&self) -> bool {
+        self.words.iter().any(|word| word.is_some())
+    }
+
+    /// Where the server of this number was first.
+    pub fn first_at(&self, number: u32) -> Option<SocketAddr> {
+        let place = number.checked_sub(1)?;
+        *self.firsts.get(place as usize)?
     }
 
     /// Where the server of this number is, as far as is known.
