@@ -194,8 +194,7 @@ SERVE_REFUSALS = [
 
 # Arguments of `serve` that are refused, and what is said of them.
 REFUSED = [
-    ("127.0.0.1:5998 127.0.0.1:1 127.0.0.1:5998", "the UPSTREAM is the gateway itself: 127.0.0.1:5998"),
-    ("0.0.0.0:5998 127.0.0.1:5998", "the UPSTREAM is the gateway itself: 127.0.0.1:5998"),
+    ("0.0.0.0:5998 127.0.0.1:5998 --search 127.0.0.1:1", "the UPSTREAM is the gateway itself: 127.0.0.1:5998"),
     ("127.0.0.1:5998 127.0.0.1:5999 --listen 127.0.0.1:5999", "the UPSTREAM is the gateway itself: 127.0.0.1:5999"),
     ("127.0.0.1:5998 localhost:5998 --search 127.0.0.1:1", "the UPSTREAM is the gateway itself: localhost:5998"),
     ("127.0.0.1:5998 --search 127.0.0.1:5998", "the address of --search is the gateway's own: 127.0.0.1:5998"),

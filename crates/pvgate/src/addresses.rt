@@ -35,7 +35,8 @@ impl Own<'_> {
     }
 }
 
-/// Where servers are, of which there are at most so many.
+/// Where servers are, of which there are at most so many. None is an address of `--listen`; that one is LISTEN itself is refused
+/// where others are searched for, too, and else stays a server that can't be reached.
 pub fn read_servers<R: Net>(
     rt: &R,
     alloc: Global,
@@ -48,9 +49,10 @@ pub fn read_servers<R: Net>(
     }
     let mut servers = Vec::new(alloc);
     for text in arguments.upstreams.as_slice() {
-        let upstream = read_upstream(rt, alloc, *text, own.is_ipv4(), finds_servers(arguments))?;
+        let is_one_of_many = finds_servers(arguments);
+        let upstream = read_upstream(rt, alloc, *text, own.is_ipv4(), is_one_of_many)?;
         if let Some(address) = upstream.address {
-            if own.has(address) {
+            if own.has_more(address) || is_one_of_many && own.has(address) {
                 return Err(ProgramFault::UpstreamOfListen(String::from_str(alloc, *text)?));
             }
         }
