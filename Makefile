@@ -2,8 +2,8 @@
 define HELP
 make demo      the gateway at work on this machine, for some seconds; compiles it first where nothing is built (minutes)
 make test      all tests and stories, with no proof; the last line is N passed, N failed (a quarter of an hour)
-make build     proves and builds the program (half an hour)
-make check     the whole gate: proofs, edits, tests and the built program (an hour and a half)
+make build     proves and builds the program (two to three hours)
+make check     the whole gate: proofs, edits, tests and the built program (three hours)
 make bench     measures the core and the server; needs valgrind and a C compiler (a quarter of an hour)
 make docs      writes the generated pages anew, and checks all documents (a minute)
 make refused   lists the wrong bodies that the prover refuses, crate by crate

@@ -33,8 +33,8 @@ class Searcher:
     """A program of libca that looks for a name at some addresses, and starts its repeater."""
 
     def __init__(self, room, addresses, name):
-        program = room.file(PROGRAM, TEXT)
-        os.chmod(program, 0o755)
+        self.program = room.file(PROGRAM, TEXT)
+        os.chmod(self.program, 0o755)
         words = [sys.executable, "-B", os.path.abspath(__file__), " ".join(map(text_of, addresses)), name]
         paths = os.environ | {"PATH": f"{room.folder}:{os.environ['PATH']}"}
         self.process = subprocess.Popen(words, env=paths, stdin=subprocess.PIPE, stdout=subprocess.PIPE, text=True, start_new_session=True)
@@ -45,8 +45,8 @@ class Searcher:
         return json.loads(self.process.stdout.readline() or "null")
 
     def end(self):
-        """Ends it, and the repeater with it, which by itself goes on."""
-        subprocess.run(["pkill", "-f", PROGRAM], check=False)
+        """Ends it, and the repeater that it started, which by itself goes on; no other one of this host."""
+        subprocess.run(["pkill", "-f", self.program], check=False)
         self.process.stdin.close()
         self.process.wait(libca.PATIENCE)
         self.process.stdout.close()
