@@ -16,7 +16,7 @@ use pv_name::{Group, Host};
 use std::alloc::Global;
 use std::marker::Model;
 
-/// The group whose rules hold where a group has none of its own, and where a variable has no group.
+/// The group whose rules hold where the group asked about is not defined, and where a variable has no group.
 pub const DEFAULT_GROUP: &str = "DEFAULT";
 
 /// What a file says: groups of users, groups of hosts, and security groups with their rules. A
