@@ -1,5 +1,5 @@
 -- Keys in pieces, as one of them goes.
-use Rattle.std.proofs.Common.{◌≡◌, ◌≤◌, ◌<◌, ◌+◌, ◌-◌, ◌||◌, length, drop, arith, ℕ, zero, suc, List, [], ◌∷◌, ◌++◌, get_or, set, slice_get, Some, Bool, true, false, cond, filter, refl, sym, ap, true≢false, ◌∙◌, length-append}
+use Rattle.std.proofs.Common.{◌≡◌, ◌≤◌, ◌<◌, ◌+◌, ◌-◌, ◌||◌, ◌==◌, length, drop, arith, ℕ, zero, suc, List, [], ◌∷◌, ◌++◌, get_or, set, slice_get, Some, Bool, true, false, cond, filter, refl, sym, ap, subst, true≢false, ◌∙◌, length-append}
 use Rattle.std.specs.List.{list_any, remove}
 use Rattle.std.proofs.lemmas.List.{append_assoc, append-nil}
 use Rattle.std.proofs.lemmas.List.Elements.{filter-append}
@@ -7,7 +7,7 @@ use Rattle.std.proofs.lemmas.List.Filters.{length-filter_both}
 use Rattle.std.proofs.lemmas.List.Folds.{list_any-append}
 use Rattle.row_index.specs.declared.key.Key.{Key}
 use Rattle.row_index.specs.Lists.{is_key, is_not_key}
-use Rattle.row_index.specs.Pieces.{joined, has_at}
+use Rattle.row_index.specs.Pieces.{joined, has_at, HasNoEmptyPiece}
 use Rattle.row_index.proofs.Keys.{same_key_itself}
 use Rattle.row_index.proofs.Once.{all_fail, none_pass}
 
@@ -60,6 +60,11 @@ module _ {X : Type 0} where
   empty_one [] none = refl
   empty_one (x ∷ xs) none = absurd (omega (arith, none))
 
+  -- what isn't empty has one at least
+  pub some_one : (xs : List X) → false ≡ (length xs == 0) → 1 ≤ length xs
+  some_one [] some = absurd (true≢false (sym some))
+  some_one (x ∷ xs) some = omega arith
+
   -- without an empty piece
   pub joined_fewer : (pieces : List (List X)) (n : ℕ) (piece : List X) → piece ≡ get_or pieces n piece → n < length pieces → length piece ≡ 0 → joined (remove pieces n) ≡ joined pieces
   joined_fewer [] n piece is within none = absurd (omega (arith, within))
@@ -78,13 +83,44 @@ module _ {X : Type 0} where
       ap (λ rest. x ++ rest) (joined_two (y ∷ pieces) n some more both first second (omega (arith, within)) made)
 
   -- or put back as they were
-  pub joined_again : (pieces : List (List X)) (n : ℕ) (some more : List X) → some ≡ get_or pieces n some → more ≡ get_or pieces (suc n) more → suc n < length pieces
-      → joined (set (set (set pieces (suc n) []) n some) (suc n) more) ≡ joined pieces
-  joined_again [] n some more first second within = absurd (omega (arith, within))
-  joined_again (x ∷ []) n some more first second within = absurd (omega (arith, within))
-  joined_again (x ∷ y ∷ pieces) zero some more first second within = rw (first, second) refl
-  joined_again (x ∷ y ∷ pieces) (suc n) some more first second within =
-      ap (λ rest. x ++ rest) (joined_again (y ∷ pieces) n some more first second (omega (arith, within)))
+  pub as_before : (pieces : List (List X)) (n : ℕ) (some more : List X) → some ≡ get_or pieces n some → more ≡ get_or pieces (suc n) more → suc n < length pieces
+      → set (set (set pieces (suc n) []) n some) (suc n) more ≡ pieces
+  as_before [] n some more first second within = absurd (omega (arith, within))
+  as_before (x ∷ []) n some more first second within = absurd (omega (arith, within))
+  as_before (x ∷ y ∷ pieces) zero some more first second within = rw (first, second) refl
+  as_before (x ∷ y ∷ pieces) (suc n) some more first second within =
+      ap (λ rest. x ∷ rest) (as_before (y ∷ pieces) n some more first second (omega (arith, within)))
+
+  -- where no piece is empty, the one at a place isn't
+  pub filled_at : (pieces : List (List X)) (n : ℕ) (piece : List X) → piece ≡ get_or pieces n piece → n < length pieces → HasNoEmptyPiece pieces → 1 ≤ length piece
+  filled_at [] n piece is within filled = absurd (omega (arith, within))
+  filled_at (first ∷ pieces) zero piece is within filled = rw is filled.0
+  filled_at (first ∷ pieces) (suc n) piece is within filled = filled_at pieces n piece is (omega (arith, within)) filled.1
+
+  -- none is empty where none is but the one at a place, and that one isn't
+  pub none_empty : (pieces : List (List X)) (n : ℕ) (piece : List X) → piece ≡ get_or pieces n piece → n < length pieces → 1 ≤ length piece → HasNoEmptyPiece (remove pieces n) → HasNoEmptyPiece pieces
+  none_empty [] n piece is within some others = absurd (omega (arith, within))
+  none_empty (first ∷ pieces) zero piece is within some others = (subst (λ p. 1 ≤ length p) is some, others)
+  none_empty (first ∷ pieces) (suc n) piece is within some others = (others.0, none_empty pieces n piece is (omega (arith, within)) some others.1)
+
+  -- without a piece that may be empty now the others are as they were
+  pub others_filled : (pieces : List (List X)) (n : ℕ) (piece : List X) → n < length pieces → HasNoEmptyPiece pieces → HasNoEmptyPiece (remove (set pieces n piece) n)
+  others_filled [] n piece within filled = absurd (omega (arith, within))
+  others_filled (first ∷ pieces) zero piece within filled = filled.1
+  others_filled (first ∷ pieces) (suc n) piece within filled = (filled.0, others_filled pieces n piece (omega (arith, within)) filled.1)
+
+  -- two pieces next to each other become one that isn't empty
+  pub filled_two : (pieces : List (List X)) (n : ℕ) (both : List X) → suc n < length pieces → 1 ≤ length both → HasNoEmptyPiece pieces
+      → HasNoEmptyPiece (remove (set (set pieces (suc n) []) n both) (suc n))
+  filled_two [] n both within some filled = absurd (omega (arith, within))
+  filled_two (x ∷ []) n both within some filled = absurd (omega (arith, within))
+  filled_two (x ∷ y ∷ pieces) zero both within some filled = (some, filled.1.1)
+  filled_two (x ∷ y ∷ pieces) (suc n) both within some filled = (filled.0, filled_two (y ∷ pieces) n both (omega (arith, within)) some filled.1)
+
+  -- one more piece that isn't empty
+  pub filled_more : (pieces : List (List X)) (piece : List X) → 1 ≤ length piece → HasNoEmptyPiece pieces → HasNoEmptyPiece (pieces ++ piece ∷ [])
+  filled_more [] piece some filled = (some, tt)
+  filled_more (first ∷ pieces) piece some filled = (filled.0, filled_more pieces piece some filled.1)
 
   -- a piece is as it was where another changed
   pub other_piece : (pieces : List (List X)) (n : ℕ) (d e : List X) → get_or (set pieces (suc n) e) n d ≡ get_or pieces n d

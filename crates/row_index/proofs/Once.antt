@@ -1,7 +1,7 @@
 -- Of a list what stands there once at most.
 use Rattle.std.proofs.Common.{◌≡◌, ◌≤◌, ◌<◌, ◌+◌, ◌||◌, not, length, take, drop, arith, ℕ, zero, suc, List, [], ◌∷◌, ◌++◌, slice_get, Bool, true, false, cond, Some, filter, refl, ap, ◌∙◌, true≢false}
 use Rattle.std.specs.Prelude.{IsTrue}
-use Rattle.std.specs.List.{list_any}
+use Rattle.std.specs.List.{find, list_any}
 
 module _ {X : Type 0} where
   -- what is found stands within the list
@@ -41,7 +41,8 @@ module _ {X : Type 0} (p : X → Bool) where
         | false ↦ elim (p x) as (λ t. length (filter p (filter q xs)) ≤ length (cond t (x ∷ filter p xs) (filter p xs))) [ true ↦ omega arith | false ↦ rest ]
       ]
 
-  one_passes : (xs : List X) (i : ℕ) (x : X) → slice_get xs i ≡ Some x → p x ≡ true → 1 ≤ length (filter p xs)
+  -- some pass where one does
+  pub one_passes : (xs : List X) (i : ℕ) (x : X) → slice_get xs i ≡ Some x → p x ≡ true → 1 ≤ length (filter p xs)
   one_passes [] i x at passes = cc
   one_passes (y ∷ xs) zero x at passes =
       let same : y ≡ x = cc in rw (ap p same ∙ passes) (omega arith)
@@ -72,4 +73,16 @@ module _ {X : Type 0} (p : X → Bool) where
       elim (p y) as (λ t. length (cond t (y ∷ filter p xs) (filter p xs)) ≤ 1 → y ∷ (take i xs ++ drop (suc i) xs) ≡ cond (not t) (y ∷ filter (λ z. not (p z)) xs) (filter (λ z. not (p z)) xs)) [
         | true ↦ λ h. absurd (omega (arith, some, h))
         | false ↦ λ h. ap (λ rest. y ∷ rest) (others_at xs i x at passes h)
+      ] once
+
+  -- the only one that passes is what is found
+  pub only_found : (xs : List X) (i : ℕ) (x : X) → slice_get xs i ≡ Some x → p x ≡ true → length (filter p xs) ≤ 1 → find p xs ≡ Some x
+  only_found [] i x at passes once = cc
+  only_found (y ∷ xs) zero x at passes once =
+      let same : y ≡ x = cc in rw (ap p same ∙ passes) (ap Some same)
+  only_found (y ∷ xs) (suc i) x at passes once =
+      let some = one_passes xs i x at passes in
+      elim (p y) as (λ t. length (cond t (y ∷ filter p xs) (filter p xs)) ≤ 1 → cond t (Some y) (find p xs) ≡ Some x) [
+        | true ↦ λ h. absurd (omega (arith, some, h))
+        | false ↦ λ h. only_found xs i x at passes h
       ] once

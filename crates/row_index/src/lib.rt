@@ -18,7 +18,7 @@
 //!
 //! What goes leaves room behind, of which invariants say how much: slots are at most twice the rows and one, of
 //! a list at most half went, and spots for hints are at most four for each slot, or list, and 16. For names, whose
-//! map stands elsewhere, the clauses of `note` and `note_last` say it.
+//! map stands elsewhere, the clauses of `note` and `note_last` say it. No piece is empty.
 //!
 //! `add` may be refused memory, and then changes nothing. `remove` takes none. A contract sees a
 //! `RowMap` as the list of its entries, each a key and a value (`specs/Rows.antt`), `NameLists` by the

@@ -1,8 +1,8 @@
 //! Keys in pieces, which are lists one behind another.
 ghost use Rattle.std.specs.Prelude.{◌≡◌, ◌<◌, ◌≤◌, ◌+◌, ◌++◌, true, false, IfSome, IfNone, IsTrue, length, slice_get};
-ghost use Rattle.std.specs.List.{filter, list_any};
+ghost use Rattle.std.specs.List.{filter, list_any, remove};
 ghost use Rattle.row_index.specs.Lists.{is_key, is_not_key};
-ghost use Rattle.row_index.specs.Pieces.{joined, has_at, StandsIn};
+ghost use Rattle.row_index.specs.Pieces.{joined, has_at, HasNoEmptyPiece, StandsIn};
 
 use crate::key::Key;
 use crate::places::searched;
@@ -192,7 +192,8 @@ fn first_place<V>(piece: &Sequence<Key>, rows: &RowMap<V>) -> usize {
 pub(crate) fn remove_at(alloc: Global, pieces: &mut Vec<Sequence<Key>>, n: usize, key: Key)
     requires there { has_at key n pieces.old.items ≡ true }
     requires once { length (filter (is_key key) (joined pieces.old.items)) ≤ 1 }
-    ensures { joined pieces.new.items ≡ filter (is_not_key key) (joined pieces.old.items) }
+    ensures gone { joined pieces.new.items ≡ filter (is_not_key key) (joined pieces.old.items) }
+    ensures filled { HasNoEmptyPiece pieces.old.items → HasNoEmptyPiece pieces.new.items }
 {
     pieces[n].remove_only(key);
     drop_empty(pieces, n);
@@ -200,21 +201,24 @@ pub(crate) fn remove_at(alloc: Global, pieces: &mut Vec<Sequence<Key>>, n: usize
     merge(alloc, pieces, n.saturating_sub(1));
 }
 
-// Takes a piece out that has no key left.
+// Takes a piece out that has no key left: where no other one is empty, none is then.
 fn drop_empty(pieces: &mut Vec<Sequence<Key>>, n: usize)
-    ensures { joined pieces.new.items ≡ joined pieces.old.items }
+    ensures same { joined pieces.new.items ≡ joined pieces.old.items }
+    ensures filled { HasNoEmptyPiece (remove pieces.old.items n) → HasNoEmptyPiece pieces.new.items }
 {
-    match pieces.get(n) {
-        Some(piece) if piece.as_slice().is_empty() => {}
-        _ => return,
+    let Some(piece) = pieces.get(n) else {
+        return;
+    };
+    if piece.as_slice().is_empty() {
+        pieces.remove(n);
     }
-    pieces.remove(n);
 }
 
 // A piece and the next become one where both have few keys, so that there are never many more pieces than
 // keys ask for. Where memory is refused they stay two.
 fn merge(alloc: Global, pieces: &mut Vec<Sequence<Key>>, n: usize)
-    ensures { joined pieces.new.items ≡ joined pieces.old.items }
+    ensures same { joined pieces.new.items ≡ joined pieces.old.items }
+    ensures filled { HasNoEmptyPiece pieces.old.items → HasNoEmptyPiece pieces.new.items }
 {
     if !are_sparse(pieces, n) {
         return;

@@ -2,7 +2,7 @@
 ghost use Rattle.std.specs.Prelude.{◌≡◌, ◌≤◌, [], ◌∷◌, ◌++◌, OnOk, OnErr, length};
 ghost use Rattle.std.specs.List.{filter};
 ghost use Rattle.row_index.specs.Lists.{is_key, is_not_key};
-ghost use Rattle.row_index.specs.Pieces.{joined};
+ghost use Rattle.row_index.specs.Pieces.{joined, HasNoEmptyPiece};
 
 use crate::key::Key;
 use crate::pieces;
@@ -22,15 +22,15 @@ pub(crate) struct TallKeys {
 }
 
 impl Model for TallKeys {
-    ghost use Rattle.std.specs.Prelude.{◌≡◌, ◌++◌, List, length};
+    ghost use Rattle.std.specs.Prelude.{◌++◌, List};
     ghost use Rattle.row_index.specs.declared.key.Key.{Key as RowKey};
-    ghost use Rattle.row_index.specs.Pieces.{joined};
+    ghost use Rattle.row_index.specs.Pieces.{joined, AreKept};
 
     ghost Value = { List RowKey };
 
     ghost view = { λ l. joined l.pieces.items ++ l.last };
 
-    ghost invariant = { λ l. l.len ≡ length (joined l.pieces.items ++ l.last) };
+    ghost invariant = { λ l. AreKept l.len l.pieces.items l.last };
 }
 
 impl TallKeys {
@@ -102,13 +102,15 @@ impl TallKeys {
 }
 
 // The last keys become a piece.
-#[tactic(auto, using(crate::proofs::InPieces::joined_more))]
+#[tactic(auto, using(crate::proofs::InPieces::joined_more, crate::proofs::InPieces::filled_more))]
 fn close(
     alloc: Global,
     pieces: &mut Vec<Sequence<Key>>,
     last: &mut Sequence<Key>,
 ) -> Result<(), AllocError>
-    ensures { joined pieces.new.items ++ last.new ≡ joined pieces.old.items ++ last.old }
+    requires { 1 ≤ length last.old }
+    ensures same { joined pieces.new.items ++ last.new ≡ joined pieces.old.items ++ last.old }
+    ensures filled { HasNoEmptyPiece pieces.old.items → HasNoEmptyPiece pieces.new.items }
 {
     let piece = mem::replace(last, Sequence::new(alloc));
     match pieces.push(piece) {

@@ -23,8 +23,8 @@ invariant_of-self g c =
     let lost = second_loses key (joined inside.pieces.items) inside.last c.remove_only.new.self (any_passes (is_key key) inside.last there) once c.remove_only.ensures in
     let less = one_less key (joined inside.pieces.items ++ inside.last) (some_in_last key (joined inside.pieces.items) inside.last there) once in
     let same = ap length lost in
-    let counted = c.self.invariant in
-    omega (arith, same, less, counted)
+    let counted = c.self.invariant.counted in
+    record { counted = omega (arith, same, less, counted); filled = c.self.invariant.filled }
 
 pub overflow_sub-self-in-Piece : goal.overflow_sub-self-in-Piece
 overflow_sub-self-in-Piece g c =
@@ -33,7 +33,7 @@ overflow_sub-self-in-Piece g c =
     let there : has_at key c.in-Piece.n inside.pieces.items ≡ true = ap (has_at key c.in-Piece.n) (sym c.deref.ensures.value) ∙ c.in-Piece.ensures in
     let once = rw (← c.self.view_is) at c.requires.once in
     let less = one_less key (joined inside.pieces.items ++ inside.last) (some_in_pieces key inside.pieces.items inside.last c.in-Piece.n there) once in
-    let counted = c.self.invariant in
+    let counted = c.self.invariant.counted in
     omega (arith, less, counted)
 
 pub returns-in-Piece : goal.returns-in-Piece
@@ -42,7 +42,7 @@ returns-in-Piece g c =
     let inside = c.self.inside in
     let there : has_at key c.in-Piece.n inside.pieces.items ≡ true = ap (has_at key c.in-Piece.n) (sym c.deref.ensures.value) ∙ c.in-Piece.ensures in
     let once = rw (← c.self.view_is) at c.requires.once in
-    rw (← c.self.view_is) (first_loses key (joined inside.pieces.items) inside.last (joined c.remove_at.new.pieces.items) (at_passes key c.in-Piece.n inside.pieces.items there) once c.remove_at.ensures)
+    rw (← c.self.view_is) (first_loses key (joined inside.pieces.items) inside.last (joined c.remove_at.new.pieces.items) (at_passes key c.in-Piece.n inside.pieces.items there) once c.remove_at.ensures.gone)
 
 pub invariant_of-self-in-Piece : goal.invariant_of-self-in-Piece
 invariant_of-self-in-Piece g c =
@@ -50,11 +50,11 @@ invariant_of-self-in-Piece g c =
     let inside = c.self.inside in
     let there : has_at key c.in-Piece.n inside.pieces.items ≡ true = ap (has_at key c.in-Piece.n) (sym c.deref.ensures.value) ∙ c.in-Piece.ensures in
     let once = rw (← c.self.view_is) at c.requires.once in
-    let lost = first_loses key (joined inside.pieces.items) inside.last (joined c.remove_at.new.pieces.items) (at_passes key c.in-Piece.n inside.pieces.items there) once c.remove_at.ensures in
+    let lost = first_loses key (joined inside.pieces.items) inside.last (joined c.remove_at.new.pieces.items) (at_passes key c.in-Piece.n inside.pieces.items there) once c.remove_at.ensures.gone in
     let less = one_less key (joined inside.pieces.items ++ inside.last) (some_in_pieces key inside.pieces.items inside.last c.in-Piece.n there) once in
     let same = ap length lost in
-    let counted = c.self.invariant in
-    omega (arith, same, less, counted)
+    let counted = c.self.invariant.counted in
+    record { counted = omega (arith, same, less, counted); filled = c.remove_at.ensures.filled c.self.invariant.filled }
 
 pub returns-in-Nowhere : goal.returns-in-Nowhere
 returns-in-Nowhere g c =
