@@ -1,7 +1,7 @@
 -- The search for a free number: what it finds, and that more tries than there are numbers that are had find nothing else.
 use Rattle.std.proofs.Common.{◌≡◌, Bor, ℕ, zero, suc, ◌+◌, ◌<◌, ◌≤◌, List, [], ◌∷◌, length, Bool, true, false, not, ◌&&◌, ◌||◌, cond, eqb, nat_lt, Option, Some, None, filter, refl, sym, ap, ◌∙◌, true≢false, arith}
 use Rattle.std.specs.Prelude.{◌↔◌, is_some, IfSome, IsNone}
-use Rattle.std.specs.List.{list_any, sum}
+use Rattle.std.specs.List.{list_any}
 use Rattle.std.specs.Option.{option_copied, unwrap_or}
 use Rattle.std.proofs.lemmas.Bool.{eqb-true, le-ltb, lt-ltb, ltb-false, ltb-true, ne_eqb, or_right}
 use Rattle.link_table.specs.declared.counter.TheConstants.{LAST_NUMBER}

@@ -1,15 +1,16 @@
 -- Links whose servers stand.
-use Rattle.std.proofs.Common.{◌≡◌, ℕ, List, [], ◌∷◌, ◌++◌, Bool, true, false, not, cond, ◌&&◌, ◌||◌, ◌==◌, refl, sym, ap, ◌∙◌, true≢false}
+use Rattle.std.proofs.Common.{◌≡◌, ◌≤◌, ◌+◌, ℕ, suc, length, arith, List, [], ◌∷◌, ◌++◌, Bool, true, false, not, cond, ◌&&◌, ◌||◌, ◌==◌, refl, sym, ap, subst, ◌∙◌, true≢false}
 use Rattle.std.specs.Cmp.{nat_eq_equiv}
 use Rattle.std.specs.List.{filter, list_all, list_any}
 use Rattle.std.proofs.lemmas.Bool.{eqb-true, or_left, or_right}
 use Rattle.std.proofs.lemmas.List.Folds.{list_any-append, list_all-append}
 use Rattle.rows.specs.Rows.{change_first}
+use Rattle.row_index.proofs.Once.{none_pass, passing_fewer, passing_more}
 use Rattle.link_table.specs.declared.links.LinkRow.{LinkRow}
 use Rattle.link_table.specs.declared.servers.Server.{Server}
 use Rattle.link_table.specs.Links.{is_link, is_not_of, is_of}
 use Rattle.link_table.specs.Numbers.{is_of_cid}
-use Rattle.link_table.specs.Servers.{is_not_server, is_on_one, is_server, with_minor, HaveServers}
+use Rattle.link_table.specs.Servers.{is_not_server, is_on_one, is_server, with_minor, HasNumbersApart, HaveServers}
 
 both : (a b : Bool) → (a && b) ≡ true → (a ≡ true) × (b ≡ true)
 both true b is = (refl, is)
@@ -69,6 +70,55 @@ module _ {A : Type 0} where
       by true false is kept any rest = absurd (true≢false (sym (stays x is) ∙ kept))
       by false true is kept any rest = or_right (p x) (list_any p (filter q xs)) (rest any)
       by false false is kept any rest = rest any
+
+-- ---- numbers of servers
+
+module _ {A : Type 0} (p q : A → Bool) (f : A → A) (same : (x : A) → p (f x) ≡ p x) where
+  as_long : (x y : A) (xs : List A) (b : Bool) → length (cond b (x ∷ xs) xs) ≡ length (cond b (y ∷ xs) xs)
+  as_long x y xs true = refl
+  as_long x y xs false = refl
+
+  passing_changed : (xs : List A) → length (filter p (change_first q f xs)) ≡ length (filter p xs)
+  passing_changed [] = refl
+  passing_changed (x ∷ xs) =
+      let rest = passing_changed xs in
+      elim (q x) as (λ t. length (filter p (cond t (f x ∷ xs) (x ∷ change_first q f xs))) ≡ length (filter p (x ∷ xs))) [
+        | true ↦ ap (λ t. length (cond t (f x ∷ filter p xs) (filter p xs))) (same x) ∙ as_long (f x) x (filter p xs) (p x)
+        | false ↦ elim (p x) as (λ t. length (cond t (x ∷ filter p (change_first q f xs)) (filter p (change_first q f xs))) ≡ length (cond t (x ∷ filter p xs) (filter p xs)))
+            [ true ↦ ap suc rest | false ↦ rest ]
+      ]
+
+-- one more has a number of its own where none of that number stood
+pub numbers_more : (apart : Bool) (servers : List Server) (server : Server) (stands : Bool) → HasNumbersApart apart servers → stands ≡ list_any (is_server server.number) servers
+    → HasNumbersApart (apart && not stands) (servers ++ server ∷ [])
+numbers_more false servers server stands have is t number = cc
+numbers_more true servers server true have is t number = cc
+numbers_more true servers server false have is t number = by (server.number == number) refl (passing_more (is_server number) servers server)
+  where
+    by : (alike : Bool) → (server.number == number) ≡ alike
+        → length (filter (is_server number) (servers ++ server ∷ [])) ≡ length (filter (is_server number) servers) + cond (server.number == number) 1 0
+        → length (filter (is_server number) (servers ++ server ∷ [])) ≤ 1
+    by true alike more =
+        let none = none_pass (is_server server.number) servers (sym is) in
+        let here : length (filter (is_server number) servers) ≡ 0 = subst (λ n. length (filter (is_server n) servers) ≡ 0) (eqb-true server.number number alike) none in
+        let one : ◌≡◌ {A = ℕ} (cond (server.number == number) 1 0) 1 = ap (λ t. cond t 1 0) alike in
+        omega (arith, more, here, one)
+    by false alike more =
+        let few = have t number in
+        let none : ◌≡◌ {A = ℕ} (cond (server.number == number) 1 0) 0 = ap (λ t. cond t 1 0) alike in
+        omega (arith, more, few, none)
+
+pub numbers_put : (apart : Bool) (servers : List Server) (number minor : ℕ) → HasNumbersApart apart servers → HasNumbersApart apart (change_first (is_server number) (with_minor minor) servers)
+numbers_put apart servers number minor have t other =
+    let same = passing_changed (is_server other) (is_server number) (with_minor minor) (λ server. refl) servers in
+    let few = have t other in
+    omega (arith, same, few)
+
+pub numbers_fewer : (apart : Bool) (servers : List Server) (number : ℕ) → HasNumbersApart apart servers → HasNumbersApart apart (filter (is_not_server number) servers)
+numbers_fewer apart servers number have t other =
+    let less = passing_fewer (is_server other) (is_not_server number) servers in
+    let few = have t other in
+    omega (arith, less, few)
 
 -- a server more
 pub servers_more : (servers : List Server) (server : Server) (links : List LinkRow) → HaveServers servers links → HaveServers (servers ++ server ∷ []) links

@@ -1,5 +1,5 @@
 -- How links are found: the key of each, and what leads from a name or a subscription to it.
-use Rattle.std.specs.Prelude.{◌≡◌, ℕ, List, [], ◌∷◌, ◌++◌, Bool, false, ◌&&◌, Option, Some, None, map, slice_get, IfSome, if◌then◌else◌}
+use Rattle.std.specs.Prelude.{◌≡◌, ℕ, List, [], ◌∷◌, ◌++◌, false, ◌&&◌, Option, Some, None, map, slice_get, IfSome, if◌then◌else◌}
 use Rattle.std.specs.List.{filter}
 use Rattle.std.specs.Option.{option_and_then, option_or, option_to_list, is_some}
 use Rattle.row_index.specs.declared.key.Key.{Key}

@@ -1,6 +1,6 @@
 -- The rows of servers.
-use Rattle.std.specs.Prelude.{◌≡◌, ℕ, List, Bool, true, not, ◌==◌}
-use Rattle.std.specs.List.{list_all, list_any}
+use Rattle.std.specs.Prelude.{◌≡◌, ◌≤◌, ℕ, List, Bool, true, not, ◌==◌, IsTrue, length}
+use Rattle.std.specs.List.{filter, list_all, list_any}
 use Rattle.link_table.specs.declared.links.LinkRow.{LinkRow}
 use Rattle.link_table.specs.declared.servers.Server.{Server}
 
@@ -23,3 +23,7 @@ is_on_one servers row = list_any (is_server row.server) servers
 -- each link's server stands
 abbrev pub HaveServers : List Server → List LinkRow → Type 0
 HaveServers servers links = list_all (is_on_one servers) links ≡ true
+
+-- where it is said so, no two servers have the same number
+abbrev pub HasNumbersApart : Bool → List Server → Type 0
+HasNumbersApart apart servers = IsTrue apart → (number : ℕ) → length (filter (is_server number) servers) ≤ 1

@@ -15,9 +15,9 @@
 //!   and passes over those that rows have; as long as it didn't begin again nothing is looked for. Channels of
 //!   clients stand in another table: their caller looks where `next` and `turned` tell, and `give` notes it.
 //!
-//! Links and writes are found by index: a call costs the rows that it names, however many others stand
-//! or wait. What goes with a server, a session or a channel is found among the rows of that server or
-//! session. Removals take no memory.
+//! Servers, links and writes are found by index: a call costs the rows that it names, however many others stand
+//! or wait; that a server says its version, and that it goes, may cost a walk over the servers. What goes with a
+//! server, a session or a channel is found among the rows of that server or session. Removals take no memory.
 //!
 //! A contract sees `Links` as three lists and four counters, and whether each of these began again. Each
 //! call changes what it names alone, a refused one nothing, and a limit refuses exactly where it is
@@ -35,6 +35,7 @@ mod counter;
 pub mod laws;
 mod link_set;
 mod links;
+mod places;
 mod servers;
 mod sub_leads;
 mod table;

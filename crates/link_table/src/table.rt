@@ -14,7 +14,7 @@ mod numbers;
 use crate::counter::NextNumbers;
 use crate::link_set::LinkSet;
 use crate::links::{LinkRow, LinkState, Subject, Subscription};
-use crate::servers::{self, Server};
+use crate::servers::{Server, ServerRows};
 use crate::writes::{WaitingWrite, Writes};
 use pv_name::Name;
 use std::alloc::{AllocError, Global};
@@ -44,7 +44,7 @@ pub enum TableFault {
 /// numbers.
 #[derive(Drop)]
 pub struct Links {
-    servers: Vec<Server>,
+    servers: ServerRows,
     links: LinkSet,
     writes: Writes,
     next: NextNumbers,
@@ -56,7 +56,7 @@ impl Model for Links {
     ghost Value = { LinkRows };
 
     ghost view = { λ l. record {
-      servers = l.servers.items;
+      servers = l.servers;
       links = l.links;
       writes = l.writes;
       counters = l.next;
@@ -64,7 +64,7 @@ impl Model for Links {
 
     ghost use Rattle.link_table.specs.Servers.{HaveServers};
 
-    ghost invariant = { λ l. HaveServers l.servers.items l.links };
+    ghost invariant = { λ l. HaveServers l.servers l.links };
 }
 
 impl Links {
@@ -73,7 +73,7 @@ impl Links {
         ensures { result ≡ record { servers = []; links = []; writes = []; counters = all_at first } }
     {
         Links {
-            servers: Vec::new(alloc),
+            servers: ServerRows::new(alloc),
             links: LinkSet::new(alloc),
             writes: Writes::new(alloc),
             next: NextNumbers::new(first),
@@ -84,7 +84,7 @@ impl Links {
     pub fn server(&self, number: u32) -> Option<&Server>
         ensures { option_copied result ≡ find (is_server number) self.now.servers }
     {
-        servers::find(&self.servers, number)
+        self.servers.find(number)
     }
 
     /// The link of this server with this CID.
@@ -210,7 +210,7 @@ impl Links {
         if self.servers.len() >= limit {
             return Err(TableFault::Full);
         }
-        match self.servers.push(server) {
+        match self.servers.add(server) {
             Ok(()) => Ok(()),
             Err(_) => Err(TableFault::OutOfMemory),
         }
@@ -250,7 +250,7 @@ impl Links {
             ((has_server server self.old ≡ true) × (limit ≤ length self.old.links)) }
         ensures err { OnErr result (self.new ≡ self.old) }
     {
-        if !servers::stands(&self.servers, server) {
+        if !self.servers.stands(server) {
             return Err(TableFault::Missing);
         }
         if self.links.len() >= limit {
@@ -289,7 +289,7 @@ impl Links {
             × (limit ≤ write_count write.session self.old)) }
         ensures err { OnErr result (self.new ≡ self.old) }
     {
-        if !servers::stands(&self.servers, write.server) {
+        if !self.servers.stands(write.server) {
             return Err(TableFault::Missing);
         }
         if self.writes.count(write.session) >= limit {
@@ -306,7 +306,7 @@ impl Links {
         ensures { self.new ≡
             record self.old { servers = change_first (is_server number) (with_minor minor) self.old.servers } }
     {
-        servers::put(&mut self.servers, number, minor);
+        self.servers.put(number, minor);
     }
 
     /// Keeps how far a link has come, and its access rights.
@@ -366,7 +366,7 @@ impl Links {
           writes = filter (is_not_write_to number) self.old.writes;
         } }
     {
-        servers::remove(&mut self.servers, number);
+        self.servers.remove(number);
         self.links.remove_of(number);
         self.writes.remove_to(number);
     }

@@ -58,3 +58,52 @@ on A:SP
 ",
     );
 }
+
+// Rows in many pieces of a list: whole pieces go, and then most of each that is left.
+#[test]
+fn rows_go_from_all_places_among_thousands_on_a_variable(rt: HostRuntime) {
+    tells(
+        &rt,
+        rt.alloc(),
+        "\
+session 1-2
+channel 2 21
+channel 1 100-1299
+channel 2 22
+channel 1 1300-2599
+channel 2 23
+",
+        "\
+count 1
+> 2500 0 0
+leave 1 600-1199
+count 1
+> 1900 0 0
+leave 1 101-599
+leave 1 1201-1298
+leave 1 1301-2598
+on A:SP
+> true 8 0 0
+> channel 2 21 A:SP reach 0 rights 3
+> channel 1 100 A:SP reach 0 rights 3
+> channel 1 1200 A:SP reach 0 rights 3
+> channel 1 1299 A:SP reach 0 rights 3
+> channel 2 22 A:SP reach 0 rights 3
+> channel 1 1300 A:SP reach 0 rights 3
+> channel 1 2599 A:SP reach 0 rights 3
+> channel 2 23 A:SP reach 0 rights 3
+channel 1 700
+leave 1 100
+leave 1 2599
+on A:SP
+> true 7 0 0
+> channel 2 21 A:SP reach 0 rights 3
+> channel 1 1200 A:SP reach 0 rights 3
+> channel 1 1299 A:SP reach 0 rights 3
+> channel 2 22 A:SP reach 0 rights 3
+> channel 1 1300 A:SP reach 0 rights 3
+> channel 2 23 A:SP reach 0 rights 3
+> channel 1 700 A:SP reach 0 rights 3
+",
+    );
+}

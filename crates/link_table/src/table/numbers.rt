@@ -169,7 +169,7 @@ impl Links {
     {
         match counter {
             Counter::Sid => false,
-            Counter::Cid => has_cid(&self.servers, &self.links, number),
+            Counter::Cid => has_cid(self.servers.as_slice(), &self.links, number),
             Counter::Subscription => self.by_sub(server, number).is_some(),
             Counter::Write => self.write(server, number).is_some(),
         }

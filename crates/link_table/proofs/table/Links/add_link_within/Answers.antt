@@ -1,7 +1,5 @@
-use Rattle.std.proofs.Common.{sym, ap, ◌∙◌}
-use Rattle.std.specs.List.{list_any}
+use Rattle.std.proofs.Common.{sym, ◌∙◌}
 use Rattle.link_table.specs.Links.{new_link}
-use Rattle.link_table.specs.Servers.{is_server}
 use Rattle.link_table.proofs.ServerLemmas.{links_more}
 use Rattle.link_table.proofs.table.Links.add_link_within.Goals.{in-Ok, in-Err}
 use Rattle.link_table.proofs.table.Links.add_link_within.Goals as goal
@@ -11,7 +9,7 @@ invariant_of-self c =
     elim c.match-add.branch [
       | in-Ok w ↦
           rw w.in-Ok.ensures.ok
-          (links_more c.self.inside.servers.items c.self.inside.links (new_link c.args.server c.args.cid c.args.name)
-          (sym (c.stands.ensures ∙ ap (list_any (is_server c.args.server)) c.deref.ensures.value) ∙ c.if-not-stands.false) c.self.invariant)
+          (links_more c.self.inside.servers c.self.inside.links (new_link c.args.server c.args.cid c.args.name)
+          (sym c.stands.ensures ∙ c.if-not-stands.false) c.self.invariant)
       | in-Err w ↦ rw w.in-Err.ensures.err c.self.invariant
     ]

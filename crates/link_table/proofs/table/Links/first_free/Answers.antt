@@ -1,4 +1,4 @@
-use Rattle.std.proofs.Common.{◌≡◌, ◌+◌, ◌-◌, ◌<◌, Bool, false, true, sym, ap, ◌∙◌, arith}
+use Rattle.std.proofs.Common.{◌≡◌, ◌+◌, ◌-◌, ◌<◌, false, true, sym, ap, ◌∙◌, arith}
 use Rattle.link_table.specs.declared.counter.TheConstants.{LAST_NUMBER}
 use Rattle.link_table.specs.Counters.{first_free, turned}
 use Rattle.link_table.specs.Numbers.{fitting, fitting_one, is_had}

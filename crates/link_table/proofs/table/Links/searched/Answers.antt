@@ -1,4 +1,4 @@
-use Rattle.std.proofs.Common.{◌≡◌, suc, ◌+◌, ◌*◌, length, sym, ap, ◌∙◌, arith}
+use Rattle.std.proofs.Common.{suc, ◌+◌, ◌*◌, length, ap, ◌∙◌, arith}
 use Rattle.link_table.specs.Counters.{counter_of, first_free}
 use Rattle.link_table.specs.LinkRows.{LinkRows}
 use Rattle.link_table.specs.Numbers.{fitting_one, is_had, numbers_had}

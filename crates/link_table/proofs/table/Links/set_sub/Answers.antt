@@ -9,6 +9,6 @@ invariant_of-self c =
     elim c.match-set_sub.branch [
       | in-Ok w ↦
           rw w.in-Ok.ensures.ok
-          (links_put c.self.inside.servers.items c.self.inside.links (is_link c.args.server c.args.cid) (with_subscription c.args.subject c.args.sub) (λ link. refl) c.self.invariant)
+          (links_put c.self.inside.servers c.self.inside.links (is_link c.args.server c.args.cid) (with_subscription c.args.subject c.args.sub) (λ link. refl) c.self.invariant)
       | in-Err w ↦ rw w.in-Err.ensures.err c.self.invariant
     ]

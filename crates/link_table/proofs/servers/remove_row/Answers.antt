@@ -1,7 +1,7 @@
 use Rattle.std.proofs.Common.{rules}
 use Rattle.std.proofs.lemmas.Fn.{filter_same}
 use Rattle.link_table.specs.Servers.{is_not_server}
-use Rattle.link_table.proofs.servers.remove.Goals as goal
+use Rattle.link_table.proofs.servers.remove_row.Goals as goal
 
 -- the closure answers the test and stays as it is
 pub returns : goal.returns
