@@ -62,7 +62,8 @@ class Gateway(Servers):
         box = self.boxes.get(dest)
         if box is None or box.marked:
             return
-        if len(box.messages) >= (self.limits.messages if dest[0] == "s" else MESSAGES_WAIT):
+        most = self.limits.messages if dest[0] == "s" else max(self.limits.messages, MESSAGES_WAIT)
+        if len(box.messages) >= most:
             box.marked = True
         else:
             box.messages.append(text)

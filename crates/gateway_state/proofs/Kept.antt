@@ -31,7 +31,6 @@ use Rattle.gateway_state.specs.declared.last_age.LastAge.{LastAge}
 use Rattle.gateway_state.specs.declared.limits.Limits.{Limits}
 use Rattle.rule_desk.specs.declared.policy.Policy.{Policy}
 use Rattle.gateway_state.specs.declared.connections.Connection.{Connection}
-use Rattle.fanout.specs.declared.outbox.TheConstants.{OUTBOX_LIMIT}
 use Rattle.fanout.specs.Outbox.{appended}
 use Rattle.fanout.specs.Waiting.{Waiting}
 use Rattle.gateway_state.specs.declared.search.RememberedSearch.{RememberedSearch}
@@ -43,7 +42,7 @@ use Rattle.link_table.specs.Servers.{is_server, with_minor}
 use Rattle.gateway_state.specs.Clients.{next_sid, no_reach, with_channel, without_channel}
 use Rattle.gateway_state.specs.Asked.{is_open}
 use Rattle.gateway_state.specs.CachedRows.{put_row}
-use Rattle.gateway_state.specs.Connections.{fresh, is_to}
+use Rattle.gateway_state.specs.Connections.{fresh, is_to, most_for}
 use Rattle.gateway_state.specs.Delivered.{IsSaidBy}
 use Rattle.gateway_state.specs.Gateway.{Gateway}
 use Rattle.gateway_state.specs.Notices.{forgotten, next_sub_id, with_reach, with_subscription_of, without_read}
@@ -202,7 +201,7 @@ module _ (P : Gateway → Type 0) (kept : (dest : Dest) (change : Waiting → Wa
 
   kept_asked : (number : ℕ) (said : ToServer) (w : Gateway) → P w → P (asked number said w)
   unfolding sent
-  kept_asked number said w holds = kept (dests.Upstream number) (λ (waiting : Waiting). appended OUTBOX_LIMIT waiting (outgoing_upstream said)) w holds
+  kept_asked number said w holds = kept (dests.Upstream number) (λ (waiting : Waiting). appended (most_for w.limits (dests.Upstream number)) waiting (outgoing_upstream said)) w holds
 
   pub messages_kept : KeepsMessages P
   messages_kept = record {

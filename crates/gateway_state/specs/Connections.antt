@@ -1,5 +1,5 @@
 -- The outboxes of all connections.
-use Rattle.std.specs.Prelude.{ℕ, List, [], Bool, true, false, not, ◌==◌, Option, Some, None}
+use Rattle.std.specs.Prelude.{ℕ, max, List, [], Bool, true, false, not, ◌==◌, Option, Some, None}
 use Rattle.std.specs.List.{find}
 use Rattle.gateway_state.specs.declared.event.Dest.{Dest}
 use Rattle.gateway_state.specs.declared.event.Dest.TheVariants.{Session, Upstream}
@@ -25,10 +25,10 @@ is_to dest row = same_dest row.dest dest
 abbrev pub is_not_to : Dest → Connection → Bool
 is_not_to dest row = not (is_to dest row)
 
--- how many messages may wait for a connection at most
+-- how many messages may wait for a connection at most: for a server as many as for a session, and no fewer than usual
 abbrev pub most_for : Limits → Dest → ℕ
 most_for limits (Session number) = limits.messages
-most_for limits (Upstream number) = OUTBOX_LIMIT
+most_for limits (Upstream number) = max limits.messages OUTBOX_LIMIT
 
 -- with a message put last in its outbox, where so many may wait
 abbrev pub given : ℕ → Out → Connection → Connection

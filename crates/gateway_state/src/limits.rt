@@ -45,7 +45,8 @@ pub struct Limits {
     pub reads: usize,
     /// Writes of a session that wait for what their server says.
     pub writes: usize,
-    /// Messages that wait for a session: it must end where one more would wait.
+    /// Messages that wait for a session: it must end where one more would wait. As many may wait for a server, where
+    /// these are more than usual.
     pub messages: u32,
     /// Bytes that wait for a session: it is given updates while fewer wait.
     pub update_bytes: u64,
@@ -96,13 +97,14 @@ impl Limits {
         }
     }
 
-    /// How many messages may wait for a connection at most.
+    /// How many messages may wait for a connection at most: for a server as many as for a session, and no fewer than
+    /// an outbox usually holds. What one client's end sends to a server is in proportion to its subscriptions.
     pub fn most_for(&self, dest: Dest) -> u32
         ensures { result ≡ most_for self.now dest }
     {
         match dest {
             Dest::Session(_) => self.messages,
-            Dest::Upstream(_) => OUTBOX_LIMIT as u32,
+            Dest::Upstream(_) => self.messages.max(OUTBOX_LIMIT as u32),
         }
     }
 }
