@@ -16,11 +16,11 @@ use Rattle.board_rings.specs.Board.{BoardState}
 use Rattle.board_rings.specs.History.{HasHistory}
 use Rattle.board_rings.proofs.Goes.{attached_has_history, beside_has_history, desk_failed_has_history, desked_has_history, looked_has_history, pump_failed_has_history, pumped_has_history, send_failed_has_history, retired_has_history, sent_has_history}
 use Rattle.board_moves.specs.Answers.{IsDesk, IsPump, IsSendOut, IsWaiting}
-use Rattle.board_moves.specs.Held.{is_held, is_over_half}
+use Rattle.board_moves.specs.Held.{has_too_much, is_held, is_weighed, weighs_clients}
 use Rattle.board_moves.specs.declared.rounds.RoundCall.{RoundCall}
 use Rattle.board_moves.specs.declared.rounds.RoundCall.TheVariants.{Pump, PumpFree, SendOut, Weigh}
 use Rattle.board_moves.specs.Noted.{bare, begun, NotedBoard}
-use Rattle.board_moves.specs.Rounds.{dests_of, free_calls, round_calls, AreRounds, IsBatch, IsFreeRound, IsFreeRoundOn, IsRound, IsRoundOn, Performs, PerformsAll, PerformsUpTo, PumpsFree}
+use Rattle.board_moves.specs.Rounds.{dests_of, free_calls, round_calls, AreRounds, IsBatch, IsFreeRound, IsFreeRoundOn, IsRound, IsRoundOn, Performs, PerformsAll, PerformsUpTo, PumpsFree, Weighs}
 use Rattle.board_moves.specs.declared.fault.BoardFault.{BoardFault}
 use Rattle.board_moves.specs.declared.fault.BoardFault.TheVariants.{OutOfMemory, Attached, NotHere, Step}
 
@@ -71,13 +71,15 @@ free_keeps : (dest : Dest) (held : Bool) (old : NotedBoard) (answer : Result ℕ
 free_keeps dest true old answer new p h = history_stays old new p.1 h
 free_keeps dest false old answer new p h = pump_keeps dest (bare old) p.0 (bare new) p.1.0.0 h
 
+weigh_keeps : (is : Bool) (dest : Dest) (old new : NotedBoard) → Weighs is dest (bare old) (bare new) → HasHistory (bare old) → HasHistory (bare new)
+weigh_keeps false dest old new p h = subst HasHistory (sym p) h
+weigh_keeps true dest old new p h = beside_has_history (with_full (has_too_much dest old.rows)) (λ _. refl) (λ _. refl) dest (bare old) (bare new) h p.0 p.1
+
 performs_keeps : (call : RoundCall) (old : NotedBoard) (answer : Result ℕ BoardFault) (new : NotedBoard) → Performs call old answer new → HasHistory (bare old) → HasHistory (bare new)
 performs_keeps (Pump dest) old answer new p h = pump_keeps dest (bare old) p.0 (bare new) p.1.0.0 h
 performs_keeps (PumpFree dest) old answer new p h = free_keeps dest (is_held dest (bare old)) old answer new p h
 performs_keeps (SendOut dest) old answer new p h = send_out_keeps dest (bare old) answer (bare new) p.0 h
-performs_keeps (Weigh (Session number)) old answer new p h = subst HasHistory (sym p.1.0) h
-performs_keeps (Weigh (Upstream number)) old answer new p h =
-    beside_has_history (with_full (is_over_half (Upstream number) old.rows)) (λ _. refl) (λ _. refl) (Upstream number) (bare old) (bare new) h p.1.0.0 p.1.0.1
+performs_keeps (Weigh clients dest) old answer new p h = weigh_keeps (is_weighed clients dest) dest old new p.1.0 h
 
 all_keep : (calls : List RoundCall) (old : NotedBoard) (answer : Result ℕ BoardFault) (new : NotedBoard) → PerformsAll calls old answer new → HasHistory (bare old) → HasHistory (bare new)
 all_keep [] old answer new p h = history_stays old new p.1 h
@@ -105,12 +107,12 @@ free_round_keeps old answer new p h = free_on_keeps old.rows old answer new p h
 
 rounds_keep : (earlier : ℕ) (old : NotedBoard) (answer : Result ℕ BoardFault) (new : NotedBoard) → AreRounds earlier old answer new → HasHistory (bare old) → HasHistory (bare new)
 rounds_keep zero old answer new p h = free_round_keeps old answer new p h
-rounds_keep (suc earlier) old answer new (count, (last, (between, (before, (one, told))))) h =
+rounds_keep (suc earlier) old answer new (count, (last, (between, (before, (still, (one, told)))))) h =
     free_round_keeps between last new one (rounds_keep earlier old (Ok count) between before h)
 
 pub batch_keeps : (old : NotedBoard) (answer : Result ℕ BoardFault) (new : NotedBoard) → IsBatch old answer new → HasHistory (bare old) → HasHistory (bare new)
 batch_keeps old answer new (between, (weighed, (earlier, all))) h =
-    rounds_keep earlier between answer new all (up_to_keeps (map Weigh (dests_of old.attachments)) old (Ok 0) between weighed h)
+    rounds_keep earlier between answer new all (up_to_keeps (map (Weigh (weighs_clients old.news old.attachments)) (dests_of old.attachments)) old (Ok 0) between weighed h)
 
 -- a connection that wasn't attached leaves all attachments
 none_left_out : (dest : Dest) (attachments : List AttachmentState) → is_attached dest attachments ≡ false → filter (is_not_attachment_of dest) attachments ≡ attachments

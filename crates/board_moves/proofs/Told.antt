@@ -1,5 +1,5 @@
 -- What moves note in news.
-use Rattle.std.proofs.Common.{◌≡◌, ℕ, zero, suc, ◌+◌, ◌-◌, ◌^◌, ◌≤◌, List, min, false, Option, refl, ap, ◌∙◌, arith}
+use Rattle.std.proofs.Common.{◌≡◌, ℕ, zero, suc, ◌+◌, ◌-◌, ◌^◌, ◌≤◌, List, Bool, min, false, Option, Result, Ok, Err, refl, sym, ap, subst, ◌∙◌, arith}
 use Rattle.std.specs.Prelude.{◌⊎◌}
 use Rattle.rows.specs.Rows.{change_first}
 use Rattle.gateway_state.specs.Gateway.{Gateway}
@@ -8,7 +8,8 @@ use Rattle.board_rings.specs.Attachments.{is_attachment_of, with_received}
 use Rattle.board_rings.specs.Rings.{AttachmentState}
 use Rattle.board_rings.specs.declared.inbound.Inbound.{Inbound}
 use Rattle.board_rings.specs.declared.inbound.Inbound.TheVariants.{Gone}
-use Rattle.board_moves.specs.Noted.{counted_if, counted_on, is_message, seat_of, IsEnding, IsNoted, StayNoted, TellsPump, TellsSent}
+use Rattle.board_moves.specs.Noted.{counted_if, counted_on, is_message, seat_bit, seat_of, IsEnding, IsNoted, SendTells, StayNoted, TellsPump, TellsSent}
+use Rattle.board_moves.specs.declared.fault.BoardFault.{BoardFault}
 use Rattle.board_moves.specs.declared.news.News.{News}
 
 -- who was noted first still is
@@ -45,3 +46,12 @@ sent_told dest count old new noted sent received = record { some = λ some. note
 
 pub none_sent : (dest : Dest) (news : News) → TellsSent dest 0 news news
 none_sent dest news = record { some = λ some. absurd (omega arith); sent = refl; received = refl }
+
+-- that too much came to wait for a client tells nobody
+pub told_still : (dest : Dest) (answer : Result ℕ BoardFault) (old between new : News) (grown : Bool) → SendTells dest answer old between → new ≡ record between { grown = grown } → SendTells dest answer old new
+told_still dest (Ok count) old between new grown told is =
+    subst (λ (n : News). SendTells dest (Ok count) old n) (sym is) (record { some = told.some; sent = told.sent; received = told.received })
+told_still dest (Err fault) old between new grown told is = told
+
+pub noted_still : (old between new : News) (grown : Bool) → StayNoted old between → new ≡ record between { grown = grown } → StayNoted old new
+noted_still old between new grown kept is seat was = ap (λ (n : News). seat_bit seat n.words) is ∙ kept seat was

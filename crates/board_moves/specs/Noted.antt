@@ -105,6 +105,6 @@ noted_of rows attachments news = record { rows = rows; attachments = attachments
 abbrev pub bare : NotedBoard → BoardState
 bare board = record { rows = board.rows; attachments = board.attachments }
 
--- the pumps of a round begin: they saw no items yet that they leave
+-- a round begins: it saw no items yet that it leaves, nor a client for which too much came to wait
 abbrev pub begun : NotedBoard → NotedBoard
-begun board = record board { news = record board.news { left = false } }
+begun board = record board { news = record board.news { left = false; grown = false } }

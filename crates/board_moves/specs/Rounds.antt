@@ -4,12 +4,11 @@ use Rattle.rows.specs.Rows.{change_first}
 use Rattle.gateway_calls.specs.declared.fault.StepFault.TheVariants as steps
 use Rattle.gateway_state.specs.Gateway.{Gateway}
 use Rattle.gateway_state.specs.declared.event.Dest.{Dest}
-use Rattle.gateway_state.specs.declared.event.Dest.TheVariants.{Session, Upstream}
 use Rattle.board_rings.specs.Attachments.{is_attachment_of, with_full}
 use Rattle.board_rings.specs.Rings.{AttachmentState}
 use Rattle.board_rings.specs.Board.{BoardState}
 use Rattle.board_moves.specs.Answers.{IsPump, IsSendOut}
-use Rattle.board_moves.specs.Held.{is_held, is_over_half}
+use Rattle.board_moves.specs.Held.{has_too_much, is_held, is_weighed, weighs_clients}
 use Rattle.board_moves.specs.Noted.{bare, begun, NotedBoard, PumpTells, SendTells, StayNoted}
 use Rattle.board_moves.specs.declared.rounds.RoundCall.{RoundCall}
 use Rattle.board_moves.specs.declared.rounds.RoundCall.TheVariants.{Pump, PumpFree, SendOut, Weigh}
@@ -22,11 +21,11 @@ pumped_count (Ok true) = Ok 1
 pumped_count (Ok false) = Ok 0
 pumped_count (Err fault) = Err fault
 
--- whether too much waits for a server was noted with it, and nothing else changed; of clients it isn't asked
-abbrev pub Weighs : Dest → BoardState → BoardState → Type 0
-Weighs (Session number) old new = new ≡ old
-Weighs (Upstream number) old new =
-    (new.rows ≡ old.rows) × (new.attachments ≡ change_first (is_attachment_of (Upstream number)) (with_full (is_over_half (Upstream number) old.rows)) old.attachments)
+-- whether too much waits for a connection that is weighed was noted with it, and nothing else changed
+abbrev pub Weighs : Bool → Dest → BoardState → BoardState → Type 0
+Weighs false dest old new = new ≡ old
+Weighs true dest old new =
+    (new.rows ≡ old.rows) × (new.attachments ≡ change_first (is_attachment_of dest) (with_full (has_too_much dest old.rows)) old.attachments)
 
 -- a pump, and who is told of it. Whoever was to be told before still is
 abbrev pub IsNotedPump : Dest → NotedBoard → Result Bool BoardFault → NotedBoard → Type 0
@@ -52,7 +51,7 @@ abbrev pub Performs : RoundCall → NotedBoard → Result ℕ BoardFault → Not
 Performs (Pump dest) old answer new = PumpsOne dest old answer new
 Performs (PumpFree dest) old answer new = PumpsFree (is_held dest (bare old)) dest old answer new
 Performs (SendOut dest) old answer new = IsNotedSendOut dest old answer new
-Performs (Weigh dest) old answer new = (answer ≡ Ok 0) × (Weighs dest (bare old) (bare new) × (new.news ≡ old.news))
+Performs (Weigh clients dest) old answer new = (answer ≡ Ok 0) × (Weighs (is_weighed clients dest) dest (bare old) (bare new) × (new.news ≡ old.news))
 
 abbrev pub with_more : {F : Type 0} → ℕ → Result ℕ F → Result ℕ F
 with_more count (Ok more) = Ok (count + more)
@@ -113,12 +112,16 @@ IsFreeRoundOn (Some w) old answer new = PerformsUpTo (free_calls old.attachments
 abbrev pub IsFreeRound : NotedBoard → Result ℕ BoardFault → NotedBoard → Type 0
 IsFreeRound old answer new = IsFreeRoundOn old.rows old answer new
 
+-- no further round follows one by which too much came to wait for a client
 abbrev pub AreRounds : ℕ → NotedBoard → Result ℕ BoardFault → NotedBoard → Type 0
 AreRounds zero old answer new = IsFreeRound old answer new
 AreRounds (suc earlier) old answer new =
-    (count : ℕ) × ((last : Result ℕ BoardFault) × ((between : NotedBoard) × (AreRounds earlier old (Ok count) between × (IsFreeRound between last new × (answer ≡ told_together count last)))))
+    (count : ℕ)
+    × ((last : Result ℕ BoardFault)
+    × ((between : NotedBoard) × (AreRounds earlier old (Ok count) between × ((between.news.grown ≡ false) × (IsFreeRound between last new × (answer ≡ told_together count last))))))
 
--- each connection is weighed; then there is one round or more, up to the first fault
+-- servers are weighed, and clients where that is due; then there is one round or more, up to the first fault
 abbrev pub IsBatch : NotedBoard → Result ℕ BoardFault → NotedBoard → Type 0
 IsBatch old answer new =
-    (between : NotedBoard) × (PerformsUpTo (map Weigh (dests_of old.attachments)) old (Ok 0) between × ((earlier : ℕ) × AreRounds earlier between answer new))
+    (between : NotedBoard)
+    × (PerformsUpTo (map (Weigh (weighs_clients old.news old.attachments)) (dests_of old.attachments)) old (Ok 0) between × ((earlier : ℕ) × AreRounds earlier between answer new))

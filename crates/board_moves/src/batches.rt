@@ -5,6 +5,7 @@ ghost use Rattle.board_moves.specs.Rounds.{IsBatch};
 
 use crate::fault::BoardFault;
 use crate::free_rounds::{free_round, weigh_all};
+use crate::held::weighs_clients;
 use crate::news::News;
 use board_rings::Attachments;
 use gateway_calls::GatewayCalls;
@@ -16,10 +17,11 @@ const MOST_ROUNDS: usize = 32;
 /// an answer or for the lock waits for no more than their work.
 const MOST_MOVED: usize = 512;
 
-/// Weighs what waits for each server. Then it performs a round, but for those that are held, which aren't pumped, and
-/// others behind it as long as one saw items that it left and few were moved. It answers how many items were moved. Each
-/// round takes one item of each connection, so none is starved, and sends out before the next, so that nothing is lost
-/// that waited for a connection whose end comes behind. Once for a batch is enough to weigh: it moves few items.
+/// Weighs what waits for servers, and for clients where that is due. Then it performs a round, but for those that are held, which aren't pumped, and
+/// others behind it as long as one saw items that it left, few were moved, and too much came to wait for no client. It
+/// answers how many items were moved. Each round takes one item of each connection, so none is starved, and sends out
+/// before the next, so that nothing is lost that waited for a connection whose end comes behind. Once for a batch is
+/// enough to weigh: it moves few items, and ends with a round by which a client is one to hold.
 pub(crate) fn batch<G: GatewayCalls>(
     gate: &mut G,
     attachments: &mut Attachments,
@@ -29,12 +31,16 @@ pub(crate) fn batch<G: GatewayCalls>(
     ensures rings { KeepsRings attachments.old attachments.new }
     ensures kept { StayNoted news.old news.new }
 {
-    weigh_all(gate, attachments);
+    let clients = weighs_clients(news, attachments);
+    weigh_all(gate, attachments, clients);
     let mut moved = match free_round(gate, attachments, news) {
         Ok(count) => count,
         Err(fault) => return Err(fault),
     };
     for _ in 1..MOST_ROUNDS {
+        if news.has_grown() {
+            return Ok(moved);
+        }
         if !news.has_left() || moved >= MOST_MOVED {
             return Ok(moved);
         }

@@ -153,10 +153,12 @@ impl<G: GatewayCalls + Drop> BoardOver<G> {
         rounds::round(&mut self.gate, &mut self.attachments, &mut self.news)
     }
 
-    /// Weighs what waits for each server. Then it performs a round, but for those that are held, which aren't pumped, and
-    /// again as long as one saw items that it left, a bounded number of times, up to the first fault. It answers how
-    /// many items were moved. A client is held whose last request is a write, which went to a server for which more than
-    /// half of what is allowed waited, unless its end comes.
+    /// Weighs what waits for servers, and for clients where too much came to wait for one in the last round, or is noted of
+    /// somebody. Then it performs a round, but for those that are held, which aren't pumped,
+    /// and again as long as one saw items that it left, a bounded number of times, up to the first fault, or until too
+    /// much waits for a client of which that isn't noted. It answers how many items were moved. A client is held for which
+    /// more than 32 MiB waited; or whose last request, a write, a subscription or a cancel, reached a server for which
+    /// more than half of what is allowed waited, unless its end comes.
     pub fn batch(&mut self) -> Result<usize, BoardFault>
         ensures batch { IsBatch self.old result self.new }
         ensures kept { StayNoted self.old.news self.new.news }

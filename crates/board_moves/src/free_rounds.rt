@@ -3,11 +3,12 @@ ghost use Rattle.std.specs.Prelude.{◌≡◌, map, IsSome, Ok, OnOk};
 ghost use Rattle.board_rings.specs.Attachments.{have_full};
 ghost use Rattle.board_moves.specs.Answers.{board_of, KeepsRings};
 ghost use Rattle.board_moves.specs.Noted.{begun, noted_of, StayNoted};
+ghost use Rattle.board_moves.specs.Held.{is_weighed};
 ghost use Rattle.board_moves.specs.Rounds.{dests_of, IsFreeRound, Performs, PerformsUpTo, Weighs};
 ghost use Rattle.board_moves.specs.declared.news.News.{News};
 
 use crate::fault::BoardFault;
-use crate::held::{is_held, is_over_half};
+use crate::held::{has_too_much, is_held, is_weighed};
 use crate::moves::has_failed;
 use crate::news::News;
 use crate::rounds::{RoundCall, pump_one, send_all};
@@ -15,28 +16,35 @@ use board_rings::Attachments;
 use gateway_calls::{GatewayCalls, StepFault};
 use gateway_state::Dest;
 
-/// Weighs a server, whose attachment may stand at the guess. Of clients it isn't asked.
-fn weigh<G: GatewayCalls>(gate: &mut G, attachments: &mut Attachments, dest: Dest, guess: usize)
-    ensures weighed { Weighs dest (board_of (G.state gate.old) attachments.old) (board_of (G.state gate.new) attachments.new) }
+/// Weighs a connection, whose attachment may stand at the guess, if it is a server or clients are weighed too.
+#[tactic(auto, using(crate::proofs::WhoIsHeld::weighed_so, crate::proofs::WhoIsHeld::not_weighed))]
+fn weigh<G: GatewayCalls>(
+    gate: &mut G,
+    attachments: &mut Attachments,
+    clients: bool,
+    dest: Dest,
+    guess: usize,
+)
+    ensures weighed { Weighs (is_weighed clients dest) dest (board_of (G.state gate.old) attachments.old) (board_of (G.state gate.new) attachments.new) }
     ensures dests { dests_of attachments.new ≡ dests_of attachments.old }
     ensures rings { KeepsRings attachments.old attachments.new }
 {
-    if let Dest::Upstream(_) = dest {
-        let full = is_over_half(gate, dest);
+    if is_weighed(clients, dest) {
+        let full = has_too_much(gate, dest);
         attachments.note_full(dest, guess, full);
     }
 }
 
-/// Weighs each attached connection, in order. Nobody is told of it.
-pub(crate) fn weigh_all<G: GatewayCalls>(gate: &mut G, attachments: &mut Attachments)
-    ensures calls { (news : News) → PerformsUpTo (map RoundCall.Weigh (dests_of attachments.old)) (noted_of (G.state gate.old) attachments.old news) (Ok 0) (noted_of (G.state gate.new) attachments.new news) }
+/// Weighs each server that is attached, and each client where that is wanted, in order. Nobody is told of it.
+pub(crate) fn weigh_all<G: GatewayCalls>(gate: &mut G, attachments: &mut Attachments, clients: bool)
+    ensures calls { (news : News) → PerformsUpTo (map (RoundCall.Weigh clients) (dests_of attachments.old)) (noted_of (G.state gate.old) attachments.old news) (Ok 0) (noted_of (G.state gate.new) attachments.new news) }
     ensures rings { KeepsRings attachments.old attachments.new }
 {
     for n in 0..attachments.len() {
         let Some(dest) = attachments.dest(n) else {
             break;
         };
-        weigh(gate, attachments, dest, n);
+        weigh(gate, attachments, clients, dest, n);
     }
 }
 

@@ -39,5 +39,5 @@ pub use board::BoardOver;
 pub use fault::BoardFault;
 pub use kept::KeptBoard;
 pub use news::{News, SEAT_WORDS, SEATS, Traffic, seat_of};
-pub use share::{HELD_BYTES, HELD_MESSAGES, RING_BYTES};
+pub use share::{HELD_BYTES, HELD_CLIENT_BYTES, HELD_MESSAGES, RING_BYTES};
 pub use turn::Turn;

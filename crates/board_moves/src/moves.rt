@@ -1,5 +1,5 @@
 //! The board's calls on its parts: the gateway and the attachments.
-ghost use Rattle.std.specs.Prelude.{◌≡◌, ◌+◌, ◌-◌, ◌^◌, ◌<◌, min, ◌↔◌, IfSome, IsTrue, IsNone, IsSome, IsErrOf, OnOk, OnErr, Some, None, true, false};
+ghost use Rattle.std.specs.Prelude.{◌≡◌, ◌+◌, ◌-◌, ◌^◌, ◌<◌, ◌&&◌, ◌||◌, min, ◌↔◌, IfSome, IsTrue, IsNone, IsSome, IsErrOf, OnOk, OnErr, Some, None, true, false};
 ghost use Rattle.std.specs.Option.{option_map};
 ghost use Rattle.gateway_state.specs.Asked.{queued, queued_bytes};
 ghost use Rattle.gateway_state.specs.Step.{step};
@@ -8,10 +8,12 @@ ghost use Rattle.board_rings.specs.Calls.{uses_up};
 ghost use Rattle.board_rings.specs.History.{is_for_desk, item_event};
 ghost use Rattle.board_moves.specs.Answers.{board_of, IsDesk, IsPump, IsSendOut, IsWaiting, KeepsRings};
 ghost use Rattle.board_moves.specs.Noted.{is_message, lost_by, IsEnding, IsNoted, PumpTells, SendTells, StayNoted};
+ghost use Rattle.board_moves.specs.Held.{has_grown};
 ghost use Rattle.board_moves.specs.Rounds.{dests_of};
 ghost use Rattle.board_moves.specs.Share.{sent_at_once};
 
 use crate::fault::BoardFault;
+use crate::held::has_grown;
 use crate::news::News;
 use crate::share::sent_at_once;
 use board_rings::{Attachments, Inbound};
@@ -258,9 +260,25 @@ fn send_standing<G: GatewayCalls>(
     }
 }
 
+/// Notes whether too much came to wait for a client, where some messages were left.
+fn note_left<G: GatewayCalls>(
+    gate: &mut G,
+    attachments: &Attachments,
+    news: &mut News,
+    dest: Dest,
+    is_left: bool,
+)
+    ensures grown { news.new ≡ record news.old { grown = news.old.grown || (is_left && has_grown dest (board_of (G.state gate.old) attachments.now)) } }
+    ensures same { G.state gate.new ≡ G.state gate.old }
+{
+    if is_left && has_grown(gate, attachments, dest) {
+        news.note_growth();
+    }
+}
+
 /// Takes a connection's share of messages and pushes them. The guess is where its attachment may stand. A connection
-/// for which no message waits costs one look.
-#[tactic(auto, using(crate::proofs::Told::none_sent))]
+/// for which no message waits costs one look, and one that gets all that waits no more.
+#[tactic(auto, using(crate::proofs::Told::none_sent, crate::proofs::Told::told_still, crate::proofs::Told::noted_still))]
 pub(crate) fn send_out<G: GatewayCalls>(
     gate: &mut G,
     attachments: &mut Attachments,
@@ -276,7 +294,15 @@ pub(crate) fn send_out<G: GatewayCalls>(
 {
     match gate.queued(dest) {
         Ok(0) => Ok(0),
-        Ok(waiting) => send_standing(gate, attachments, news, dest, guess, waiting),
+        Ok(waiting) => {
+            let sent = send_standing(gate, attachments, news, dest, guess, waiting);
+            let is_left = match &sent {
+                Ok(count) => *count < waiting,
+                Err(_) => false,
+            };
+            note_left(gate, attachments, news, dest, is_left);
+            sent
+        }
         Err(_) if attachments.is_attached(dest) => Err(BoardFault::Step(StepFault::Failed)),
         Err(_) => Ok(0),
     }

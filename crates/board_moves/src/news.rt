@@ -1,5 +1,5 @@
 //! Whom a board's moves concern.
-ghost use Rattle.std.specs.Prelude.{◌≡◌, ℕ, ◌*◌, ◌/◌, ◌%◌, ◌^◌, ◌<◌, ◌⊎◌, ◌||◌, nat_lt, slice_index, slice_index_or, slice_set, false};
+ghost use Rattle.std.specs.Prelude.{◌≡◌, ℕ, ◌*◌, ◌/◌, ◌%◌, ◌^◌, ◌<◌, ◌⊎◌, ◌||◌, nat_lt, slice_index, slice_index_or, slice_set, true, false};
 ghost use Rattle.std.specs.Int.Bits.{bit_or};
 ghost use Rattle.board_moves.specs.Noted.{counted_if, counted_on, seat_bit, seat_of, IsNoted, Notes, StayNoted};
 
@@ -44,13 +44,15 @@ fn set_bit(words: &mut [u64; SEAT_WORDS], seat: usize)
     words[seat / 64] |= 1u64 << (seat % 64);
 }
 
-/// The seats of those connections whose workers may go on after what was moved, how much was moved, and whether
-/// items were left. They are no part of what a board is: its moves say what they note beside it.
+/// The seats of those connections whose workers may go on after what was moved, how much was moved, whether
+/// items were left, and whether too much came to wait for a client. They are no part of what a board is: its moves say
+/// what they note beside it.
 #[derive(Clone, Copy, Debug)]
 pub struct News {
     words: [u64; SEAT_WORDS],
     traffic: Traffic,
     left: bool,
+    grown: bool,
 }
 
 impl News {
@@ -66,14 +68,16 @@ impl News {
                 sent: 0,
             },
             left: false,
+            grown: false,
         }
     }
 
-    /// The pumps of a round begin, which saw no items yet that they leave.
+    /// A round begins, which saw no items yet that it leaves, nor a client for which too much came to wait.
     pub fn begin_round(&mut self)
-        ensures { self.new ≡ record self.old { left = false } }
+        ensures { self.new ≡ record self.old { left = false; grown = false } }
     {
         self.left = false;
+        self.grown = false;
     }
 
     /// Whether the last round left items that it saw.
@@ -81,6 +85,20 @@ impl News {
         ensures { result ≡ self.now.left }
     {
         self.left
+    }
+
+    /// Notes that too much came to wait for a client.
+    pub fn note_growth(&mut self)
+        ensures { self.new ≡ record self.old { grown = true } }
+    {
+        self.grown = true;
+    }
+
+    /// Whether that was noted in the last round.
+    pub fn has_grown(&self) -> bool
+        ensures { result ≡ self.now.grown }
+    {
+        self.grown
     }
 
     /// Notes the seat of a connection.

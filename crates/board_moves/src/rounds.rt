@@ -19,8 +19,8 @@ pub(crate) enum RoundCall {
     /// A pump, unless the connection is held.
     PumpFree(Dest),
     SendOut(Dest),
-    /// A look whether too much waits for it.
-    Weigh(Dest),
+    /// A look whether too much waits for it, where it is a server, or clients are weighed too.
+    Weigh(bool, Dest),
 }
 
 /// Pumps a connection whose attachment may stand at the guess, and answers how many items it moved.

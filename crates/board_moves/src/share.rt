@@ -7,11 +7,15 @@ use board_rings::MOST_SENT;
 /// Where so many bytes are on their way to a connection no more are sent out to it.
 pub const RING_BYTES: usize = 262_144;
 
-/// More messages than these wait for a server where those that write to it are held: half of what an outbox holds.
+/// More messages than these wait for a server where those whose requests reach it are held: half of what an outbox holds.
 pub const HELD_MESSAGES: usize = 8_192;
 
-/// More bytes than these wait for a server where those that write to it are held: half of what is allowed.
+/// More bytes than these wait for a server where those whose requests reach it are held: half of what is allowed.
 pub const HELD_BYTES: u64 = 16_777_216;
+
+/// More bytes than these wait for a client where it is held: what it asks for is answered once it has read. What is on
+/// its way isn't counted: that is known by looks that are made while messages wait, and a stale one would hold for ever.
+pub const HELD_CLIENT_BYTES: u64 = 33_554_432;
 
 /// How many messages are sent out at once, where so many places of the ring are free, so many messages with so many
 /// bytes wait, and so many bytes are on their way.

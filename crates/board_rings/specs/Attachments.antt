@@ -2,7 +2,7 @@
 use Rattle.std.specs.Prelude.{◌≡◌, ℕ, ◌+◌, ◌-◌, ◌==◌, List, [], ◌∷◌, ◌++◌, length, Bool, true, false, not, nat_lt, ◌&&◌, ◌||◌, if◌then◌else◌, Option, Some, None}
 use Rattle.std.specs.List.{find, list_any}
 use Rattle.std.specs.Option.{option_map}
-use Rattle.ca_message.specs.declared.commands.TheConstants.{CA_PROTO_WRITE, CA_PROTO_WRITE_NOTIFY}
+use Rattle.ca_message.specs.declared.commands.TheConstants.{CA_PROTO_EVENT_ADD, CA_PROTO_EVENT_CANCEL, CA_PROTO_WRITE, CA_PROTO_WRITE_NOTIFY}
 use Rattle.fanout.specs.declared.outbox.Out.{Out}
 use Rattle.gateway_state.specs.Connections.{same_dest}
 use Rattle.gateway_state.specs.declared.event.Dest.{Dest}
@@ -50,16 +50,18 @@ abbrev pub are_in_order : List AttachmentState → Bool
 are_in_order [] = true
 are_in_order (attachment ∷ attachments) = are_behind attachment.dest attachments && are_in_order attachments
 
--- a write, which has the SID of its channel as its first parameter
-abbrev pub is_write : ℕ → Bool
-is_write command = command == CA_PROTO_WRITE || command == CA_PROTO_WRITE_NOTIFY
+-- a request that reaches a server: a write, a subscription or its cancel. A read doesn't, which is answered from the
+-- cache. Each has the SID of its channel as its first parameter
+abbrev pub reaches_server : ℕ → Bool
+reaches_server command =
+    command == CA_PROTO_WRITE || command == CA_PROTO_WRITE_NOTIFY || command == CA_PROTO_EVENT_ADD || command == CA_PROTO_EVENT_CANCEL
 
--- the SID of the last request, where that is a write, once this item came behind the others
+-- the SID of the last request, where that reaches a server, once this item came behind the others
 abbrev pub sid_after : Inbound → Option ℕ → Option ℕ
-sid_after (Message message) before = if is_write message.head.command then Some message.head.p1 else None
+sid_after (Message message) before = if reaches_server message.head.command then Some message.head.p1 else None
 sid_after Gone before = before
 
--- the SID of a connection's last request, where that is a write, nothing where its end comes
+-- the SID of a connection's last request, where that reaches a server, nothing where its end comes
 abbrev pub last_sid : AttachmentState → Option ℕ
 last_sid attachment = if attachment.leaving then None else attachment.last
 

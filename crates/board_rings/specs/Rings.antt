@@ -50,7 +50,7 @@ pub record EndsState : Type 0 where
 
 -- the attachment of a connection that is attached, how many places of its ring out are known to be free, and
 -- how many items are known to be in its ring in; how often the board looked into each of them;
--- the channel that its last request writes to, by its SID, where that is a write;
+-- the channel of its last request, by its SID, where that reaches a server;
 -- whether its end was said to come, and whether too much waited for it when it was last weighed
 pub record AttachmentState : Type 0 where
   pub dest : Dest

@@ -2,7 +2,7 @@
 ghost use Rattle.std.specs.Prelude.{◌≡◌, ◌^◌, ◌≤◌, ◌+◌, ◌-◌, ◌++◌, [], length, map, IfOk, IfSome, IsNone};
 ghost use Rattle.rtrb.specs.Ring.{sent, known_free, SameProducer};
 ghost use Rattle.fanout.specs.Waiting.{out_len};
-ghost use Rattle.board_rings.specs.Attachments.{is_attachment_of, is_write, last_sid, new_attachment, sid_after, with_free, with_full, with_leaving, with_look_in, with_pushed, with_received};
+ghost use Rattle.board_rings.specs.Attachments.{is_attachment_of, last_sid, new_attachment, reaches_server, sid_after, with_free, with_full, with_leaving, with_look_in, with_pushed, with_received};
 ghost use Rattle.board_rings.specs.OnTheWay.{bytes_on_the_way};
 
 use crate::counted::{CountedConsumer, CountedProducer};
@@ -11,7 +11,9 @@ use crate::inbound::Inbound;
 use crate::lengths::Lengths;
 use crate::looks::LookCount;
 use crate::told::ToldEnds;
-use ca_message::commands::{CA_PROTO_WRITE, CA_PROTO_WRITE_NOTIFY};
+use ca_message::commands::{
+    CA_PROTO_EVENT_ADD, CA_PROTO_EVENT_CANCEL, CA_PROTO_WRITE, CA_PROTO_WRITE_NOTIFY,
+};
 use fanout::Out;
 use gateway_state::Dest;
 use rtrb::{Producer, RingBuffer};
@@ -179,7 +181,7 @@ impl Attachment {
         self.full
     }
 
-    /// The SID of the last request, where that is a write, unless its end comes.
+    /// The SID of the last request, where that reaches a server, unless its end comes.
     pub(crate) fn last_sid(&self) -> Option<u32>
         ensures { result ≡ last_sid self.now }
     {
@@ -206,19 +208,23 @@ impl Attachment {
     }
 }
 
-/// Whether a request is a write, whose first parameter is the SID of its channel.
-fn is_write(command: u16) -> bool
-    ensures { result ≡ is_write command }
+/// Whether a request reaches a server: a write, a subscription or its cancel, whose first parameter is the SID of its
+/// channel. A read doesn't, which is answered from the cache.
+fn reaches_server(command: u16) -> bool
+    ensures { result ≡ reaches_server command }
 {
-    command == CA_PROTO_WRITE || command == CA_PROTO_WRITE_NOTIFY
+    command == CA_PROTO_WRITE
+        || command == CA_PROTO_WRITE_NOTIFY
+        || command == CA_PROTO_EVENT_ADD
+        || command == CA_PROTO_EVENT_CANCEL
 }
 
-/// The SID of the last request, where that is a write, once this item came behind the others.
+/// The SID of the last request, where that reaches a server, once this item came behind the others.
 fn sid_after(item: &Inbound, before: Option<u32>) -> Option<u32>
     ensures { result ≡ sid_after item.now before }
 {
     match item {
-        Inbound::Message(message) if is_write(message.head.command) => Some(message.head.p1),
+        Inbound::Message(message) if reaches_server(message.head.command) => Some(message.head.p1),
         Inbound::Message(_) => None,
         Inbound::Gone => before,
     }

@@ -164,7 +164,7 @@ impl Attachments {
         self.rows.iter().any(|attachment| attachment.is_full())
     }
 
-    /// The SID of a connection's last request, where that is a write, nothing where its end comes.
+    /// The SID of a connection's last request, where that reaches a server, nothing where its end comes.
     pub fn last_sid(&self, dest: Dest, guess: usize) -> Option<u32>
         ensures { result ≡ last_sid_of dest self.now }
     {

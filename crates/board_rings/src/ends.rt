@@ -1,7 +1,8 @@
 //! The ends of the rings.
 ghost use Rattle.board_rings.specs.Told.{name_of};
-ghost use Rattle.std.specs.Prelude.{◌≡◌, ◌++◌, ◌∷◌, ◌<◌, ◌≤◌, ◌+◌, [], length, OnOk, OnErr, IfErr, IfSome, IsNone, IsOk, IsSome};
+ghost use Rattle.std.specs.Prelude.{◌≡◌, ◌==◌, ◌++◌, ◌∷◌, ◌<◌, ◌≤◌, ◌+◌, [], length, OnOk, OnErr, IfErr, IfSome, IsNone, IsOk, IsSome};
 
+use crate::attachment::RING_SIZE;
 use crate::counted::{CountedConsumer, CountedProducer};
 use crate::inbound::Inbound;
 use crate::looks::LookCount;
@@ -61,6 +62,15 @@ impl Inlet {
             Ok(()) => Ok(()),
             Err(PushError::Full(back)) => Err(back),
         }
+    }
+
+    /// Whether all places of the ring are free, by a look into it: what was offered has been received.
+    pub fn is_clear(&mut self) -> bool
+        ensures clear { result ≡ (self.new.free == RING_SIZE) }
+        ensures places { self.old.free ≤ self.new.free }
+        ensures same { self.new ≡ record self.old { free = self.new.free; looks = self.old.looks + 1 } }
+    {
+        self.ring.slots() == RING_SIZE
     }
 
     /// Notes that nothing is moved any more, which the teller shows. It does nothing at run time.

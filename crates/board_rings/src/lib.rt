@@ -7,6 +7,7 @@
 //! first, each by rising number.
 //!
 //! - [`Inlet::offer`] and [`Outlet::next`] are one push or pop each. They never wait, and take no memory.
+//!   [`Inlet::is_clear`] looks whether all that was offered has been received.
 //! - [`Attachments::attach`] makes both rings, [`Attachments::retire`] takes the board's ends off.
 //! - [`Attachments::receive`], [`Attachments::room`] and [`Attachments::push_all`] are the board's side. They are told where
 //!   the attachment may stand, so that a walk over all attachments, in order, searches for none.

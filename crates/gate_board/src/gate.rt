@@ -18,7 +18,8 @@
 //!   looks at the end by itself once it took them all.
 //! - **A reader** waits at the same seat until its ring has places. It is full then, and nobody else fills
 //!   it: so the ring comes down through exactly half, where the turn notes the seat. It notes it at an
-//!   empty ring too. As long as its connection is held it waits, and the peer with it.
+//!   empty ring too, for which a reader waits behind a long message (`clear`). As long as its connection is held it
+//!   waits, and the peer with it.
 //! - Closing and a fault of the gateway notify all.
 //!
 //! Connections that share a seat wake each other for nothing, and look again.
@@ -270,6 +271,30 @@ impl<G: GatewayCalls + Drop> GateOver<G> {
             };
             if self.waits_in_vain(rt, inlet, seen) {
                 return Err(item);
+            }
+        }
+        unreachable!()
+    }
+
+    /// Wakes the core, and waits until all that was offered has been received. False where the gate is closed or the
+    /// engine has failed.
+    pub fn clear<R: Wait>(&self, rt: &R, inlet: &mut Inlet) -> bool
+        ensures clear { IsTrue result → inlet.new.free ≡ RING_SIZE }
+        ensures told { IsTrue result → inlet.new.stops ≡ inlet.old.stops }
+        ensures stopped { IsFalse result → inlet.new.stops ≡ inlet.old.stops + 1 }
+        ensures offered { inlet.new.offered ≡ inlet.old.offered }
+        ensures ring { inlet.new.ring ≡ inlet.old.ring }
+        ensures dest { inlet.new.dest ≡ inlet.old.dest }
+    {
+        self.wake(rt);
+        for _ in rt.forever() {
+            let seen = self.count(rt);
+            if inlet.is_clear() {
+                return true;
+            }
+            let has_stopped = self.waits_in_vain(rt, inlet, seen);
+            if has_stopped {
+                return false;
             }
         }
         unreachable!()

@@ -6,7 +6,7 @@
 //!
 //! [`Gate`] is the board under a lock, with a mark that it is closed, a count of wakes, and a seat to wait
 //! on for each connection. Each call locks, makes one call of what stands under the lock
-//! (`board_moves::Kept`, whose methods have the board's clauses), unlocks and notifies; `put`, `take`,
+//! (`board_moves::Kept`, whose methods have the board's clauses), unlocks and notifies; `put`, `clear`, `take`,
 //! `turn` and `batch` try, and wait between two tries.
 #![tactic(auto)]
 

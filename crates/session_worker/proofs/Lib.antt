@@ -3,3 +3,4 @@ mod Sending
 pub mod Keeping
 mod Pieces
 pub mod Writings
+mod Dropping

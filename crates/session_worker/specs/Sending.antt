@@ -1,5 +1,5 @@
 -- What a writer has taken and written.
-use Rattle.std.specs.Prelude.{◌≡◌, ℕ, ◌<◌, min, Bool, List, [], ◌∷◌, ◌++◌, length, Option}
+use Rattle.std.specs.Prelude.{◌≡◌, ℕ, ◌<◌, ◌⊎◌, min, Bool, List, [], ◌∷◌, ◌++◌, length, Option}
 use Rattle.std.specs.Io.KnownBytes.{Appends}
 use Rattle.fanout.specs.declared.outbox.Out.{Out}
 use Rattle.session_worker.specs.Links.{HasRisen}
@@ -76,3 +76,11 @@ pub record IsServedOut (dest : Dest) (end : OutEnd) (old new : WriterStanding) :
   pub taken : new.taken ≡ old.taken ++ outs
   pub written : Appends old.written new.written bytes
   pub text : AreText dest end bytes (texts_of outs) old new
+
+-- a writer has taken what came and dropped it, until it was told that the messages of this connection come to an end, or
+-- that nothing is moved any more
+pub record IsDropped (dest : Dest) (old new : OutletState) : Type 0 where
+  pub outs : List Out
+  pub taken : new.taken ≡ old.taken ++ outs
+  pub ring : new.ring ≡ old.ring
+  pub told : ((old.ends.times < new.ends.times) × (new.ends.last ≡ name_of dest)) ⊎ (old.stops < new.stops)

@@ -6,7 +6,8 @@
 //! - [`serve_in`] reads a link to its end. It hands each whole message over to the board by the
 //!   connection's [`Inlet`](gate_board::Inlet), in order, each once, and then that the connection is gone.
 //! - [`serve_out`] takes what goes to the peer by the connection's [`Outlet`](gate_board::Outlet), and
-//!   writes it whole and in order; what is there at once is written at once.
+//!   writes it whole and in order; what is there at once is written at once. Where that failed [`drop_rest`] takes the
+//!   rest, so that who is held until it is taken is heard to its end.
 //! - [`serve_core`] has the [`Gate`](gate_board::Gate) perform its batches until it is closed or fails.
 //!
 //! The first two wait at the gate where their ring is full or empty. [`MemoryLink`] is a link over bytes in
@@ -44,4 +45,4 @@ pub use memory::MemoryLink;
 pub use out_buffer::{OUT_BUFFER_SIZE, OutBuffer};
 pub use reader::{InEnd, serve_in};
 pub use rounds::{CoreEnd, serve_core};
-pub use writer::{OutEnd, serve_out};
+pub use writer::{OutEnd, drop_rest, serve_out};

@@ -1,5 +1,6 @@
 //! From a connection to the board.
-ghost use Rattle.std.specs.Prelude.{◌≡◌, ◌++◌, [], ◌∷◌, ◌<◌, ◌≤◌, length, IsTrue, IsFalse};
+ghost use Rattle.std.specs.Prelude.{◌≡◌, ◌++◌, [], ◌∷◌, ◌<◌, ◌≤◌, length, true, IsTrue, IsFalse};
+ghost use Rattle.board_rings.specs.declared.attachment.TheConstants.{RING_SIZE};
 ghost use Rattle.std.specs.Io.KnownBytes.{Keeps};
 ghost use Rattle.ca_header.specs.Reading.{front_at};
 ghost use Rattle.ca_header.specs.Spelling.{IsBytes};
@@ -16,6 +17,10 @@ use std::sync::Wait;
 
 /// How many bytes are read at once, at most.
 const PIECE_SIZE: usize = 16_384;
+
+/// Behind a message whose payload has so many bytes or more, nothing is read until the board has received all: a
+/// ring full of the longest would take 4 GiB, and who is held may fill it.
+const LONG_PAYLOAD: usize = 65_536;
 
 /// Why a reader ended.
 #[derive(Clone, Copy, Debug, PartialEq, Eq)]
@@ -58,6 +63,20 @@ fn hand_over<R: Wait>(rt: &R, inlet: &mut Inlet, gate: &Gate, item: Inbound) -> 
     }
 }
 
+// Behind a long message it waits until the board has received all. False where nothing is moved any more.
+fn clear_behind<R: Wait>(rt: &R, inlet: &mut Inlet, gate: &Gate, is_long: bool) -> bool
+    ensures clear { is_long ≡ true → IsTrue result → inlet.new.free ≡ RING_SIZE }
+    ensures offered { inlet.new.offered ≡ inlet.old.offered }
+    ensures stopped { IsFalse result → inlet.old.stops < inlet.new.stops }
+    ensures told { inlet.old.stops ≤ inlet.new.stops }
+    ensures ring { inlet.new.ring ≡ inlet.old.ring }
+{
+    if is_long {
+        return gate.clear(rt, inlet);
+    }
+    true
+}
+
 // Offers the whole messages of what is held.
 fn offer_whole<R: Wait>(rt: &R, intake: &mut Intake, inlet: &mut Inlet, gate: &Gate) -> HeardPiece
     requires { IsBytes intake.old }
@@ -72,7 +91,11 @@ fn offer_whole<R: Wait>(rt: &R, intake: &mut Intake, inlet: &mut Inlet, gate: &G
             Err(IntakeFault::Faulted(fault)) => return HeardPiece::End(InEnd::Framing(fault)),
             Err(IntakeFault::OutOfMemory) => return HeardPiece::End(InEnd::OutOfMemory),
         };
+        let is_long = message.payload.len() >= LONG_PAYLOAD;
         if !hand_over(rt, inlet, gate, Inbound::Message(message)) {
+            return HeardPiece::End(InEnd::GateFailed);
+        }
+        if !clear_behind(rt, inlet, gate, is_long) {
             return HeardPiece::End(InEnd::GateFailed);
         }
     }
@@ -148,7 +171,7 @@ fn hear_all<L: Link, R: Wait>(
 
 /// Reads a connection to its end, and offers each whole message to the board, in order, and after the last
 /// that the connection is gone. The gate is woken after each piece, and at the end. It waits where the link
-/// does, or where the ring has no place.
+/// does, where the ring has no place, and behind a long message until the board has received it.
 ///
 /// At `OutOfMemory` and `GateFailed` only the first of the messages that were read may be offered. At
 /// `GateFailed` it isn't offered that the connection is gone: the gate said that nothing is moved any more.

@@ -2,7 +2,7 @@
 ghost use Rattle.std.specs.Prelude.{◌≡◌, ◌++◌, [], is_ok, OnOk};
 ghost use Rattle.std.specs.Io.KnownBytes.{Keeps};
 ghost use Rattle.session_worker.specs.Writing.{IsWritten};
-ghost use Rattle.session_worker.specs.Sending.{IsServedOut, IsTold, Sends, Takes, text_of};
+ghost use Rattle.session_worker.specs.Sending.{IsDropped, IsServedOut, IsTold, Sends, Takes, text_of};
 
 use crate::{Link, LinkFault, OutBuffer};
 use board_rings::{Outlet, RING_SIZE};
@@ -126,6 +126,21 @@ pub fn serve_out<L: Link, R: Wait>(
         match put_out(link, &mut buffer, &out) {
             Ok(()) => (),
             Err(_) => return OutEnd::WriteFault(buffer.written()),
+        }
+    }
+    unreachable!()
+}
+
+/// Takes what comes for a connection that can't be written any more, and drops it, until nothing comes. A connection for
+/// which too much waits is held, and its end behind what is held isn't heard: so what nobody will read has to go.
+pub fn drop_rest<R: Wait>(rt: &R, outlet: &mut Outlet, gate: &Gate, dest: Dest)
+    ensures dropped { IsDropped dest outlet.old outlet.new }
+{
+    for _ in rt.forever() {
+        match wait_for_out(rt, outlet, gate, dest) {
+            Taken::Item(out) => drop(out),
+            Taken::Closed => return,
+            Taken::Stopped => return,
         }
     }
     unreachable!()

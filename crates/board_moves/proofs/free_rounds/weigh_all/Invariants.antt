@@ -10,5 +10,5 @@ use Rattle.board_moves.proofs.free_rounds.weigh_all.Given as goal
 -- the first n connections were weighed
 abbrev pub invariant-loop-n : goal.invariant-loop-n
 invariant-loop-n g l =
-    ((news : News) → IsPerformed (map Weigh (dests_of l.fn.attachments)) l.n (noted_of (g.G.GatewayCalls.state l.fn.gate) l.fn.attachments news) (noted_of (g.G.GatewayCalls.state l.gate) l.attachments news) 0)
+    ((news : News) → IsPerformed (map (Weigh l.fn.clients) (dests_of l.fn.attachments)) l.n (noted_of (g.G.GatewayCalls.state l.fn.gate) l.fn.attachments news) (noted_of (g.G.GatewayCalls.state l.gate) l.attachments news) 0)
     × ((dests_of l.attachments ≡ dests_of l.fn.attachments) × KeepsRings l.fn.attachments l.attachments)
