@@ -7,7 +7,7 @@ use gateway_core::AskFault;
 use pv_name::{Name, NoMemory};
 use serve_state::{AskBudget, AskRhythm, Notice};
 use std::alloc::AllocError;
-use std::collections::HashSet;
+use std::collections::HashMap;
 use std::sync::CondvarTimeouts;
 use std::time::Duration;
 
@@ -44,6 +44,9 @@ const CALM: u64 = 32;
 /// gap behind as many: some 8 seconds.
 const SOONER_TRIES: u32 = 4;
 
+/// A minute, in milliseconds.
+const MINUTE: u64 = 60_000;
+
 /// Under this number of a host stand names that no host sought just now.
 const NO_HOST: u128 = 0;
 
@@ -57,8 +60,10 @@ struct Asker {
     schedule: Schedule,
     // Names that a server had, and that are missing now.
     lost: Schedule,
-    // Names that a server had.
-    found: HashSet<Name>,
+    // Names that a server had: of each that wasn't begun with again since it was found, how many servers were lost before that.
+    found: HashMap<Name, Option<u64>>,
+    // So many servers that were found by search were lost.
+    losses: u64,
     budget: AskBudget,
     // Taken from the schedules, and not sent yet.
     asks: Asks,
@@ -68,6 +73,9 @@ struct Asker {
     // A server came that may have any name. The look of the schedule in which one did last.
     wants_sooner: bool,
     sooner: u64,
+    // So many names were dropped since that was told, and when it was.
+    dropped: u64,
+    told_dropped: Option<u64>,
     // The time, in milliseconds of the system's clock.
     now: u64,
 }
@@ -79,13 +87,16 @@ impl Asker {
             newcomers: Newcomers::new(hub.alloc, NEWCOMER_LIMIT),
             schedule: Schedule::new(hub.alloc, NAME_LIMIT),
             lost: Schedule::new(hub.alloc, NAME_LIMIT),
-            found: HashSet::new(hub.alloc),
+            found: HashMap::new(hub.alloc),
+            losses: 0,
             budget: AskBudget::new(),
             asks: Asks::new(hub.alloc),
             had_many: false,
             hurried: 0,
             wants_sooner: false,
             sooner: 0,
+            dropped: 0,
+            told_dropped: None,
             now: 0,
         }
     }
@@ -143,7 +154,7 @@ impl Asker {
             if self.found.len() >= NAME_LIMIT {
                 self.found.clear();
             }
-            if self.found.insert(name).is_err() {
+            if self.found.insert(name, Some(self.losses)).is_err() {
                 return Err(AllocError);
             }
         }
@@ -152,22 +163,47 @@ impl Asker {
 
     // Has a missing name asked for. One that a server had comes before all that none had.
     fn want(&mut self, host: u128, name: Name) -> Result<(), NoMemory> {
-        if self.found.contains(&name) {
+        if self.found.contains_key(&name) {
+            self.begin_again(&name);
             self.schedule.remove(&name);
-            self.lost.add(&name)?;
+            let added = self.lost.add(&name)?;
+            self.note_added(added);
             return Ok(());
         }
         if self.schedule.has(&name) {
             return Ok(());
         }
-        self.newcomers.add(host, name)
+        // Where they are as many as before, one of them went.
+        let count = self.newcomers.len();
+        self.newcomers.add(host, name)?;
+        if self.newcomers.len() == count {
+            self.dropped = self.dropped.saturating_add(1);
+        }
+        Ok(())
+    }
+
+    fn note_added(&mut self, added: Added) {
+        if added == Added::Full {
+            self.dropped = self.dropped.saturating_add(1);
+        }
+    }
+
+    // Where a server was lost since the name was found, it is asked for as if it never was: else the names of a server that comes
+    // and goes are found later each time. That is done once until the name is found, whatever is lost meanwhile.
+    fn begin_again(&mut self, name: &Name) {
+        if let Some(found) = self.found.get_mut(name) {
+            if matches!(*found, Some(losses) if losses < self.losses) {
+                *found = None;
+                self.lost.remove(name);
+            }
+        }
     }
 
     // Has all missing names asked for. Those that wait already need not come again.
     fn want_all(&mut self, names: Vec<Name>) -> Result<(), NoMemory> {
         let has_waiting = self.newcomers.has_of(NO_HOST);
         for name in names {
-            if !has_waiting || self.found.contains(&name) {
+            if !has_waiting || self.found.contains_key(&name) {
                 self.want(NO_HOST, name)?;
             }
         }
@@ -296,6 +332,9 @@ fn back_off<R: System, H: AsHub>(
     asker.wants_sooner |= wanted.sooner;
     asker.seek_sooner();
     asker.note_found(wanted.found)?;
+    if wanted.lost {
+        asker.losses = asker.losses.saturating_add(1);
+    }
     for wish in wanted.wishes {
         asker.want(wish.host, wish.name)?;
     }
@@ -303,8 +342,22 @@ fn back_off<R: System, H: AsHub>(
         asker.want_all(names)?;
     }
     let sent = ask_due(rt, hub, asker);
+    tell_dropped(rt, hub.hub(), asker);
     tell_asked(rt, hub.hub(), sent?);
     Ok(())
+}
+
+// That names aren't looked for is told once a minute.
+fn tell_dropped<R: System>(rt: R, hub: &Hub, asker: &mut Asker) {
+    let rests = match asker.told_dropped {
+        Some(told) => asker.now.saturating_sub(told) < MINUTE,
+        None => false,
+    };
+    if asker.dropped > 0 && !rests {
+        hub.tell(&rt, Notice::NamesDropped(asker.dropped));
+        asker.told_dropped = Some(asker.now);
+        asker.dropped = 0;
+    }
 }
 
 // Asks for names that are due, as many as a look's datagrams hold, and answers how many.
@@ -408,5 +461,7 @@ fn welcome_one<R: System, H: AsHub>(
     if asker.schedule.has(name) || !matches!(hub.gate().is_missing(&rt, name), Ok(true)) {
         return Ok(false);
     }
-    Ok(asker.schedule.add(name)? == Added::New)
+    let added = asker.schedule.add(name)?;
+    asker.note_added(added);
+    Ok(added == Added::New)
 }

@@ -4,7 +4,9 @@ use crate::machine::System;
 use crate::upstreams::Upstreams;
 use pv_name::{Name, NoMemory};
 use pv_search::{NameAsk, ask_datagram};
+use serve_state::Notice;
 use std::alloc::Global;
+use std::net::SocketAddr;
 use std::thread;
 use std::time::Duration;
 
@@ -78,8 +80,20 @@ impl Asks {
 fn send_to_all<R: System>(rt: R, hub: &Hub, places: &Upstreams, text: &[u8]) {
     for number in 1..=places.count() {
         if let Some(address) = places.at(&rt, number) {
-            let _ = hub.sockets.asks().send_to(text, address);
+            let is_sent = hub.sockets.asks().send_to(text, address).is_ok();
+            if places.note_sent(&rt, number, is_sent) {
+                tell_sent(rt, hub, address, is_sent);
+            }
         }
+    }
+}
+
+// Once it ends nothing can be sent.
+fn tell_sent<R: System>(rt: R, hub: &Hub, address: SocketAddr, is_sent: bool) {
+    if is_sent {
+        hub.tell(&rt, Notice::SentAgain(address));
+    } else if !hub.is_closing(&rt) {
+        hub.tell(&rt, Notice::Unsent(address));
     }
 }
 

@@ -1,5 +1,6 @@
 //! Servers that are found by search: which are connected to, and which names wait for that.
 use crate::asker::milliseconds;
+use crate::attempts::{Attempt, Attempts};
 use crate::finding::{Came, Told, address_of, socket_address};
 use crate::hub::{AsHub, Hub};
 use crate::late::note_found;
@@ -12,8 +13,8 @@ use gateway_core::{Dest, Event};
 use pv_name::{Name, NoMemory};
 use serve_state::{Clashes, Cut, Notice};
 use server_book::{Address, Heard, LAST_LOOK, LOOKS_OF_SECOND, ServerBook, Standing};
-use std::alloc::{AllocError, Global};
-use std::collections::{HashMap, VecDeque};
+use std::alloc::Global;
+use std::collections::HashMap;
 use std::net::{Net, SocketAddr, TcpListener, TcpStream};
 use std::sync::{Arc, CondvarTimeouts};
 use std::thread::Threads;
@@ -21,9 +22,6 @@ use std::time::Duration;
 
 /// How many milliseconds a look of the book has.
 const LOOK: u64 = 32;
-
-/// So many connections to servers that were found are being made at once.
-const MOST_MADE: u32 = 32;
 
 /// Of so many asks it is known who answered first.
 const FIRST_LIMIT: usize = 65_536;
@@ -49,10 +47,8 @@ struct Finder {
     most: u32,
     // A server that has had no link at so many looks in a row, a second apart, is left.
     idle: u32,
-    // These are to be connected to.
-    waiting: VecDeque<u32>,
-    // So many connections to servers that were found are being made.
-    made: u32,
+    // Which are to be connected to.
+    attempts: Attempts,
     // Who answered an ask first, of those that the book took.
     firsts: HashMap<u32, Address>,
     clashes: Clashes,
@@ -86,8 +82,7 @@ impl Finder {
             fixed: hub.server_count(),
             most,
             idle,
-            waiting: VecDeque::with_capacity(hub.alloc, most as usize)?,
-            made: 0,
+            attempts: Attempts::new(hub.alloc),
             firsts: HashMap::new(hub.alloc),
             clashes: Clashes::new(hub.alloc),
             told_full: None,
@@ -119,23 +114,35 @@ impl Finder {
         let _ = self.firsts.insert(cid, address);
     }
 
-    // A connection is being made.
-    fn begin_one(&mut self, number: u32) {
-        if number > self.fixed {
-            self.made = self.made.saturating_add(1);
+    // The server of this number is to be connected to.
+    fn put(&mut self, number: u32) -> Result<(), NoMemory> {
+        let address = match self.book.server(number) {
+            Some(server) => server.address,
+            None => return Ok(()),
+        };
+        let put = self.attempts.put(number, address);
+        if put.is_err() {
+            let look = self.look();
+            self.book.failed(number, look);
         }
+        put
     }
 
-    // A connection that was being made is made, or can't be.
-    fn end_one(&mut self, number: u32) {
-        if number > self.fixed {
-            self.made = self.made.saturating_sub(1);
+    // The connection to the server of this number couldn't be made.
+    fn failed(&mut self, number: u32) {
+        if let Some(server) = self.book.server(number) {
+            self.attempts.failed(number, server.address);
         }
+        let look = self.look();
+        self.book.failed(number, look);
     }
 
     // The names that waited for the connection, which stands, whoever had it made.
     fn connected(&mut self, number: u32) -> Vec<Name> {
         self.has_come = true;
+        if let Some(server) = self.book.server(number) {
+            self.attempts.connected(number, server.address);
+        }
         self.book.retry(number, LAST_LOOK);
         self.book.connected(number)
     }
@@ -236,20 +243,18 @@ fn note<R: System, H: AsHub>(
     number: u32,
     came: Came,
 ) {
-    let look = finder.look();
     match came {
         Came::Connected => {
-            finder.end_one(number);
             for name in finder.connected(number) {
                 hand_in(rt, hub, name, number);
                 pace.rest(rt);
             }
         }
-        Came::Failed => {
-            finder.end_one(number);
-            finder.book.failed(number, look);
+        Came::Failed => finder.failed(number),
+        Came::Lost => {
+            let look = finder.look();
+            finder.book.lost(number, look)
         }
-        Came::Lost => finder.book.lost(number, look),
     }
 }
 
@@ -298,13 +303,7 @@ fn hear<R: System, H: AsHub>(
     }
     match heard {
         Heard::Find(number) => hand_in(rt, hub, told.name, number),
-        Heard::Connect(number) => {
-            if finder.waiting.push_back(number).is_err() {
-                let look = finder.look();
-                finder.book.failed(number, look);
-                return Err(AllocError);
-            }
-        }
+        Heard::Connect(number) => finder.put(number)?,
         Heard::Full => tell_full(rt, hub.hub(), finder),
         Heard::Waits(_) | Heard::HeldOff | Heard::Dropped => (),
     }
@@ -367,17 +366,14 @@ fn connect_some<
     H: AsHub + Send + Sync + Drop + 'static,
 >(rt: R, hub: &Arc<H, Global>, finder: &mut Finder) {
     for _ in rt.forever() {
-        if finder.made >= MOST_MADE {
+        let Some(attempt) = finder.attempts.take() else {
             return;
+        };
+        let Attempt { number, patience } = attempt;
+        match peer_of(rt, hub.hub(), finder, number) {
+            Some(peer) => connect_found(rt, hub, number, peer, patience),
+            None => finder.failed(number),
         }
-        let Some(number) = finder.waiting.pop_front() else {
-            return;
-        };
-        let Some(peer) = peer_of(rt, hub.hub(), finder, number) else {
-            continue;
-        };
-        finder.begin_one(number);
-        connect_found(rt, hub, number, peer);
     }
 }
 

@@ -90,6 +90,8 @@ pub struct Wanted {
     pub soon: bool,
     /// Each name that was asked for often is to be asked for sooner. Nobody is woken for that.
     pub sooner: bool,
+    /// A server that was found by search is lost.
+    pub lost: bool,
     /// Names that clients sought, and that are missing.
     pub wishes: Vec<Wish>,
     /// Names that a server said it has. Nobody is woken for them.
@@ -103,6 +105,7 @@ impl Wanted {
             asks: false,
             soon: false,
             sooner: false,
+            lost: false,
             wishes: Vec::new(alloc),
             found: Vec::new(alloc),
             end: false,
@@ -269,6 +272,16 @@ impl Hub {
     /// Has missing names asked for sooner, since a server came that may have them.
     pub fn seek_sooner<R: Wait>(&self, rt: &R) {
         self.wanted.lock(rt).sooner = true;
+    }
+
+    /// Has missing names asked for, since a server that was found by search is lost.
+    pub fn seek_lost<R: Wait>(&self, rt: &R) {
+        {
+            let mut wanted = self.wanted.lock(rt);
+            wanted.asks = true;
+            wanted.lost = true;
+        }
+        self.asker.notify_all();
     }
 
     /// Has these names asked for, and those that may be wanted from now on, where there are others. Only who backs

@@ -137,7 +137,7 @@ fn retire<R: System, H: AsHub>(rt: R, hub: &H, dest: Dest) {
 // before need not be asked for sooner.
 fn seek_lost<R: System>(rt: R, hub: &Hub, number: u32) {
     if hub.is_found(number) {
-        hub.seek(&rt, Vec::new(hub.alloc), true);
+        hub.seek_lost(&rt);
     } else if hub.options.back_off {
         hub.ask(&rt);
     }

@@ -12,9 +12,9 @@ use ca_message::commands::CA_PROTO_SEARCH;
 use gateway_core::Event;
 use pv_name::{Name, NoMemory};
 use pv_search::{NameAsk, SearchAnswer, ask_datagram, read_found};
-use serve_state::{LATE_LIMIT, Late, LateSearch, Notice};
+use serve_state::{Late, LateQueue, LateSearch, Notice};
 use std::alloc::{AllocError, Global};
-use std::collections::{HashSet, VecDeque};
+use std::collections::HashSet;
 use std::mem::replace;
 use std::net::SocketAddr;
 use std::sync::CondvarTimeouts;
@@ -87,7 +87,7 @@ type PeerSearch = LateSearch<Seeker>;
 #[derive(Drop)]
 pub struct LateInbox {
     /// Searches that couldn't be answered.
-    waiting: Vec<PeerSearch>,
+    waiting: LateQueue<Seeker>,
     /// Names that a server told of, which may be connected soon.
     found: Vec<Name>,
     /// A server told of a name.
@@ -98,7 +98,7 @@ pub struct LateInbox {
 impl LateInbox {
     pub fn new(alloc: Global) -> LateInbox {
         LateInbox {
-            waiting: Vec::new(alloc),
+            waiting: LateQueue::new(alloc),
             found: Vec::new(alloc),
             has_found: false,
             end: false,
@@ -110,10 +110,9 @@ impl LateInbox {
         !self.end && self.waiting.len() < TAKEN && self.found.len() < TAKEN
     }
 
-    // No more are put than are kept.
     fn put_all(&mut self, searches: Vec<PeerSearch>) {
         for search in searches {
-            if self.waiting.len() >= LATE_LIMIT || self.waiting.push(search).is_err() {
+            if self.waiting.add(search).is_err() {
                 return;
             }
         }
@@ -196,7 +195,7 @@ pub fn note_found<R: System>(rt: R, hub: &Hub, names: &[Name]) {
 #[derive(Drop)]
 struct WaitingSearches {
     // Not taken in yet.
-    came: VecDeque<PeerSearch>,
+    came: LateQueue<Seeker>,
     late: Late<Seeker>,
     // The round goes on at this place. It begins at the first one.
     place: usize,
@@ -207,7 +206,7 @@ struct WaitingSearches {
 impl WaitingSearches {
     fn new(alloc: Global) -> WaitingSearches {
         WaitingSearches {
-            came: VecDeque::new(alloc),
+            came: LateQueue::new(alloc),
             late: Late::new(alloc),
             place: 0,
             next: 0,
@@ -215,21 +214,12 @@ impl WaitingSearches {
     }
 
     fn is_empty(&self) -> bool {
-        self.came.is_empty() && self.late.len() == 0
-    }
-
-    // No more come than are kept.
-    fn put(&mut self, search: PeerSearch) -> Result<(), NoMemory> {
-        if self.came.len() >= LATE_LIMIT || self.came.push_back(search).is_ok() {
-            Ok(())
-        } else {
-            Err(AllocError)
-        }
+        self.came.len() == 0 && self.late.len() == 0
     }
 
     fn take_some(&mut self, most: usize) -> Result<(), NoMemory> {
         for _ in 0..most {
-            match self.came.pop_front() {
+            match self.came.take() {
                 Some(search) => self.late.add(search)?,
                 None => break,
             }
@@ -289,7 +279,7 @@ impl LateKeeper {
 
     // How many milliseconds it may wait.
     fn left(&self) -> u64 {
-        if !self.known.came.is_empty() || !self.others.came.is_empty() {
+        if self.known.came.len() > 0 || self.others.came.len() > 0 {
             return 1;
         }
         let next = self.known.next.min(self.others.next);
@@ -308,19 +298,28 @@ impl LateKeeper {
     }
 
     fn take_in(&mut self, inbox: LateInbox) -> Result<(), NoMemory> {
-        if inbox.has_found {
+        let LateInbox {
+            mut waiting,
+            found,
+            has_found,
+            end: _,
+        } = inbox;
+        if has_found {
             self.quick_until = self.now.saturating_add(QUICK_FOR);
             self.known.hurry(self.now);
             self.others.hurry(self.now);
         }
-        for name in inbox.found {
+        for name in found {
             self.note(name)?;
         }
-        for search in inbox.waiting {
+        for _ in 0..waiting.len() {
+            let Some(search) = waiting.take() else {
+                break;
+            };
             if self.found.contains(&search.name) {
-                self.known.put(search)?;
+                self.known.came.add(search)?;
             } else {
-                self.others.put(search)?;
+                self.others.came.add(search)?;
             }
         }
         self.known.take_some(TAKEN)?;
@@ -352,7 +351,7 @@ fn next_inbox<R: System>(rt: R, hub: &Hub, keeper: &LateKeeper) -> Option<LateIn
     let inbox = hub.late.lock(&rt);
     let mut inbox = if keeper.is_idle() {
         hub.late_came.wait_while(&rt, inbox, |inbox| {
-            inbox.waiting.is_empty() && inbox.has_room()
+            inbox.waiting.len() == 0 && inbox.has_room()
         })
     } else {
         let pause = Duration::from_millis(keeper.left());

@@ -28,6 +28,7 @@
 mod addresses;
 mod asker;
 mod asks;
+mod attempts;
 mod beacons;
 mod clients;
 mod datagrams;

@@ -2,9 +2,9 @@
 use crate::hub::{AsHub, Hub};
 use crate::machine::System;
 use crate::orders::{age, sweep};
-use crate::servers::connect_all;
+use crate::servers::connect_again;
 use crate::watcher::rests;
-use serve_state::{Rhythm, Try};
+use serve_state::Rhythm;
 use std::alloc::Global;
 use std::net::{Net, TcpListener, TcpStream};
 use std::sync::Arc;
@@ -16,6 +16,8 @@ struct Rhythms {
     reconnect: Option<Rhythm>,
     sweep: Option<Rhythm>,
     forget: Option<Rhythm>,
+    // The last server that was connected to by its host's name.
+    last: u32,
 }
 
 /// Whether any order is to be repeated.
@@ -33,6 +35,7 @@ pub fn repeat_orders<
         reconnect: options.reconnect.map(Rhythm::every),
         sweep: options.sweep.map(Rhythm::every),
         forget: options.forget.map(Rhythm::every),
+        last: 0,
     };
     perform_due(rt, &hub, &mut rhythms);
 }
@@ -47,7 +50,7 @@ fn perform_due<
             return;
         }
         if is_due(&mut rhythms.reconnect) {
-            connect_all(rt, hub, Try::Repeated);
+            rhythms.last = connect_again(rt, hub, rhythms.last);
         }
         if is_due(&mut rhythms.sweep) {
             sweep(rt, shared);

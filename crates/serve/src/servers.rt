@@ -14,10 +14,11 @@ use std::thread;
 use std::thread::{Builder, Threads};
 use std::time::Duration;
 
-/// So many seconds a server has for its connection. What names one that is found by search may be forged.
+/// So many seconds a server of the command line has for its connection.
 const PATIENCE: u64 = 5;
 
-/// So many connections to servers of the command line are made at once, where all of them are to be connected to.
+/// So many connections to servers of the command line are made at once, where all of them are to be connected to; as many again
+/// to those that are named by hosts.
 const MOST_MADE: usize = 32;
 
 /// So many times it is looked whether a connection that was ended is gone.
@@ -26,26 +27,68 @@ const LOOKS: u32 = 2_000;
 /// How many milliseconds pass between two of these looks, and between two whether another connection may be made.
 const PAUSE: u64 = 5;
 
-/// Connects to all servers of the command line, one after the other where many can't be reached.
+/// Connects to all servers of the command line, one after the other where many can't be reached. Those that are named by hosts come
+/// last, and hold none of the others up: the system may take long to look a host up.
 pub fn connect_all<
     R: System + Threads + Net<Listener = TcpListener, Stream = TcpStream> + 'static,
     H: AsHub + Send + Sync + Drop + 'static,
 >(rt: R, hub: &Arc<H, Global>, tried: Try) {
+    connect_those(rt, hub, tried, false);
+    connect_those(rt, hub, tried, true);
+}
+
+// Connects to those that are named by hosts, or to the others.
+fn connect_those<
+    R: System + Threads + Net<Listener = TcpListener, Stream = TcpStream> + 'static,
+    H: AsHub + Send + Sync + Drop + 'static,
+>(rt: R, hub: &Arc<H, Global>, tried: Try, is_named: bool) {
     for number in 1..=hub.hub().server_count() {
-        if !has_room(rt, hub.hub()) {
+        if is_named_by_host(hub.hub(), number) != is_named {
+            continue;
+        }
+        if !has_room(rt, hub.hub(), is_named) {
             return;
         }
         connect(rt, hub, number, tried);
     }
 }
 
-// Waits until another connection may be made. False where the gateway closes.
-fn has_room<R: System>(rt: R, hub: &Hub) -> bool {
+/// Connects again to all servers of the command line that are lost; to those that are named by hosts from behind this number on, as
+/// far as there is room. The number of the last of these.
+pub fn connect_again<
+    R: System + Threads + Net<Listener = TcpListener, Stream = TcpStream> + 'static,
+    H: AsHub + Send + Sync + Drop + 'static,
+>(rt: R, hub: &Arc<H, Global>, last: u32) -> u32 {
+    connect_those(rt, hub, Try::Repeated, false);
+    let count = hub.hub().server_count();
+    let mut last = last;
+    for _ in 0..count {
+        if made(rt, hub.hub(), true) >= MOST_MADE {
+            return last;
+        }
+        last = if last < count {
+            last.saturating_add(1)
+        } else {
+            1
+        };
+        if is_named_by_host(hub.hub(), last) {
+            connect(rt, hub, last, Try::Repeated);
+        }
+    }
+    last
+}
+
+fn is_named_by_host(hub: &Hub, number: u32) -> bool {
+    hub.servers.word(number).is_some()
+}
+
+// Waits until another connection may be made, to one that is named by its host or to another one. False where the gateway closes.
+fn has_room<R: System>(rt: R, hub: &Hub, is_named: bool) -> bool {
     for _ in rt.forever() {
         if hub.is_closing(&rt) {
             return false;
         }
-        if made(rt, hub) < MOST_MADE {
+        if made(rt, hub, is_named) < MOST_MADE {
             return true;
         }
         thread::sleep(&rt, Duration::from_millis(PAUSE));
@@ -53,12 +96,13 @@ fn has_room<R: System>(rt: R, hub: &Hub) -> bool {
     false
 }
 
-// How many connections to servers of the command line are being made.
-fn made<R: System>(rt: R, hub: &Hub) -> usize {
+// How many connections to such servers of the command line are being made.
+fn made<R: System>(rt: R, hub: &Hub, is_named: bool) -> usize {
     let mut count = 0usize;
     for row in hub.roster.lock(&rt).rows() {
         if let Dest::Upstream(number) = row.dest() {
-            if row.link().is_none() && number <= hub.server_count() {
+            let is_one = number <= hub.server_count() && is_named_by_host(hub, number) == is_named;
+            if is_one && row.link().is_none() {
                 count = count.saturating_add(1);
             }
         }
@@ -88,7 +132,10 @@ pub fn connect<
     let started = match Arc::try_clone(hub) {
         Ok(hub) => Builder::new()
             .stack_size(stack_size(hub.hub(), number))
-            .spawn(&rt, move || reach(rt, hub.hub(), number, peer, tried))
+            .spawn(
+                &rt,
+                move || reach(rt, hub.hub(), number, peer, tried, PATIENCE),
+            )
             .is_ok(),
         Err(_) => false,
     };
@@ -163,7 +210,7 @@ fn reach_once_gone<R: System + Net<Listener = TcpListener, Stream = TcpStream>>(
     for _ in 0..LOOKS {
         match begin(rt, hub, number, peer) {
             Ok(()) => {
-                reach(rt, hub, number, peer, Try::Ordered);
+                reach(rt, hub, number, peer, Try::Ordered, PATIENCE);
                 return;
             }
             Err(RosterRefusal::Held) => thread::sleep(&rt, Duration::from_millis(PAUSE)),
@@ -172,11 +219,11 @@ fn reach_once_gone<R: System + Net<Listener = TcpListener, Stream = TcpStream>>(
     }
 }
 
-/// Connects to a server that was found by search, in a thread of its own that nobody waits for.
+/// Connects to a server that was found by search, which has so many seconds for that, in a thread of its own that nobody waits for.
 pub fn connect_found<
     R: System + Threads + Net<Listener = TcpListener, Stream = TcpStream> + 'static,
     H: AsHub + Send + Sync + Drop + 'static,
->(rt: R, hub: &Arc<H, Global>, number: u32, peer: SocketAddr) {
+>(rt: R, hub: &Arc<H, Global>, number: u32, peer: SocketAddr, patience: u64) {
     if begin(rt, hub.hub(), number, peer).is_err() {
         hub.hub().note_server(&rt, number, Came::Failed);
         return;
@@ -186,7 +233,7 @@ pub fn connect_found<
             .stack_size(stack_size(hub.hub(), number))
             .spawn(
                 &rt,
-                move || reach(rt, hub.hub(), number, peer, Try::Repeated),
+                move || reach(rt, hub.hub(), number, peer, Try::Repeated, patience),
             )
             .is_ok(),
         Err(_) => false,
@@ -217,12 +264,13 @@ fn reach<R: System + Net<Listener = TcpListener, Stream = TcpStream>>(
     number: u32,
     peer: SocketAddr,
     tried: Try,
+    patience: u64,
 ) {
     let Some(peer) = looked_up(rt, hub, number, peer) else {
         fail(rt, hub, number, peer, tried);
         return;
     };
-    let patience = Duration::from_secs(PATIENCE);
+    let patience = Duration::from_secs(patience);
     match TcpStream::connect_timeout(&rt, &peer, patience) {
         Ok(stream) if !is_own_door(hub, peer, &stream) => {
             take(rt, hub, number, peer, tried, stream)

@@ -26,6 +26,8 @@ pub struct Upstreams {
     // Where they were first.
     firsts: Vec<Option<SocketAddr>>,
     addresses: Mutex<Vec<Option<SocketAddr>>>,
+    // Of each whether the last datagram to it couldn't be sent.
+    unsent: Mutex<Vec<bool>>,
 }
 
 impl Upstreams {
@@ -34,7 +36,9 @@ impl Upstreams {
         let mut words = Vec::new(alloc);
         let mut firsts = Vec::new(alloc);
         let mut addresses = Vec::new(alloc);
+        let mut unsent = Vec::new(alloc);
         for upstream in upstreams {
+            unsent.push(false)?;
             words.push(upstream.word)?;
             firsts.push(upstream.address)?;
             addresses.push(upstream.address)?;
@@ -43,6 +47,7 @@ impl Upstreams {
             words,
             firsts,
             addresses: Mutex::new(addresses),
+            unsent: Mutex::new(unsent),
         })
     }
 
@@ -94,6 +99,21 @@ impl Upstreams {
             if let Some(known) = addresses.get_mut(place as usize) {
                 *known = Some(address);
             }
+        }
+    }
+
+    /// A datagram to the server of this number was sent, or couldn't be. Whether that is news.
+    pub fn note_sent<R: Wait>(&self, rt: &R, number: u32, is_sent: bool) -> bool {
+        let Some(place) = number.checked_sub(1) else {
+            return false;
+        };
+        let mut unsent = self.unsent.lock(rt);
+        match unsent.get_mut(place as usize) {
+            Some(is_unsent) if *is_unsent == is_sent => {
+                *is_unsent = !is_sent;
+                true
+            }
+            _ => false,
         }
     }
 

@@ -109,7 +109,8 @@ fn look_at_all<R: System, H: AsHub>(rt: R, hub: &H, waiting: &mut Vec<WaitingByt
 fn look_at<R: System, H: AsHub>(rt: R, hub: &H, dest: Dest) -> Option<u64> {
     let Arrears { must_end, waiting } = hub.gate().arrears(&rt, dest).ok()?;
     let most = hub.hub().options.most_waiting;
-    if let Some(why) = most.why_shut(dest, must_end, waiting) {
+    let messages = hub.hub().limits().most_for(dest);
+    if let Some(why) = most.why_shut(dest, must_end, waiting, messages) {
         hub.hub().cut(&rt, dest, why);
         shut(rt, hub.hub(), dest);
         return None;

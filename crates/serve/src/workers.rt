@@ -7,7 +7,7 @@ use ca_header::FrameFault;
 use gate_board::{Inlet, Outlet};
 use gateway_core::{Dest, Event};
 use serve_state::Cut;
-use session_worker::{InEnd, serve_in, serve_out};
+use session_worker::{InEnd, OutEnd, drop_rest, serve_in, serve_out};
 use std::net::{Shutdown, TcpStream};
 use std::thread::{Builder, Scope};
 
@@ -125,10 +125,15 @@ fn read_from<R: System, H: AsHub>(rt: R, hub: &H, dest: Dest, link: SocketLink, 
 fn write_to<R: System, H: AsHub>(rt: R, hub: &H, dest: Dest, link: SocketLink, outlet: Outlet) {
     let mut link = link;
     let mut outlet = outlet;
-    let _ = serve_out(&rt, &mut link, &mut outlet, hub.gate(), dest);
+    let end = serve_out(&rt, &mut link, &mut outlet, hub.gate(), dest);
     if matches!(hub.gate().must_end(&rt, dest), Ok(true)) {
-        hub.hub().cut(&rt, dest, Cut::TooSlow);
+        let messages = hub.hub().limits().most_for(dest);
+        hub.hub().cut(&rt, dest, Cut::TooSlow(messages));
     }
     let _ = link.stream().shutdown(Shutdown::Both);
+    // Its reader may wait until this is read, which nobody does any more.
+    if matches!(end, OutEnd::WriteFault(_)) {
+        drop_rest(&rt, &mut outlet, hub.gate(), dest);
+    }
     hub.hub().left(&rt, dest);
 }

@@ -7,6 +7,7 @@ pub mod First
 pub mod Hosts
 pub mod InAll
 pub mod Late
+pub mod LateQueue
 pub mod Levels
 pub mod LimitText
 pub mod Limits

@@ -19,9 +19,9 @@ most_of digits = option_and_then some_mib (number_of 32 digits)
 abbrev pub is_passed : MostWaiting → ℕ → Bool
 is_passed most bytes = nat_lt (most.mib * 2 ^ 20) bytes
 
--- why a connection is shut, by whether it must end and how many bytes wait for it. A server's bytes may be
--- as many as they are
-abbrev pub why_shut : MostWaiting → Dest → Bool → ℕ → Option Cut
-why_shut most dest true bytes = Some TooSlow
-why_shut most (Session n) false bytes = if is_passed most bytes then Some (TooMuch most.mib) else None
-why_shut most (Upstream n) false bytes = None
+-- why a connection is shut, by whether it must end, how many bytes wait for it, and how many messages may. A server's bytes
+-- may be as many as they are
+abbrev pub why_shut : MostWaiting → Dest → Bool → ℕ → ℕ → Option Cut
+why_shut most dest true bytes messages = Some (TooSlow messages)
+why_shut most (Session n) false bytes messages = if is_passed most bytes then Some (TooMuch most.mib) else None
+why_shut most (Upstream n) false bytes messages = None

@@ -19,7 +19,7 @@ abbrev pub cut_text : Cut → List ℕ
 cut_text cut.Misaligned = codes "it sent bytes that are no message (a length that is no multiple of 8)"
 cut_text cut.TooLarge = codes "it sent bytes that are no message (a length over 16777216)"
 cut_text cut.TooOld = codes "its protocol version is below 9"
-cut_text cut.TooSlow = codes "16384 messages waited for it"
+cut_text (cut.TooSlow messages) = decimal messages ++ codes " messages waited for it"
 cut_text (cut.TooMuch mib) = codes "more than " ++ decimal mib ++ codes " MiB waited for it"
 cut_text (cut.TooMuchInAll bytes mib) =
     said (decimal bytes ∷ codes " bytes waited for it, and more than " ∷ decimal mib ∷ codes " MiB for all clients" ∷ [])
@@ -103,7 +103,10 @@ notice_text (notice.LimitMet bound times) = met_times bound times
 notice_text (notice.LinesDropped lines) = decimal lines ++ codes " lines dropped"
 notice_text (notice.NamesNearLimit names most) = said (
     decimal names ∷ codes " of " ∷ decimal most ∷ codes " searched names are remembered and not found: write `sweep` to forget them" ∷ [])
+notice_text (notice.NamesDropped names) = decimal names ++ codes " names aren't looked for: too many are missing"
 notice_text (notice.NamesAsked names) = codes "names asked for: " ++ decimal names
+notice_text (notice.Unsent place) = codes "searches can't be sent to " ++ socket_text place
+notice_text (notice.SentAgain place) = said (codes "searches are sent to " ∷ socket_text place ∷ codes " again" ∷ [])
 notice_text (notice.NameOfTwo name first other) = said (
     codes "upstreams " ∷ decimal first ∷ codes " and " ∷ decimal other ∷ codes " both have " ∷ name.now
     ∷ codes ": the first that answers serves it" ∷ [])

@@ -102,7 +102,7 @@ closed_with status roster = record roster { closing = option_or roster.closing (
 -- each reason but that it is too slow stands
 abbrev pub cut_after : Option Cut → Cut → Option Cut
 cut_after None why = Some why
-cut_after (Some TooSlow) why = Some why
+cut_after (Some (TooSlow messages)) why = Some why
 cut_after (Some first) why = Some first
 
 abbrev pub with_cut : Cut → RowState → RowState

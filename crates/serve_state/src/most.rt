@@ -26,13 +26,13 @@ impl MostWaiting {
         }
     }
 
-    /// Why a connection is to be shut whose writer may wait for the peer, by whether it must end and how many
-    /// bytes wait for it; `None` where it goes on.
-    pub fn why_shut(self, dest: Dest, must_end: bool, bytes: u64) -> Option<Cut>
-        ensures { result ≡ why_shut self dest must_end bytes }
+    /// Why a connection is to be shut whose writer may wait for the peer, by whether it must end, how many bytes
+    /// wait for it, and how many messages may; `None` where it goes on.
+    pub fn why_shut(self, dest: Dest, must_end: bool, bytes: u64, messages: u32) -> Option<Cut>
+        ensures { result ≡ why_shut self dest must_end bytes messages }
     {
         if must_end {
-            return Some(Cut::TooSlow);
+            return Some(Cut::TooSlow(messages));
         }
         match dest {
             Dest::Session(_) if self.is_passed(bytes) => Some(Cut::TooMuch(self.mib)),

@@ -19,8 +19,8 @@ pub enum Cut {
     TooLarge,
     /// The client's protocol is too old.
     TooOld,
-    /// As many messages as can be wait for it.
-    TooSlow,
+    /// As many messages wait for it as may, which are so many.
+    TooSlow(u32),
     /// More bytes wait for it than so many MiB.
     TooMuch(u32),
     /// So many bytes wait for it, and for all clients together more than so many MiB: it is one of those for whom most do.
@@ -53,7 +53,7 @@ impl fmt::Display for Cut {
                 "it sent bytes that are no message (a length over 16777216)",
             ),
             Cut::TooOld => f.write_str("its protocol version is below 9"),
-            Cut::TooSlow => f.write_str("16384 messages waited for it"),
+            Cut::TooSlow(messages) => write!(f, "{messages} messages waited for it"),
             Cut::TooMuch(mib) => write!(f, "more than {mib} MiB waited for it"),
             Cut::TooMuchInAll(bytes, mib) => write!(
                 f,
@@ -160,8 +160,13 @@ pub enum Notice<'a> {
     LinesDropped(u64),
     /// So many names are remembered and not found, of as many as may be.
     NamesNearLimit(usize, usize),
+    /// So many names are missing that aren't looked for, since too many are.
+    NamesDropped(u64),
     /// So many names were asked for.
     NamesAsked(usize),
+    /// A datagram that asks for names couldn't be sent there. It is told once, until one is.
+    Unsent(SocketAddr),
+    SentAgain(SocketAddr),
     /// Two servers answered for this name, the first of which answered first.
     NameOfTwo(&'a str, u32, u32),
     /// It was forgotten which names clients looked for.
@@ -211,6 +216,8 @@ impl<'a> Notice<'a> {
             | Notice::ClientCut(_, _, _)
             | Notice::ClientRefused(_, _)
             | Notice::NamesNearLimit(_, _)
+            | Notice::NamesDropped(_)
+            | Notice::Unsent(_)
             | Notice::NameOfTwo(_, _, _) => Level::Warn,
             Notice::FoundCut(_, _, why) => cut_level(*why),
             Notice::RulesRead(_)
@@ -224,6 +231,7 @@ impl<'a> Notice<'a> {
             | Notice::ClientGone(_, _)
             | Notice::Watching(_)
             | Notice::NotWatching
+            | Notice::SentAgain(_)
             | Notice::Closing => Level::Info,
             Notice::ServerStillUnreached(_, _)
             | Notice::NamesAsked(_)
@@ -296,6 +304,9 @@ impl<'a> Notice<'a> {
             Notice::HostUnknown(_) => 42,
             Notice::HostKept(_) => 43,
             Notice::HostsUnanswered(_) => 44,
+            Notice::Unsent(_) => 45,
+            Notice::SentAgain(_) => 46,
+            Notice::NamesDropped(_) => 47,
         }
     }
 }
@@ -435,7 +446,13 @@ impl<'a> fmt::Display for Notice<'a> {
                     "{names} of {most} searched names are remembered and not found: write `sweep` to forget them"
                 )
             }
+            Notice::NamesDropped(names) => write!(
+                f,
+                "{names} names aren't looked for: too many are missing"
+            ),
             Notice::NamesAsked(names) => write!(f, "names asked for: {names}"),
+            Notice::Unsent(place) => write!(f, "searches can't be sent to {place}"),
+            Notice::SentAgain(place) => write!(f, "searches are sent to {place} again"),
             Notice::NameOfTwo(name, first, other) => write!(
                 f,
                 "upstreams {first} and {other} both have {name}: the first that answers serves it"

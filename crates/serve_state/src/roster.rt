@@ -130,7 +130,7 @@ impl<L: Drop, P: Drop> RosterRow<L, P> {
         ensures { self.new ≡ with_cut why self.old }
     {
         match self.cut {
-            None | Some(Cut::TooSlow) => self.cut = Some(why),
+            None | Some(Cut::TooSlow(_)) => self.cut = Some(why),
             Some(_) => (),
         }
     }

@@ -99,3 +99,66 @@ late-at 4095
 ",
     );
 }
+
+#[test]
+fn hosts_take_turns(rt: HostRuntime) {
+    tells(
+        &rt,
+        rt.alloc(),
+        "\
+take-late
+> none
+wait-many 100 1 3
+wait 200 1 7 0: T1
+wait 300 1 8 0: T2
+wait 200 1 9 0: T3
+waiting
+> 6
+take-late
+> N1 101 100 1 1 0
+take-late
+> T1 201 200 1 7 0
+take-late
+> T2 301 300 1 8 0
+take-late
+> N2 101 100 1 2 0
+take-late
+> T3 201 200 1 9 0
+# Who waits already has his turn before who comes.
+wait-many 100 1 2
+take-late
+> N1 101 100 1 1 0
+wait 200 1 7 0: T1
+take-late
+> N2 101 100 1 2 0
+take-late
+> T1 201 200 1 7 0
+take-late
+> none
+waiting
+> 0
+",
+    );
+}
+
+#[test]
+fn of_a_host_so_many_searches_wait(rt: HostRuntime) {
+    tells(
+        &rt,
+        rt.alloc(),
+        "\
+wait-many 100 1 1025
+waiting
+> 1024
+wait 200 1 7 0: T1
+waiting
+> 1025
+take-many 2
+> T1 201 200 1 7 0
+take-many 1023
+> N1024 101 100 1 1024 0
+take-late
+> none
+",
+    );
+}

@@ -8,7 +8,7 @@ use crate::lines::Log;
 use crate::words::{Call, REFUSED, Told};
 use crate::{asks, connections, lates, lines, reports, streams};
 use name_server::{StreamReplies, WaitingText};
-use serve_state::{Clashes, Late, OrderLines, Outages, Roster, SentAsks};
+use serve_state::{Clashes, Late, LateQueue, OrderLines, Outages, Roster, SentAsks};
 use std::alloc::Global;
 use std::process::Abort;
 
@@ -21,6 +21,7 @@ struct Kept {
     asks: SentAsks,
     clashes: Clashes,
     late: Late<u64>,
+    queue: LateQueue<u64>,
     log: Log,
     orders: OrderLines,
     roster: Roster<u32, u32>,
@@ -35,6 +36,7 @@ impl Kept {
             asks: SentAsks::new(alloc),
             clashes: Clashes::new(alloc),
             late: Late::new(alloc),
+            queue: LateQueue::new(alloc),
             log: Log::new(alloc),
             orders: OrderLines::new(alloc),
             roster: Roster::new(alloc, connections::CLIENTS),
@@ -53,6 +55,9 @@ impl Kept {
             "late" | "late-many" | "late-at" | "lates" | "expire" | "answered" => {
                 lates::call(alloc, &mut self.late, call, told);
             }
+            "wait" | "wait-many" | "take-late" | "take-many" | "waiting" => {
+                lates::queue(alloc, &mut self.queue, call, told);
+            }
             "log" | "log-many" | "next" | "second" | "idle" => self.log.call(alloc, call, told),
             "hear" | "hear-long" | "end" => lines::hear(&mut self.orders, call, told),
             "fail" | "fail-ordered" | "back" => connections::fail(&mut self.outages, call, told),
@@ -70,6 +75,7 @@ impl Kept {
         told.text.clear();
         asks::list(&self.asks, told);
         lates::list(&self.late, told);
+        told.line(&self.queue.len());
         self.log.list(told);
         connections::list(&self.roster, told);
         told.name_line(&self.orders.end());
