@@ -85,7 +85,7 @@ lead desk1 T1
 > T2 -
 read T1 ALLOW
 > 1 rows, ALLOW, DENY
-lead desk1 T12, desk1 AT1
+lead desk1 T1B, desk1 AT1
 > refused, refused
 read A\|B ALLOW
 > 1 rows, ALLOW, DENY
