@@ -17,7 +17,6 @@ seconds, only 64 places in each way of damage, but with --every. WORDs choose sc
 shows one damaged script with what both gateways print. The last line counts the scripts that did as they must, undamaged and
 damaged, and those that didn't; the status is 1 where one didn't.
 """
-import argparse
 import os
 import random
 import sys
@@ -27,7 +26,7 @@ from collections import Counter
 sys.dont_write_bytecode = True
 from damaged import lines, scripts, shares  # noqa: E402
 from damaged.damage import Damages, bytes_of, is_wide, messages  # noqa: E402
-from damaged.program import BODIES, BUILT, ROOT, Program  # noqa: E402
+from damaged.program import BODIES, Program  # noqa: E402
 
 FAMILIES = ("bytes", "datagrams", "lines")
 EACH_JOB = 120
@@ -153,16 +152,8 @@ def part_of(chosen, seed):
 
 
 def arguments():
-    parser = argparse.ArgumentParser(description=__doc__.split("\n")[0])
-    parser.add_argument("--program", default=BUILT)
-    parser.add_argument("--jobs", type=int, default=os.cpu_count() or 1)
-    parser.add_argument("--budget", type=float)
-    parser.add_argument("--all", action="store_true")
+    parser = shares.parser(__doc__, "SCRIPT:PLACE:KIND")
     parser.add_argument("--every", action="store_true")
-    parser.add_argument("--seed", default=shares.seed_of_commit(ROOT))
-    parser.add_argument("--list", action="store_true")
-    parser.add_argument("--only", metavar="SCRIPT:PLACE:KIND")
-    parser.add_argument("words", nargs="*", metavar="WORD")
     return parser.parse_args()
 
 
@@ -181,10 +172,9 @@ def main():
     began, program = time.monotonic(), Program(path)
     chosen = chosen if given.all else part_of(chosen, given.seed)
     faults = [fault for fault in (undamaged(program, script) for script in chosen) if fault]
-    budget, tried, found = given.budget or (None if given.all else EACH_JOB * given.jobs), len(chosen), len(faults)
+    tried, found = len(chosen), len(faults)
     if not faults:
-        print(f"hostile: seed {given.seed}, {'everything' if budget is None else f'{budget:.0f} s of a processor'}", flush=True)
-        done = shares.work_by(lambda: pieces(Program(path), chosen, given.every), given.jobs, budget, given.seed)
+        done = shares.work_as_given("hostile", given, EACH_JOB, lambda: pieces(Program(path), chosen, given.every))
         faults, found = done.faults, done.counts["faults"]
         tried += sum(done.counts[family] for family in FAMILIES)
         counts = ", ".join(f"{family} {done.counts[family]:,}" for family in FAMILIES)

@@ -13,6 +13,8 @@ import subprocess
 import sys
 import tempfile
 
+from refusals.tries import linked
+
 
 def apply(edit, crate):
     """Puts the new texts of an edit into a copy of its crate, and answers the words of its refusal."""
@@ -38,21 +40,13 @@ def apply(edit, crate):
     return words
 
 
-def put(source, target):
-    """Links a file to its place in a copy, or copies it where that can't be."""
-    try:
-        os.link(source, target)
-    except OSError:
-        shutil.copy2(source, target)
-
-
 def is_refused(edit):
     """Whether the compiler refuses a copy with this edit for the reason that it names, and what it said."""
     name = edit.split("/")[1]
     with tempfile.TemporaryDirectory(prefix="must-not-compile-") as room:
         shutil.copy("crates.txt", room)
         shutil.copy("HANDLES", room)
-        shutil.copytree("crates", f"{room}/crates", copy_function=put)
+        shutil.copytree("crates", f"{room}/crates", copy_function=linked)
         words = apply(edit, f"{room}/crates/{name}")
         how = {"cwd": f"{room}/crates/{name}", "stdout": subprocess.PIPE, "stderr": subprocess.STDOUT, "text": True}
         ran = subprocess.run(["rt", "check", "--only", ""], **how)

@@ -16,11 +16,7 @@ in a budget is chosen by the seed, the commit's hash if not given. --list counts
 the runs that were as they must be, and those that weren't; the status is 1 where one wasn't. Without a C compiler nothing is run,
 and it is said so.
 """
-import argparse
-import mmap
 import os
-import shutil
-import subprocess
 import sys
 import tempfile
 import time
@@ -28,10 +24,10 @@ from collections import Counter, namedtuple
 
 sys.dont_write_bytecode = True
 import hostile  # noqa: E402
+import preloaded  # noqa: E402
 from damaged import damage, lines, shares  # noqa: E402
-from damaged.program import BODIES, BUILT, ROOT, Program  # noqa: E402
+from damaged.program import BODIES, ROOT, Program  # noqa: E402
 
-HERE = os.path.dirname(os.path.abspath(__file__))
 EACH_JOB = 45
 FAMILIES = ("memory", "failing", "short")
 UNREACHED = 1 / 500  # of all tries: 7 of 32,583 were seen once, where more ran than there were processors
@@ -122,19 +118,16 @@ class Shim:
 
     def __init__(self, path, library):
         self.program = Program(path)
-        self.library, self.counter = library, self.program.mapped
-        os.ftruncate(self.counter, mmap.PAGESIZE)
-        self.page = mmap.mmap(self.counter, mmap.PAGESIZE)
-        os.set_inheritable(self.counter, True)
+        self.library, self.count = library, preloaded.Count(self.program.mapped)
+        os.set_inheritable(self.count.file, True)
 
     def run(self, case, kind, at):
         """What is printed and the status, and how many calls of the kind there were."""
-        self.page[:8] = bytes(8)
-        words = {"LD_PRELOAD": self.library, "REFUSE": kind.what, "REFUSE_AT": at, "REFUSE_COUNT": self.counter}
-        words |= {"REFUSE_ON": 1} if kind.on else {}
-        words |= {"REFUSE_SHORT": kind.shorter} if kind.shorter else {}
-        ran = self.program.run(case.words, case.script, {name: str(word) for name, word in words.items()})
-        return ran, int.from_bytes(self.page[:8], sys.byteorder)
+        self.count.clear()
+        words = preloaded.environment(self.library, kind.what, at, self.count.file)
+        words |= {"REFUSE_ON": "1"} if kind.on else {}
+        words |= {"REFUSE_SHORT": str(kind.shorter)} if kind.shorter else {}
+        return self.program.run(case.words, case.script, words), self.count.calls()
 
 
 class Piece:
@@ -181,19 +174,6 @@ def pieces(shim, chosen):
     return [piece for case in chosen for kind in KINDS for piece in [Piece(shim, case, kind)] if piece.count]
 
 
-def arguments():
-    parser = argparse.ArgumentParser(description=__doc__.split("\n")[0])
-    parser.add_argument("--program", default=BUILT)
-    parser.add_argument("--jobs", type=int, default=os.cpu_count() or 1)
-    parser.add_argument("--budget", type=float)
-    parser.add_argument("--all", action="store_true")
-    parser.add_argument("--seed", default=shares.seed_of_commit(ROOT))
-    parser.add_argument("--list", action="store_true")
-    parser.add_argument("--only", metavar="RUN:KIND:AT")
-    parser.add_argument("words", nargs="*", metavar="WORD")
-    return parser.parse_args()
-
-
 def listed(shim, chosen):
     """Prints the calls of each case."""
     sums = dict.fromkeys(FAMILIES, 0)
@@ -222,9 +202,7 @@ def show(shim, chosen, wanted):
 
 def run_all(given, path, library, chosen):
     began = time.monotonic()
-    budget = given.budget or (None if given.all else EACH_JOB * given.jobs)
-    print(f"refused: seed {given.seed}, {'everything' if budget is None else f'{budget:.0f} s of a processor'}", flush=True)
-    done = shares.work_by(lambda: pieces(Shim(path, library), chosen), given.jobs, budget, given.seed)
+    done = shares.work_as_given("refused", given, EACH_JOB, lambda: pieces(Shim(path, library), chosen))
     for fault in done.faults:
         print(fault)
     counts = ", ".join(f"{family} {done.counts[family]:,}" for family in FAMILIES)
@@ -239,17 +217,15 @@ def run_all(given, path, library, chosen):
 
 
 def main():
-    given = arguments()
-    compiler = shutil.which("cc")
-    if compiler is None:
+    given = shares.parser(__doc__, "RUN:KIND:AT").parse_args()
+    if preloaded.COMPILER is None:
         print("refused: skipped: there is no C compiler")
         return 0
     path = os.path.abspath(given.program)
     if not os.access(path, os.X_OK):
         sys.exit(f"{path} isn't built")
     with tempfile.TemporaryDirectory(prefix="refused-") as folder:
-        library = os.path.join(folder, "refuse.so")
-        subprocess.run([compiler, "-O1", "-Wall", "-shared", "-fPIC", "-o", library, os.path.join(HERE, "refuse.c")], check=True)
+        library = preloaded.built(folder)
         write_files(folder)
         chosen = [it for it in cases(folder) if not given.words or any(word in it.name for word in given.words)]
         if given.list:

@@ -17,10 +17,8 @@ choose tests whose names contain one. It is run by hand: all of it takes ten min
 were as they must be, and those that weren't; the status is 1 where one wasn't. Without a C compiler nothing is run, and it is said so.
 """
 import argparse
-import mmap
 import os
 import re
-import shutil
 import signal
 import subprocess
 import sys
@@ -29,8 +27,10 @@ import time
 from collections import Counter, namedtuple
 from concurrent.futures import ThreadPoolExecutor
 
-HERE = os.path.dirname(os.path.abspath(__file__))
-ROOT = os.path.dirname(HERE)
+sys.dont_write_bytecode = True
+import preloaded  # noqa: E402
+
+ROOT = os.path.dirname(os.path.dirname(os.path.abspath(__file__)))
 SECONDS = 120
 # The tests of each crate that are meant.
 CRATES = {"wire_tests": "", "row_tests": "", "rule_tests": "", "serve_tests": "",
@@ -58,8 +58,7 @@ class Runner:
         self.library = library
 
     def run(self, binary, test, at, counter=None):
-        words = {"LD_PRELOAD": self.library, "REFUSE": "memory", "REFUSE_AT": str(at)}
-        words |= {"REFUSE_COUNT": str(counter)} if counter else {}
+        words = preloaded.environment(self.library, "memory", at, counter)
         try:
             ran = subprocess.run([binary, test], env=words, stdin=subprocess.DEVNULL, stdout=subprocess.PIPE,
                                  stderr=subprocess.STDOUT, timeout=SECONDS, pass_fds=[counter] if counter else [])
@@ -70,11 +69,11 @@ class Runner:
     def count(self, binary, test):
         """How many allocations a test makes with ample memory."""
         with tempfile.TemporaryFile() as file:
-            file.truncate(mmap.PAGESIZE)
-            status, printed = self.run(binary, test, 0, file.fileno())
+            count = preloaded.Count(file.fileno())
+            status, printed = self.run(binary, test, 0, count.file)
             if status != 0:
                 sys.exit(f"{test} fails with ample memory: {printed}")
-            return int.from_bytes(os.pread(file.fileno(), 8, 0), sys.byteorder)
+            return count.calls()
 
 
 def judged(status, printed):
@@ -173,14 +172,11 @@ def run_all(runner, tests, given):
 
 def main():
     given = arguments()
-    compiler = shutil.which("cc")
-    if compiler is None:
+    if preloaded.COMPILER is None:
         print("refused_tests: skipped: there is no C compiler")
         return 0
     with tempfile.TemporaryDirectory(prefix="refused-") as folder:
-        library = os.path.join(folder, "refuse.so")
-        subprocess.run([compiler, "-O1", "-Wall", "-shared", "-fPIC", "-o", library, os.path.join(HERE, "refuse.c")], check=True)
-        runner, built = Runner(library), dict(binaries(given.binary))
+        runner, built = Runner(preloaded.built(folder)), dict(binaries(given.binary))
         if given.only:
             return show(runner, built, given.only)
         tests = [test for crate, path in built.items() for test in tests_of(runner, crate, path, given.words)]

@@ -22,12 +22,12 @@ AGAIN = 3  # stories that are told again; where more failed it wasn't the machin
 sys.dont_write_bytecode = True
 sys.path.insert(0, os.path.join(ROOT, ".ci"))
 import served  # noqa: E402  (sets the path to examples/)
-from served import (access, alive, asking, beacons, chain, crowds, damage, found, holding, idlers, keeping, lines, listening, name_servers, naming, packaged, repeating, reports, resolving, rules, samples, seeking, servers,  # noqa: E402
+from served import (access, ahead, alive, asking, attacked, beacons, chain, crowds, damage, found, holding, idlers, keeping, lines, listening, name_servers, naming, packaged, repeating, reports, resolving, rules, samples, seeking, servers,  # noqa: E402
                     standing, values, waiting)
 from served.room import Room  # noqa: E402
 
 # The long ones first.
-STORIES = [beacons.hearing, naming.naming_moved, crowds.thousand, crowds.never_reading, crowds.quitting, idlers.announcing, idlers.idling, idlers.coming,
+STORIES = [beacons.hearing, naming.naming_moved, attacked.deaf, attacked.late_beside, attacked.dropping, crowds.thousand, crowds.never_reading, crowds.never_reading_on_a_site, crowds.quitting, crowds.leaving_many, idlers.announcing, idlers.idling, idlers.coming,
            damage.damaged, repeating.reconnecting, repeating.sweeping, samples.examples, crowds.descriptors,
            beacons.beaconing, beacons.beaconing_found, name_servers.name_serving_lost, name_servers.name_serving_rubbish, name_servers.name_serving_mute, name_servers.name_serving_unread, name_servers.name_serving,
            name_servers.name_serving_beside, name_servers.name_serving_outside, name_servers.name_serving_nowhere, name_servers.name_serving_gateway, listening.listening, listening.listening_broadcast, naming.naming, naming.naming_searched, seeking.seeking, seeking.seeking_lost, seeking.seeking_left, seeking.seeking_in_vain, servers.losing, servers.connecting, servers.several, servers.unanswered, values.creating, values.reading, values.watching,
@@ -35,8 +35,8 @@ STORIES = [beacons.hearing, naming.naming_moved, crowds.thousand, crowds.never_r
            chain.chained, packaged.packaged, repeating.unrepeated, repeating.levels, reports.reporting,
            reports.reporting_nowhere, waiting.waiting_too_much, waiting.waiting_little, waiting.waiting_in_all, standing.unread, standing.unwritable, standing.deep,
            standing.files, standing.endless, standing.seats, standing.kept, standing.limited, standing.numbered, standing.again, standing.roomy, asking.backing_off, asking.asking,
-           asking.leading, asking.answering, asking.clashing, asking.own_port, found.searching, found.beside, found.idle, found.broadcasting, found.disbelieved, found.mute, found.overfull, found.hiding, found.facing, found.ignoring, holding.holding, holding.leaving_held, keeping.padded, keeping.counted, keeping.shared, alive.stopped, alive.replacing, alive.vanishing,
-           alive.unwatched, alive.aging, alive.late, alive.punctual, alive.many_hosts, alive.scaled, alive.promised]
+           asking.leading, asking.answering, asking.clashing, asking.own_port, found.searching, found.beside, found.idle, found.broadcasting, found.disbelieved, found.mute, found.overfull, found.hiding, found.facing, found.ignoring, holding.holding, holding.leaving_held, ahead.writing_ahead, ahead.reading_ahead, ahead.reading_and_leaving, holding.flipping, keeping.padded, keeping.counted, keeping.shared, alive.stopped, alive.replacing, alive.vanishing,
+           alive.unwatched, alive.aging, alive.late, alive.punctual, alive.many_hosts, alive.scaled, alive.promised, attacked.returning, attacked.connecting_past_hosts, attacked.unsent]
 
 
 def tell(program, name):

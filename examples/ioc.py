@@ -34,6 +34,13 @@ class Variable:
             values = self.as_type(dtype % 7, values)
         return ca.payload_of(dtype, self.value._replace(values=values), self.properties), len(values)
 
+    def given(self, asked):
+        """The payload, the number of elements and the status of what was asked for; infinity isn't given as a whole number."""
+        try:
+            return *self.payload(asked.dtype, asked.count), ca.NORMAL
+        except (ValueError, IndexError, OverflowError, struct.error):
+            return b"", asked.count, ca.BADTYPE
+
     def as_type(self, base, values):
         """Values in another plain type; a state is the text that it has, if it has one."""
         states = self.properties.states
@@ -78,8 +85,8 @@ class Client:
             return
         asked = subscription.asked
         if subscription.variable.rights & 1:
-            payload, count = subscription.variable.payload(asked.dtype, asked.count)
-            self.say(ca.message(ca.EVENT_ADD, payload, asked.dtype, count, ca.NORMAL, asked.p2))
+            payload, count, code = subscription.variable.given(asked)
+            self.say(ca.message(ca.EVENT_ADD, payload, asked.dtype, count, code, asked.p2))
 
     def pay(self):
         if not self.paused and len(self.out) <= FULL:
@@ -139,13 +146,7 @@ class Client:
             self.owed.pop(subscription, None)
 
     def read(self, it, variable):
-        payload, count, code = b"", it.count, ca.NORDACCESS
-        if variable.rights & 1:
-            try:
-                payload, count = variable.payload(it.dtype, it.count)
-                code = ca.NORMAL
-            except (ValueError, IndexError, struct.error):
-                code = ca.BADTYPE
+        payload, count, code = variable.given(it) if variable.rights & 1 else (b"", it.count, ca.NORDACCESS)
         self.say(ca.message(ca.READ_NOTIFY, payload, it.dtype, count, code, it.p2))
 
     def write(self, it, variable):
@@ -204,7 +205,8 @@ class Ioc:
             return ca.NOWTACCESS
         try:
             values = variable.read_as(it.dtype, ca.values_in(it.dtype, it.count, it.payload))
-        except ValueError:
+            ca.elements(variable.base, values)  # what no reader could be given isn't taken
+        except (ValueError, IndexError, OverflowError, struct.error):
             return ca.PUTFAIL
         self.set(variable.name, values)
         return ca.NORMAL

@@ -5,9 +5,11 @@ Each piece of work has a number of parts. The pieces get equal shares of the tim
 one doesn't use, as all its parts are done, is the others'. A piece has a name, a family under which its parts are counted, their count,
 `do`, which answers a text where something is wrong, and `notes`, counts of its own.
 """
+import argparse
 import hashlib
 import heapq
 import multiprocessing
+import os
 import resource
 import signal
 import subprocess
@@ -15,6 +17,8 @@ import sys
 import time
 from collections import Counter, namedtuple
 from math import gcd
+
+from damaged.program import BUILT, ROOT
 
 FORK = multiprocessing.get_context("fork")
 TOLD = 25  # faults that one process keeps
@@ -27,6 +31,20 @@ def seed_of_commit(root):
     """The commit's hash, by which each commit tries another part."""
     ran = subprocess.run(["git", "-C", root, "rev-parse", "HEAD"], capture_output=True, text=True)
     return ran.stdout.strip() if ran.returncode == 0 else "none"
+
+
+def parser(doc, only):
+    """What reads the arguments of a script whose work is divided so: for which program, how much of it, and by how many processes."""
+    it = argparse.ArgumentParser(description=doc.split("\n")[0])
+    it.add_argument("--program", default=BUILT)
+    it.add_argument("--jobs", type=int, default=os.cpu_count() or 1)
+    it.add_argument("--budget", type=float)
+    it.add_argument("--all", action="store_true")
+    it.add_argument("--seed", default=seed_of_commit(ROOT))
+    it.add_argument("--list", action="store_true")
+    it.add_argument("--only", metavar=only)
+    it.add_argument("words", nargs="*", metavar="WORD")
+    return it
 
 
 def processor():
@@ -96,3 +114,10 @@ def work_by(make_pieces, jobs, budget, seed):
         process.join()
         counts, faults, spent = counts + done.counts, faults + done.faults, spent + done.spent
     return Done(counts, faults, spent)
+
+
+def work_as_given(name, given, each, make_pieces):
+    """As much of it as the arguments say, for so many seconds of each process if they say nothing; tells what that is."""
+    budget = given.budget or (None if given.all else each * given.jobs)
+    print(f"{name}: seed {given.seed}, {'everything' if budget is None else f'{budget:.0f} s of a processor'}", flush=True)
+    return work_by(make_pieces, given.jobs, budget, given.seed)

@@ -6,6 +6,7 @@ import sys
 ROOT = os.path.dirname(os.path.dirname(os.path.dirname(os.path.abspath(__file__))))
 
 sys.path[:0] = [os.path.join(ROOT, ".ci"), os.path.join(ROOT, "packaging"), os.path.join(ROOT, "tools")]
+from wrong_bodies import crates  # noqa: E402, F401  (which checks ask for here)
 
 FENCE = re.compile(r"^(```+|~~~+)(\w*)")
 
@@ -17,11 +18,6 @@ def read(path):
 
 def is_there(path):
     return os.path.exists(os.path.join(ROOT, path))
-
-
-def crates():
-    """The names of crates, lowest first."""
-    return [line.partition(":")[0] for line in read("crates.txt").splitlines() if ":" in line and not line.startswith("#")]
 
 
 def files(end):

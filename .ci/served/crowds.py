@@ -167,21 +167,30 @@ def never_reading(room):
     room.equal("quit", server.quit(), 0)
 
 
-def echoes(room, server, lazy):
+def echoes(room, server, lazy, most=16384, size=512):
     """More answers than may wait cut a client off."""
     port = lazy.socket.getsockname()[1]
     lazy.socket.settimeout(1)
-    many = ca.message(ca.ECHO, bytes(512)) * 200
+    many, why = ca.message(ca.ECHO, bytes(size)) * 200, f"cut off: {most} messages waited for it"
     until = time.monotonic() + PATIENCE
     try:
-        while time.monotonic() < until and not server.has_logged(f"127.0.0.1:{port})", "16384"):
+        while time.monotonic() < until and not server.has_logged(f"127.0.0.1:{port})", why):
             try:
                 lazy.socket.sendall(many)
             except TimeoutError:
                 continue
     except ConnectionError:
         pass
-    room.eventually("a client for which 16,384 messages wait is cut off", lambda: server.has_logged(f"127.0.0.1:{port})", "16384"))
+    room.eventually(f"a client for which {most} messages wait is cut off", lambda: server.has_logged(f"127.0.0.1:{port})", why))
+
+
+def never_reading_on_a_site(room):
+    """It is told how many messages waited, which are more on a site."""
+    server = room.server(room.upstream(variable("V")), options=("--site",))
+    lazy = room.client(server)
+    room.check("it is served", lazy.echo())
+    echoes(room, server, lazy, 262144, 0)
+    room.equal("quit", server.quit(), 0)
 
 
 def quitting(room):
@@ -210,3 +219,44 @@ def quitting(room):
         flood.stop()
         crowd.close()
         up.stop()
+
+
+def open_all(crowd, asker, names):
+    """Opens channels on these names for the one connection of a crowd, whose places are their CIDs: the SID of each."""
+    link, = crowd.links
+    made, asked = {}, 0
+    while len(made) < len(names):
+        left = [at for at in range(len(names)) if at not in made]
+        for at in range(0, len(left), 400):
+            asker.search(*(names[it] for it in left[at:at + 400]), sender=asker.caller)
+            time.sleep(0.01)
+        crowd.send(b"".join(ca.create(names[it], it) for it in left))
+        asked += len(left)
+        answers = (ca.CREATE_CHAN, ca.CREATE_CH_FAIL)
+        if not crowd.until(lambda got: sum(it.command in answers for it in got) >= asked):
+            return made
+        made = {it.p1: it.p2 for it in crowd.got[link] if it.command == ca.CREATE_CHAN}
+    return made
+
+
+def leaving_many(room):
+    """Who has more subscriptions at a server than messages usually wait for one goes: the server stays for the others."""
+    names = [f"V{at}" for at in range(20_000)]
+    up = room.upstream(*(variable(it, values=[7]) for it in names))
+    server = room.server(up, options=("--site",))
+    other = room.client(server)
+    channel = other.open(names[0])
+    archiver = Crowd(server.address, 1)
+    room.started.append(archiver.close)
+    archiver.send(ca.greeting())
+    made = open_all(archiver, other, names)
+    room.equal("it has a channel on each", len(made), len(names))
+    archiver.send(b"".join(ca.subscribe(sid, 1 + at, ca.LONG) for at, sid in made.items()))
+    room.check("and each value", archiver.until(has(ca.EVENT_ADD, len(names))))
+    room.equal("subscriptions at the server", len(up.subscriptions(names[-1])), 1)
+    archiver.close()
+    room.eventually("all are cancelled", lambda: not any(up.subscriptions(it) for it in (names[1], names[-1])))
+    room.check("the server isn't cut off for that", not server.has_logged("upstream 1", "cut off") and not server.has_logged("upstream 1", "lost"))
+    room.equal("the other one reads on", other.values(channel), [7])
+    room.equal("one connection at the server, as before", up.count_clients(), 1)
+    room.equal("quit", server.quit(), 0)

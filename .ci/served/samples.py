@@ -31,6 +31,7 @@ def examples(room):
     room.equal("put a text", command("put", "LOG:OPERATOR", "anna maria")[0], 0)
     seen = command("get", "LOG:OPERATOR", "S01:MAG:Q1:SP", at=there)
     room.equal("get at the IOC itself", seen, (0, "LOG:OPERATOR anna maria\nS01:MAG:Q1:SP 14.25\n"))
+    room.equal("put no state, as infinity is", command("put", "S01:VAC:V1:OPEN", "inf", at=there)[0], 1)
     room.equal("put what may be read alone", command("put", "BEAM:CURRENT", "1")[0], 1)
     status, told = command("monitor", "BEAM:CURRENT", "--number", "3")
     values = [float(line.split()[-1]) for line in told.splitlines()]
