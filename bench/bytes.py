@@ -10,20 +10,14 @@
 
 The status is 1 where a bar isn't met. Other work on the machine makes all figures worse.
 """
-import argparse
-import os
 import sys
 import threading
 import time
 
-import load
-from load import ca
-
-ROOT = os.path.dirname(os.path.dirname(os.path.abspath(__file__)))
-sys.path.insert(0, os.path.join(ROOT, ".ci"))
-import served  # noqa: E402, F401  (sets the path to examples/)
-from served.keeping import Padded  # noqa: E402
-from served.room import Room, variable  # noqa: E402
+import common  # (sets the paths)
+import ca_wire as ca
+from served.keeping import Padded
+from served.room import variable
 
 ELEMENTS, SUBSCRIPTIONS = 800_000, 8_000
 
@@ -131,25 +125,8 @@ PARTS = {"counts": counts, "padded": padded}
 
 
 def main():
-    parser = argparse.ArgumentParser(description=__doc__.split("\n")[0])
-    parser.add_argument("--program", default=os.path.join(ROOT, "crates", "pvgate", "out", "pvgate"))
-    parser.add_argument("words", nargs="*", metavar="WORD", choices=[[], *PARTS])
-    given = parser.parse_args()
-    program = os.path.abspath(given.program)
-    if not os.access(program, os.X_OK):
-        sys.exit(f"{program} isn't built")
-    load.raise_limit()
-    passed = failed = 0
-    for word, part in PARTS.items():
-        if not given.words or word in given.words:
-            room = Room(program)
-            try:
-                part(room)
-            finally:
-                room.end()
-            passed, failed = passed + room.passed, failed + len(room.failed)
-    print(f"bytes: {passed} passed, {failed} failed")
-    return 1 if failed else 0
+    given = common.parser(__doc__, PARTS).parse_args()
+    return common.run("bytes", common.built(given.program), common.chosen(PARTS, given.words))
 
 
 if __name__ == "__main__":

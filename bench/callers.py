@@ -15,13 +15,10 @@ import sys
 import threading
 import time
 
-ROOT = os.path.dirname(os.path.dirname(os.path.abspath(__file__)))
-sys.dont_write_bytecode = True
-sys.path[:0] = [os.path.join(ROOT, ".ci")]
-import served  # noqa: E402, F401  (sets the path to examples/)
-import ca_wire as ca  # noqa: E402
-from ioc import Client, Ioc, Variable  # noqa: E402
-from served import libca  # noqa: E402
+import common  # noqa: F401  (sets the paths)
+import ca_wire as ca
+from ioc import Client, Ioc, Variable
+from served import libca
 
 
 class Large(Variable):

@@ -12,7 +12,6 @@ that one would take minutes, it is left out and its figure estimated in proporti
 whose name has one of the words, --others how many variables stand beside (10,000 if not given), --names how the names of variables
 begin (V if not given; six digits follow), and --markdown prints the table as bench/RESULTS.md has it.
 """
-import argparse
 import functools
 import math
 import os
@@ -23,6 +22,7 @@ import sys
 import tempfile
 import time
 
+import common
 import gateway
 from gateway import connected, create, message, name_of, subscribe, update
 
@@ -386,8 +386,8 @@ def shown(figure):
 
 
 def main():
-    words = argparse.ArgumentParser(description=__doc__.split("\n")[0])
-    words.add_argument("--program", default=gateway.PROGRAM)
+    words = common.parser(__doc__)
+    words.set_defaults(program=gateway.PROGRAM)
     words.add_argument("--only", nargs="+", default=[""])
     words.add_argument("--others", type=int, default=10_000)
     words.add_argument("--names", default=gateway.BEGIN)
@@ -395,15 +395,15 @@ def main():
     words.add_argument("--markdown", action="store_true")
     args = words.parse_args()
     gateway.PROGRAM, gateway.BEGIN = args.program, args.names
-    gateway.need_program()
+    gateway.need_program(gateway.PROGRAM)
     if args.markdown:
-        print("| What | Measured | At most | Beside it |\n|---|---|---|---|", flush=True)
+        print(common.head("What", "Measured", "At most", "Beside it"), flush=True)
     for name, most, unit, figure in table(args):
         if any(word in name for word in args.only):
             found, remark = figure()
             over = "" if most is None or found <= most else f"{found / most:.1f} times"
             bar = "" if most is None else f"{most:,}"
-            line = f"| {name} | {shown(found)} {unit} | {bar} | {'; '.join(it for it in (over, remark) if it)} |"
+            line = common.row(name, f"{shown(found)} {unit}", bar, "; ".join(it for it in (over, remark) if it))
             print(line if args.markdown else f"{name:100} {shown(found):>10} {bar:>7} {unit:12} {over:12} {remark}", flush=True)
 
 

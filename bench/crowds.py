@@ -16,7 +16,6 @@
 
 The status is 1 where a bar isn't met. All is on 127.0.0.1, and takes two minutes. Other work on the machine makes all figures worse.
 """
-import argparse
 import os
 import selectors
 import socket
@@ -28,14 +27,12 @@ import threading
 import time
 from types import SimpleNamespace
 
+import common  # (sets the paths)
 import load
 from load import UPDATE, Feeder, Taker, ca, update, wait
-
-ROOT = os.path.dirname(os.path.dirname(os.path.abspath(__file__)))
-sys.path.insert(0, os.path.join(ROOT, ".ci"))
-from served.idlers import Watcher, come_and_go, connected, most_announced, threads  # noqa: E402
-from served import libca  # noqa: E402
-from served.room import Room, free_port, text_of, variable  # noqa: E402
+from served import libca
+from served.idlers import Watcher, come_and_go, connected, most_announced, threads
+from served.room import free_port, text_of, variable
 
 NAMES = [f"V{it:03}" for it in range(100)]
 RATE, SECONDS, TURNS, READERS = 50_000, 6, 3, 2
@@ -274,7 +271,7 @@ def dead(room):
     for options in ((), ("--back-off",)):
         ears, up = Ears(room, 15), room.upstream(*(variable(f"LIVE{it}", values=[1]) for it in range(10)))
         server = room.server(*ears.upstreams, up, options=options)
-        looking = subprocess.Popen([sys.executable, "-c", LOOKING, os.path.join(ROOT, ".ci"), os.path.join(ROOT, "examples"),
+        looking = subprocess.Popen([sys.executable, "-c", LOOKING, os.path.join(common.ROOT, ".ci"), os.path.join(common.ROOT, "examples"),
                                     text_of(server.address), "1000", "20", str(free_port())], stdout=subprocess.PIPE, stderr=subprocess.DEVNULL)
         room.started.append(looking.kill)
         looking.stdout.readline()
@@ -316,29 +313,14 @@ def long(room):
         server.kill()
 
 
-PARTS = [lazy, echoing, idle, going, announced, dead, long]
+PARTS = {it.__name__: it for it in (lazy, echoing, idle, going, announced, dead, long)}
 
 
 def main():
-    parser = argparse.ArgumentParser(description=__doc__.split("\n")[0])
-    parser.add_argument("--program", default=os.path.join(ROOT, "crates", "pvgate", "out", "pvgate"))
+    parser = common.parser(__doc__)
     parser.add_argument("words", nargs="*", metavar="WORD")
     given = parser.parse_args()
-    program = os.path.abspath(given.program)
-    if not os.access(program, os.X_OK):
-        sys.exit(f"{program} isn't built")
-    load.raise_limit()
-    passed = failed = 0
-    for part in PARTS:
-        if not given.words or part.__name__ in given.words:
-            room = Room(program)
-            try:
-                part(room)
-            finally:
-                room.end()
-            passed, failed = passed + room.passed, failed + len(room.failed)
-    print(f"crowds: {passed} passed, {failed} failed")
-    return 1 if failed else 0
+    return common.run("crowds", common.built(given.program), common.chosen(PARTS, given.words))
 
 
 if __name__ == "__main__":

@@ -14,8 +14,9 @@ import sys
 import tempfile
 import time
 
-ROOT = os.path.dirname(os.path.dirname(os.path.abspath(__file__)))
-PROGRAM = os.environ.get("PVGATE", os.path.join(ROOT, "crates", "pvgate", "out", "pvgate"))
+import common
+
+PROGRAM = os.environ.get("PVGATE", common.BUILT)
 
 CHANNELS = 4_000  # of a client; a session may have 4,096
 SEARCHES = 2_000  # names that are looked for before they are forgotten; 4,096 are remembered
@@ -225,15 +226,14 @@ def beside_waiting(times):
         print(f"{name:6} beside 250 reads that wait {few:8.2f} us, beside 200,000 of 800 clients {lots:8.2f} us ({lots / few:5.2f} times)", flush=True)
 
 
-def need_program():
-    if not os.access(PROGRAM, os.X_OK):
+def need_program(path):
+    if not os.access(path, os.X_OK):
         sys.exit("build pvgate first: ./pvgate --build")
 
 
 def main():
-    most = int(sys.argv[1]) if len(sys.argv) > 1 else 10_000
-    times = int(sys.argv[2]) if len(sys.argv) > 2 else 3
-    need_program()
+    most, times = common.number(1, 10_000), common.number(2, 3)
+    need_program(PROGRAM)
     events(most, times)
     setting_up(most, times)
     subscribers(times)

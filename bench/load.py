@@ -1,25 +1,24 @@
-"""What bench/serve.py puts round the gateway and round the relay: a server that feeds updates, and clients that take them."""
+"""What benches put round the gateway and round the relay: a server that feeds updates, and clients that take them; and how names are looked for."""
 import multiprocessing
 import os
-import random
-import resource
 import select
 import selectors
 import socket
 import struct
 import subprocess
-import sys
 import time
 
-sys.path.insert(0, os.path.join(os.path.dirname(os.path.dirname(os.path.abspath(__file__))), "examples"))
-sys.dont_write_bytecode = True
-import ca_wire as ca  # noqa: E402
-from ioc import Ioc, Variable  # noqa: E402
+import common  # noqa: F401  (sets the paths)
+import ca_wire as ca
+from ioc import Ioc, Variable
+from served.room import Server
 
 UPDATE = 32  # bytes of an update of a LONG with its time
 ARRAY = 1_000_000  # elements, and nearly so many bytes
 WINDOW = 8  # arrays that may be on their way, since they are held in memory
 PATIENCE = 120
+VERSION = ca.message(ca.VERSION, count=ca.MINOR)
+MOST = 1_400  # bytes of a datagram of a client
 FORK = multiprocessing.get_context("fork")
 
 
@@ -27,21 +26,24 @@ def update(own, value):
     return struct.pack(">HHHHIIIIIi", ca.EVENT_ADD, 16, ca.TIME + ca.LONG, 1, 1, own, 0, 1_000_000_000, 0, value)
 
 
-def free_port():
-    while True:
-        port = random.randrange(10_000, 32_000)
-        with socket.socket() as one, socket.socket(socket.AF_INET, socket.SOCK_DGRAM) as other:
-            try:
-                one.bind(("127.0.0.1", port))
-                other.bind(("127.0.0.1", port))
-                return port
-            except OSError:
-                continue
+def asker(host):
+    """A socket for datagrams of this host, with room for many."""
+    link = socket.socket(socket.AF_INET, socket.SOCK_DGRAM)
+    link.setsockopt(socket.SOL_SOCKET, socket.SO_RCVBUF, 1 << 22)
+    link.bind((host, 0))
+    return link
 
 
-def raise_limit():
-    most = resource.getrlimit(resource.RLIMIT_NOFILE)[1]
-    resource.setrlimit(resource.RLIMIT_NOFILE, (most, most))
+def searches(wanted):
+    """The datagrams that look for names, which have CIDs, each as full as libca makes it."""
+    datagram = VERSION
+    for cid, name in wanted.items():
+        one = ca.search(name, cid)
+        if len(datagram) + len(one) > MOST:
+            yield datagram
+            datagram = VERSION
+        datagram += one
+    yield datagram
 
 
 def wait(test, seconds=PATIENCE):
@@ -54,6 +56,8 @@ def wait(test, seconds=PATIENCE):
 
 class Program:
     """The gateway or the relay, running."""
+
+    files, resident = Server.files, Server.resident
 
     def __init__(self, words, port):
         self.address = ("127.0.0.1", port)
@@ -71,13 +75,6 @@ class Program:
             except OSError:
                 continue
         return spent / 1e9
-
-    def resident(self):
-        with open(f"/proc/{self.process.pid}/statm") as file:
-            return int(file.read().split()[1]) * os.sysconf("SC_PAGESIZE") / 1e6
-
-    def files(self):
-        return len(os.listdir(f"/proc/{self.process.pid}/fd"))
 
     def quit(self):
         """Asks it to end, answers how long that took."""

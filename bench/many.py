@@ -9,22 +9,16 @@
 
 With --many N they have N of each. The status is 1 where a bar isn't met. Other work on the machine makes all figures worse.
 """
-import argparse
 import json
-import os
 import socket
 import struct
 import sys
 import time
 
-import load
+import common  # (sets the paths)
 from load import FORK, ca
-
-ROOT = os.path.dirname(os.path.dirname(os.path.abspath(__file__)))
-sys.path.insert(0, os.path.join(ROOT, ".ci"))
-import served  # noqa: E402, F401  (sets the path to examples/)
-from served.reports import told  # noqa: E402
-from served.room import Room, free_port, text_of, variable  # noqa: E402
+from served.reports import told
+from served.room import free_port, text_of, variable
 
 MANY = 65_536
 NAMES = 1_000
@@ -186,26 +180,10 @@ PARTS = {"one": lambda room, each: of_many(room, 1, each), "eight": lambda room,
 
 
 def main():
-    parser = argparse.ArgumentParser(description=__doc__.split("\n")[0])
-    parser.add_argument("--program", default=os.path.join(ROOT, "crates", "pvgate", "out", "pvgate"))
+    parser = common.parser(__doc__, PARTS)
     parser.add_argument("--many", type=int, default=MANY)
-    parser.add_argument("words", nargs="*", metavar="WORD", choices=[[], *PARTS])
     given = parser.parse_args()
-    program = os.path.abspath(given.program)
-    if not os.access(program, os.X_OK):
-        sys.exit(f"{program} isn't built")
-    load.raise_limit()
-    passed = failed = 0
-    for word, part in PARTS.items():
-        if not given.words or word in given.words:
-            room = Room(program)
-            try:
-                part(room, given.many)
-            finally:
-                room.end()
-            passed, failed = passed + room.passed, failed + len(room.failed)
-    print(f"many: {passed} passed, {failed} failed")
-    return 1 if failed else 0
+    return common.run("many", common.built(given.program), common.chosen(PARTS, given.words), given.many)
 
 
 if __name__ == "__main__":

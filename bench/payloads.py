@@ -7,9 +7,9 @@ printed: what is measured is what the gateway does. An update that many subscrib
 with one that a single client subscribes to, of which most is spent on reading the line; what the
 others add is compared with a plain copy of as many bytes.
 """
-import sys
 import time
 
+import common
 import gateway
 from gateway import connected, create, fastest, memory, message, subscribe, update
 
@@ -48,7 +48,7 @@ def copying(size):
 
 
 def main():
-    times = int(sys.argv[1]) if len(sys.argv) > 1 else 3
+    times = common.number(1, 3)
     one, many = (handing_out(readers, 10_000, 200, times) for readers in (1, 100))
     print(f"an update of 10000 elements: {one / 200 * 1e6:8.1f} us to 1 client, {many / 200 * 1e6:8.1f} us to 100: {many / one:5.2f} times")
     for name, count, updates in (("1 MiB", LARGE, 20), ("16 MiB", MOST, 4)):
@@ -62,5 +62,5 @@ def main():
 
 
 if __name__ == "__main__":
-    gateway.need_program()
+    gateway.need_program(gateway.PROGRAM)
     main()

@@ -17,7 +17,6 @@ Programs of libca are processes of their own (bench/callers.py) and have no exce
 LD_LIBRARY_PATH says where it is; for pyepics PYTHONPATH and PYEPICS_LIBCA. The status is 1 where a bar isn't met. It takes ten minutes.
 Other work on the machine makes all figures worse.
 """
-import argparse
 import importlib.util
 import json
 import os
@@ -29,12 +28,10 @@ import sys
 import threading
 import time
 
+import common  # (sets the paths)
 import load
 from callers import Apart, Caller, ca, libca
-
-ROOT = os.path.dirname(os.path.dirname(os.path.abspath(__file__)))
-import served  # noqa: E402, F401  (callers.py sets the path)
-from served.room import Room  # noqa: E402
+from served.room import Room
 
 ARRAY = 1_000_000
 PIECE = 10_000
@@ -325,29 +322,13 @@ PARTS = {"slow": slow, "unread": unread, "writers": writers, "gets": gets, "moni
 
 
 def main():
-    parser = argparse.ArgumentParser(description=__doc__.split("\n")[0])
-    parser.add_argument("--program", default=os.path.join(ROOT, "crates", "pvgate", "out", "pvgate"))
-    parser.add_argument("words", nargs="*", metavar="WORD", choices=[[], *PARTS])
-    given = parser.parse_args()
-    program = os.path.abspath(given.program)
-    if not os.access(program, os.X_OK):
-        sys.exit(f"{program} isn't built")
+    given = common.parser(__doc__, PARTS).parse_args()
+    program = common.built(given.program)
     if not libca.is_installed():
         sys.exit("programs: libca 4.13.5 and libCom 3.17.6 (Debian's libca4.13.5, libcom3.17.6) aren't installed")
-    load.raise_limit()
-    passed = failed = 0
     with socket.socket(socket.AF_INET, socket.SOCK_DGRAM) as repeater:  # so that the library starts none
         repeater.bind(("127.0.0.1", 0))
-        for word, part in PARTS.items():
-            if not given.words or word in given.words:
-                room = Room(program)
-                try:
-                    part(room, repeater.getsockname()[1])
-                finally:
-                    room.end()
-                passed, failed = passed + room.passed, failed + len(room.failed)
-    print(f"programs: {passed} passed, {failed} failed")
-    return 1 if failed else 0
+        return common.run("programs", program, common.chosen(PARTS, given.words), repeater.getsockname()[1])
 
 
 if __name__ == "__main__":

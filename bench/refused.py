@@ -9,22 +9,17 @@ before it listened, or the engine did), or as it was told to, with 0, and then a
 many allocations there are, and how it ended how often. The status is 1 where it hung, died or ended otherwise. It needs a C compiler;
 run by hand, for some minutes.
 """
-import argparse
-import mmap
 import os
-import shutil
 import subprocess
 import sys
 import tempfile
 from collections import Counter
 
-ROOT = os.path.dirname(os.path.dirname(os.path.abspath(__file__)))
-sys.dont_write_bytecode = True
-sys.path.insert(0, os.path.join(ROOT, ".ci"))
-import served  # noqa: E402, F401  (sets the path to examples/)
-from served.client import Client  # noqa: E402
-from served.room import free_port, text_of, variable  # noqa: E402
-from served.upstream import Upstream  # noqa: E402
+import common  # (sets the paths)
+import preloaded
+from served.client import Client
+from served.room import free_port, text_of, variable
+from served.upstream import Upstream
 
 SOON, LATE = 4, 20  # seconds: for an answer that may never come, and for the end
 
@@ -54,14 +49,12 @@ class Refusing:
 
     def __init__(self, program, library):
         self.program, self.library = program, library
-        self.file = os.memfd_create("calls")
-        os.ftruncate(self.file, mmap.PAGESIZE)
-        self.page = mmap.mmap(self.file, mmap.PAGESIZE)
+        self.count = preloaded.Count(os.memfd_create("calls"))
 
     def start(self, at, address, up):
-        self.page[:8] = bytes(8)
-        words = {"LD_PRELOAD": self.library, "REFUSE": "memory", "REFUSE_AT": str(at), "REFUSE_COUNT": str(self.file)}
-        return subprocess.Popen([self.program, "serve", text_of(address), text_of(up.address)], env=os.environ | words, pass_fds=[self.file],
+        self.count.clear()
+        words = preloaded.environment(self.library, "memory", at, self.count.file)
+        return subprocess.Popen([self.program, "serve", text_of(address), text_of(up.address)], env=os.environ | words, pass_fds=[self.count.file],
                                 stdin=subprocess.PIPE, stdout=subprocess.PIPE, stderr=subprocess.DEVNULL)
 
     def run(self, at):
@@ -80,7 +73,7 @@ class Refusing:
             except subprocess.TimeoutExpired:
                 process.kill()
                 return "hangs", well, 0
-            return process.returncode, well, int.from_bytes(self.page[:8], sys.byteorder)
+            return process.returncode, well, self.count.calls()
         finally:
             process.kill()
             process.wait()
@@ -104,18 +97,15 @@ def run_all(refusing, first, last):
 
 
 def main():
-    parser = argparse.ArgumentParser(description=__doc__.split("\n")[0])
-    parser.add_argument("--program", default=os.path.join(ROOT, "crates", "pvgate", "out", "pvgate"))
+    parser = common.parser(__doc__)
     parser.add_argument("--from", type=int, default=1, dest="first")
     parser.add_argument("--to", type=int, default=10_000, dest="last")
     given = parser.parse_args()
-    program, compiler = os.path.abspath(given.program), shutil.which("cc")
-    if compiler is None or not os.access(program, os.X_OK):
-        sys.exit("there is no C compiler" if compiler is None else f"{program} isn't built")
+    if preloaded.COMPILER is None:
+        sys.exit("there is no C compiler")
+    program = common.built(given.program)
     with tempfile.TemporaryDirectory(prefix="refused-") as folder:
-        library = os.path.join(folder, "refuse.so")
-        subprocess.run([compiler, "-O1", "-shared", "-fPIC", "-o", library, os.path.join(ROOT, ".ci", "refuse.c")], check=True)
-        return run_all(Refusing(program, library), given.first, given.last)
+        return run_all(Refusing(program, preloaded.built(folder)), given.first, given.last)
 
 
 if __name__ == "__main__":

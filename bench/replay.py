@@ -11,8 +11,10 @@ import sys
 import tempfile
 import time
 
-ROOT = os.path.dirname(os.path.dirname(os.path.abspath(__file__)))
-PROGRAM = os.path.join(ROOT, "crates", "pvgate", "out", "pvgate")
+import common
+from gateway import need_program
+
+PROGRAM = common.BUILT
 
 OPEN = "open s1 10.0.0.5\n"
 ECHO = "0017" + "0" * 28
@@ -70,9 +72,8 @@ def measure(name, script, messages, times):
 
 
 def main():
-    times = int(sys.argv[1]) if len(sys.argv) > 1 else 3
-    if not os.access(PROGRAM, os.X_OK):
-        sys.exit("build pvgate first: ./pvgate --build")
+    times = common.number(1, 3)
+    need_program(PROGRAM)
     start = measure("a session alone", echoes(0, 0), 0, times)
     one = measure("ECHO, 16,000 in 1 line", echoes(1, 16_000), 16_000, times) - start
     many = measure("ECHO, 16,000 in 1,000 lines each", echoes(1_000, 16_000), 16_000_000, times) - start

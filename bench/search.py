@@ -14,7 +14,8 @@ import subprocess
 import sys
 import tempfile
 
-from gateway import PROGRAM, connected, create
+import common
+from gateway import PROGRAM, connected, create, need_program
 
 HOST = "10.0.0.9"
 
@@ -76,10 +77,8 @@ def cost(setup, line, count, times):
 
 
 def main():
-    most = int(sys.argv[1]) if len(sys.argv) > 1 else 400
-    times = int(sys.argv[2]) if len(sys.argv) > 2 else 3
-    if not os.access(PROGRAM, os.X_OK):
-        sys.exit("build pvgate first: ./pvgate --build")
+    most, times = common.number(1, 400), common.number(2, 3)
+    need_program(PROGRAM)
     for how, counts, setup in (("remembered", (100, 4_096), remembered), ("connected", (100, most), served)):
         for count in counts:
             script = "".join(setup(count))

@@ -12,11 +12,13 @@ import tempfile
 import threading
 import time
 
+import common  # (sets the paths)
 import load
-from load import UPDATE, Feeder, Program, Taker, ca, connect, free_port, take_all, wait
+from load import UPDATE, Feeder, Program, Taker, ca, connect, take_all, wait
+from served.room import free_port
 
 HERE = os.path.dirname(os.path.abspath(__file__))
-GATEWAY = os.path.abspath(sys.argv[1] if len(sys.argv) > 1 else os.path.join(HERE, "..", "crates", "pvgate", "out", "pvgate"))
+GATEWAY = os.path.abspath(sys.argv[1] if len(sys.argv) > 1 else common.BUILT)
 CLIENTS, NAMES = 10, [f"V{it:03}" for it in range(100)]
 PACED = (8.0, 0.001)  # seconds, and seconds from one update to the next
 ROUNDS = {"gateway": 400, "relay": 20_000}
@@ -219,13 +221,13 @@ def bars(folder):
 
 
 def main():
-    load.raise_limit()
+    common.raise_limit()
     are_met = True
     with tempfile.TemporaryDirectory(prefix="bench-") as folder:
         subprocess.run(["cc", "-O2", "-Wall", "-o", f"{folder}/relay", os.path.join(HERE, "relay.c")], check=True)
-        print("| What | Measured | Bar | Met |\n|---|---|---|---|")
+        print(common.head("What", "Measured", "Bar", "Met"))
         for what, measured, bar, is_met in bars(folder):
-            print(f"| {what} | {measured} | {bar} | {'yes' if is_met else 'NO'} |", flush=True)
+            print(common.row(what, measured, bar, "yes" if is_met else "NO"), flush=True)
             are_met &= is_met
     return 0 if are_met else 1
 

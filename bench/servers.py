@@ -10,10 +10,8 @@ nobody needs are left, with --forget 5 and --idle 5.
 
 The status is 1 where a bar isn't met. It takes two minutes. Other work on the machine makes all figures worse.
 """
-import argparse
 import json
 import multiprocessing
-import os
 import selectors
 import socket
 import statistics
@@ -21,16 +19,12 @@ import struct
 import sys
 import time
 
+import common  # (sets the paths)
 import load
 from load import ca
-
-ROOT = os.path.dirname(os.path.dirname(os.path.abspath(__file__)))
-sys.path.insert(0, os.path.join(ROOT, ".ci"))
-import served  # noqa: E402, F401  (sets the path to examples/)
-from served.room import Room, free_port, text_of  # noqa: E402
+from served.room import free_port, text_of
 
 NAMES = 20
-MOST = 1_400  # bytes of a datagram
 OPTIONS = ("--site", "--reconnect", "2", "--names", "524288", "--forget", "5", "--idle", "5")
 
 
@@ -50,9 +44,7 @@ class Farm:
         self.poll = selectors.DefaultSelector()
         self.listeners = [self.listen(place) for place in range(servers)]
         self.links = [set() for _ in range(servers)]
-        self.searches = socket.socket(socket.AF_INET, socket.SOCK_DGRAM)
-        self.searches.setsockopt(socket.SOL_SOCKET, socket.SO_RCVBUF, 1 << 22)
-        self.searches.bind(("127.0.0.1", 0))
+        self.searches = load.asker("127.0.0.1")
         self.poll.register(self.searches, selectors.EVENT_READ, self.answer)
 
     def listen(self, place):
@@ -155,9 +147,7 @@ class Opener:
         self.link.setsockopt(socket.IPPROTO_TCP, socket.TCP_NODELAY, 1)
         self.frames = ca.Frames()
         self.link.sendall(ca.greeting("bench", "desk1"))
-        self.searches = socket.socket(socket.AF_INET, socket.SOCK_DGRAM)
-        self.searches.setsockopt(socket.SOL_SOCKET, socket.SO_RCVBUF, 1 << 22)
-        self.searches.bind(("127.0.9.1", 0))
+        self.searches = load.asker("127.0.9.1")
         self.poll = selectors.DefaultSelector()
         self.poll.register(self.link, selectors.EVENT_READ, self.hear)
         self.poll.register(self.searches, selectors.EVENT_READ, self.hear_found)
@@ -168,15 +158,8 @@ class Opener:
         self.gap, self.due = 0.032, time.monotonic()
 
     def ask(self):
-        head = ca.message(ca.VERSION, count=ca.MINOR)
-        datagram = head
-        for cid, name in self.left.items():
-            one = ca.search(name, cid)
-            if len(datagram) + len(one) > MOST:
-                self.searches.sendto(datagram, self.address)
-                datagram = head
-            datagram += one
-        self.searches.sendto(datagram, self.address)
+        for it in load.searches(self.left):
+            self.searches.sendto(it, self.address)
         self.due, self.gap = time.monotonic() + self.gap, min(2 * self.gap, 4.0)
 
     def hear_found(self):
@@ -256,10 +239,10 @@ def served_by(room, servers):
     return farmer, server, status, opener
 
 
-def few(room):
+def few(room, beside_few):
     _, _, _, opener = served_by(room, 10)
     room.check("all names of ten servers", opener.has_all(30) is not None)
-    return opener.echo()
+    beside_few.append(opener.echo())
 
 
 def many(room, beside_few):
@@ -267,10 +250,10 @@ def many(room, beside_few):
     took = opener.has_all(60)
     print(f"20,000 names at 1,000 servers: all after {seconds(took)}", flush=True)
     room.check("all within 20 s", took is not None and took <= 20, f"{len(opener.open)} of 20,000, {seconds(took)}")
-    memory, echo = server.resident(), opener.echo()
-    print(f"{memory:.0f} MB resident; ECHO {echo:.3f} ms beside 1,000 servers, {beside_few:.3f} ms beside ten", flush=True)
+    memory, echo, alone = server.resident(), opener.echo(), beside_few[0]
+    print(f"{memory:.0f} MB resident; ECHO {echo:.3f} ms beside 1,000 servers, {alone:.3f} ms beside ten", flush=True)
     room.check("at most 400 MB", memory <= 400, f"{memory:.0f} MB")
-    room.check("ECHO at most four times as long as beside ten", echo <= 4 * beside_few, f"{echo:.3f} ms, {beside_few:.3f} ms")
+    room.check("ECHO at most four times as long as beside ten", echo <= 4 * alone, f"{echo:.3f} ms, {alone:.3f} ms")
     farmer.pipe.send(free_port())
     back = opener.until(lambda: opener.lost >= 10_000 and len(opener.open) == 20_000, 60)
     print(f"half of the servers move: their 10,000 names are lost and back after {seconds(back)}", flush=True)
@@ -284,24 +267,9 @@ def many(room, beside_few):
 
 
 def main():
-    parser = argparse.ArgumentParser(description=__doc__.split("\n")[0])
-    parser.add_argument("--program", default=os.path.join(ROOT, "crates", "pvgate", "out", "pvgate"))
-    given = parser.parse_args()
-    program = os.path.abspath(given.program)
-    if not os.access(program, os.X_OK):
-        sys.exit(f"{program} isn't built")
-    load.raise_limit()
-    passed = failed = 0
-    beside_few = 0.0
-    for part in (few, lambda room: many(room, beside_few)):
-        room = Room(program)
-        try:
-            beside_few = part(room) or 0.0
-        finally:
-            room.end()
-        passed, failed = passed + room.passed, failed + len(room.failed)
-    print(f"servers: {passed} passed, {failed} failed")
-    return 1 if failed else 0
+    given = common.parser(__doc__).parse_args()
+    beside_few = []
+    return common.run("servers", common.built(given.program), (few, many), beside_few)
 
 
 if __name__ == "__main__":

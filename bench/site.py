@@ -16,7 +16,6 @@
 Hosts are loopback addresses. Searches go as those of libca: again after 32 ms, 64, and so on. The status is 1 where a bar isn't met. It takes
 nine minutes. Other work on the machine makes all figures worse.
 """
-import argparse
 import multiprocessing
 import os
 import random
@@ -30,15 +29,9 @@ import sys
 import threading
 import time
 
-import load
-from load import ca
-
-ROOT = os.path.dirname(os.path.dirname(os.path.abspath(__file__)))
-sys.path.insert(0, os.path.join(ROOT, ".ci"))
-import served  # noqa: E402, F401  (sets the path to examples/)
-from served.room import Room, free_port, text_of, variable  # noqa: E402
-
-MOST = 1_400  # bytes of a datagram
+import common  # (sets the paths)
+from load import VERSION, asker, ca, searches
+from served.room import variable
 
 
 class Seeker:
@@ -46,9 +39,7 @@ class Seeker:
 
     def __init__(self, address, names, source):
         self.address, self.left = address, dict(enumerate(names))
-        self.link = socket.socket(socket.AF_INET, socket.SOCK_DGRAM)
-        self.link.setsockopt(socket.SOL_SOCKET, socket.SO_RCVBUF, 1 << 22)
-        self.link.bind((source, 0))
+        self.link = asker(source)
         self.gap, self.due = 0.032, time.monotonic()
         self.began = self.due
 
@@ -56,18 +47,9 @@ class Seeker:
         """Asks where it is time to."""
         if now < self.due or not self.left:
             return
-        datagram = VERSION
-        for cid, name in self.left.items():
-            one = search(name, cid)
-            if len(datagram) + len(one) > MOST:
-                self.send(datagram)
-                datagram = VERSION
-            datagram += one
-        self.send(datagram)
+        for it in searches(self.left):
+            self.link.sendto(it, self.address)
         self.due, self.gap = now + self.gap, min(2 * self.gap, 30.0)
-
-    def send(self, datagram):
-        self.link.sendto(datagram, self.address)
 
     def hear(self):
         """Takes what was replied."""
@@ -80,14 +62,6 @@ class Seeker:
 
     def close(self):
         self.link.close()
-
-
-VERSION = struct.pack(">HHHHII", 0, 0, 0, 13, 0, 0)
-
-
-def search(name, cid):
-    text = name.encode() + b"\0" * (8 - len(name) % 8)
-    return struct.pack(">HHHHII", 6, len(text), 5, 13, cid, cid) + text
 
 
 def seek(seekers, seconds):
@@ -211,7 +185,7 @@ def beside_random_names(room, label, datagrams, each):
         draw, sent, began = random.Random(1), 0, time.monotonic()
         while not over.is_set():
             while sent < (time.monotonic() - began) * datagrams:
-                link.sendto(VERSION + b"".join(search(f"R{draw.randrange(10**6):06}", it) for it in range(each)), server.address)
+                link.sendto(VERSION + b"".join(ca.search(f"R{draw.randrange(10**6):06}", it) for it in range(each)), server.address)
                 sent += 1
             over.wait(0.001)
     thread = threading.Thread(target=flood, daemon=True)
@@ -245,7 +219,7 @@ def channels(address, names, source):
     if took is None:
         return None
     link = socket.create_connection(address)
-    link.sendall(VERSION + b"".join(create(name, cid) for cid, name in enumerate(names)))
+    link.sendall(VERSION + b"".join(ca.create(name, cid) for cid, name in enumerate(names)))
     made, text = 0, b""
     while made < len(names):
         piece = link.recv(65_536)
@@ -262,16 +236,11 @@ def channels(address, names, source):
     return time.monotonic() - began
 
 
-def create(name, cid):
-    text = name.encode() + b"\0" * (8 - len(name) % 8)
-    return struct.pack(">HHHHII", 18, len(text), 0, 0, cid, 13) + text
-
-
 def ioc(names):
     """A server in a process of its own: its process and its address."""
     code = ("import sys; sys.path[:0] = sys.argv[1:3]; import served; from served.upstream import Upstream; from served.room import variable, text_of;"
             "up = Upstream([variable(it, values=[1]) for it in sys.argv[3].split()]); print(text_of(up.address), flush=True); up.thread.join()")
-    process = subprocess.Popen([sys.executable, "-c", code, os.path.join(ROOT, ".ci"), os.path.join(ROOT, "examples"), " ".join(names)],
+    process = subprocess.Popen([sys.executable, "-c", code, os.path.join(common.ROOT, ".ci"), os.path.join(common.ROOT, "examples"), " ".join(names)],
                                stdout=subprocess.PIPE)
     host, _, port = process.stdout.readline().decode().strip().rpartition(":")
     return process, (host, int(port))
@@ -360,25 +329,8 @@ PARTS = {"hosts": hosts, "bursts": bursts, "random": random_names, "short": shor
 
 
 def main():
-    parser = argparse.ArgumentParser(description=__doc__.split("\n")[0])
-    parser.add_argument("--program", default=os.path.join(ROOT, "crates", "pvgate", "out", "pvgate"))
-    parser.add_argument("words", nargs="*", metavar="WORD", choices=[[], *PARTS])
-    given = parser.parse_args()
-    program = os.path.abspath(given.program)
-    if not os.access(program, os.X_OK):
-        sys.exit(f"{program} isn't built")
-    load.raise_limit()
-    passed = failed = 0
-    for word, part in PARTS.items():
-        if not given.words or word in given.words:
-            room = Room(program)
-            try:
-                part(room)
-            finally:
-                room.end()
-            passed, failed = passed + room.passed, failed + len(room.failed)
-    print(f"site: {passed} passed, {failed} failed")
-    return 1 if failed else 0
+    given = common.parser(__doc__, PARTS).parse_args()
+    return common.run("site", common.built(given.program), common.chosen(PARTS, given.words))
 
 
 if __name__ == "__main__":

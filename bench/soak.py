@@ -10,20 +10,15 @@ printed, and at the end they may not be more than they were (memory: by more tha
 has the last value of its name, each read and write its answer; once all clients are gone descriptors and threads are those of the
 beginning. The status is 1 where something isn't so. It needs a processor or two; run by hand.
 """
-import argparse
-import os
 import random
 import sys
 import time
 from collections import Counter
 
-ROOT = os.path.dirname(os.path.dirname(os.path.abspath(__file__)))
-sys.dont_write_bytecode = True
-sys.path.insert(0, os.path.join(ROOT, ".ci"))
-import served  # noqa: E402, F401  (sets the path to examples/)
-from load import raise_limit  # noqa: E402
-from served.room import PATIENCE, Room, variable  # noqa: E402
-from visitors import Visitor  # noqa: E402
+import common  # (sets the paths)
+from served.idlers import threads
+from served.room import PATIENCE, variable
+from visitors import Visitor
 
 NAMES = [f"V{it:02}" for it in range(40)]  # served, those of even numbers by the first upstream
 ALIASES = [f"Q{it:02}" for it in range(0, 40, 4)]
@@ -80,7 +75,7 @@ class Soak:
         """Descriptors, threads and MB of the gateway, once they are the same for two seconds."""
         seen = None
         for _ in range(30):
-            now = (self.server.files(), len(os.listdir(f"/proc/{self.server.process.pid}/task")))
+            now = (self.server.files(), threads(self.server))
             if now == seen:
                 break
             seen = now
@@ -196,23 +191,12 @@ def soak(room, given):
 
 
 def main():
-    parser = argparse.ArgumentParser(description=__doc__.split("\n")[0])
-    parser.add_argument("--program", default=os.path.join(ROOT, "crates", "pvgate", "out", "pvgate"))
+    parser = common.parser(__doc__)
     parser.add_argument("--seconds", type=int, default=600)
     parser.add_argument("--clients", type=int, default=200)
     parser.add_argument("--seed", default="1")
     given = parser.parse_args()
-    program = os.path.abspath(given.program)
-    if not os.access(program, os.X_OK):
-        sys.exit(f"{program} isn't built")
-    raise_limit()
-    room = Room(program)
-    try:
-        soak(room, given)
-    finally:
-        room.end()
-    print(f"soak: {room.passed} passed, {len(room.failed)} failed")
-    return 1 if room.failed else 0
+    return common.run("soak", common.built(given.program), [soak], given)
 
 
 if __name__ == "__main__":
