@@ -125,7 +125,8 @@ def pattern(literal):
 
 def log_lines():
     """docs/OPERATING.md explains each line that is logged, and no other."""
-    cuts, notices = read("crates/serve_state/src/notice.rt").split("for Notice<'a>", 1)
+    causes, notices = read("crates/serve_state/src/notice.rt").split("for Notice<'a>", 1)
+    causes += read("crates/serve_state/src/cut.rt")
     logged = {pattern(it): it for it in re.findall(r'"((?:[^"\\]|\\.)+)"', notices)}
     section = read("docs/OPERATING.md").partition("\n## Log\n")[2].partition("\n## ")[0]
     told = [re.sub(r"[:;] \.\.$", "", it) for cells in rows(section.split("\n")) for it in TICKED.findall(cells[0])]
@@ -134,6 +135,6 @@ def log_lines():
     for line in told:
         yield None if any(re.fullmatch(it, line) for it in logged) else f"docs/OPERATING.md: nothing logs `{line}`"
     refusals = re.findall(r'Notice::ClientRefused\(peer, "([^"]+)"\)', read("crates/serve/src/clients.rt"))
-    for why in [it.partition(" (")[0] for it in re.findall(r'"((?:[^"\\]|\\.)+)"', cuts)] + refusals:
+    for why in [it.partition(" (")[0] for it in re.findall(r'"((?:[^"\\]|\\.)+)"', causes)] + refusals:
         part = ".+".join(re.escape(it) for it in re.split(r"\{\w*\}", why))
         yield None if any(re.search(part, line) for line in told) else f"docs/OPERATING.md: `{why}` isn't explained"

@@ -2,8 +2,8 @@
 use Rattle.std.specs.Prelude.{ℕ, if◌then◌else◌, List, bytes_eq, codes, Option, Some, None}
 use Rattle.log.specs.declared.level.Level.{Level}
 use Rattle.log.specs.declared.level.Level.TheVariants.{Error, Warn, Info, Debug}
-use Rattle.serve_state.specs.declared.notice.Cut.{Cut}
-use Rattle.serve_state.specs.declared.notice.Cut.TheVariants as cut
+use Rattle.serve_state.specs.declared.cut.Cut.{Cut}
+use Rattle.serve_state.specs.declared.cut.Cut.TheVariants as cut
 use Rattle.serve_state.specs.declared.notice.Notice.{Notice}
 use Rattle.serve_state.specs.declared.notice.Notice.TheVariants as notice
 

@@ -4,8 +4,8 @@ use Rattle.decimal_text.specs.Numbers.{number_of}
 use Rattle.gateway_state.specs.declared.event.Dest.{Dest}
 use Rattle.gateway_state.specs.declared.event.Dest.TheVariants.{Session, Upstream}
 use Rattle.serve_state.specs.declared.most.MostWaiting.{MostWaiting}
-use Rattle.serve_state.specs.declared.notice.Cut.{Cut}
-use Rattle.serve_state.specs.declared.notice.Cut.TheVariants.{TooSlow, TooMuch}
+use Rattle.serve_state.specs.declared.cut.Cut.{Cut}
+use Rattle.serve_state.specs.declared.cut.Cut.TheVariants.{TooSlow, TooMuch}
 
 -- a number of MiB that isn't 0
 abbrev pub some_mib : ℕ → Option MostWaiting

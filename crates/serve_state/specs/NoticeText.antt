@@ -7,8 +7,8 @@ use Rattle.access_file.specs.Fault as access
 use Rattle.pvlist.specs.Cause.{cause_text}
 use Rattle.serve_state.specs.LimitText.{bound_text, said}
 use Rattle.serve_state.specs.declared.limits.Bound.{Bound}
-use Rattle.serve_state.specs.declared.notice.Cut.{Cut}
-use Rattle.serve_state.specs.declared.notice.Cut.TheVariants as cut
+use Rattle.serve_state.specs.declared.cut.Cut.{Cut}
+use Rattle.serve_state.specs.declared.cut.Cut.TheVariants as cut
 use Rattle.serve_state.specs.declared.notice.FileCause.{FileCause}
 use Rattle.serve_state.specs.declared.notice.FileCause.TheVariants as file
 use Rattle.serve_state.specs.declared.notice.Notice.{Notice}

@@ -6,8 +6,8 @@ use Rattle.rows.specs.Rows.{change_first, remove_first}
 use Rattle.gateway_state.specs.Connections.{same_dest}
 use Rattle.gateway_state.specs.declared.event.Dest.{Dest}
 use Rattle.gateway_state.specs.declared.event.Dest.TheVariants.{Session, Upstream}
-use Rattle.serve_state.specs.declared.notice.Cut.{Cut}
-use Rattle.serve_state.specs.declared.notice.Cut.TheVariants.{TooSlow}
+use Rattle.serve_state.specs.declared.cut.Cut.{Cut}
+use Rattle.serve_state.specs.declared.cut.Cut.TheVariants.{TooSlow}
 
 -- a connection: whether it has its socket, how many of its workers have not ended, whether it was made and waits for them, why it is
 -- cut off, and the number of the host as one of whose clients it was admitted

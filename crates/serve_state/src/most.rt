@@ -2,7 +2,7 @@
 ghost use Rattle.std.specs.Prelude.{◌≡◌};
 ghost use Rattle.serve_state.specs.Most.{is_passed, most_of, why_shut};
 
-use crate::notice::Cut;
+use crate::cut::Cut;
 use decimal_text::read_u32;
 use gateway_state::Dest;
 

@@ -5,7 +5,7 @@ ghost use Rattle.rows.specs.Rows.{change_first, remove_first};
 ghost use Rattle.gateway_state.specs.declared.event.Dest.TheVariants.{Session, Upstream};
 ghost use Rattle.serve_state.specs.Roster.{RowState, RosterState, is_row, holds, with_row, with_row_of, row_of, is_of_host, clients_of, IsLeastFree, IsFull, closed_with, with_cut, with_left, with_reached, with_served, changed, with_new, without, is_reached, has_ended, is_last};
 
-use crate::notice::Cut;
+use crate::cut::Cut;
 use crate::numbers::least_free;
 use gateway_state::Dest;
 use std::alloc::{AllocError, Global};

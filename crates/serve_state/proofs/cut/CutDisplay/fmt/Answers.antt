@@ -1,4 +1,4 @@
-use Rattle.serve_state.proofs.notice.CutDisplay.fmt.Goals as goal
+use Rattle.serve_state.proofs.cut.CutDisplay.fmt.Goals as goal
 
 -- the pieces that are written are those of the text
 pub returns-in-TooMuchInAll-clause-writes : goal.returns-in-TooMuchInAll-clause-writes
