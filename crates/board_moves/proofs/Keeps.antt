@@ -7,7 +7,6 @@ use Rattle.gateway_calls.specs.declared.fault.Failed.{Failed}
 use Rattle.gateway_calls.specs.declared.fault.StepFault.TheVariants as steps
 use Rattle.gateway_state.specs.Gateway.{Gateway}
 use Rattle.gateway_state.specs.declared.event.Dest.{Dest}
-use Rattle.gateway_state.specs.declared.event.Dest.TheVariants.{Session, Upstream}
 use Rattle.gateway_state.specs.declared.event.Event.{Event}
 use Rattle.board_rings.specs.Attachments.{is_attached, is_attachment_of, is_not_attachment_of, new_attachment, with_full, with_leaving, with_look_in, IsWith}
 use Rattle.board_rings.specs.Rings.{InletState, AttachmentState, OutletState}

@@ -1,19 +1,20 @@
 -- Who is noted in news, and what is counted in them.
-use Rattle.std.specs.Prelude.{◌≡◌, ◌≢◌, ℕ, zero, suc, ◌+◌, ◌-◌, ◌/◌, ◌%◌, ◌^◌, ◌<◌, ◌⊎◌, List, min, Bool, true, false, if◌then◌else◌, Option, Some, None, Result, Ok, Err, IfOk, slice_index, ⊤}
+use Rattle.std.specs.Prelude.{◌≡◌, ◌≢◌, ℕ, zero, suc, ◌+◌, ◌-◌, ◌/◌, ◌%◌, ◌^◌, ◌<◌, ◌⊎◌, ◌&&◌, ◌||◌, List, min, nat_lt, Bool, true, false, not, if◌then◌else◌, Option, Some, None, Result, Ok, Err, slice_index, ⊤}
 use Rattle.std.specs.Int.{bit_at}
 use Rattle.std.specs.Option.{option_map}
 use Rattle.rows.specs.Rows.{change_first}
-use Rattle.gateway_state.specs.Asked.{must_end}
+use Rattle.gateway_state.specs.Asked.{must_end, queued}
 use Rattle.gateway_state.specs.Gateway.{Gateway}
 use Rattle.gateway_state.specs.declared.event.Dest.{Dest}
 use Rattle.gateway_state.specs.declared.event.Dest.TheVariants.{Session, Upstream}
 use Rattle.gateway_state.specs.declared.event.Event.{Event}
 use Rattle.gateway_state.specs.declared.event.Event.TheVariants as events
-use Rattle.board_rings.specs.Attachments.{is_attachment_of, with_received}
+use Rattle.board_rings.specs.Attachments.{have_full, is_attachment_of, with_received}
 use Rattle.board_rings.specs.Rings.{AttachmentState}
 use Rattle.board_rings.specs.declared.inbound.Inbound.{Inbound}
 use Rattle.board_rings.specs.declared.inbound.Inbound.TheVariants.{Message, Gone}
 use Rattle.board_rings.specs.Board.{BoardState}
+use Rattle.board_moves.specs.Held.{has_grown}
 use Rattle.board_moves.specs.declared.fault.BoardFault.{BoardFault}
 use Rattle.board_moves.specs.declared.news.News.{News}
 
@@ -38,6 +39,10 @@ pub record Notes (dest : Dest) (old new : List ℕ) : Type 0 where
 abbrev pub StayNoted : News → News → Type 0
 StayNoted old new = (seat : ℕ) → seat_bit seat old.words ≡ 1 → seat_bit seat new.words ≡ 1
 
+-- what is noted of the last round is as before
+abbrev pub IsAsLeft : News → News → Type 0
+IsAsLeft old new = (new.left ≡ old.left) × ((new.unsent ≡ old.unsent) × (new.grown ≡ old.grown))
+
 -- so many more, up to the largest number that can be told
 abbrev pub counted_on : ℕ → ℕ → ℕ
 counted_on count zero = count
@@ -57,7 +62,7 @@ abbrev pub IsEnding : Dest → Option Gateway → Type 0
 IsEnding dest rows = option_map (λ w. must_end w dest) rows ≡ Some true
 
 -- an item was received and performed: its connection is noted where that was its end or it must end now, and where its
--- ring in has come down to half or to nothing
+-- ring in has come down to half or to nothing. Whether items were left in the ring is noted
 pub record TellsPump (dest : Dest) (attachments left : List AttachmentState) (rows : Option Gateway) (old new : News) : Type 0 where
   pub item : Inbound
   pub seen : ℕ
@@ -67,6 +72,9 @@ pub record TellsPump (dest : Dest) (attachments left : List AttachmentState) (ro
   pub places : (seen ≡ 0) ⊎ (seen ≡ 128) → IsNoted dest new
   pub received : new.traffic.received ≡ counted_if (is_message item) old.traffic.received
   pub sent : new.traffic.sent ≡ old.traffic.sent
+  pub left_in : new.left ≡ (old.left || nat_lt 0 seen)
+  pub unsent : new.unsent ≡ old.unsent
+  pub grown : new.grown ≡ old.grown
 
 -- the same where a pump received one; where it received none nothing is noted or counted. Of a fault all are told, whoever is
 -- noted
@@ -76,14 +84,33 @@ PumpTells dest (Ok false) attachments left rows old new = new ≡ old
 PumpTells dest (Err fault) attachments left rows old new = ⊤
 
 -- so many messages were pushed: their connection is noted where there were some
-pub record TellsSent (dest : Dest) (count : ℕ) (old new : News) : Type 0 where
+pub record TellsPushed (dest : Dest) (count : ℕ) (old new : News) : Type 0 where
   pub some : 0 < count → IsNoted dest new
   pub sent : new.traffic.sent ≡ counted_on old.traffic.sent count
   pub received : new.traffic.received ≡ old.traffic.received
+  pub left_in : new.left ≡ old.left
+  pub unsent : new.unsent ≡ old.unsent
+  pub grown : new.grown ≡ old.grown
+
+-- how many messages wait for a connection
+abbrev pub waiting_for : Dest → Option Gateway → ℕ
+waiting_for dest None = 0
+waiting_for dest (Some w) = queued w dest
+
+-- of so many that waited so many were pushed. Where some were and some were not that is noted; and where not all were, whether
+-- too much came to wait for a client
+pub record TellsSent (dest : Dest) (waiting count : ℕ) (left : BoardState) (old new : News) : Type 0 where
+  pub some : 0 < count → IsNoted dest new
+  pub sent : new.traffic.sent ≡ counted_on old.traffic.sent count
+  pub received : new.traffic.received ≡ old.traffic.received
+  pub left_in : new.left ≡ old.left
+  pub unsent : new.unsent ≡ (old.unsent || (nat_lt 0 count && nat_lt count waiting))
+  pub grown : new.grown ≡ (old.grown || (nat_lt count waiting && has_grown dest left))
 
 -- the same of a send-out that met no fault
-abbrev pub SendTells : Dest → Result ℕ BoardFault → News → News → Type 0
-SendTells dest answer old new = IfOk answer (λ count. TellsSent dest count old new)
+abbrev pub SendTells : Dest → Result ℕ BoardFault → Option Gateway → BoardState → News → News → Type 0
+SendTells dest (Ok count) rows left old new = TellsSent dest (waiting_for dest rows) count left old new
+SendTells dest (Err fault) rows left old new = ⊤
 
 -- the connection that is lost by an event
 abbrev pub lost_by : Event → Option Dest
@@ -105,6 +132,12 @@ noted_of rows attachments news = record { rows = rows; attachments = attachments
 abbrev pub bare : NotedBoard → BoardState
 bare board = record { rows = board.rows; attachments = board.attachments }
 
--- a round begins: it saw no items yet that it leaves, nor a client for which too much came to wait
+-- a round begins: it saw no items or messages yet that it leaves, nor a client for which too much came to wait
 abbrev pub begun : NotedBoard → NotedBoard
-begun board = record board { news = record board.news { left = false; grown = false } }
+begun board = record board { news = record board.news { left = false; unsent = false; grown = false } }
+
+-- the last round left no items that it saw and no messages behind others that it sent, too much came to wait for no client,
+-- and for nobody too much was found to wait before it. So another round finds what came since, or places that became free;
+-- who takes the last message out of a ring looks whether more wait
+abbrev pub has_left_nothing : NotedBoard → Bool
+has_left_nothing board = not ((board.news.left || board.news.unsent) || (board.news.grown || have_full board.attachments))

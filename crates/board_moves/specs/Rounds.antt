@@ -35,7 +35,7 @@ IsNotedPump dest old answer new =
 -- a send-out, and who is told of it
 abbrev pub IsNotedSendOut : Dest → NotedBoard → Result ℕ BoardFault → NotedBoard → Type 0
 IsNotedSendOut dest old answer new =
-    IsSendOut dest (bare old) answer (bare new) × (SendTells dest answer old.news new.news × StayNoted old.news new.news)
+    IsSendOut dest (bare old) answer (bare new) × (SendTells dest answer old.rows (bare new) old.news new.news × StayNoted old.news new.news)
 
 -- a pump, by how many items it moved
 abbrev pub PumpsOne : Dest → NotedBoard → Result ℕ BoardFault → NotedBoard → Type 0

@@ -17,11 +17,12 @@ const MOST_ROUNDS: usize = 32;
 /// an answer or for the lock waits for no more than their work.
 const MOST_MOVED: usize = 512;
 
-/// Weighs what waits for servers, and for clients where that is due. Then it performs a round, but for those that are held, which aren't pumped, and
-/// others behind it as long as one saw items that it left, few were moved, and too much came to wait for no client. It
-/// answers how many items were moved. Each round takes one item of each connection, so none is starved, and sends out
-/// before the next, so that nothing is lost that waited for a connection whose end comes behind. Once for a batch is
-/// enough to weigh: it moves few items, and ends with a round by which a client is one to hold.
+/// Weighs what waits for servers, and for clients where that is due. Then it performs a round, but for those that are
+/// held, which aren't pumped, and others behind it as long as one saw items that it left, few were moved, and too much
+/// came to wait for no client. It answers how many items were moved. Each round takes one item of each connection, so
+/// none is starved, and sends out before the next, so that nothing is lost that waited for a connection whose end comes
+/// behind. Once for a batch is enough to weigh: it moves few items, and ends with a round by which a client is one to
+/// hold.
 pub(crate) fn batch<G: GatewayCalls>(
     gate: &mut G,
     attachments: &mut Attachments,

@@ -12,7 +12,7 @@ ghost use Rattle.board_rings.specs.declared.attachment.TheConstants.{RING_SIZE};
 ghost use Rattle.board_rings.specs.Calls.{Attaches};
 ghost use Rattle.board_rings.specs.History.{HasHistory};
 ghost use Rattle.board_moves.specs.Answers.{ends_of, IsDesk, IsNew, IsPump, IsSendOut, IsWaiting, KeepsRings};
-ghost use Rattle.board_moves.specs.Noted.{bare, lost_by, seat_bit, IsNoted, PumpTells, SendTells, StayNoted};
+ghost use Rattle.board_moves.specs.Noted.{bare, has_left_nothing, lost_by, seat_bit, IsNoted, PumpTells, SendTells, StayNoted};
 ghost use Rattle.board_moves.specs.Rounds.{IsBatch, IsRound};
 
 use crate::fault::BoardFault;
@@ -129,7 +129,7 @@ impl<G: GatewayCalls + Drop> BoardOver<G> {
     #[tactic(auto, using(crate::proofs::Keeps::send_out_keeps))]
     pub fn send_out(&mut self, dest: Dest) -> Result<usize, BoardFault>
         ensures sent { IsSendOut dest (bare self.old) result (bare self.new) }
-        ensures told { SendTells dest result self.old.news self.new.news }
+        ensures told { SendTells dest result self.old.rows (bare self.new) self.old.news self.new.news }
         ensures kept { StayNoted self.old.news self.new.news }
         ensures rings { KeepsRings self.old.attachments self.new.attachments }
     {
@@ -153,12 +153,12 @@ impl<G: GatewayCalls + Drop> BoardOver<G> {
         rounds::round(&mut self.gate, &mut self.attachments, &mut self.news)
     }
 
-    /// Weighs what waits for servers, and for clients where too much came to wait for one in the last round, or is noted of
-    /// somebody. Then it performs a round, but for those that are held, which aren't pumped,
-    /// and again as long as one saw items that it left, a bounded number of times, up to the first fault, or until too
-    /// much waits for a client of which that isn't noted. It answers how many items were moved. A client is held for which
-    /// more than 32 MiB waited; or whose last request, a write, a subscription or a cancel, reached a server for which
-    /// more than half of what is allowed waited, unless its end comes.
+    /// Weighs what waits for servers, and for clients where too much came to wait for one in the last round, or is noted
+    /// of somebody. Then it performs a round, but for those that are held, which aren't pumped, and again as long as one
+    /// saw items that it left, a bounded number of times, up to the first fault, or until too much waits for a client of
+    /// which that isn't noted. It answers how many items were moved. A client is held for which more than 32 MiB waited;
+    /// or whose last request, a write, a subscription or a cancel, reached a server for which more than 8,192 messages or
+    /// 16 MiB waited, unless its end comes.
     pub fn batch(&mut self) -> Result<usize, BoardFault>
         ensures batch { IsBatch self.old result self.new }
         ensures kept { StayNoted self.old.news self.new.news }
@@ -259,6 +259,16 @@ impl<G: GatewayCalls + Drop> BoardOver<G> {
     /// The most that one client or server has now. No contract speaks of it: it is for whoever watches.
     pub fn fullest(&self) -> Fullest {
         self.gate.fullest()
+    }
+
+    /// Whether the last round left no items and no messages, and too much waits for nobody: another one finds what came
+    /// since, or places that became free.
+    pub fn has_left_nothing(&self) -> bool
+        ensures { result ≡ has_left_nothing self.now }
+    {
+        let is_left = self.news.has_left() || self.news.has_unsent();
+        let is_much = self.news.has_grown() || self.attachments.have_full();
+        !(is_left || is_much)
     }
 
     /// How many messages went through so far.

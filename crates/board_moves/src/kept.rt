@@ -27,13 +27,14 @@ use pv_search::SearchAnswer;
 use std::alloc::{AllocError, Global};
 use std::marker::Model;
 
-/// A board, a mark that its gate is closed, and a count of wakes: a thread that remembers the count from
-/// before it tried misses none.
+/// A board, a mark that its gate is closed, a count of wakes, and whether nothing is to be moved before the next: a
+/// thread that remembers the count from before it tried misses none.
 #[derive(Drop)]
 pub struct KeptBoard<G: GatewayCalls + Drop> {
     board: BoardOver<G>,
     closed: bool,
     wakes: u64,
+    rests: bool,
 }
 
 impl<G: GatewayCalls + Drop> Model for KeptBoard<G> {
@@ -45,7 +46,7 @@ impl<G: GatewayCalls + Drop> Model for KeptBoard<G> {
 
     ghost coded = { Prim.hlevel (codes, the_policy.the_row.coded) };
 
-    ghost view = { λ k. record { board = k.board; closed = k.closed; wakes = k.wakes } };
+    ghost view = { λ k. record { board = k.board; closed = k.closed; wakes = k.wakes; rests = k.rests } };
 }
 
 // What it shows to a worker that has to end. A mark that is set stays so, and a gateway that has failed.
@@ -61,12 +62,13 @@ impl<G: GatewayCalls + Drop> Teller for KeptBoard<G> {
 impl<G: GatewayCalls + Drop> KeptBoard<G> {
     /// A gate's keep that is open, for a board.
     pub fn new(board: BoardOver<G>) -> KeptBoard<G>
-        ensures { result ≡ record { board = board; closed = false; wakes = 0 } }
+        ensures { result ≡ record { board = board; closed = false; wakes = 0; rests = false } }
     {
         KeptBoard {
             board,
             closed: false,
             wakes: 0,
+            rests: false,
         }
     }
 
@@ -77,11 +79,19 @@ impl<G: GatewayCalls + Drop> KeptBoard<G> {
         self.wakes
     }
 
+    /// Whether the last turn moved something and left nothing, and nothing woke since.
+    pub fn rests(&self) -> bool
+        ensures { result ≡ self.now.rests }
+    {
+        self.rests
+    }
+
     /// Counts one wake more.
     pub fn wake(&mut self)
         ensures { self.new ≡ woken self.old }
     {
         self.wakes = self.wakes.wrapping_add(1);
+        self.rests = false;
     }
 
     /// Closes for good, and counts a wake.
@@ -273,7 +283,7 @@ impl<G: GatewayCalls + Drop> KeptBoard<G> {
     }
 
     /// Performs one round of the board, unless it is closed. Nothing where that moved nothing; else it
-    /// counts a wake.
+    /// counts a wake, and rests if nothing is left.
     pub fn try_turn(&mut self) -> Option<Turn>
         ensures turn { IsTurn self.old result self.new }
     {
@@ -297,7 +307,7 @@ impl<G: GatewayCalls + Drop> KeptBoard<G> {
         self.turn_of(moved)
     }
 
-    // What so many moved items come to. It counts a wake, unless they are none.
+    // What so many moved items come to. Unless they are none it counts a wake, and rests if nothing is left.
     fn turn_of(&mut self, moved: Result<usize, BoardFault>) -> Option<Turn>
         ensures turn { ComesTo moved self.old result self.new }
     {
@@ -305,6 +315,7 @@ impl<G: GatewayCalls + Drop> KeptBoard<G> {
             Ok(0) => None,
             Ok(_) => {
                 self.wake();
+                self.rests = self.board.has_left_nothing();
                 Some(Turn::Moved)
             }
             Err(_) => {

@@ -15,7 +15,8 @@
 //! moves nothing looked into the ring and saw nothing; a send-out that moves nothing found no message, or looked into the
 //! ring and found no place, or too many bytes on their way.
 //!
-//! [`KeptBoard`] is what a gate has under its lock: a board, a mark that it is closed and a count of wakes.
+//! [`KeptBoard`] is what a gate has under its lock: a board, a mark that it is closed, a count of wakes, and whether
+//! nothing is to be moved before the next.
 //! [`News`] says whom moves concern, for those that wait, and counts what went through: whoever is to be told after a
 //! call is noted in it, or was before.
 //!

@@ -1,5 +1,5 @@
 //! The board's calls on its parts: the gateway and the attachments.
-ghost use Rattle.std.specs.Prelude.{◌≡◌, ◌+◌, ◌-◌, ◌^◌, ◌<◌, ◌&&◌, ◌||◌, min, ◌↔◌, IfSome, IsTrue, IsNone, IsSome, IsErrOf, OnOk, OnErr, Some, None, true, false};
+ghost use Rattle.std.specs.Prelude.{◌≡◌, ◌+◌, ◌-◌, ◌^◌, ◌<◌, ◌&&◌, ◌||◌, min, nat_lt, ◌↔◌, IfOk, IfSome, IsTrue, IsNone, IsSome, IsErrOf, OnOk, OnErr, Some, None, true, false};
 ghost use Rattle.std.specs.Option.{option_map};
 ghost use Rattle.gateway_state.specs.Asked.{queued, queued_bytes};
 ghost use Rattle.gateway_state.specs.Step.{step};
@@ -7,7 +7,7 @@ ghost use Rattle.board_rings.specs.Attachments.{have_full};
 ghost use Rattle.board_rings.specs.Calls.{uses_up};
 ghost use Rattle.board_rings.specs.History.{is_for_desk, item_event};
 ghost use Rattle.board_moves.specs.Answers.{board_of, IsDesk, IsPump, IsSendOut, IsWaiting, KeepsRings};
-ghost use Rattle.board_moves.specs.Noted.{is_message, lost_by, IsEnding, IsNoted, PumpTells, SendTells, StayNoted};
+ghost use Rattle.board_moves.specs.Noted.{is_message, lost_by, IsAsLeft, IsEnding, IsNoted, PumpTells, SendTells, StayNoted, TellsPushed};
 ghost use Rattle.board_moves.specs.Held.{has_grown};
 ghost use Rattle.board_moves.specs.Rounds.{dests_of};
 ghost use Rattle.board_moves.specs.Share.{sent_at_once};
@@ -88,7 +88,7 @@ fn perform_item<G: GatewayCalls>(
     ensures gone { OnOk result (item ≡ Inbound.Gone → IsNoted dest news.new) }
     ensures ending { OnOk result (IsEnding dest (G.state gate.new) → IsNoted dest news.new) }
     ensures kept { StayNoted news.old news.new }
-    ensures counts { news.new.traffic ≡ news.old.traffic }
+    ensures counts { (news.new.traffic ≡ news.old.traffic) × IsAsLeft news.old news.new }
 {
     let is_gone = !is_message(&item);
     match gate.step(event_of(dest, item)) {
@@ -237,7 +237,7 @@ fn send_standing<G: GatewayCalls>(
     ensures sent { IsSendOut dest (board_of (G.state gate.old) attachments.old) result (board_of (G.state gate.new) attachments.new) }
     ensures dests { dests_of attachments.new ≡ dests_of attachments.old }
     ensures rings { KeepsRings attachments.old attachments.new }
-    ensures told { SendTells dest result news.old news.new }
+    ensures told { IfOk result (λ count. TellsPushed dest count news.old news.new) }
     ensures kept { StayNoted news.old news.new }
 {
     let found = attachments.room(dest, guess);
@@ -260,25 +260,29 @@ fn send_standing<G: GatewayCalls>(
     }
 }
 
-/// Notes whether too much came to wait for a client, where some messages were left.
+/// Where so many messages waited and not all were sent, notes whether some were, and whether too much came to wait for a
+/// client.
+#[tactic(auto, using(crate::proofs::Told::all_sent))]
 fn note_left<G: GatewayCalls>(
     gate: &mut G,
     attachments: &Attachments,
     news: &mut News,
     dest: Dest,
-    is_left: bool,
+    waiting: usize,
+    sent: usize,
 )
-    ensures grown { news.new ≡ record news.old { grown = news.old.grown || (is_left && has_grown dest (board_of (G.state gate.old) attachments.now)) } }
+    ensures left { news.new ≡ record news.old { unsent = news.old.unsent || (nat_lt 0 sent && nat_lt sent waiting); grown = news.old.grown || (nat_lt sent waiting && has_grown dest (board_of (G.state gate.old) attachments.now)) } }
     ensures same { G.state gate.new ≡ G.state gate.old }
 {
-    if is_left && has_grown(gate, attachments, dest) {
-        news.note_growth();
+    if sent < waiting {
+        let grown = has_grown(gate, attachments, dest);
+        news.note_unsent(sent > 0, grown);
     }
 }
 
 /// Takes a connection's share of messages and pushes them. The guess is where its attachment may stand. A connection
 /// for which no message waits costs one look, and one that gets all that waits no more.
-#[tactic(auto, using(crate::proofs::Told::none_sent, crate::proofs::Told::told_still, crate::proofs::Told::noted_still))]
+#[tactic(auto, using(crate::proofs::Told::none_waiting, crate::proofs::Told::told_of_left, crate::proofs::Told::noted_still))]
 pub(crate) fn send_out<G: GatewayCalls>(
     gate: &mut G,
     attachments: &mut Attachments,
@@ -289,18 +293,16 @@ pub(crate) fn send_out<G: GatewayCalls>(
     ensures sent { IsSendOut dest (board_of (G.state gate.old) attachments.old) result (board_of (G.state gate.new) attachments.new) }
     ensures dests { dests_of attachments.new ≡ dests_of attachments.old }
     ensures rings { KeepsRings attachments.old attachments.new }
-    ensures told { SendTells dest result news.old news.new }
+    ensures told { SendTells dest result (G.state gate.old) (board_of (G.state gate.new) attachments.new) news.old news.new }
     ensures kept { StayNoted news.old news.new }
 {
     match gate.queued(dest) {
         Ok(0) => Ok(0),
         Ok(waiting) => {
             let sent = send_standing(gate, attachments, news, dest, guess, waiting);
-            let is_left = match &sent {
-                Ok(count) => *count < waiting,
-                Err(_) => false,
-            };
-            note_left(gate, attachments, news, dest, is_left);
+            if let Ok(count) = &sent {
+                note_left(gate, attachments, news, dest, waiting, *count);
+            }
             sent
         }
         Err(_) if attachments.is_attached(dest) => Err(BoardFault::Step(StepFault::Failed)),

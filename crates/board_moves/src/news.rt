@@ -1,7 +1,7 @@
 //! Whom a board's moves concern.
 ghost use Rattle.std.specs.Prelude.{◌≡◌, ℕ, ◌*◌, ◌/◌, ◌%◌, ◌^◌, ◌<◌, ◌⊎◌, ◌||◌, nat_lt, slice_index, slice_index_or, slice_set, true, false};
 ghost use Rattle.std.specs.Int.Bits.{bit_or};
-ghost use Rattle.board_moves.specs.Noted.{counted_if, counted_on, seat_bit, seat_of, IsNoted, Notes, StayNoted};
+ghost use Rattle.board_moves.specs.Noted.{counted_if, counted_on, seat_bit, seat_of, IsAsLeft, IsNoted, Notes, StayNoted};
 
 use board_rings::RING_SIZE;
 use gateway_state::Dest;
@@ -44,14 +44,15 @@ fn set_bit(words: &mut [u64; SEAT_WORDS], seat: usize)
     words[seat / 64] |= 1u64 << (seat % 64);
 }
 
-/// The seats of those connections whose workers may go on after what was moved, how much was moved, whether
-/// items were left, and whether too much came to wait for a client. They are no part of what a board is: its moves say
-/// what they note beside it.
+/// The seats of those connections whose workers may go on after what was moved, how much was moved, whether the last
+/// round left items or messages, and whether too much came to wait for a client. They are no part of what a board is: its
+/// moves say what they note beside it.
 #[derive(Clone, Copy, Debug)]
 pub struct News {
     words: [u64; SEAT_WORDS],
     traffic: Traffic,
     left: bool,
+    unsent: bool,
     grown: bool,
 }
 
@@ -68,15 +69,17 @@ impl News {
                 sent: 0,
             },
             left: false,
+            unsent: false,
             grown: false,
         }
     }
 
-    /// A round begins, which saw no items yet that it leaves, nor a client for which too much came to wait.
+    /// A round begins, which saw no items or messages yet that it leaves, nor a client for which too much came to wait.
     pub fn begin_round(&mut self)
-        ensures { self.new ≡ record self.old { left = false; grown = false } }
+        ensures { self.new ≡ record self.old { left = false; unsent = false; grown = false } }
     {
         self.left = false;
+        self.unsent = false;
         self.grown = false;
     }
 
@@ -87,25 +90,34 @@ impl News {
         self.left
     }
 
-    /// Notes that too much came to wait for a client.
-    pub fn note_growth(&mut self)
-        ensures { self.new ≡ record self.old { grown = true } }
+    /// Notes of messages that weren't sent whether others were before them, and whether so much waits for a client by now
+    /// that it is too much.
+    pub fn note_unsent(&mut self, some_sent: bool, has_grown: bool)
+        ensures { self.new ≡ record self.old { unsent = self.old.unsent || some_sent; grown = self.old.grown || has_grown } }
     {
-        self.grown = true;
+        self.unsent |= some_sent;
+        self.grown |= has_grown;
     }
 
-    /// Whether that was noted in the last round.
+    /// Whether too much came to wait for a client in the last round.
     pub fn has_grown(&self) -> bool
         ensures { result ≡ self.now.grown }
     {
         self.grown
     }
 
+    /// Whether the last round left messages behind others that it sent.
+    pub fn has_unsent(&self) -> bool
+        ensures { result ≡ self.now.unsent }
+    {
+        self.unsent
+    }
+
     /// Notes the seat of a connection.
     pub fn note(&mut self, dest: Dest)
         ensures notes { Notes dest self.old.words self.new.words }
         ensures kept { StayNoted self.old self.new }
-        ensures counts { (self.new.traffic ≡ self.old.traffic) × (self.new.left ≡ self.old.left) }
+        ensures counts { (self.new.traffic ≡ self.old.traffic) × IsAsLeft self.old self.new }
     {
         set_bit(&mut self.words, seat_of(dest));
     }
@@ -118,7 +130,7 @@ impl News {
         ensures kept { StayNoted self.old self.new }
         ensures received { self.new.traffic.received ≡ counted_if is_message self.old.traffic.received }
         ensures sent { self.new.traffic.sent ≡ self.old.traffic.sent }
-        ensures left { self.new.left ≡ (self.old.left || nat_lt 0 left) }
+        ensures left { (self.new.left ≡ (self.old.left || nat_lt 0 left)) × ((self.new.unsent ≡ self.old.unsent) × (self.new.grown ≡ self.old.grown)) }
     {
         self.count_received(is_message);
         self.left |= left > 0;
@@ -130,7 +142,7 @@ impl News {
     fn count_received(&mut self, is_message: bool)
         ensures received { self.new.traffic.received ≡ counted_if is_message self.old.traffic.received }
         ensures sent { self.new.traffic.sent ≡ self.old.traffic.sent }
-        ensures same { (self.new.words ≡ self.old.words) × (self.new.left ≡ self.old.left) }
+        ensures same { (self.new.words ≡ self.old.words) × IsAsLeft self.old self.new }
     {
         if is_message {
             self.traffic.received = self.traffic.received.saturating_add(1);
@@ -144,7 +156,7 @@ impl News {
         ensures kept { StayNoted self.old self.new }
         ensures sent { self.new.traffic.sent ≡ counted_on self.old.traffic.sent count }
         ensures received { self.new.traffic.received ≡ self.old.traffic.received }
-        ensures left { self.new.left ≡ self.old.left }
+        ensures left { IsAsLeft self.old self.new }
     {
         self.traffic.sent = self.traffic.sent.saturating_add(count as u64);
         self.note(dest);
@@ -171,7 +183,7 @@ impl News {
     pub fn take(&mut self) -> News
         ensures out { result ≡ self.old }
         ensures anew { (seat : ℕ) → seat_bit seat self.new.words ≡ 0 }
-        ensures counts { (self.new.traffic ≡ self.old.traffic) × (self.new.left ≡ self.old.left) }
+        ensures counts { (self.new.traffic ≡ self.old.traffic) × IsAsLeft self.old self.new }
     {
         let news = *self;
         self.words = [0; SEAT_WORDS];

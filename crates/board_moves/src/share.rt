@@ -7,10 +7,12 @@ use board_rings::MOST_SENT;
 /// Where so many bytes are on their way to a connection no more are sent out to it.
 pub const RING_BYTES: usize = 262_144;
 
-/// More messages than these wait for a server where those whose requests reach it are held: half of what an outbox holds.
+/// More messages than these wait for a server where those whose requests reach it are held: half of what an outbox
+/// holds where no limit is told.
 pub const HELD_MESSAGES: usize = 8_192;
 
-/// More bytes than these wait for a server where those whose requests reach it are held: half of what is allowed.
+/// More bytes than these wait for a server where those whose requests reach it are held. For none a server is cut off:
+/// this bounds the memory.
 pub const HELD_BYTES: u64 = 16_777_216;
 
 /// More bytes than these wait for a client where it is held: what it asks for is answered once it has read. What is on

@@ -5,11 +5,12 @@
 //! is still that one. Each change that could make a try succeed counts a wake under the lock, and then
 //! notifies whoever may wait for it:
 //!
-//! - **The core** waits for items and events. `wake` (which a reader calls after it put items), `desk`,
-//!   `attach` and `close` notify it. `take` does so where messages wait that found no place before, or while
-//!   too many bytes were on their way: so it does where a server's outbox comes down, and those that were held
-//!   because of it are looked at again, since each batch that moved something is followed by another. `put` does
-//!   so before it offers a connection's end, which is heard though the connection was held.
+//! - **The core** waits for items and events, where a turn moved nothing, and before a batch where the last turn left
+//!   nothing (`rest`). `wake` (which a reader calls after it put items), `desk`, `attach` and `close` notify it. `take`
+//!   does so where messages wait that found no place before, or while too many bytes were on their way: so it does
+//!   where a server's outbox comes down, and those that were held because of it are looked at again, since a batch that
+//!   moved something where too much waits for somebody is followed by another. `put` does so before it offers a
+//!   connection's end, and `note_end` for whoever shuts a socket: an end is heard though the connection was held.
 //! - **The keeper** (`pause`) is notified by the same calls, and by each turn, a round or a batch, that moved
 //!   something.
 //! - **A writer** waits at its connection's seat until messages are pushed, or the connection ends. The
@@ -24,8 +25,8 @@
 //!
 //! Connections that share a seat wake each other for nothing, and look again.
 //!
-//! What is said of a call is that there are states that stood under the lock before and after it, over which its answer is
-//! that of the board's call. No clause can say whom it wakes, nor that it waits.
+//! What is said of a call is that there are states that stood under the lock before and after it, over which its answer
+//! is that of the board's call. No clause can say whom it wakes, nor that it waits.
 ghost use Rattle.std.specs.Prelude.{◌≡◌, ◌+◌, ◌<◌, ◌↔◌, ◌⊎◌, [], ◌∷◌, ◌++◌, OnOk, OnErr, IfOk, IfErr, IfSome, IsErrOf, IsFalse, IsNone, IsOk, IsTrue, false};
 ghost use Rattle.board_rings.specs.declared.attachment.TheConstants.{RING_SIZE};
 ghost use Rattle.board_rings.specs.History.{is_for_desk};
@@ -147,7 +148,8 @@ impl<G: GatewayCalls + Drop> GateOver<G> {
         self.kept.lock(rt).retire(dest)
     }
 
-    /// Closes the gate for good, and wakes all. No clause can say so: `a_closed_gate_stops_both` of `board_tests` shows it.
+    /// Closes the gate for good, and wakes all. No clause can say so: `a_closed_gate_stops_both` of `board_tests` shows
+    /// it.
     pub fn close<R: Wait>(&self, rt: &R) {
         self.kept.lock(rt).close();
         self.notify_all();
@@ -300,16 +302,18 @@ impl<G: GatewayCalls + Drop> GateOver<G> {
         unreachable!()
     }
 
-    // Notes that a connection's end comes behind what is in its ring, and wakes: where it is held it isn't any more.
-    fn note_end<R: Wait>(&self, rt: &R, dest: Dest) {
+    /// Notes that a connection's end comes behind what is in its ring, and wakes: where it is held for what it writes it
+    /// isn't any more. So does whoever shuts a socket, since a reader that waits for places reads no end. No clause can
+    /// say of which it is noted.
+    pub fn note_end<R: Wait>(&self, rt: &R, dest: Dest) {
         let mut kept = self.kept.lock(rt);
         kept.note_end(dest);
         drop(kept);
         self.notify_core();
     }
 
-    // Waits at a connection's seat while the count of wakes is this one: `a_put_waits_for_room` of `board_tests` shows it. True where the gate is closed or
-    // the engine has failed, without waiting.
+    // Waits at a connection's seat while the count of wakes is this one: `a_put_waits_for_room` of `board_tests` shows
+    // it. True where the gate is closed or the engine has failed, without waiting.
     fn waits_in_vain<R: Wait>(&self, rt: &R, inlet: &mut Inlet, seen: u64) -> bool
         ensures stopped { IsTrue result → inlet.new ≡ record inlet.old { stops = inlet.old.stops + 1 } }
         ensures waited { IsFalse result → inlet.new ≡ inlet.old }
@@ -344,7 +348,7 @@ impl<G: GatewayCalls + Drop> GateOver<G> {
 
     // The next message, or that none comes any more. Where neither is so it waits at the connection's seat
     // for a wake, and answers nothing. Messages are pushed under the lock, so none comes between the look and
-    // the wait. Where some wait that found no place the core is woken: the ring was full when it looked.
+    // the wait. Where some wait the core is woken: there was no place when it looked, or the bytes were too many.
     #[tactic(auto, using(crate::proofs::Looks::looks_once, crate::proofs::Looks::over_once, crate::proofs::Looks::stop_once))]
     fn next_or_wait<R: Wait>(&self, rt: &R, outlet: &mut Outlet, dest: Dest) -> Option<Taken>
         ensures some { IfSome result (λ taken. IsTaken dest outlet.old taken outlet.new) }
@@ -380,11 +384,19 @@ impl<G: GatewayCalls + Drop> GateOver<G> {
         self.next_turn(rt, UnderLock::Round)
     }
 
-    /// The same by batches, each of which is one round or more under one lock.
+    /// The same by batches, each of which is one round or more under one lock. Where the last turn left nothing it
+    /// waits for a wake before the first.
     pub fn batch<R: Wait>(&self, rt: &R) -> Turn
         ensures { IsBatched result }
     {
+        self.rest(rt);
         self.next_turn(rt, UnderLock::Batch)
+    }
+
+    // Waits for a wake where the last turn left nothing. No clause can say that it waits.
+    fn rest<R: Wait>(&self, rt: &R) {
+        let kept = self.kept.lock(rt);
+        let _woken = self.core.wait_while(rt, kept, |kept| kept.rests());
     }
 
     #[tactic(auto, using(crate::proofs::Under::turned, crate::proofs::Under::batched))]

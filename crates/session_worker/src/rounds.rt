@@ -14,8 +14,8 @@ pub enum CoreEnd {
     GateFailed,
 }
 
-/// Performs the board's batches, and waits where one moves nothing. It ends where the gate is closed or the
-/// engine has failed, as its last batch said.
+/// Performs the board's batches, and waits where one moves nothing or leaves nothing. It ends where the gate is closed
+/// or the engine has failed, as its last batch said.
 pub fn serve_core<R: Wait>(rt: &R, gate: &Gate) -> CoreEnd
     ensures closed { result ≡ CoreEnd.Closed → IsBatched Turn.Closed }
     ensures failed { result ≡ CoreEnd.GateFailed → IsBatched Turn.Failed }

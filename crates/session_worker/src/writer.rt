@@ -131,8 +131,8 @@ pub fn serve_out<L: Link, R: Wait>(
     unreachable!()
 }
 
-/// Takes what comes for a connection that can't be written any more, and drops it, until nothing comes. A connection for
-/// which too much waits is held, and its end behind what is held isn't heard: so what nobody will read has to go.
+/// Takes what comes for a connection that can't be written any more, and drops it, until nothing comes. A connection
+/// for which too much waits is held, and its end behind what is held isn't heard: so what nobody will read has to go.
 pub fn drop_rest<R: Wait>(rt: &R, outlet: &mut Outlet, gate: &Gate, dest: Dest)
     ensures dropped { IsDropped dest outlet.old outlet.new }
 {
