@@ -159,3 +159,30 @@ ends u1
 ",
     )
 }
+
+/// A batch goes on with an item that came after the board had last looked into the ring.
+#[test]
+fn a_batch_sees_what_came_meanwhile(rt: HostRuntime) -> Result<(), Fail> {
+    tells(
+        &rt,
+        rt.alloc(),
+        "\
+open s1
+> Ok(())
+attach s1
+> rings
+batch
+> Ok(1)
+offer s1 2
+> 2
+pump s1
+> Ok(true)
+offer s1 1
+> 1
+batch
+> Ok(5)
+batch
+> Ok(0)
+",
+    )
+}
