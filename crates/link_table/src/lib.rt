@@ -15,9 +15,9 @@
 //!   and passes over those that rows have; as long as it didn't begin again nothing is looked for. Channels of
 //!   clients stand in another table: their caller looks where `next` and `turned` tell, and `give` notes it.
 //!
-//! Servers, links and writes are found by index: a call costs the rows that it names, however many others stand
-//! or wait; that a server says its version, and that it goes, may cost a walk over the servers. What goes with a
-//! server, a session or a channel is found among the rows of that server or session. Removals take no memory.
+//! Servers, links and writes are found by index: a call costs the rows that it names, however many others stand or
+//! wait; the servers are walked for a new one, one that goes, its version, and a question for one that isn't there.
+//! What goes with a server, a session or a channel is found among the rows of these. Removals take no memory.
 //!
 //! A contract sees `Links` as three lists and four counters, and whether each of these began again. Each
 //! call changes what it names alone, a refused one nothing, and a limit refuses exactly where it is
