@@ -35,8 +35,8 @@ STORIES = [beacons.hearing, naming.naming_moved, attacked.deaf, attacked.late_be
            chain.chained, packaged.packaged, repeating.unrepeated, repeating.levels, reports.reporting,
            reports.reporting_nowhere, waiting.waiting_too_much, waiting.waiting_little, waiting.waiting_in_all, standing.unread, standing.unwritable, standing.deep,
            standing.files, standing.endless, standing.seats, standing.kept, standing.limited, standing.numbered, standing.again, standing.roomy, asking.backing_off, asking.asking,
-           asking.leading, asking.answering, asking.clashing, asking.own_port, found.searching, found.beside, found.idle, found.broadcasting, found.disbelieved, found.mute, found.overfull, found.hiding, found.facing, found.ignoring, holding.holding, holding.leaving_held, ahead.writing_ahead, ahead.reading_ahead, ahead.reading_and_leaving, holding.flipping, keeping.padded, keeping.counted, keeping.shared, alive.stopped, alive.replacing, alive.vanishing,
-           alive.unwatched, alive.aging, alive.late, alive.punctual, alive.many_hosts, alive.scaled, alive.promised, attacked.returning, attacked.connecting_past_hosts, attacked.unsent]
+           asking.leading, asking.answering, asking.clashing, asking.own_port, found.searching, found.beside, found.idle, found.broadcasting, found.disbelieved, found.mute, found.overfull, found.hiding, found.facing, found.ignoring, holding.holding, holding.leaving_held, ahead.writing_ahead, ahead.reading_ahead, ahead.reading_and_leaving, ahead.leaving_ahead, holding.flipping, keeping.padded, keeping.counted, keeping.shared, alive.stopped, alive.replacing, alive.vanishing,
+           alive.unwatched, alive.aging, alive.late, alive.punctual, alive.many_hosts, alive.scaled, alive.promised, attacked.returning, attacked.failed_before, attacked.connecting_past_hosts, attacked.unsent]
 
 
 def tell(program, name):

@@ -1,5 +1,6 @@
 """Clients that ask for, or write, much more than anybody reads: they are held, what waits for them stays small, and others go on."""
 import queue
+import socket
 import threading
 import time
 
@@ -105,4 +106,49 @@ def writing_ahead(room):
     room.eventually("each write arrives", lambda: up.counted == WRITES)
     room.check("the server isn't cut off", not server.has_logged("upstream 1", "cut off"))
     room.check("who wrote goes on", writer.echo())
+    room.equal("quit", server.quit(), 0)
+
+
+def write_on(client, text):
+    """Writes until it can't."""
+    try:
+        for _ in range(WRITES):
+            client.send(text)
+    except OSError:
+        pass
+
+
+def speak(link, is_over):
+    """Sends what says nothing, so that its gateway takes the server for alive."""
+    while not is_over.wait(0.2):
+        link.send(ca.message(ca.ECHO, b"", 0, 0, 0, 0))
+
+
+def leaving_ahead(room):
+    """Who writes so to a server that never reads, and leaves, is cut off for its silence, and its end is heard."""
+    up = Sink([variable("V", count=LARGEST // 4)])
+    room.started.append(up.stop)
+    server = room.server(up, options=("--alive", "1"))
+    writer = room.client(server)
+    channel = writer.open("V")
+    stays, awake = threading.Event(), queue.Queue()
+    threading.Thread(target=speak, args=(up.channels[0][0].link, stays), daemon=True).start()
+    up.calls.put((stays.wait, awake))
+    up.button.send(b"x")
+    text = ca.message(ca.WRITE, bytes(LARGEST), ca.LONG, LARGEST // 4, channel.sid, 0)
+    writing = threading.Thread(target=write_on, args=(writer, text), daemon=True)
+    writing.start()
+    writing.join(3)
+    room.check("who writes is held", writing.is_alive())
+    name = f"({writer.socket.getsockname()[0]}:{writer.socket.getsockname()[1]})"
+    writer.socket.shutdown(socket.SHUT_RDWR)
+    writing.join(PATIENCE)
+    writer.close()
+    room.eventually("it is cut off", lambda: server.has_logged("client 1", name, "cut off: nothing came from it or went to it for 4 s"))
+    after = room.client(server)
+    name = f"({after.socket.getsockname()[0]}:{after.socket.getsockname()[1]})"
+    room.check("its number is free", after.echo() and server.has_logged("client 1", name, "connected"))
+    room.check("the server isn't cut off", not server.has_logged("upstream 1", "cut off"))
+    stays.set()
+    awake.get(timeout=PATIENCE)
     room.equal("quit", server.quit(), 0)

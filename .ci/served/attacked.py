@@ -13,6 +13,7 @@ from served.resolving import MUTE, Names
 from served.room import free_port, text_of, variable
 
 DEAF = 300
+FLOOD = 40  # servers a second, more than can be tried
 SOON = 3  # seconds for what comes in a tenth of one on an idle machine
 
 
@@ -47,8 +48,8 @@ def deaf(room):
     for at in range(0, DEAF, 30):
         client.search(*names[at:at + 30])
         time.sleep(0.02)
-    # Each is tried once: 32 at once, and each for two seconds.
-    time.sleep(2 * DEAF / 32 + 4)
+    # Each is tried once, 24 at once at least, and each for two seconds.
+    time.sleep(2 * DEAF / 24 + 4)
     room.check("all of them are tried", server.has_logged("WARN", f"127.1.1.{DEAF - 256}:{nobody.port}", "can't be reached"))
     began = time.monotonic()
     channel = client.open("A0", 30)
@@ -56,6 +57,42 @@ def deaf(room):
     room.equal("it is found", channel and client.values(channel), [0])
     room.check("at once", took < SOON, f"{took:.1f} s")
     print(f"deaf: {took:.2f} s", flush=True)
+    room.equal("quit", server.quit(), 0)
+
+
+def failed_before(room):
+    """A server whose attempt failed is tried again though others that take no connection are found all the time."""
+    up, nobody, goes_on = room.upstream(variable("A0", values=[0])), DeafHosts(room), threading.Event()
+
+    def where(cid, name):
+        if name == "A0":
+            return [reply(cid, up.address[1])]
+        return [reply(cid, nobody.port, host_of(int(name[4:])))] if answerer.asked.count(name) == 1 else []
+    answerer = Answerer(room, where)
+    server = room.server(options=searching_at(answerer))
+    client, other = room.client(server), room.client(server)
+    up.stop()
+    client.search("A0")
+    room.eventually("its attempt fails", lambda: server.has_logged("WARN", f"127.0.0.1:{up.address[1]}", "can't be reached"))
+
+    def flood():
+        for at in range(30 * FLOOD):
+            other.search(f"DEAD{at:04}")
+            if goes_on.wait(1 / FLOOD):
+                return
+    flooding = threading.Thread(target=flood, daemon=True)
+    flooding.start()
+    time.sleep(4)
+    up.start()
+    began = time.monotonic()
+    channel = client.open("A0", 30)
+    took = time.monotonic() - began
+    room.check("they come all the time", flooding.is_alive())
+    goes_on.set()
+    flooding.join()
+    room.equal("it is found", channel and client.values(channel), [0])
+    room.check("soon", took < 2 + SOON, f"{took:.1f} s")
+    print(f"failed_before: {took:.2f} s", flush=True)
     room.equal("quit", server.quit(), 0)
 
 

@@ -331,10 +331,11 @@ fn back_off<R: System, H: AsHub>(
     }
     asker.wants_sooner |= wanted.sooner;
     asker.seek_sooner();
-    asker.note_found(wanted.found)?;
+    let noted = asker.note_found(wanted.found);
     if wanted.lost {
         asker.losses = asker.losses.saturating_add(1);
     }
+    noted?;
     for wish in wanted.wishes {
         asker.want(wish.host, wish.name)?;
     }

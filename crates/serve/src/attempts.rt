@@ -11,6 +11,9 @@ const MOST_MADE: usize = 32;
 /// longest: it leaves room for servers that were never tried.
 const MOST_MADE_AGAIN: usize = 16;
 
+/// So many at most to servers that were never tried, while others wait: stale entries of a name server may never end.
+const MOST_MADE_FIRST: usize = 24;
+
 /// Of so many addresses it is known that the last attempt failed.
 const FAILED_LIMIT: usize = 16_384;
 
@@ -56,8 +59,11 @@ impl Attempts {
         }
     }
 
-    /// The server of this number and address waits to be connected to. A book has each once.
+    /// The server of this number and address waits to be connected to, unless it does already or is being connected to.
     pub fn put(&mut self, number: u32, address: Address) -> Result<(), NoMemory> {
+        if self.has(number) {
+            return Ok(());
+        }
         let put = if self.failed.contains(&address) {
             self.again.push_back(number)
         } else {
@@ -75,14 +81,29 @@ impl Attempts {
         if self.made.len() >= MOST_MADE || self.made.reserve(1).is_err() {
             return None;
         }
-        let (number, is_again) = match self.first.pop_front() {
-            Some(number) => (number, false),
-            None if self.made_again() < MOST_MADE_AGAIN => (self.again.pop_front()?, true),
-            None => return None,
-        };
+        let (number, is_again) = self.next()?;
         let _ = self.made.push(Made { number, is_again });
         let patience = if is_again { PATIENCE } else { FIRST_PATIENCE };
         Some(Attempt { number, patience })
+    }
+
+    // One that was never tried comes first, but where many are being made and others wait. Whether it is another.
+    fn next(&mut self) -> Option<(u32, bool)> {
+        let again = self.made_again();
+        let is_full = self.made.len().saturating_sub(again) >= MOST_MADE_FIRST;
+        let is_again = again < MOST_MADE_AGAIN && (is_full || self.first.is_empty());
+        if is_again {
+            if let Some(number) = self.again.pop_front() {
+                return Some((number, true));
+            }
+        }
+        Some((self.first.pop_front()?, false))
+    }
+
+    // Whether it waits or is being connected to.
+    fn has(&self, number: u32) -> bool {
+        let mut waiting = self.first.iter().chain(self.again.iter());
+        waiting.any(|waits| *waits == number) || self.made.iter().any(|made| made.number == number)
     }
 
     /// The connection stands, whoever had it made.

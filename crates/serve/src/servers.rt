@@ -63,17 +63,18 @@ pub fn connect_again<
     let count = hub.hub().server_count();
     let mut last = last;
     for _ in 0..count {
-        if made(rt, hub.hub(), true) >= MOST_MADE {
-            return last;
-        }
-        last = if last < count {
+        let next = if last < count {
             last.saturating_add(1)
         } else {
             1
         };
-        if is_named_by_host(hub.hub(), last) {
-            connect(rt, hub, last, Try::Repeated);
+        if is_named_by_host(hub.hub(), next) {
+            if made(rt, hub.hub(), true) >= MOST_MADE {
+                return last;
+            }
+            connect(rt, hub, next, Try::Repeated);
         }
+        last = next;
     }
     last
 }

@@ -112,7 +112,7 @@ fn look_at<R: System, H: AsHub>(rt: R, hub: &H, dest: Dest) -> Option<u64> {
     let messages = hub.hub().limits().most_for(dest);
     if let Some(why) = most.why_shut(dest, must_end, waiting, messages) {
         hub.hub().cut(&rt, dest, why);
-        shut(rt, hub.hub(), dest);
+        shut_for_good(rt, hub, dest);
         return None;
     }
     Some(waiting)
@@ -137,7 +137,7 @@ fn keep_in_all<R: System, H: AsHub>(rt: R, hub: &H, waiting: &mut Vec<WaitingByt
         let dest = Dest::Session(client.number);
         hub.hub()
             .cut(&rt, dest, Cut::TooMuchInAll(client.bytes, most.mib));
-        shut(rt, hub.hub(), dest);
+        shut_for_good(rt, hub, dest);
         let mut cut = hub.hub().cut_in_all.lock(&rt);
         *cut = cut.saturating_add(1);
     }
@@ -170,6 +170,12 @@ pub fn shut<R: System>(rt: R, hub: &Hub, dest: Dest) {
     }
 }
 
+// The same of one that is cut off. One that is held waits for places, and hears no end: so it isn't held any more.
+fn shut_for_good<R: System, H: AsHub>(rt: R, hub: &H, dest: Dest) {
+    shut(rt, hub.hub(), dest);
+    hub.gate().note_end(&rt, dest);
+}
+
 // Takes a look at each connection, whether whoever it leads to is still there.
 fn watch_all<R: System, H: AsHub>(rt: R, hub: &H, patience: Patience) {
     let mut place = 0usize;
@@ -184,6 +190,7 @@ fn watch_all<R: System, H: AsHub>(rt: R, hub: &H, patience: Patience) {
             Verdict::Cut => {
                 hub.hub().cut(&rt, dest, why_silent(dest, patience));
                 let _ = line.stream.shutdown(Shutdown::Both);
+                hub.gate().note_end(&rt, dest);
             }
         }
     }
