@@ -3,6 +3,7 @@ import queue
 import socket
 import struct
 import threading
+import time
 
 import ca_wire as ca
 from ioc import Ioc
@@ -13,7 +14,7 @@ class Upstream(Ioc):
 
     def __init__(self, variables):
         self.kept = variables
-        self.address = None
+        self.address = self.listener = None
         self.thread = None
         self.writes = []  # name, type, count and payload of each
         self.statuses = {}  # what writes of a name are answered with; None for no answer
@@ -21,12 +22,17 @@ class Upstream(Ioc):
 
     def start(self):
         """Listens, at the same address as before."""
+        place = self.address or ("127.0.0.1", 0)
         for _ in range(50):
             try:
-                super().__init__(self.address or ("127.0.0.1", 0), self.kept)
+                super().__init__(place, self.kept)
                 break
-            except OSError:  # TCP's port is taken for UDP
-                continue
+            except OSError:  # TCP's port is taken for UDP, or another has it for a while
+                if self.listener:
+                    self.listener.close()
+                time.sleep(0.01)
+        else:
+            raise OSError(f"nothing can listen at {place}")
         self.channels = []  # client, CID, SID and variable of each that was made
         self.calls = queue.Queue()
         self.bell, self.button = socket.socketpair()
