@@ -15,11 +15,12 @@ check of the crate. What is not refused so is tried alone, as a must-fail edit o
 Without --minutes each crate is proved first as it stands, and its edits are tried in checks of the crate. --alone tries all
 alone, which costs several times as much.
 
---minutes M ends some M minutes after it began. Edits of crates that changed since COMMIT (by default the parent of the first
-commit of the last three days) are tried first, then others, in an order that hangs on the commit's hash: so each edit is tried
-at its own change, and all come round in some runs. --jobs N has N crates at work at once there, 2 by default; else it is how
-many checks run at once. --list tries nothing: it prints each crate's edits, those of must-fail too, and marks those that don't
-apply: an edit whose old text doesn't stand once in its file. The status is 0 where all apply.
+--minutes M ends M minutes after it began, or a minute later: what runs then is ended. Edits of crates that changed since
+COMMIT (by default the parent of the first commit of the last three days) are tried first, then others, in an order that hangs
+on the commit's hash: so each edit is tried at its own change, and all come round in some runs. --jobs N has N crates at work
+at once there, 2 by default; else it is how many checks run at once. --list tries nothing: it prints each crate's edits, those
+of must-fail too, and marks those that don't apply: an edit whose old text doesn't stand once in its file. The status is 0
+where all apply.
 """
 import argparse
 import concurrent.futures
@@ -34,6 +35,10 @@ sys.path.insert(0, os.path.dirname(os.path.abspath(__file__)))
 from refusals.choosing import parts  # noqa: E402
 from refusals.edits import GATE, TRIED, crates, edits  # noqa: E402
 from refusals.tries import MEANINGS, PROVED, BAD, REFUSED, TOGETHER, copied, tried, tried_alone  # noqa: E402
+
+
+# So many seconds what is being tried may go on once the time is over.
+GRACE = 60
 
 
 def listed(crate):
@@ -79,6 +84,10 @@ class Shift:
     def is_over(self):
         return time.monotonic() >= self.until
 
+    def is_late(self):
+        """What runs still is ended then: a crate's check, or an edit tried alone, may take a quarter of an hour."""
+        return time.monotonic() >= self.until + GRACE
+
     def take(self):
         """The next part whose crate nobody is at, or None where there is none or the time is over."""
         with self.turn:
@@ -96,7 +105,7 @@ class Shift:
         with tempfile.TemporaryDirectory(prefix="also-refused-") as room:
             copied(room)
             for crate, found in iter(self.take, None):
-                came = tried(found, crate, room, 1, False, self.is_over)
+                came = tried(found, crate, room, 1, False, self.is_over, self.is_late)
                 with self.turn:
                     self.came += came
                     self.busy.discard(crate)

@@ -3,6 +3,7 @@ import functools
 import os
 import re
 import shutil
+import signal
 import subprocess
 import sys
 
@@ -123,28 +124,55 @@ def told(edit, meant, why):
     return meant
 
 
-def checked(folder, jobs, paths=()):
+def never():
+    return False
+
+
+def end(session):
+    """Ends all that runs in a session: a check has its prover in a group of its own."""
+    for pid in filter(str.isdigit, os.listdir("/proc")):
+        try:
+            with open(f"/proc/{pid}/stat", encoding="utf-8", errors="replace") as file:
+                if int(file.read().rpartition(")")[2].split()[3]) == session:
+                    os.kill(int(pid), signal.SIGKILL)
+        except (OSError, IndexError):
+            continue
+
+
+def ran(words, is_late, **how):
+    """What a command says, and its status: None where it was ended, since it was late."""
+    with subprocess.Popen(words, stdout=subprocess.PIPE, stderr=subprocess.STDOUT, text=True, start_new_session=True, **how) as process:
+        while True:
+            try:
+                return process.communicate(timeout=1)[0], process.returncode
+            except subprocess.TimeoutExpired:
+                if is_late():
+                    end(process.pid)
+                    return process.communicate()[0], None
+
+
+def checked(folder, jobs, paths=(), is_late=never):
     """The lines of a check of a crate in the copy, or of these functions alone, and whether that is proved: None where the
     check came to no verdict."""
     words = ["rt", "check", *(["--jobs", str(jobs)] if jobs else [])]
     words += [it for path in paths for it in ("--only", path)]
-    ran = subprocess.run(words, cwd=folder, stdout=subprocess.PIPE, stderr=subprocess.STDOUT, text=True)
-    said = ran.stdout.splitlines()
+    said, status = ran(words, is_late, cwd=folder)
+    said = said.splitlines()
     verdict = "only=" if paths else "logic=not-proved"
-    is_refused = ran.returncode == 1 and any(it.startswith(verdict) for it in said)
-    return said, ran.returncode == 0 if ran.returncode == 0 or is_refused else None
+    is_refused = status == 1 and any(it.startswith(verdict) for it in said)
+    return said, status == 0 if status == 0 or is_refused else None
 
 
-def tried_together(group, folder, jobs, is_whole):
+def tried_together(group, folder, jobs, is_whole, is_late):
     """Tries a group of edits in one check, of the functions that they change alone unless the whole crate is to be checked,
     and gives what came of each that is refused, and the edits to try alone."""
     texts = group["texts"]
     whole = is_whole or not group["functions"]
     paths = [] if whole else sorted(path_of(texts[file], file, it) for file, it in group["functions"])
     write(texts, folder)
-    said, is_proved = checked(folder, jobs, paths)
-    if is_proved is None and paths:
-        said, is_proved = checked(folder, jobs)
+    said, is_proved = checked(folder, jobs, paths, is_late)
+    if is_proved is None and paths and not is_late():
+        said, is_proved = checked(folder, jobs, is_late=is_late)
     for file in texts:
         shutil.copy(f"{ROOT}/crates/{os.path.basename(folder)}/{file}", f"{folder}/{file}")
     # (what follows begins again with what was proved)
@@ -161,7 +189,7 @@ def tried_together(group, folder, jobs, is_whole):
     return came, left
 
 
-def tried_alone(found, crate, room, jobs):
+def tried_alone(found, crate, room, jobs, is_late=never):
     """Tries edits one by one as the must-fail edits of the copy, prints what came of each, and gives that."""
     shutil.rmtree(f"{room}/crates/{crate}/{GATE}", ignore_errors=True)
     if not found:
@@ -170,8 +198,7 @@ def tried_alone(found, crate, room, jobs):
     for edit in found:
         shutil.copy(edit.path, f"{room}/crates/{crate}/{GATE}")
     environment = os.environ | ({"RT_JOBS": str(jobs)} if jobs else {})
-    how = {"cwd": room, "env": environment, "stdout": subprocess.PIPE, "stderr": subprocess.STDOUT, "text": True}
-    said, came = subprocess.run(["rt", GATE, crate], **how).stdout, []
+    said, came = ran(["rt", GATE, crate], is_late, cwd=room, env=environment)[0], []
     for edit in found:
         line = re.search(rf"^rt: {GATE} {crate}/{re.escape(edit.name)}: ({'|'.join(MEANINGS)})(.*)$", said, re.M)
         meant = MEANINGS[line[1]] if line else UNTRIED
@@ -180,8 +207,9 @@ def tried_alone(found, crate, room, jobs):
     return came
 
 
-def tried(found, crate, room, jobs, is_whole, is_over=lambda: False):
-    """Tries edits of a crate in the scratch repository until it is over, prints what came of each, and gives that."""
+def tried(found, crate, room, jobs, is_whole, is_over=never, is_late=never):
+    """Tries edits of a crate in the scratch repository until it is over, prints what came of each, and gives that. What runs
+    still where it is late is ended."""
     folder, came = f"{room}/crates/{crate}", []
     groups, alone = gathered(found)
     if is_whole and groups:
@@ -192,6 +220,6 @@ def tried(found, crate, room, jobs, is_whole, is_over=lambda: False):
     for group in groups:
         if is_over():
             break
-        refused, left = tried_together(group, folder, jobs, is_whole)
+        refused, left = tried_together(group, folder, jobs, is_whole, is_late)
         came, alone = came + refused, alone + left
-    return came + tried_alone(alone, crate, room, jobs)
+    return came + ([] if is_over() else tried_alone(alone, crate, room, jobs, is_late))
