@@ -6,7 +6,7 @@
 //!
 //! - `empty from FIRST`: from now on the table is an empty one, whose counters begin here;
 //! - `add servers FIRST LAST`, `add links SERVER FIRST LAST`, `add writes SERVER FIRST LAST SESSION SID`:
-//!   rows of these numbers, of which link 7 is for T7;
+//!   rows of these numbers, of which link 3 is for T3;
 //! - `put server N MINOR`, `put link SERVER CID SID TYPE COUNT RIGHTS`, `put unusable SERVER CID RIGHTS`,
 //!   `put sub SERVER CID ID MASK COUNT SENT`, `put props ..` of its properties, `put none SERVER CID`,
 //!   `put unlisted SERVER CID`: no subscription to its values, or to its properties; `put again SERVER CID
@@ -23,7 +23,7 @@
 //!   `show write SERVER ID`: the write; or `None`;
 //! - `count links`, `count of SERVER`: its links, `count writes SESSION`; `all links`: how many are in the
 //!   list of all;
-//! - `named N M`: the CIDs of the links for two names, of which 7 is T7, in the order of adding;
+//! - `named N M`: the CIDs of the links for two names, of which 3 is T3, in the order of adding;
 //! - `give COUNTER`: its next number, for a row of server 1; `again COUNTER SERVER FIRST`: the one for a row of
 //!   this server, where numbers come again from FIRST on.
 use crate::seen;

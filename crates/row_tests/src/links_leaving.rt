@@ -150,9 +150,9 @@ count links
 > 0
 find place 0
 > none
-add links 1 7 7
-find name T7
-> 7
+add links 1 3 3
+find name T3
+> 3
 ",
     );
 }
