@@ -148,7 +148,7 @@ def ran(words, is_late, **how):
             except subprocess.TimeoutExpired:
                 if is_late():
                     end(process.pid)
-                    return process.communicate()[0], None
+                    return "", None
 
 
 def checked(folder, jobs, paths=(), is_late=never):
